@@ -1,0 +1,14 @@
+//! What a class of keys is: its calls, what they mean, and the laws that hold of them.
+#![tactic(auto)]
+
+mod class;
+mod grouping;
+mod pred;
+mod refusal;
+mod sides;
+
+pub use class::KeyClass;
+pub use grouping::Grouping;
+pub use pred::{Pred, bounds_miss_no_match};
+pub use refusal::{Fault, Refusal};
+pub use sides::{Rel, Side, Sides};
