@@ -1,0 +1,4 @@
+pub mod Changes
+pub mod Configs
+pub mod Cursors
+pub mod Listings

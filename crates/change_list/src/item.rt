@@ -1,0 +1,20 @@
+/// A row: the number of the commit that made it, its key and its tag.
+#[derive(Clone, Copy, Debug, PartialEq, Eq)]
+pub struct Row<K> {
+    pub row: u64,
+    pub key: K,
+    pub tag: u64,
+}
+
+/// What a cursor gives.
+#[derive(Clone, Copy, Debug, PartialEq, Eq)]
+pub enum Item<K> {
+    /// A row of the snapshot.
+    Row(Row<K>),
+    /// A later insert.
+    Inserted(Row<K>),
+    /// A later delete: the number of its commit, and of the row.
+    Deleted(u64, u64),
+    /// All up to the commit with this number was given.
+    Mark(u64),
+}

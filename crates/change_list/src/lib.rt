@@ -1,0 +1,13 @@
+//! The commits of a store in their order, the rows that they leave, and the exact status of each row number. Its
+//! specs have the words on which every promise stands: legal lists of commits, rows, snapshots, changes, listings.
+#![tactic(auto)]
+
+mod change_list;
+mod config;
+mod item;
+mod write;
+
+pub use change_list::ChangeList;
+pub use config::Config;
+pub use item::{Item, Row};
+pub use write::{Status, Write};
