@@ -1,0 +1,180 @@
+-- What contracts see of a store, and what its calls do to it.
+use Rattle.std.specs.Prelude.{◌≡◌, ℕ, ◌+◌, ◌-◌, ◌<◌, ◌≤◌, Bool, true, false, not, ◌&&◌, ◌||◌, nat_le, nat_lt, nat_eq, List, [], ◌∷◌, ◌++◌, length, map, filter, find, min, Option, Some, None, Result, Ok, Err, IsPermutation, if◌then◌else◌, option_to_list, slice_get, slice_set, ◌⊎◌, IfSome}
+use Rattle.change_list.specs.declared.config.Config.{Config}
+use Rattle.change_list.specs.declared.write.Write.{Write}
+use Rattle.change_list.specs.declared.item.Item.{Item}
+use Rattle.change_list.specs.declared.item.Item.TheVariants as item
+use Rattle.key_class.specs.declared.refusal.Refusal.{Refusal}
+use Rattle.key_class.specs.declared.refusal.Refusal.TheVariants as refusal
+use Rattle.key_class.specs.Queries.{Query, depth_of}
+use Rattle.change_list.specs.Cursors.{CursorState, Fits, IsDone, work}
+
+-- a dead row that a sweep hasn't removed
+pub record DeadRow : Type 0 where
+  pub row : ℕ
+  pub died : ℕ
+
+pub record State (K A : Type 0) : Type 0 where
+  -- the greatest number of commits
+  pub limit : ℕ
+  pub commits : List (Write K)
+  -- the open cursors
+  pub cursors : List (CursorState K A)
+  -- the last serial that was given
+  pub last : ℕ
+  -- a collection
+  pub dead : List DeadRow
+  -- how many more pages may be made; a store that needs none keeps them all
+  pub pages_left : ℕ
+  -- how many finders were opened, of the 4,294,967,295 that there are in the life of a store
+  pub finders : ℕ
+
+-- an empty store; one page is made with it
+abbrev pub new_state : {K A : Type 0} → Config → State K A
+new_state config = record { limit = config.commits; commits = []; cursors = []; last = 0; dead = []; pages_left = config.pages - 1; finders = 0 }
+
+module _ {K A : Type 0} where
+  abbrev pub open_or_closed : Option (CursorState K A) → Result (CursorState K A) Refusal
+  open_or_closed (Some cursor) = Ok cursor
+  open_or_closed None = Err refusal.CursorClosed
+
+  abbrev pub find_cursor : ℕ → List (CursorState K A) → Option (CursorState K A)
+  find_cursor c cursors = find (λ k. nat_eq k.serial c) cursors
+
+  -- the open cursor with a serial, or why there is none
+  abbrev pub cursor_of : State K A → ℕ → Result (CursorState K A) Refusal
+  cursor_of state c = if nat_eq c 0 || nat_lt state.last c then Err refusal.NoSuchCursor else open_or_closed (find_cursor c state.cursors)
+
+  -- the cursor stands where that with its serial stood
+  abbrev pub replaced : CursorState K A → List (CursorState K A) → List (CursorState K A)
+  replaced k [] = []
+  replaced k (x ∷ xs) = if nat_eq x.serial k.serial then k ∷ xs else x ∷ replaced k xs
+
+  abbrev pub with_cursor : State K A → CursorState K A → State K A
+  with_cursor state k = record state { cursors = replaced k state.cursors }
+
+  abbrev pub without_cursor : State K A → ℕ → State K A
+  without_cursor state c = record state { cursors = filter (λ k. not (nat_eq k.serial c)) state.cursors }
+
+  -- the least opening number of the cursors whose scan isn't over, or the number of commits
+  abbrev pub horizon_of : ℕ → List (CursorState K A) → ℕ
+  horizon_of n [] = n
+  horizon_of n (k ∷ ks) = if k.scanning then min k.opened (horizon_of n ks) else horizon_of n ks
+
+  abbrev pub is_needed : State K A → DeadRow → Bool
+  is_needed state dead = nat_lt (horizon_of (length state.commits) state.cursors) dead.died
+
+module _ {K A : Type 0} (matching : A → K → Bool) where
+  -- a cursor after a call that doesn't ask it: all that fits it before fits it after
+  pub record Stays (commits later : List (Write K)) (before after : CursorState K A) : Type 0 where
+    pub query : after.query ≡ before.query
+    pub opened : after.opened ≡ before.opened
+    pub scanning : after.scanning ≡ before.scanning
+    pub asked : after.asked ≡ before.asked
+    pub fits : (items : List (Item K)) → Fits matching commits before items → Fits matching later after items
+
+  abbrev pub SameOrStays : List (Write K) → List (Write K) → Result (CursorState K A) Refusal → Result (CursorState K A) Refusal → Type 0
+  SameOrStays commits later (Ok before) (Ok after) = Stays commits later before after
+  SameOrStays commits later (Err why) (Err other) = why ≡ other
+  SameOrStays commits later _ _ = ⊥
+
+  -- every cursor is open, closed or never given as before, and what fits it before fits it after
+  abbrev pub KeepsCursors : State K A → State K A → Type 0
+  KeepsCursors old new = (c : ℕ) → SameOrStays old.commits new.commits (cursor_of old c) (cursor_of new c)
+
+  -- one commit more, and nothing else but pages
+  pub record Commits (old : State K A) (write : Write K) (new : State K A) : Type 0 where
+    pub limit : new.limit ≡ old.limit
+    pub commits : new.commits ≡ old.commits ++ write ∷ []
+    pub last : new.last ≡ old.last
+    pub cursors : KeepsCursors old new
+    pub pages : new.pages_left ≤ old.pages_left
+
+  -- nothing but pages
+  pub record Keeps (old new : State K A) : Type 0 where
+    pub limit : new.limit ≡ old.limit
+    pub commits : new.commits ≡ old.commits
+    pub last : new.last ≡ old.last
+    pub dead : IsPermutation old.dead new.dead
+    pub cursors : KeepsCursors old new
+    pub pages : new.pages_left ≤ old.pages_left
+
+  -- a mark comes only where one is asked, and ends the asking; with nothing to give nothing is left
+  abbrev pub Answers : List (Write K) → CursorState K A → Option (Item K) → CursorState K A → Type 0
+  Answers commits before (Some (item.Mark n)) after = (before.asked ≡ true) × (n ≡ length commits) × (after.asked ≡ false)
+  Answers commits before (Some other) after = after.asked ≡ before.asked
+  Answers commits before None after = (after.asked ≡ before.asked) × IsDone matching commits after
+
+  -- a cursor gave an item, or nothing
+  pub record Gives (commits : List (Write K)) (before : CursorState K A) (given : Option (Item K)) (after : CursorState K A) : Type 0 where
+    pub serial : after.serial ≡ before.serial
+    pub query : after.query ≡ before.query
+    pub opened : after.opened ≡ before.opened
+    pub fits : (items : List (Item K)) → Fits matching commits before items → Fits matching commits after (items ++ option_to_list given)
+    pub answer : Answers commits before given after
+    pub less_work : IfSome given (λ _. work commits after < work commits before)
+
+  -- a cursor got no memory for its scan
+  pub record Strives (commits : List (Write K)) (before after : CursorState K A) : Type 0 where
+    pub serial : after.serial ≡ before.serial
+    pub query : after.query ≡ before.query
+    pub opened : after.opened ≡ before.opened
+    pub asked : after.asked ≡ before.asked
+    pub fits : (items : List (Item K)) → Fits matching commits before items → Fits matching commits after items
+
+  -- a new cursor stands at the present commits, and has given nothing
+  pub record IsOpened (old : State K A) (asked_for : Query A) (c : ℕ) (new : State K A) : Type 0 where
+    pub serial : c ≡ old.last + 1
+    pub cursor : CursorState K A
+    pub after : new ≡ record old { last = c; cursors = old.cursors ++ cursor ∷ [] }
+    pub number : cursor.serial ≡ c
+    pub query : cursor.query ≡ asked_for
+    pub opened : cursor.opened ≡ length old.commits
+    pub unasked : cursor.asked ≡ false
+    pub fits : Fits matching old.commits cursor []
+
+  -- an open cursor gives its next item, or nothing; all else stays
+  pub record Nexts (old : State K A) (c : ℕ) (given : Option (Item K)) (new : State K A) : Type 0 where
+    pub before : CursorState K A
+    pub after : CursorState K A
+    pub is_open : cursor_of old c ≡ Ok before
+    pub gives : Gives old.commits before given after
+    pub is : new ≡ with_cursor old after
+
+  -- no item comes for want of memory; the cursor may have got on, and what fits it still fits
+  pub record Wants (old : State K A) (c : ℕ) (new : State K A) : Type 0 where
+    pub before : CursorState K A
+    pub after : CursorState K A
+    pub is_open : cursor_of old c ≡ Ok before
+    pub strives : Strives old.commits before after
+    pub is : new ≡ with_cursor old after
+
+  -- refused by its serial, or for memory
+  abbrev pub RefusesNext : State K A → ℕ → Refusal → State K A → Type 0
+  RefusesNext old c why new = ((cursor_of old c ≡ Err why) × (new ≡ old)) ⊎ ((why ≡ refusal.OutOfMemory) × Wants old c new)
+
+module _ {K A : Type 0} where
+  -- the open cursor changes in this way, and all else stays
+  pub record Changes (change : CursorState K A → CursorState K A) (old : State K A) (c : ℕ) (new : State K A) : Type 0 where
+    pub before : CursorState K A
+    pub is_open : cursor_of old c ≡ Ok before
+    pub is : new ≡ with_cursor old (change before)
+
+  abbrev pub with_asking : CursorState K A → CursorState K A
+  with_asking k = record k { asked = true }
+
+  -- the place of an open cursor
+  pub record IsAt (state : State K A) (c at : ℕ) : Type 0 where
+    pub within : at < length state.cursors
+    pub cursor : CursorState K A
+    pub number : cursor.serial ≡ c
+    pub is : slice_get state.cursors at ≡ Some cursor
+    pub is_open : cursor_of state c ≡ Ok cursor
+    pub put : (k : CursorState K A) → k.serial ≡ c → replaced k state.cursors ≡ slice_set state.cursors at k
+
+-- the room or the depth is out of range
+abbrev pub IsBadOpening : {A : Type 0} → Query A → ℕ → Type 0
+IsBadOpening query room = (room ≡ 0) ⊎ (4096 < room) ⊎ (32 < depth_of query)
+
+abbrev pub IsFullOf : {K A : Type 0} → State K A → Type 0
+IsFullOf state = (256 ≤ length state.cursors) ⊎ (4294967295 ≤ state.last)

@@ -1,0 +1,191 @@
+ghost use Rattle.std.specs.Prelude.{◌≡◌, ◌+◌, ◌≤◌, ◌<◌, ◌↔◌, ◌⊎◌, ◌&&◌, [], ◌∷◌, ◌++◌, length, filter, map, IfOk, IfErr, OnOk, OnErr, Some, None, Ok, Err, IsPermutation};
+ghost use Rattle.key_class.specs.Queries.{query_of, matches_query, depth_of};
+ghost use Rattle.change_list.specs.Configs.{IsWithinLimits};
+ghost use Rattle.change_list.specs.Changes.{IsLegal, status_of, snapshot, commit_at};
+ghost use Rattle.change_list.specs.Cursors.{CursorState};
+ghost use Rattle.store.specs.States.{State, new_state, Commits, Keeps, cursor_of, with_cursor, without_cursor, Gives, IsOpened, IsBadOpening, IsFullOf, is_needed, Nexts, RefusesNext, Changes, with_asking, IsAt};
+ghost use Rattle.store.specs.Entries.{dead_rows, shown, marked, row_of, is_live};
+
+use crate::cursor::Cursor;
+use crate::entry::Entry;
+use change_list::{ChangeList, Config, Item, Row, Status, Write};
+use key_class::{KeyClass, Pred, Refusal};
+use std::alloc::{AllocError, Global};
+use std::collections::VecDeque;
+use std::marker::Model;
+
+/// A store over a plain list of entries.
+#[derive(Drop)]
+pub struct Store<C: KeyClass> {
+    alloc: Global,
+    limit: u64,
+    pages_left: u64,
+    changes: ChangeList<C::Key>,
+    entries: Vec<Entry<C::Key>>,
+    cursors: Vec<Cursor<C>>,
+    last: u64,
+}
+
+impl<C: KeyClass> Model for Store<C> {
+    ghost use Rattle.key_class.specs.QueryCodes.{query_code};
+    ghost use Rattle.std.specs.Prelude.{map};
+    ghost use Rattle.std.specs.Coded.{codes};
+    ghost use Rattle.store.specs.States.{State};
+    ghost use Rattle.store.specs.Entries.{shown, dead_rows, IsSound};
+
+    ghost Value = { State C.Key C.Atom };
+
+    ghost coded = { Prim.hlevel (codes, query_code) };
+
+    ghost view = { λ s. record { limit = s.limit; commits = s.changes; cursors = map (shown C.is_match s.entries.items) s.cursors.items; last = s.last; dead = dead_rows s.entries.items; pages_left = s.pages_left; finders = 0 } };
+
+    ghost invariant = { λ s. IsSound s.changes s.entries.items s.cursors.items s.last };
+}
+
+impl<C: KeyClass> Store<C> {
+    /// An empty store.
+    ///
+    /// # Errors
+    /// `BadConfig` where a limit of the configuration is out of its range, and want of memory.
+    pub fn new(alloc: Global, config: Config) -> Result<Store<C>, Refusal>
+        ensures ok { IfOk result (λ store. store ≡ new_state config) }
+        ensures bad { (result ≡ Err Refusal.BadConfig) ↔ (¬ IsWithinLimits config) }
+        ensures refusals { IfErr result (λ e. (e ≡ Refusal.BadConfig) ⊎ (e ≡ Refusal.OutOfMemory)) }
+    {
+        if !config.is_within_limits() {
+            return Err(Refusal::BadConfig);
+        }
+        Ok(Store {
+            alloc,
+            limit: u64::from(config.commits),
+            pages_left: u64::from(config.pages - 1),
+            changes: ChangeList::new(alloc),
+            entries: Vec::new(alloc),
+            cursors: Vec::new(alloc),
+            last: 0,
+        })
+    }
+
+    /// How many commits there are.
+    pub fn commits(&self) -> u64
+        ensures number { result ≡ length self.now.commits }
+        ensures legal { IsLegal self.now.commits }
+    {
+        self.changes.len() as u64
+    }
+
+    /// The commit with a number. The first has number 1.
+    pub fn commit(&self, number: u64) -> Option<Write<C::Key>>
+        ensures { result ≡ commit_at self.now.commits number }
+    {
+        self.changes.commit(number)
+    }
+
+    /// Adds a row.
+    pub fn insert(&mut self, key: C::Key, tag: u64) -> Result<u64, Refusal>
+        ensures number { IfOk result (λ n. n ≡ length self.old.commits + 1) }
+        ensures ok { OnOk result (Commits C.is_match self.old (Write.Insert key tag) self.new) }
+        ensures dead { OnOk result (IsPermutation self.old.dead self.new.dead) }
+        ensures finders { self.new.finders ≡ self.old.finders }
+        ensures err { OnErr result (Keeps C.is_match self.old self.new) }
+        ensures full { (result ≡ Err Refusal.CommitsFull) ↔ (self.old.limit ≤ length self.old.commits) }
+        ensures refusals { IfErr result (λ e. (e ≡ Refusal.OutOfMemory) ⊎ (e ≡ Refusal.CommitsFull) ⊎ ((e ≡ Refusal.PagesFull) × (self.new.pages_left < 2))) }
+        ensures legal { IsLegal self.new.commits }
+    {
+        let count = self.changes.len() as u64;
+        if count >= self.limit {
+            return Err(Refusal::CommitsFull);
+        }
+        self.entries.try_reserve(1)?;
+        self.changes.push(Write::Insert(key, tag))?;
+        let number = count + 1;
+        let _pushed = self.entries.push(Entry { key, row: number, tag, died: None });
+        Ok(number)
+    }
+
+    /// The place of an open cursor, or why there is none.
+    fn place_of(&self, c: u64) -> Result<usize, Refusal>
+        ensures ok { IfOk result (λ at. IsAt self.now c at) }
+        ensures err { IfErr result (λ why. cursor_of self.now c ≡ Err why) }
+    {
+        if c == 0 || self.last < c {
+            return Err(Refusal::NoSuchCursor);
+        }
+        'searching: for at in 0..self.cursors.len() {
+            if self.cursors[at].serial == c {
+                return Ok(at);
+            }
+        }
+        Err(Refusal::CursorClosed)
+    }
+
+    /// Opens a cursor at the present commits.
+    pub fn open(&mut self, query: Pred<C::Atom>, room: u64) -> Result<u64, Refusal>
+        ensures ok { IfOk result (λ c. IsOpened C.is_match self.old (query_of query) c self.new) }
+        ensures err { OnErr result (self.new ≡ self.old) }
+        ensures bad { (result ≡ Err Refusal.BadConfig) ↔ IsBadOpening (query_of query) room }
+        ensures full { result ≡ Err Refusal.CursorsFull → IsFullOf self.old }
+        ensures refusals { IfErr result (λ e. (e ≡ Refusal.BadConfig) ⊎ (e ≡ Refusal.CursorsFull) ⊎ (e ≡ Refusal.OutOfMemory)) }
+    {
+        if room == 0 || room > 4096 || !query.is_within_depth(32) {
+            return Err(Refusal::BadConfig);
+        }
+        if self.cursors.len() >= 256 || self.last >= 4294967295 {
+            return Err(Refusal::CursorsFull);
+        }
+        let count = self.changes.len() as u64;
+        let serial = self.last + 1;
+        let pending = VecDeque::new(self.alloc);
+        self.cursors.push(Cursor { serial, query, opened: count, scanning: true, pending, position: count, asked: false })?;
+        self.last = serial;
+        Ok(serial)
+    }
+
+    /// The next item of a cursor, or none where nothing is left and no mark is asked.
+    pub fn next(&mut self, c: u64) -> Result<Option<Item<C::Key>>, Refusal>
+        ensures ok { IfOk result (λ item. Nexts C.is_match self.old c item self.new) }
+        ensures err { IfErr result (λ why. RefusesNext C.is_match self.old c why self.new) }
+    {
+        let at = self.place_of(c)?;
+        match self.cursors[at].next(self.alloc, &self.changes, &self.entries) {
+            Ok(item) => return Ok(item),
+            Err(_) => return Err(Refusal::OutOfMemory),
+        }
+    }
+
+    /// Asks a cursor for a mark.
+    pub fn ask_mark(&mut self, c: u64) -> Result<(), Refusal>
+        ensures ok { OnOk result (Changes with_asking self.old c self.new) }
+        ensures err { IfErr result (λ why. (cursor_of self.old c ≡ Err why) × (self.new ≡ self.old)) }
+    {
+        let at = self.place_of(c)?;
+        self.cursors[at].ask();
+        Ok(())
+    }
+
+    /// The live rows that match, by rising number.
+    pub fn find(&self, query: &Pred<C::Atom>) -> Result<Vec<Row<C::Key>>, Refusal>
+        ensures ok { IfOk result (λ rows. rows.items ≡ snapshot (matches_query C.is_match (query_of query.now)) (length self.now.commits) self.now.commits) }
+        ensures depth { (result ≡ Err Refusal.BadConfig) ↔ (32 < depth_of (query_of query.now)) }
+        ensures refusals { IfErr result (λ e. (e ≡ Refusal.BadConfig) ⊎ (e ≡ Refusal.OutOfMemory)) }
+    {
+        if !query.is_within_depth(32) {
+            return Err(Refusal::BadConfig);
+        }
+        let rows = live_rows::<C>(self.alloc, &self.entries, query)?;
+        Ok(rows)
+    }
+}
+
+/// The live rows of a list of entries that match.
+fn live_rows<C: KeyClass>(alloc: Global, entries: &[Entry<C::Key>], query: &Pred<C::Atom>) -> Result<Vec<Row<C::Key>>, AllocError>
+    ensures { IfOk result (λ rows. rows.items ≡ map row_of (filter (λ e. is_live e && matches_query C.is_match (query_of query.now) e.key) entries.now)) }
+{
+    let mut rows = Vec::new(alloc);
+    for entry in entries {
+        if entry.died.is_none() && query.matches::<C>(entry.key) {
+            rows.push(entry.to_row())?;
+        }
+    }
+    Ok(rows)
+}
