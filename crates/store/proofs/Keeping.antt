@@ -17,7 +17,7 @@ use Rattle.key_class.specs.declared.refusal.Refusal.{Refusal}
 use Rattle.key_class.specs.declared.refusal.Refusal.TheVariants as refusal
 use Rattle.store.specs.declared.entry.Entry.{Entry}
 use Rattle.change_list.specs.Cursors.{CursorState, Fits}
-use Rattle.store.specs.Entries.{Held, shown, rows_to_scan, seen_rows, is_visible_at, is_live, row_of, dies_after, dead_rows, IsWithin, Agree, IsSound, marked}
+use Rattle.store.specs.Entries.{Held, shown, rows_to_scan, seen_rows, is_visible_at, is_live, row_of, dies_after, dead_rows, IsWithin, IsRising, Agree, IsSound, marked}
 use Rattle.store.specs.States.{State, cursor_of, open_or_closed, find_cursor, Stays, SameOrStays, KeepsCursors, Commits, Keeps, DeadRow, IsOpened}
 use Rattle.store.proofs.Fitting.{fits_push, fits_new}
 
@@ -59,6 +59,10 @@ module _ {K A : Type 0} (matching : A → K → Bool) (commits later : List (Wri
       by_test true r = refl
       by_test false r = r
 
+pub each_tt : {X : Type 0} (xs : List X) → AllByRecursion (λ (x : X). Unit {0}) xs
+each_tt [] = tt
+each_tt (x ∷ xs) = (tt, each_tt xs)
+
 visible_past : {K : Type 0} (s : ℕ) (e : Entry K) (b : Bool) → s < e.row → (is_visible_at s e && b) ≡ false
 visible_past s e b h = rw (lt-leb e.row s h) refl
 
@@ -81,10 +85,6 @@ module _ {K A : Type 0} (matching : A → K → Bool) (commits : List (Write K))
       fits_push matching commits (shown matching entries h) items f (Insert key tag) _ (subst (λ r. IsPermutation (shown matching entries h).remaining r) same (IsPermutation-refl _));
   }
 
-  each_tt : (hs : List (Held K A)) → AllByRecursion (λ h. Unit {0}) hs
-  each_tt [] = tt
-  each_tt (h ∷ hs) = (tt, each_tt hs)
-
   dead_push : dead_rows (entries ++ fresh ∷ []) ≡ dead_rows entries
   dead_push = go entries
     where
@@ -100,6 +100,11 @@ module _ {K A : Type 0} (matching : A → K → Bool) (commits : List (Write K))
   within_later n None h = tt
   within_later n (Some died) h = omega (arith, h)
 
+  rising_push : (above : ℕ) (es : List (Entry K)) → IsRising above es → AllByRecursion (λ (e : Entry K). (e.row ≤ length commits) × IsWithin (length commits) e.died) es
+      → above < length commits + 1 → IsRising above (es ++ fresh ∷ [])
+  rising_push above [] r a l = (l, tt)
+  rising_push above (e ∷ es) r a l = (r.0, rising_push e.row es r.1 a.1 (omega (arith, a.0.0)))
+
   module _ (cursors : List (Held K A)) (last : ℕ) (s : IsSound commits entries cursors last) where
     pub sound_insert : IsSound (commits ++ Insert key tag ∷ []) (entries ++ fresh ∷ []) cursors last
     sound_insert =
@@ -114,6 +119,7 @@ module _ {K A : Type 0} (matching : A → K → Bool) (commits : List (Write K))
                 (each_weaker (λ (e : Entry K). (e.row ≤ length commits) × IsWithin (length commits) e.died) (λ (e : Entry K). (e.row ≤ length commits + 1) × IsWithin (length commits + 1) e.died)
                   (λ e p. (omega (arith, p.0), within_later (length commits) e.died p.1)) entries s.agree.numbers)
                 (omega arith, tt));
+            rising = rising_push 0 entries s.agree.rising s.agree.numbers (omega arith);
           };
           serials = s.serials;
         }

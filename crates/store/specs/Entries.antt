@@ -1,5 +1,5 @@
 -- The plain body: its entries and its cursors.
-use Rattle.std.specs.Prelude.{◌≡◌, ℕ, ◌+◌, ◌<◌, ◌≤◌, Bool, true, false, not, ◌&&◌, nat_le, nat_lt, List, [], ◌∷◌, ◌++◌, length, map, filter, Option, Some, None, is_none, nat_eq, if◌then◌else◌}
+use Rattle.std.specs.Prelude.{◌≡◌, ℕ, ◌+◌, ◌<◌, ◌≤◌, Bool, true, false, not, ◌&&◌, nat_le, nat_lt, List, [], ◌∷◌, ◌++◌, length, map, filter, Option, Some, None, is_none, nat_eq, if◌then◌else◌, min}
 use Rattle.std.specs.List.{filter_map, AllByRecursion}
 use Rattle.change_list.specs.declared.write.Write.{Write}
 use Rattle.change_list.specs.declared.item.Row.{Row}
@@ -48,10 +48,16 @@ module _ {K : Type 0} where
   abbrev pub dead_rows : List (Entry K) → List DeadRow
   dead_rows entries = filter_map (λ e. dead_from e.row e.died) entries
 
+  -- the numbers of the rows rise
+  abbrev pub IsRising : ℕ → List (Entry K) → Type 0
+  IsRising above [] = Unit {0}
+  IsRising above (entry ∷ entries) = (above < entry.row) × IsRising entry.row entries
+
   -- the live entries are the rows of the commits, and no number lies past them
   pub record Agree (commits : List (Write K)) (entries : List (Entry K)) : Type 0 where
     pub live : map row_of (filter is_live entries) ≡ rows commits
     pub numbers : AllByRecursion (λ (e : Entry K). (e.row ≤ length commits) × IsWithin (length commits) e.died) entries
+    pub rising : IsRising 0 entries
 
 -- what holds of the plain body
 pub record IsSound {K A : Type 0} (commits : List (Write K)) (entries : List (Entry K)) (cursors : List (Held K A)) (last : ℕ) : Type 0 where
@@ -59,9 +65,14 @@ pub record IsSound {K A : Type 0} (commits : List (Write K)) (entries : List (En
   pub agree : Agree commits entries
   pub serials : AllByRecursion (λ (h : Held K A). h.serial ≤ last) cursors
 
+-- the least opening number of the cursors whose scan isn't over, or n where it is less
+abbrev pub least_opening : {K A : Type 0} → ℕ → List (Held K A) → ℕ
+least_opening n [] = n
+least_opening n (h ∷ hs) = if h.scanning then min h.opened (least_opening n hs) else least_opening n hs
+
 -- the entries after the row died
 abbrev pub marked : {K : Type 0} → ℕ → ℕ → Entry K → Entry K
-marked row number entry = if nat_eq entry.row row && is_none entry.died then record entry { died = Some number } else entry
+marked row number entry = if nat_eq row entry.row && is_none entry.died then record entry { died = Some number } else entry
 
 module _ {K A : Type 0} (matching : A → K → Bool) where
   abbrev pub rows_to_scan : Bool → Query A → ℕ → List (Entry K) → List (Row K)

@@ -1,5 +1,6 @@
 -- What contracts see of a store, and what its calls do to it.
 use Rattle.std.specs.Prelude.{◌≡◌, ℕ, ◌+◌, ◌-◌, ◌<◌, ◌≤◌, Bool, true, false, not, ◌&&◌, ◌||◌, nat_le, nat_lt, nat_eq, List, [], ◌∷◌, ◌++◌, length, map, filter, find, min, Option, Some, None, Result, Ok, Err, IsPermutation, if◌then◌else◌, option_to_list, slice_get, slice_set, ◌⊎◌, IfSome}
+use Rattle.std.specs.List.{AllByRecursion}
 use Rattle.change_list.specs.declared.config.Config.{Config}
 use Rattle.change_list.specs.declared.write.Write.{Write}
 use Rattle.change_list.specs.declared.item.Item.{Item}
@@ -45,6 +46,14 @@ module _ {K A : Type 0} where
   abbrev pub cursor_of : State K A → ℕ → Result (CursorState K A) Refusal
   cursor_of state c = if nat_eq c 0 || nat_lt state.last c then Err refusal.NoSuchCursor else open_or_closed (find_cursor c state.cursors)
 
+  -- how much the cursor with a serial has still to do
+  abbrev pub work_of : List (Write K) → Result (CursorState K A) Refusal → ℕ
+  work_of commits (Ok cursor) = work commits cursor
+  work_of commits (Err why) = 0
+
+  abbrev pub work_at : State K A → ℕ → ℕ
+  work_at state c = work_of state.commits (cursor_of state c)
+
   -- the cursor stands where that with its serial stood
   abbrev pub replaced : CursorState K A → List (CursorState K A) → List (CursorState K A)
   replaced k [] = []
@@ -61,6 +70,7 @@ module _ {K A : Type 0} where
   horizon_of n [] = n
   horizon_of n (k ∷ ks) = if k.scanning then min k.opened (horizon_of n ks) else horizon_of n ks
 
+  -- a dead row is needed by a scan that began before it died
   abbrev pub is_needed : State K A → DeadRow → Bool
   is_needed state dead = nat_lt (horizon_of (length state.commits) state.cursors) dead.died
 
@@ -149,11 +159,65 @@ module _ {K A : Type 0} (matching : A → K → Bool) where
     pub strives : Strives old.commits before after
     pub is : new ≡ with_cursor old after
 
+  -- a cursor gave these items, one after the other
+  abbrev pub Gave : State K A → ℕ → List (Item K) → State K A → Type 0
+  Gave old c [] new = new ≡ old
+  Gave old c (item ∷ items) new = (mid : State K A) × Nexts old c (Some item) mid × Gave mid c items new
+
   -- refused by its serial, or for memory
   abbrev pub RefusesNext : State K A → ℕ → Refusal → State K A → Type 0
   RefusesNext old c why new = ((cursor_of old c ≡ Err why) × (new ≡ old)) ⊎ ((why ≡ refusal.OutOfMemory) × Wants old c new)
 
+  -- a cursor has nothing more to give, or was refused
+  abbrev pub EndsDrain : State K A → ℕ → Result (Unit {0}) Refusal → State K A → Type 0
+  EndsDrain old c (Ok done) new = Nexts old c None new
+  EndsDrain old c (Err why) new = RefusesNext old c why new
+
+  -- a cursor gave these items until nothing was left or it was refused
+  pub record Drains (old : State K A) (c : ℕ) (items : List (Item K)) (result : Result (Unit {0}) Refusal) (new : State K A) : Type 0 where
+    pub last_given : State K A
+    pub gave : Gave old c items last_given
+    pub ended : EndsDrain last_given c result new
+
+  -- nothing but dead rows
+  pub record KeepsLiving (old new : State K A) : Type 0 where
+    pub limit : new.limit ≡ old.limit
+    pub commits : new.commits ≡ old.commits
+    pub last : new.last ≡ old.last
+    pub cursors : KeepsCursors old new
+    pub pages : new.pages_left ≡ old.pages_left
+    pub finders : new.finders ≡ old.finders
+
+  -- a sweep removed all dead rows that no scan needs, and this many
+  pub record Sweeps (old : State K A) (number : ℕ) (new : State K A) : Type 0 where
+    pub rest : KeepsLiving old new
+    pub counted : number + length new.dead ≡ length old.dead
+    pub left : IsPermutation (filter (is_needed old) old.dead) new.dead
+
+  -- a sweep that memory stopped removed some dead rows that no scan needs
+  pub record SweepsSome (old new : State K A) : Type 0 where
+    pub rest : KeepsLiving old new
+    pub gone : List DeadRow
+    pub parted : IsPermutation old.dead (gone ++ new.dead)
+    pub unneeded : AllByRecursion (λ d. is_needed old d ≡ false) gone
+
 module _ {K A : Type 0} where
+  -- no finder can be opened any more
+  abbrev pub HasNoFinderLeft : State K A → Type 0
+  HasNoFinderLeft state = 4294967295 ≤ state.finders
+
+  -- the refusals that a delete may give
+  abbrev pub RefusesDelete : State K A → Refusal → Type 0
+  RefusesDelete old why =
+      (why ≡ refusal.NoSuchRow) ⊎ (why ≡ refusal.AlreadyDeleted) ⊎ (why ≡ refusal.CommitsFull) ⊎ (why ≡ refusal.OutOfMemory)
+      ⊎ ((why ≡ refusal.FindersFull) × HasNoFinderLeft old)
+
+  -- the open cursor is open no more, and all else stays
+  pub record Closes (old : State K A) (c : ℕ) (new : State K A) : Type 0 where
+    pub cursor : CursorState K A
+    pub was_open : cursor_of old c ≡ Ok cursor
+    pub is : new ≡ without_cursor old c
+
   -- the open cursor changes in this way, and all else stays
   pub record Changes (change : CursorState K A → CursorState K A) (old : State K A) (c : ℕ) (new : State K A) : Type 0 where
     pub before : CursorState K A

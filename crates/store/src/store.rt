@@ -1,10 +1,10 @@
-ghost use Rattle.std.specs.Prelude.{◌≡◌, ◌+◌, ◌≤◌, ◌<◌, ◌↔◌, ◌⊎◌, ◌&&◌, [], ◌∷◌, ◌++◌, length, filter, map, IfOk, IfErr, OnOk, OnErr, Some, None, Ok, Err, IsPermutation};
+ghost use Rattle.std.specs.Prelude.{◌≡◌, ◌+◌, ◌≤◌, ◌<◌, ◌↔◌, ◌⊎◌, ◌&&◌, List, [], ◌∷◌, ◌++◌, length, filter, map, IfOk, IfErr, OnOk, OnErr, Some, None, Ok, Err, IsPermutation, not, nat_eq};
 ghost use Rattle.key_class.specs.Queries.{query_of, matches_query, depth_of};
 ghost use Rattle.change_list.specs.Configs.{IsWithinLimits};
 ghost use Rattle.change_list.specs.Changes.{IsLegal, status_of, snapshot, commit_at};
 ghost use Rattle.change_list.specs.Cursors.{CursorState};
-ghost use Rattle.store.specs.States.{State, new_state, Commits, Keeps, cursor_of, with_cursor, without_cursor, Gives, IsOpened, IsBadOpening, IsFullOf, is_needed, Nexts, RefusesNext, Changes, with_asking, IsAt};
-ghost use Rattle.store.specs.Entries.{dead_rows, shown, marked, row_of, is_live};
+ghost use Rattle.store.specs.States.{State, new_state, Commits, Keeps, cursor_of, with_cursor, without_cursor, Gives, IsOpened, IsBadOpening, IsFullOf, is_needed, RefusesDelete, Closes, Drains, Sweeps, SweepsSome, Nexts, RefusesNext, Changes, with_asking, IsAt};
+ghost use Rattle.store.specs.Entries.{dead_rows, dies_after, least_opening, shown, marked, row_of, is_live};
 
 use crate::cursor::Cursor;
 use crate::entry::Entry;
@@ -103,6 +103,38 @@ impl<C: KeyClass> Store<C> {
         Ok(number)
     }
 
+    /// Deletes a row, and gives the commit's number.
+    ///
+    /// # Errors
+    /// `NoSuchRow` where no insert has the number, `AlreadyDeleted`, `CommitsFull`, `FindersFull` once the last finder
+    /// of the store's life was opened, and want of memory. Nothing but pages changed then.
+    pub fn delete(&mut self, row: u64) -> Result<u64, Refusal>
+        ensures number { IfOk result (λ n. n ≡ length self.old.commits + 1) }
+        ensures ok { OnOk result (Commits C.is_match self.old (Write.Delete row) self.new) }
+        ensures dead { OnOk result (IsPermutation ((record { row = row; died = length self.old.commits + 1 }) ∷ self.old.dead) self.new.dead) }
+        ensures err { OnErr result (Keeps C.is_match self.old self.new) }
+        ensures no_such_row { (result ≡ Err Refusal.NoSuchRow) ↔ (status_of self.old.commits row ≡ Status.NeverIssued) }
+        ensures already_deleted { (result ≡ Err Refusal.AlreadyDeleted) ↔ (status_of self.old.commits row ≡ Status.Dead) }
+        ensures full { (result ≡ Err Refusal.CommitsFull) ↔ ((status_of self.old.commits row ≡ Status.Live) × (self.old.limit ≤ length self.old.commits)) }
+        ensures refusals { IfErr result (RefusesDelete self.old) }
+        ensures finders { self.new.finders ≤ self.old.finders + 1 }
+        ensures legal { IsLegal self.new.commits }
+    {
+        match self.changes.status(row) {
+            Status::NeverIssued => return Err(Refusal::NoSuchRow),
+            Status::Dead => return Err(Refusal::AlreadyDeleted),
+            Status::Live => {}
+        }
+        let count = self.changes.len() as u64;
+        if count >= self.limit {
+            return Err(Refusal::CommitsFull);
+        }
+        self.changes.push(Write::Delete(row))?;
+        let number = count + 1;
+        mark_dead(&mut self.entries, row, number);
+        Ok(number)
+    }
+
     /// The place of an open cursor, or why there is none.
     fn place_of(&self, c: u64) -> Result<usize, Refusal>
         ensures ok { IfOk result (λ at. IsAt self.now c at) }
@@ -153,6 +185,44 @@ impl<C: KeyClass> Store<C> {
         }
     }
 
+    /// Puts a cursor's items behind those of a list, until nothing is left to give.
+    ///
+    /// # Errors
+    /// `NoSuchCursor`, `CursorClosed`, and want of memory. What was given before stands in the list.
+    pub fn drain(&mut self, c: u64, into: &mut Vec<Item<C::Key>>) -> Result<(), Refusal>
+        ensures { (given : List (Item C.Key)) × (into.new.items ≡ into.old.items ++ given) × Drains C.is_match self.old c given result self.new }
+    {
+        'draining: loop {
+            self.place_of(c)?;
+            let Ok(()) = into.try_reserve(1) else {
+                return Err(Refusal::OutOfMemory);
+            };
+            match self.next(c)? {
+                None => return Ok(()),
+                Some(item) => {
+                    let _pushed = into.push(item);
+                }
+            }
+        }
+    }
+
+    /// Removes the dead rows that no cursor with a scan in progress needs, and gives their number.
+    ///
+    /// # Errors
+    /// Want of memory; some of those rows may be removed then.
+    pub fn sweep_all(&mut self) -> Result<u64, Refusal>
+        ensures ok { IfOk result (λ number. Sweeps C.is_match self.old number self.new) }
+        ensures err { OnErr result (SweepsSome C.is_match self.old self.new) }
+        ensures refusals { IfErr result (λ e. e ≡ Refusal.OutOfMemory) }
+    {
+        let horizon = horizon::<C>(&self.cursors, self.changes.len() as u64);
+        let before = self.entries.len();
+        self.entries.retain(|entry: &Entry<C::Key>| -> bool
+            ensures { result ≡ dies_after horizon entry.now.died }
+        { entry.outlives(horizon) });
+        Ok((before - self.entries.len()) as u64)
+    }
+
     /// Asks a cursor for a mark.
     pub fn ask_mark(&mut self, c: u64) -> Result<(), Refusal>
         ensures ok { OnOk result (Changes with_asking self.old c self.new) }
@@ -160,6 +230,21 @@ impl<C: KeyClass> Store<C> {
     {
         let at = self.place_of(c)?;
         self.cursors[at].ask();
+        Ok(())
+    }
+
+    /// Closes a cursor.
+    ///
+    /// # Errors
+    /// `NoSuchCursor` where the serial was never given, `CursorClosed` where its cursor is closed.
+    pub fn close(&mut self, c: u64) -> Result<(), Refusal>
+        ensures ok { OnOk result (Closes self.old c self.new) }
+        ensures err { IfErr result (λ why. (cursor_of self.old c ≡ Err why) × (self.new ≡ self.old)) }
+    {
+        self.place_of(c)?;
+        self.cursors.retain(|cursor: &Cursor<C>| -> bool
+            ensures { result ≡ not (nat_eq cursor.now.serial c) }
+        { cursor.serial != c });
         Ok(())
     }
 
@@ -174,6 +259,28 @@ impl<C: KeyClass> Store<C> {
         }
         let rows = live_rows::<C>(self.alloc, &self.entries, query)?;
         Ok(rows)
+    }
+}
+
+/// The least opening number of the cursors whose scan isn't over, or the number of commits.
+fn horizon<C: KeyClass>(cursors: &[Cursor<C>], commits: u64) -> u64
+    ensures { result ≡ least_opening commits cursors.now }
+{
+    let mut horizon = commits;
+    for cursor in cursors {
+        if cursor.scanning {
+            horizon = horizon.min(cursor.opened);
+        }
+    }
+    horizon
+}
+
+/// Lets the live entry of a row die with a commit.
+fn mark_dead<K>(entries: &mut Vec<Entry<K>>, row: u64, number: u64)
+    ensures { entries.new.items ≡ map (marked row number) entries.old.items }
+{
+    for entry in entries.iter_mut() {
+        entry.die(row, number);
     }
 }
 
