@@ -18,8 +18,8 @@ use Rattle.change_list.specs.Cursors.{CursorState, Fits}
 use Rattle.store.specs.declared.entry.Entry.{Entry}
 use Rattle.store.specs.Entries.{Held, shown, rows_to_scan, seen_rows, is_visible_at, is_live, row_of, dies_after, dead_from, dead_rows, IsWithin, IsRising, Agree, IsSound, marked}
 use Rattle.store.specs.States.{DeadRow, Stays, KeepsCursors, Commits}
-use Rattle.store.proofs.Fitting.{fits_push}
-use Rattle.store.proofs.Keeping.{each_weaker, keeps_cursors, each_tt}
+use Rattle.change_list.proofs.Fitting.{fits_push}
+use Rattle.store.proofs.Keeping.{keeps_cursors, each_tt, as_many}
 
 module _ {K : Type 0} (row n : ℕ) where
   -- whether an entry is the one that dies
@@ -215,7 +215,7 @@ module _ {K A : Type 0} (matching : A → K → Bool) (commits : List (Write K))
             (Delete row)
             (record { limit = limit; commits = commits ++ Delete row ∷ []; cursors = map (shown matching after) cursors; last = last; dead = dead_rows after; pages_left = pages; finders = 0 })
     delete_commits limit pages = record {
-      limit = refl; commits = refl; last = refl; pages = omega arith;
+      limit = refl; commits = refl; last = refl; pages = omega arith; as_many = as_many matching entries after cursors;
       cursors = keeps_cursors matching commits (commits ++ Delete row ∷ []) entries after (λ h. Unit {0}) stays_delete cursors limit last pages pages (dead_rows entries) (dead_rows after) (each_tt cursors);
     }
 

@@ -13,7 +13,7 @@ use Rattle.change_list.specs.Cursors.{CursorState, IsFollowing, Fits, IsDone, wa
 use Rattle.store.specs.Entries.{Held, shown}
 use Rattle.store.specs.States.{Gives, Answers}
 use Rattle.store.specs.Steps.{TakesRow, Passes}
-use Rattle.store.proofs.Fitting.{fits_scan, fits_row, fits_changes, fits_mark}
+use Rattle.change_list.proofs.Fitting.{fits_scan, fits_row, fits_changes, fits_mark}
 
 module _ {K A : Type 0} (matching : A → K → Bool) (commits : List (Write K)) (entries : List (Entry K)) (before : Held K A) where
   pub gives_row : (row : Row K) (after : Held K A) → TakesRow matching entries before (Some row) after

@@ -2,7 +2,7 @@
 use Rattle.std.proofs.Common.{◌≡◌, ◌+◌, ◌-◌, ◌<◌, ◌≤◌, ◌≢◌, ℕ, suc, zero, Bool, true, false, not, cond, ◌&&◌, ◌||◌, List, [], ◌∷◌, ◌++◌, length, take, drop, map, filter, Option, Some, None, Result, Ok, Err, refl, sym, ap, ◌∙◌, arith, subst, length-append, ⊎_elim, min}
 use Rattle.std.specs.Prelude.{nat_eq, nat_le, nat_lt, is_none, find, IsPermutation, slice_get, slice_set, if◌then◌else◌}
 use Rattle.std.specs.List.{filter_map, AllByRecursion}
-use Rattle.std.proofs.lemmas.List.{append-nil, map-append, take_all}
+use Rattle.std.proofs.lemmas.List.{append-nil, map-append, take_all, length-map}
 use Rattle.std.proofs.lemmas.List.Sorted.{IsPermutation-refl}
 use Rattle.std.proofs.lemmas.Bool.{lt-leb, le-leb}
 use Rattle.change_list.specs.declared.write.Write.{Write}
@@ -19,7 +19,8 @@ use Rattle.store.specs.declared.entry.Entry.{Entry}
 use Rattle.change_list.specs.Cursors.{CursorState, Fits}
 use Rattle.store.specs.Entries.{Held, shown, rows_to_scan, seen_rows, is_visible_at, is_live, row_of, dies_after, dead_rows, IsWithin, IsRising, Agree, IsSound, marked}
 use Rattle.store.specs.States.{State, cursor_of, open_or_closed, find_cursor, Stays, SameOrStays, KeepsCursors, Commits, Keeps, DeadRow, IsOpened}
-use Rattle.store.proofs.Fitting.{fits_push, fits_new}
+use Rattle.change_list.proofs.Fitting.{fits_push, fits_new}
+use Rattle.store.proofs.Serials.{rise_push}
 
 module _ {X : Type 0} (P Q : X → Type 0) (weaker : (x : X) → P x → Q x) where
   pub each_weaker : (xs : List X) → AllByRecursion P xs → AllByRecursion Q xs
@@ -62,6 +63,9 @@ module _ {K A : Type 0} (matching : A → K → Bool) (commits later : List (Wri
 pub each_tt : {X : Type 0} (xs : List X) → AllByRecursion (λ (x : X). Unit {0}) xs
 each_tt [] = tt
 each_tt (x ∷ xs) = (tt, each_tt xs)
+
+pub as_many : {K A : Type 0} (matching : A → K → Bool) (entries now : List (Entry K)) (hs : List (Held K A)) → length (map (shown matching now) hs) ≡ length (map (shown matching entries) hs)
+as_many matching entries now hs = rw (length-map, length-map) refl
 
 visible_past : {K : Type 0} (s : ℕ) (e : Entry K) (b : Bool) → s < e.row → (is_visible_at s e && b) ≡ false
 visible_past s e b h = rw (lt-leb e.row s h) refl
@@ -130,7 +134,7 @@ module _ {K A : Type 0} (matching : A → K → Bool) (commits : List (Write K))
             (Insert key tag)
             (record { limit = limit; commits = commits ++ Insert key tag ∷ []; cursors = map (shown matching (entries ++ fresh ∷ [])) cursors; last = last; dead = dead_rows (entries ++ fresh ∷ []); pages_left = pages; finders = 0 })
     insert_commits limit pages = record {
-      limit = refl; commits = refl; last = refl; pages = omega arith;
+      limit = refl; commits = refl; last = refl; pages = omega arith; as_many = as_many matching entries (entries ++ fresh ∷ []) cursors;
       cursors = keeps_cursors matching commits (commits ++ Insert key tag ∷ []) entries (entries ++ fresh ∷ []) (λ h. Unit {0}) stays_insert cursors limit last pages pages (dead_rows entries) (dead_rows (entries ++ fresh ∷ [])) (each_tt cursors);
     }
 
@@ -180,8 +184,7 @@ module _ {K A : Type 0} (matching : A → K → Bool) (commits : List (Write K))
   sound_open = record {
     legal = s.legal;
     agree = s.agree;
-    serials = each_push (λ (h : Held K A). h.serial ≤ last + 1) cursors new_cursor
-      (each_weaker (λ (h : Held K A). h.serial ≤ last) (λ (h : Held K A). h.serial ≤ last + 1) (λ h p. omega (arith, p)) cursors s.serials) (omega arith);
+    serials = rise_push 0 last cursors new_cursor refl s.serials;
   }
 
   pub is_opened : (limit pages : ℕ)

@@ -7,6 +7,7 @@ use Rattle.std.specs.List.{AllByRecursion}
 use Rattle.store.specs.declared.entry.Entry.{Entry}
 use Rattle.change_list.specs.Cursors.{CursorState}
 use Rattle.store.specs.Entries.{Held, shown, IsSound}
+use Rattle.store.proofs.Serials.{rise_set}
 use Rattle.std.proofs.lemmas.List.{length-map}
 use Rattle.store.specs.States.{DeadRow, State, cursor_of, open_or_closed, find_cursor, replaced, with_cursor, IsAt}
 
@@ -92,23 +93,12 @@ module _ {K A : Type 0} where
         let t = given_test c last z l in
         rw (t, none_open matching entries c hs (subst (λ k. NoneBefore c k hs) e b)) refl
 
-each_set : {X : Type 0} (P : X → Type 0) (xs : List X) (i : ℕ) (y : X) → AllByRecursion P xs → P y → AllByRecursion P (slice_set xs i y)
-each_set P [] i y h p = tt
-each_set P (x ∷ xs) zero y h p = (p, h.1)
-each_set P (x ∷ xs) (suc i) y h p = (h.0, each_set P xs i y h.1 p)
-
-each_at : {X : Type 0} (P : X → Type 0) (xs : List X) (i : ℕ) (x : X) → AllByRecursion P xs → slice_get xs i ≡ Some x → P x
-each_at P [] i x h e = absurd (cc)
-each_at P (y ∷ xs) zero x h e = let f : y ≡ x = cc in subst P f h.0
-each_at P (y ∷ xs) (suc i) x h e = each_at P xs i x h.1 e
-
 module _ {K A : Type 0} where
   -- a cursor that keeps its serial may take its own place
   pub sound_set : (commits : List (Write K)) (entries : List (Entry K)) (hs : List (Held K A)) (last i : ℕ) (h a : Held K A) → IsSound commits entries hs last
       → i < length hs → h ≡ slice_index_or hs i h → a.serial ≡ h.serial → IsSound commits entries (slice_set hs i a) last
   sound_set commits entries hs last i h a s w e n =
-      let b : h.serial ≤ last = each_at (λ (h : Held K A). h.serial ≤ last) hs i h s.serials (get_some hs i h w e) in
-      record { legal = s.legal; agree = s.agree; serials = each_set (λ (h : Held K A). h.serial ≤ last) hs i a s.serials (omega (arith, b, n)) }
+      record { legal = s.legal; agree = s.agree; serials = rise_set 0 last i hs h a (get_some hs i h w e) n s.serials }
 
   pub record Puts (state : State K A) (c : ℕ) (before after : CursorState K A) (new : State K A) : Type 0 where
     pub is_open : cursor_of state c ≡ Ok before

@@ -11,8 +11,9 @@ use Rattle.key_class.specs.Queries.{Query, matches_query}
 use Rattle.change_list.specs.Cursors.{CursorState, Fits}
 use Rattle.store.specs.declared.entry.Entry.{Entry}
 use Rattle.store.specs.Entries.{Held, shown, rows_to_scan, seen_rows, is_visible_at, is_live, row_of, dies_after, dead_from, dead_rows, IsWithin, IsRising, Agree, IsSound, least_opening}
-use Rattle.store.specs.States.{State, DeadRow, Stays, KeepsCursors, KeepsLiving, Sweeps, is_needed, horizon_of}
-use Rattle.store.proofs.Keeping.{keeps_cursors}
+use Rattle.store.specs.States.{State, DeadRow, Stays, KeepsCursors, KeepsLiving, Sweeps, IsNeededBy, is_needed, horizon_of}
+use Rattle.store.proofs.Keeping.{keeps_cursors, as_many}
+use Rattle.store.proofs.Serials.{scan_before}
 use Rattle.store.proofs.Closing.{each_filtered}
 use Rattle.store.proofs.Deleting.{rising_weaker}
 
@@ -143,6 +144,34 @@ module _ {K A : Type 0} (matching : A → K → Bool) (commits : List (Write K))
     serials = s.serials;
   }
 
+  module _ (limit pages : ℕ) where
+    abbrev pub swept_state : State K A
+    swept_state = record { limit = limit; commits = commits; cursors = map (shown matching entries) cursors; last = last; dead = dead_rows entries; pages_left = pages; finders = 0 }
+
+    -- what stays is needed by an open cursor
+    needed_one : (d : DeadRow) → horizon < d.died → d.died ≤ length commits → IsNeededBy swept_state d
+    needed_one d l w =
+        let b = scan_before matching entries 0 last (length commits) d.died cursors s.serials l w in
+        let z : nat_eq b.cursor.serial 0 ≡ false = search (arith, b.above_it) in
+        let g : nat_lt last b.cursor.serial ≡ false = search (arith, b.given) in
+        record { serial = b.cursor.serial; cursor = shown matching entries b.cursor; is_open = rw (z, g, b.found) refl; scanning = b.scanning; opened = b.opened }
+
+    needed_all : (es : List (Entry K)) → AllByRecursion (λ (e : Entry K). (e.row ≤ length commits) × IsWithin (length commits) e.died) es
+        → AllByRecursion (λ (d : DeadRow). IsNeededBy swept_state d) (dead_rows (filter (is_left horizon) es))
+    needed_all [] h = tt
+    needed_all (e ∷ es) h = go e.died refl h.0.1 (needed_all es h.1)
+      where
+        go : (d : Option ℕ) → e.died ≡ d → IsWithin (length commits) e.died → AllByRecursion (λ (d : DeadRow). IsNeededBy swept_state d) (dead_rows (filter (is_left horizon) es))
+            → AllByRecursion (λ (d : DeadRow). IsNeededBy swept_state d) (dead_rows (filter (is_left horizon) (e ∷ es)))
+        go None d w r = rw d r
+        go (Some n) d w r = by_test (nat_lt horizon n) refl
+          where
+            by_test : (b : Bool) → nat_lt horizon n ≡ b → AllByRecursion (λ (d : DeadRow). IsNeededBy swept_state d) (dead_rows (filter (is_left horizon) (e ∷ es)))
+            by_test true h =
+                let m : n ≤ length commits = subst (λ x. IsWithin (length commits) x) d w in
+                rw (d, h) (needed_one (record { row = e.row; died = n }) (search (arith, h)) m, r)
+            by_test false h = rw (d, h) r
+
   pub sweeps : (limit pages number : ℕ) → number ≡ length entries - length left
       → Sweeps matching
           (record { limit = limit; commits = commits; cursors = map (shown matching entries) cursors; last = last; dead = dead_rows entries; pages_left = pages; finders = 0 })
@@ -155,10 +184,11 @@ module _ {K A : Type 0} (matching : A → K → Bool) (commits : List (Write K))
       let fewer : length (dead_rows left) ≤ length (dead_rows entries) = rw d (fewer_left (λ (x : DeadRow). nat_lt horizon x.died) (dead_rows entries)) in
       record {
         rest = record {
-          limit = refl; commits = refl; last = refl; pages = refl; finders = refl;
+          limit = refl; commits = refl; last = refl; pages = refl; finders = refl; as_many = as_many matching entries left cursors;
           cursors = keeps_cursors matching commits commits entries left (λ (h : Held K A). h.scanning ≡ true → horizon ≤ h.opened) stays_swept cursors limit last pages pages (dead_rows entries) (dead_rows left)
               (least_below (length commits) horizon cursors (omega arith));
         };
+        needed = needed_all limit pages entries s.agree.numbers;
         counted = omega (arith, e, counted horizon entries, counted horizon left, lives, fewer);
         left =
             let same : filter (λ (x : DeadRow). nat_lt (horizon_of (length commits) (map (shown matching entries) cursors)) x.died) (dead_rows entries) ≡ dead_rows left =

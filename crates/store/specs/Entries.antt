@@ -59,11 +59,16 @@ module _ {K : Type 0} where
     pub numbers : AllByRecursion (λ (e : Entry K). (e.row ≤ length commits) × IsWithin (length commits) e.died) entries
     pub rising : IsRising 0 entries
 
+-- the serials of the open cursors rise, up to the last that was given
+abbrev pub SerialsRise : {K A : Type 0} → ℕ → ℕ → List (Held K A) → Type 0
+SerialsRise above last [] = above ≤ last
+SerialsRise above last (h ∷ hs) = (above < h.serial) × SerialsRise h.serial last hs
+
 -- what holds of the plain body
 pub record IsSound {K A : Type 0} (commits : List (Write K)) (entries : List (Entry K)) (cursors : List (Held K A)) (last : ℕ) : Type 0 where
   pub legal : IsLegal commits
   pub agree : Agree commits entries
-  pub serials : AllByRecursion (λ (h : Held K A). h.serial ≤ last) cursors
+  pub serials : SerialsRise 0 last cursors
 
 -- the least opening number of the cursors whose scan isn't over, or n where it is less
 abbrev pub least_opening : {K A : Type 0} → ℕ → List (Held K A) → ℕ

@@ -74,6 +74,14 @@ module _ {K A : Type 0} where
   abbrev pub is_needed : State K A → DeadRow → Bool
   is_needed state dead = nat_lt (horizon_of (length state.commits) state.cursors) dead.died
 
+  -- an open cursor whose scan isn't over was opened before the row died
+  pub record IsNeededBy (state : State K A) (dead : DeadRow) : Type 0 where
+    pub serial : ℕ
+    pub cursor : CursorState K A
+    pub is_open : cursor_of state serial ≡ Ok cursor
+    pub scanning : cursor.scanning ≡ true
+    pub opened : cursor.opened < dead.died
+
 module _ {K A : Type 0} (matching : A → K → Bool) where
   -- a cursor after a call that doesn't ask it: all that fits it before fits it after
   pub record Stays (commits later : List (Write K)) (before after : CursorState K A) : Type 0 where
@@ -98,6 +106,7 @@ module _ {K A : Type 0} (matching : A → K → Bool) where
     pub commits : new.commits ≡ old.commits ++ write ∷ []
     pub last : new.last ≡ old.last
     pub cursors : KeepsCursors old new
+    pub as_many : length new.cursors ≡ length old.cursors
     pub pages : new.pages_left ≤ old.pages_left
 
   -- nothing but pages
@@ -107,6 +116,7 @@ module _ {K A : Type 0} (matching : A → K → Bool) where
     pub last : new.last ≡ old.last
     pub dead : IsPermutation old.dead new.dead
     pub cursors : KeepsCursors old new
+    pub as_many : length new.cursors ≡ length old.cursors
     pub pages : new.pages_left ≤ old.pages_left
 
   -- a mark comes only where one is asked, and ends the asking; with nothing to give nothing is left
@@ -185,6 +195,7 @@ module _ {K A : Type 0} (matching : A → K → Bool) where
     pub commits : new.commits ≡ old.commits
     pub last : new.last ≡ old.last
     pub cursors : KeepsCursors old new
+    pub as_many : length new.cursors ≡ length old.cursors
     pub pages : new.pages_left ≡ old.pages_left
     pub finders : new.finders ≡ old.finders
 
@@ -193,6 +204,7 @@ module _ {K A : Type 0} (matching : A → K → Bool) where
     pub rest : KeepsLiving old new
     pub counted : number + length new.dead ≡ length old.dead
     pub left : IsPermutation (filter (is_needed old) old.dead) new.dead
+    pub needed : AllByRecursion (λ d. IsNeededBy old d) new.dead
 
   -- a sweep that memory stopped removed some dead rows that no scan needs
   pub record SweepsSome (old new : State K A) : Type 0 where
@@ -216,6 +228,7 @@ module _ {K A : Type 0} where
   pub record Closes (old : State K A) (c : ℕ) (new : State K A) : Type 0 where
     pub cursor : CursorState K A
     pub was_open : cursor_of old c ≡ Ok cursor
+    pub one_less : length new.cursors + 1 ≡ length old.cursors
     pub is : new ≡ without_cursor old c
 
   -- the open cursor changes in this way, and all else stays

@@ -1,4 +1,4 @@
-ghost use Rattle.std.specs.Prelude.{◌≡◌, ◌+◌, ◌≤◌, ◌<◌, ◌↔◌, ◌⊎◌, ◌&&◌, List, [], ◌∷◌, ◌++◌, length, filter, map, IfOk, IfErr, OnOk, OnErr, Some, None, Ok, Err, IsPermutation, not, nat_eq};
+ghost use Rattle.std.specs.Prelude.{◌≡◌, ◌+◌, ◌≤◌, ◌<◌, ◌↔◌, ◌⊎◌, ◌&&◌, List, [], ◌∷◌, ◌++◌, length, filter, map, IfOk, IfErr, OnOk, OnErr, Some, None, Ok, Err, IsPermutation, IsTrue, not, nat_eq};
 ghost use Rattle.key_class.specs.Queries.{query_of, matches_query, depth_of};
 ghost use Rattle.change_list.specs.Configs.{IsWithinLimits};
 ghost use Rattle.change_list.specs.Changes.{IsLegal, status_of, snapshot, commit_at};
@@ -151,18 +151,29 @@ impl<C: KeyClass> Store<C> {
         Err(Refusal::CursorClosed)
     }
 
+    /// Whether as many cursors are open as may be, or the last serial was given.
+    fn is_full(&self) -> bool
+        ensures { IsTrue result ↔ IsFullOf self.now }
+    {
+        self.cursors.len() >= 256 || self.last >= 4_294_967_295
+    }
+
     /// Opens a cursor at the present commits.
+    ///
+    /// # Errors
+    /// `BadConfig` where the room isn't from 1 to 4,096 or the query is deeper than 32, else `CursorsFull`, else want of
+    /// memory.
     pub fn open(&mut self, query: Pred<C::Atom>, room: u64) -> Result<u64, Refusal>
         ensures ok { IfOk result (λ c. IsOpened C.is_match self.old (query_of query) c self.new) }
         ensures err { OnErr result (self.new ≡ self.old) }
         ensures bad { (result ≡ Err Refusal.BadConfig) ↔ IsBadOpening (query_of query) room }
-        ensures full { result ≡ Err Refusal.CursorsFull → IsFullOf self.old }
+        ensures full { (result ≡ Err Refusal.CursorsFull) ↔ ((¬ IsBadOpening (query_of query) room) × IsFullOf self.old) }
         ensures refusals { IfErr result (λ e. (e ≡ Refusal.BadConfig) ⊎ (e ≡ Refusal.CursorsFull) ⊎ (e ≡ Refusal.OutOfMemory)) }
     {
-        if room == 0 || room > 4096 || !query.is_within_depth(32) {
+        if is_bad_opening(&query, room) {
             return Err(Refusal::BadConfig);
         }
-        if self.cursors.len() >= 256 || self.last >= 4294967295 {
+        if self.is_full() {
             return Err(Refusal::CursorsFull);
         }
         let count = self.changes.len() as u64;
@@ -260,6 +271,13 @@ impl<C: KeyClass> Store<C> {
         let rows = live_rows::<C>(self.alloc, &self.entries, query)?;
         Ok(rows)
     }
+}
+
+/// Whether a room or a query's depth is out of range.
+fn is_bad_opening<A>(query: &Pred<A>, room: u64) -> bool
+    ensures { IsTrue result ↔ IsBadOpening (query_of query.now) room }
+{
+    room == 0 || room > 4_096 || !query.is_within_depth(32)
 }
 
 /// The least opening number of the cursors whose scan isn't over, or the number of commits.
