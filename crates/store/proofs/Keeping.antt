@@ -20,7 +20,7 @@ use Rattle.change_list.specs.Cursors.{CursorState, Fits}
 use Rattle.store.specs.Entries.{Held, shown, rows_to_scan, seen_rows, is_visible_at, is_live, row_of, dies_after, dead_rows, IsWithin, IsRising, Agree, IsSound, marked}
 use Rattle.store.specs.States.{State, cursor_of, open_or_closed, find_cursor, Stays, SameOrStays, KeepsCursors, Commits, Keeps, DeadRow, IsOpened}
 use Rattle.change_list.proofs.Fitting.{fits_push, fits_new}
-use Rattle.store.proofs.Serials.{rise_push}
+use Rattle.store.proofs.Serials.{rise_push, found_last}
 
 module _ {X : Type 0} (P Q : X → Type 0) (weaker : (x : X) → P x → Q x) where
   pub each_weaker : (xs : List X) → AllByRecursion P xs → AllByRecursion Q xs
@@ -197,6 +197,10 @@ module _ {K A : Type 0} (matching : A → K → Bool) (commits : List (Write K))
     cursor = shown matching entries new_cursor;
     after = rw (map-append) refl;
     number = refl; query = refl; opened = refl; unasked = refl;
+    is_open =
+        let z : nat_eq (last + 1) 0 ≡ false = search arith in
+        let l : nat_lt (last + 1) (last + 1) ≡ false = search arith in
+        rw (z, l, found_last matching entries 0 last cursors new_cursor refl s.serials) refl;
     fits = fits_new matching commits (shown matching entries new_cursor) refl refl
       (subst (λ l. IsPermutation (snapshot (matches_query matching query) (length commits) commits) l) (sym (seen_found commits entries s.agree (matches_query matching query))) (IsPermutation-refl _));
   }

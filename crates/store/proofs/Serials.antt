@@ -61,6 +61,15 @@ module _ {K A : Type 0} where
             rw e (omega (arith, o))
         go s false e g = rw e (omega (arith, s (rw e at g)))
 
+    -- a new cursor is found behind the others
+    pub found_last : (above last : ℕ) (hs : List (Held K A)) (new : Held K A) → new.serial ≡ last + 1 → SerialsRise above last hs
+        → find_cursor (last + 1) (map (shown matching entries) (hs ++ new ∷ [])) ≡ Some (shown matching entries new)
+    found_last above last [] new e r = let t : nat_eq new.serial (last + 1) ≡ true = search (arith, e) in rw t refl
+    found_last above last (h ∷ hs) new e r =
+        let w = rise_within h.serial last hs r.1 in
+        let t : nat_eq h.serial (last + 1) ≡ false = search (arith, w) in
+        rw t (found_last h.serial last hs new e r.1)
+
     -- an open cursor whose scan isn't over, opened before m
     pub record IsScanBefore (above last m : ℕ) (hs : List (Held K A)) : Type 0 where
       pub cursor : Held K A

@@ -148,6 +148,7 @@ module _ {K A : Type 0} (matching : A → K → Bool) where
     pub cursor : CursorState K A
     pub after : new ≡ record old { last = c; cursors = old.cursors ++ cursor ∷ [] }
     pub number : cursor.serial ≡ c
+    pub is_open : cursor_of new c ≡ Ok cursor
     pub query : cursor.query ≡ asked_for
     pub opened : cursor.opened ≡ length old.commits
     pub unasked : cursor.asked ≡ false

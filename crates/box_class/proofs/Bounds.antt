@@ -1,0 +1,53 @@
+use Rattle.std.proofs.Common.{◌≡◌, ℕ, ◌<◌, ◌+◌, ◌≤◌, true, List, ◌∷◌, length, slice_index_or, arith, ⊎_elim, subst, sym, ◌∙◌}
+use Rattle.std.proofs.lemmas.Bool.{cases_eq}
+use Rattle.std.proofs.lemmas.List.{get_or_default}
+use Rattle.std.proofs.lemmas.List.Elements.{All-head, All-tail, All-cons}
+use Rattle.box_class.specs.declared.boxes.BoxKey.{BoxKey}
+use Rattle.box_class.specs.Boxes.{is_cover, size_of, union_of}
+use Rattle.box_class.specs.BoxLaws.{size_of-le, union_is_least, union_covers_left, union_covers_right, covers_through}
+use Rattle.box_class.specs.OpenPlaces.{HaveBoundWithin}
+
+-- the bound covers the first n keys
+abbrev pub CoversBelow : BoxKey → ℕ → List BoxKey → Type 0
+CoversBelow b n keys = (k : ℕ) (d : BoxKey) → k < n → is_cover b (slice_index_or keys k d) ≡ true
+
+-- a bound that takes in the next key covers one key more
+pub covers_more : (b x : BoxKey) (n : ℕ) (keys : List BoxKey) → n < length keys → x ≡ slice_index_or keys n x → CoversBelow b n keys → CoversBelow (union_of b x) (n + 1) keys
+covers_more b x n keys h r f k e l =
+    let grown = union_of b x in
+    ⊎_elim
+    (λ (q : k ≡ n).
+    subst (λ (m : ℕ). is_cover grown (slice_index_or keys m e) ≡ true) (sym q)
+    (subst (λ (y : BoxKey). is_cover grown y ≡ true) (r ∙ get_or_default keys n x e h) (union_covers_right b x)))
+    (λ (q : k ≡ n → ⊥).
+    covers_through grown b (slice_index_or keys k e) (union_covers_left b x) (f k e (omega (arith, l, q))))
+    (cases_eq k n)
+
+-- two boxes that one covers have a common bound no larger
+common_within : (limit : ℕ) (bound a b : BoxKey) → size_of bound ≤ limit → is_cover bound a ≡ true → is_cover bound b ≡ true → size_of (union_of a b) ≤ limit
+common_within limit bound a b s p q = omega (arith, s, size_of-le bound (union_of a b) (union_is_least a b bound p q))
+
+covered_read : (bound x : BoxKey) (keys : List BoxKey) (i : ℕ) → ((k : ℕ) (d : BoxKey) → k < length keys → is_cover bound (slice_index_or keys k d) ≡ true) → i < length keys → x ≡ slice_index_or keys i x → is_cover bound x ≡ true
+covered_read bound x keys i f l r = subst (λ (y : BoxKey). is_cover bound y ≡ true) (sym r) (f i x l)
+
+pub pair_within : (limit : ℕ) (keys : List BoxKey) (i j : ℕ) (a b : BoxKey) → HaveBoundWithin limit keys → i < length keys → j < length keys → a ≡ slice_index_or keys i a → b ≡ slice_index_or keys j b → size_of (union_of a b) ≤ limit
+pair_within limit keys i j a b w p q r s =
+    common_within limit w.0 a b w.1 (covered_read w.0 a keys i w.2 p r) (covered_read w.0 b keys j w.2 q s)
+
+pub bound_within : (limit : ℕ) (b : BoxKey) (keys : List BoxKey) → HaveBoundWithin limit (b ∷ keys) → size_of b ≤ limit
+bound_within limit b keys w = omega (arith, w.1, size_of-le w.0 b (All-head (λ k. is_cover w.0 k ≡ true) b keys w.2))
+
+pub gain_within : (limit : ℕ) (b x : BoxKey) (keys : List BoxKey) (i : ℕ) → HaveBoundWithin limit (b ∷ keys) → i < length keys → x ≡ slice_index_or keys i x → size_of (union_of b x) ≤ limit
+gain_within limit b x keys i w p r =
+    let P = λ (k : BoxKey). is_cover w.0 k ≡ true in
+    common_within limit w.0 b x w.1 (All-head P b keys w.2) (covered_read w.0 x keys i (All-tail P b keys w.2) p r)
+
+pub grown_within : (limit : ℕ) (b x : BoxKey) (keys : List BoxKey) (i : ℕ) → HaveBoundWithin limit (b ∷ keys) → i < length keys → x ≡ slice_index_or keys i x → HaveBoundWithin limit (union_of b x ∷ keys)
+grown_within limit b x keys i w p r =
+    let P = λ (k : BoxKey). is_cover w.0 k ≡ true in
+    let rest = All-tail P b keys w.2 in
+    (w.0, w.1, All-cons P (union_of b x) keys (union_is_least b x w.0 (All-head P b keys w.2) (covered_read w.0 x keys i rest p r)) rest)
+
+pub seed_within : (limit : ℕ) (x : BoxKey) (keys : List BoxKey) (i : ℕ) → HaveBoundWithin limit keys → i < length keys → x ≡ slice_index_or keys i x → HaveBoundWithin limit (x ∷ keys)
+seed_within limit x keys i w p r =
+    (w.0, w.1, All-cons (λ (k : BoxKey). is_cover w.0 k ≡ true) x keys (covered_read w.0 x keys i w.2 p r) w.2)

@@ -1,0 +1,88 @@
+ghost use Rattle.std.specs.Prelude.{◌≡◌, ℕ, ◌+◌, ◌-◌, ◌≤◌, ◌^◌, ℤ, pos, ◌-ℤ◌};
+ghost use Rattle.box_class.specs.Boxes.{size_of, union_of};
+
+use crate::boxes::BoxKey;
+use crate::methods::{area, height, penalty, union, width};
+
+/// Numbers in which a split reckons areas, exact up to a limit.
+pub trait Area: Copy + Ord {
+    /// Numbers below 0 as well.
+    type Waste: Copy + Ord;
+
+    ghost limit: { ℕ };
+
+    ghost area_of: { Self → ℕ };
+
+    ghost waste_of: { Self.Waste → ℤ };
+
+    /// The number of points of a box.
+    fn of(key: BoxKey) -> Self
+        requires { size_of key ≤ limit }
+        ensures { area_of result ≡ size_of key };
+
+    /// What the common bound of two boxes has beside them, less than 0 where they overlap.
+    fn waste(a: BoxKey, b: BoxKey) -> Self::Waste
+        requires { size_of (union_of a b) ≤ limit }
+        ensures { waste_of result ≡ (pos (size_of (union_of a b)) -ℤ pos (size_of a)) -ℤ pos (size_of b) };
+
+    /// What a bound gains by a key.
+    fn gain(bound: BoxKey, key: BoxKey) -> Self
+        requires { size_of (union_of bound key) ≤ limit }
+        ensures { area_of result + size_of bound ≡ size_of (union_of bound key) };
+
+    /// By how much two areas differ.
+    fn apart(self, other: Self) -> Self
+        ensures { area_of result ≡ (area_of self - area_of other) + (area_of other - area_of self) };
+}
+
+impl Area for u64 {
+    type Waste = i64;
+
+    ghost limit = { 2 ^ 62 };
+
+    ghost area_of = { λ n. n };
+
+    ghost waste_of = { λ n. n };
+
+    fn of(key: BoxKey) -> u64 {
+        width(key) * height(key)
+    }
+
+    fn waste(a: BoxKey, b: BoxKey) -> i64 {
+        u64::of(union(a, b)) as i64 - u64::of(a) as i64 - u64::of(b) as i64
+    }
+
+    fn gain(bound: BoxKey, key: BoxKey) -> u64 {
+        u64::of(union(bound, key)) - u64::of(bound)
+    }
+
+    fn apart(self, other: u64) -> u64 {
+        self.abs_diff(other)
+    }
+}
+
+impl Area for u128 {
+    type Waste = i128;
+
+    ghost limit = { 2 ^ 64 };
+
+    ghost area_of = { λ n. n };
+
+    ghost waste_of = { λ n. n };
+
+    fn of(key: BoxKey) -> u128 {
+        area(key)
+    }
+
+    fn waste(a: BoxKey, b: BoxKey) -> i128 {
+        area(union(a, b)) as i128 - area(a) as i128 - area(b) as i128
+    }
+
+    fn gain(bound: BoxKey, key: BoxKey) -> u128 {
+        penalty(bound, key)
+    }
+
+    fn apart(self, other: u128) -> u128 {
+        self.abs_diff(other)
+    }
+}

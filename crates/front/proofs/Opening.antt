@@ -1,0 +1,105 @@
+-- A cursor opened or closed, told to its client.
+use Rattle.std.proofs.Common.{◌≡◌, ◌≢◌, ◌+◌, ◌-◌, ◌<◌, ◌≤◌, ℕ, suc, Bool, true, false, not, cond, ◌||◌, List, [], ◌∷◌, ◌++◌, length, filter, Option, Some, None, Result, Ok, Err, refl, sym, ap, ◌∙◌, arith, subst, length-append}
+use Rattle.std.specs.Prelude.{nat_eq, nat_lt, find, IsPermutation, if◌then◌else◌}
+use Rattle.key_class.specs.Queries.{Query}
+use Rattle.key_class.specs.declared.refusal.Refusal.{Refusal}
+use Rattle.key_class.specs.declared.refusal.Refusal.TheVariants as refusal
+use Rattle.change_list.specs.Cursors.{CursorState}
+use Rattle.store.specs.States.{State, cursor_of, open_or_closed, find_cursor, IsOpened, Closes, without_cursor}
+use Rattle.store.proofs.Cursors.{found_as}
+use Rattle.front.specs.Told.{Following, Told, with_cursor}
+use Rattle.front.specs.AsTold.{IsSameCursor, AreSame, IsAsTold}
+use Rattle.front.proofs.Telling.{told_cursor}
+
+given_later : (last d : ℕ) → d ≢ last + 1 → nat_lt (last + 1) d ≡ nat_lt last d
+given_later last d n = go (nat_lt last d) refl
+  where
+    go : (b : Bool) → nat_lt last d ≡ b → nat_lt (last + 1) d ≡ b
+    go true e = let l : last < d = search (arith, e) in search (arith, l, n)
+    go false e = let l : d ≤ last = search (arith, e) in search (arith, l)
+
+module _ {K A : Type 0} where
+  found_before : (d : ℕ) (ks : List (CursorState K A)) (k : CursorState K A) → nat_eq k.serial d ≡ false → find_cursor d (ks ++ k ∷ []) ≡ find_cursor d ks
+  found_before d [] k e = rw e refl
+  found_before d (x ∷ ks) k e = ap (λ o. cond (nat_eq x.serial d) (Some x) o) (found_before d ks k e)
+
+  opened_other : (old new : State K A) (k : CursorState K A) (c d : ℕ) → c ≡ old.last + 1 → k.serial ≡ c → new ≡ record old { last = c; cursors = old.cursors ++ k ∷ [] } → d ≢ c → cursor_of new d ≡ cursor_of old d
+  opened_other old new k c d s n e o =
+      let w : d ≢ old.last + 1 = λ p. o (p ∙ sym s) in
+      let l : nat_lt c d ≡ nat_lt old.last d = ap (λ m. nat_lt m d) s ∙ given_later old.last d w in
+      let f : nat_eq k.serial d ≡ false = search (arith, n, o) in
+      ap (λ (x : State K A). cursor_of x d) e
+      ∙ ap (λ b. if nat_eq d 0 || b then Err refusal.NoSuchCursor else open_or_closed (find_cursor d (old.cursors ++ k ∷ []))) l
+      ∙ ap (λ x. if nat_eq d 0 || nat_lt old.last d then Err refusal.NoSuchCursor else open_or_closed x) (found_before d old.cursors k f)
+
+  closed_none : (c : ℕ) (ks : List (CursorState K A)) → find_cursor c (filter (λ (k : CursorState K A). not (nat_eq k.serial c)) ks) ≡ None
+  closed_none c [] = refl
+  closed_none c (k ∷ ks) = go (nat_eq k.serial c) refl (closed_none c ks)
+    where
+      go : (b : Bool) → nat_eq k.serial c ≡ b → find_cursor c (filter (λ (k : CursorState K A). not (nat_eq k.serial c)) ks) ≡ None → find_cursor c (filter (λ (k : CursorState K A). not (nat_eq k.serial c)) (k ∷ ks)) ≡ None
+      go true e r = rw e r
+      go false e r = rw (e, e) r
+
+  closed_other : (c d : ℕ) (ks : List (CursorState K A)) → c ≢ d → find_cursor d (filter (λ (k : CursorState K A). not (nat_eq k.serial c)) ks) ≡ find_cursor d ks
+  closed_other c d [] n = refl
+  closed_other c d (k ∷ ks) n = go (nat_eq k.serial c) refl (closed_other c d ks n)
+    where
+      go : (b : Bool) → nat_eq k.serial c ≡ b → find_cursor d (filter (λ (k : CursorState K A). not (nat_eq k.serial c)) ks) ≡ find_cursor d ks
+          → find_cursor d (filter (λ (k : CursorState K A). not (nat_eq k.serial c)) (k ∷ ks)) ≡ find_cursor d (k ∷ ks)
+      go true e r = let f : nat_eq k.serial d ≡ false = search (arith, e, n) in rw (e, f) r
+      go false e r = rw e (ap (λ o. cond (nat_eq k.serial d) (Some k) o) r)
+
+  module _ (matching : A → K → Bool) (old : State K A) (told : Told K A) (t : IsAsTold matching old told) where
+    pub told_opened : (query : Query A) (c : ℕ) (new : State K A) → IsOpened matching old query c new
+        → IsAsTold matching new (record told {
+            cursors = with_cursor told.cursors c (Ok (record { query = query; opened = length told.commits; given = []; asked = false }));
+            open_cursors = told.open_cursors + 1;
+            last = c;
+          })
+    told_opened query c new o = record {
+      limit = t.limit ∙ sym (ap (λ (s : State K A). s.limit) o.after);
+      commits = t.commits ∙ sym commits;
+      cursors = λ d. go d (nat_eq d c) refl;
+      open_cursors = omega (arith, t.open_cursors, ap (λ (s : State K A). length s.cursors) o.after, length-append old.cursors (o.cursor ∷ []));
+      last = sym (ap (λ (s : State K A). s.last) o.after);
+      dead = subst (λ (s : State K A). IsPermutation told.dead s.dead) (sym o.after) t.dead;
+      deletes = omega (arith, t.deletes, ap (λ (s : State K A). s.finders) o.after);
+    }
+      where
+        commits : new.commits ≡ old.commits
+        commits = ap (λ (s : State K A). s.commits) o.after
+        f : Following K A
+        f = record { query = query; opened = length told.commits; given = []; asked = false }
+        go : (d : ℕ) (b : Bool) → nat_eq d c ≡ b → AreSame matching new.commits (cursor_of new d) (if b then Ok f else told.cursors d)
+        go d true e =
+            let n : d ≡ c = search (arith, e) in
+            let w : cursor_of new d ≡ Ok o.cursor = ap (cursor_of new) n ∙ o.is_open in
+            rw commits (subst (λ x. AreSame matching old.commits x (Ok f)) (sym w) (record { query = sym o.query; opened = ap length t.commits ∙ sym o.opened; asked = sym o.unasked; fits = o.fits }))
+        go d false e =
+            let n : d ≢ c = search (arith, e) in
+            rw commits (subst (λ x. AreSame matching old.commits x (told.cursors d)) (sym (opened_other old new o.cursor c d o.serial o.number o.after n)) (t.cursors d))
+
+    pub told_closed : (c : ℕ) (new : State K A) → Closes old c new
+        → (f : Following K A) × (told.cursors c ≡ Ok f) × IsAsTold matching new (record told { cursors = with_cursor told.cursors c (Err refusal.CursorClosed); open_cursors = told.open_cursors - 1 })
+    told_closed c new h =
+        let k = told_cursor matching old told t c h.cursor h.was_open in
+        (k.f, k.is, record {
+          limit = t.limit ∙ sym (ap (λ (s : State K A). s.limit) h.is);
+          commits = t.commits ∙ sym (ap (λ (s : State K A). s.commits) h.is);
+          cursors = λ d. subst (λ (s : State K A). AreSame matching s.commits (cursor_of s d) (with_cursor told.cursors c (Err refusal.CursorClosed) d)) (sym h.is) (go d (nat_eq d c) refl);
+          open_cursors = omega (arith, t.open_cursors, h.one_less);
+          last = t.last ∙ sym (ap (λ (s : State K A). s.last) h.is);
+          dead = subst (λ (s : State K A). IsPermutation told.dead s.dead) (sym h.is) t.dead;
+          deletes = omega (arith, t.deletes, ap (λ (s : State K A). s.finders) h.is);
+        })
+      where
+        go : (d : ℕ) (b : Bool) → nat_eq d c ≡ b → AreSame matching old.commits (cursor_of (without_cursor old c) d) (if b then Err refusal.CursorClosed else told.cursors d)
+        go d true e =
+            let n : d ≡ c = search (arith, e) in
+            let f = found_as old c h.cursor h.was_open in
+            let w : cursor_of (without_cursor old c) c ≡ Err refusal.CursorClosed = rw (f.given, closed_none) refl in
+            subst (λ x. AreSame matching old.commits x (Err refusal.CursorClosed)) (sym (ap (cursor_of (without_cursor old c)) n ∙ w)) refl
+        go d false e =
+            let n : c ≢ d = search (arith, e) in
+            let w : cursor_of (without_cursor old c) d ≡ cursor_of old d = ap (λ x. if nat_eq d 0 || nat_lt old.last d then Err refusal.NoSuchCursor else open_or_closed x) (closed_other c d old.cursors n) in
+            subst (λ x. AreSame matching old.commits x (told.cursors d)) (sym w) (t.cursors d)

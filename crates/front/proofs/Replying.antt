@@ -1,0 +1,165 @@
+-- Replies of the store's calls that commit, open and sweep.
+use Rattle.std.proofs.Common.{◌≡◌, ◌≢◌, ◌+◌, ◌-◌, ◌<◌, ◌≤◌, ℕ, Bool, true, false, not, cond, List, [], ◌∷◌, ◌++◌, length, filter, Some, None, Result, Ok, Err, ◌⊎◌, inl, inr, ⊎_elim, refl, sym, ap, ◌∙◌, arith, subst, length-append}
+use Rattle.std.specs.Prelude.{◌↔◌, IsPermutation}
+use Rattle.std.proofs.lemmas.List.Sorted.{IsPermutation-refl, IsPermutation-sym, IsPermutation-trans, IsPermutation-append, IsPermutation-append_comm, IsPermutation-append_right, IsPermutation-filter_both, length_permutation}
+use Rattle.key_class.specs.Queries.{Query, depth_of}
+use Rattle.key_class.specs.declared.refusal.Refusal.{Refusal}
+use Rattle.key_class.specs.declared.refusal.Refusal.TheVariants as refusal
+use Rattle.change_list.specs.declared.write.Write.TheVariants as write
+use Rattle.change_list.specs.declared.item.Item.{Item}
+use Rattle.change_list.specs.declared.write.Status.{Status}
+use Rattle.change_list.specs.declared.write.Status.TheVariants.{NeverIssued, Live, Dead}
+use Rattle.change_list.specs.Changes.{status_of}
+use Rattle.store.specs.States.{State, DeadRow, Commits, Keeps, IsOpened, IsBadOpening, IsFullOf, RefusesDelete, Sweeps, SweepsSome, is_needed, Nexts, RefusesNext, Changes, with_asking, Closes}
+use Rattle.front.specs.declared.reply.Reply.TheVariants as reply
+use Rattle.front.specs.Told.{Told, with_cursor, IsFull, HasNoCursorLeft, IsBadRoom, RepliesInsert, RepliesDelete, RepliesOpen, RepliesNext, RepliesMark, RepliesSweep, RepliesClose}
+use Rattle.front.specs.AsTold.{IsAsTold}
+use Rattle.front.proofs.Telling.{told_insert, told_delete, told_kept, told_swept, told_given, told_empty, told_wanting, told_asked, told_refusal, each_needed}
+use Rattle.front.proofs.Opening.{told_opened, told_closed}
+
+module _ {K A : Type 0} (matching : A → K → Bool) (old new : State K A) (told : Told K A) (t : IsAsTold matching old told) where
+  full_told : (old.limit ≤ length old.commits) ↔ IsFull told
+  full_told = (λ h. omega (arith, h, t.limit, ap length t.commits), λ h. omega (arith, h, t.limit, ap length t.commits))
+
+  pub insert_committed : (key : K) (tag n : ℕ) (r : Result ℕ Refusal) → r ≡ Ok n → n ≡ length old.commits + 1 → ((r ≡ Err refusal.CommitsFull) ↔ (old.limit ≤ length old.commits))
+      → Commits matching old (write.Insert key tag) new → IsPermutation old.dead new.dead → new.finders ≡ old.finders
+      → (after : Told K A) × RepliesInsert new.pages_left told key tag (reply.Committed n) after × IsAsTold matching new after
+  insert_committed key tag n r e m f c d w =
+      (record told { commits = told.commits ++ write.Insert key tag ∷ [] },
+        (λ h. let x : r ≡ Err refusal.CommitsFull = f.1 (full_told.1 h) in let y : Ok n ≡ Err refusal.CommitsFull = sym e ∙ x in absurd (cc), omega (arith, m, ap length t.commits), refl),
+        told_insert matching old told t key tag new c d w)
+
+  pub insert_refused : (key : K) (tag : ℕ) (why : Refusal) (r : Result ℕ Refusal) → r ≡ Err why → ((r ≡ Err refusal.CommitsFull) ↔ (old.limit ≤ length old.commits))
+      → (why ≡ refusal.OutOfMemory) ⊎ (why ≡ refusal.CommitsFull) ⊎ ((why ≡ refusal.PagesFull) × (new.pages_left < 2)) → Keeps matching old new → new.finders ≡ old.finders
+      → (after : Told K A) × RepliesInsert new.pages_left told key tag (reply.Refused why) after × IsAsTold matching new after
+  insert_refused key tag why r e f w k n = (told, says why e w, told_kept matching old told t new told.deletes k (omega (arith, t.deletes, n)))
+    where
+      not_full : (x : Refusal) → r ≡ Err x → (x ≡ refusal.CommitsFull → ⊥) → IsFull told → ⊥
+      not_full x p d h = let y : r ≡ Err refusal.CommitsFull = f.1 (full_told.1 h) in let z : Err x ≡ Err refusal.CommitsFull = sym p ∙ y in d (cc)
+      says : (x : Refusal) → r ≡ Err x → (x ≡ refusal.OutOfMemory) ⊎ (x ≡ refusal.CommitsFull) ⊎ ((x ≡ refusal.PagesFull) × (new.pages_left < 2)) → RepliesInsert new.pages_left told key tag (reply.Refused x) told
+      says x p (inl a) = subst (λ y. RepliesInsert new.pages_left told key tag (reply.Refused y) told) (sym a) (not_full refusal.OutOfMemory (p ∙ ap Err a) (λ q. cc), refl)
+      says x p (inr (inl a)) = subst (λ y. RepliesInsert new.pages_left told key tag (reply.Refused y) told) (sym a) (full_told.0 (f.0 (p ∙ ap Err a)), refl)
+      says x p (inr (inr a)) = subst (λ y. RepliesInsert new.pages_left told key tag (reply.Refused y) told) (sym a.0) (not_full refusal.PagesFull (p ∙ ap Err a.0) (λ q. cc), a.1, refl)
+
+  -- the clauses of a delete's refusals
+  pub record DeleteRefusals (row : ℕ) (r : Result ℕ Refusal) : Type 0 where
+    pub never : (r ≡ Err refusal.NoSuchRow) ↔ (status_of old.commits row ≡ NeverIssued)
+    pub already : (r ≡ Err refusal.AlreadyDeleted) ↔ (status_of old.commits row ≡ Dead)
+    pub full : (r ≡ Err refusal.CommitsFull) ↔ ((status_of old.commits row ≡ Live) × (old.limit ≤ length old.commits))
+
+  -- where a delete isn't refused by its row, the row is live
+  lives : (row : ℕ) (r : Result ℕ Refusal) → DeleteRefusals row r → (r ≡ Err refusal.NoSuchRow → ⊥) → (r ≡ Err refusal.AlreadyDeleted → ⊥) → status_of told.commits row ≡ Live
+  lives row r d n a = ap (λ l. status_of l row) t.commits ∙ go (status_of old.commits row) refl
+    where
+      go : (s : Status) → status_of old.commits row ≡ s → status_of old.commits row ≡ Live
+      go NeverIssued e = absurd (n (d.never.1 e))
+      go Dead e = absurd (a (d.already.1 e))
+      go Live e = e
+
+  room_left : (row : ℕ) (r : Result ℕ Refusal) → DeleteRefusals row r → status_of told.commits row ≡ Live → (r ≡ Err refusal.CommitsFull → ⊥) → IsFull told → ⊥
+  room_left row r d l n h = n (d.full.1 (ap (λ c. status_of c row) (sym t.commits) ∙ l, full_told.1 h))
+
+  pub delete_committed : (row n : ℕ) (r : Result ℕ Refusal) → r ≡ Ok n → n ≡ length old.commits + 1 → DeleteRefusals row r → Commits matching old (write.Delete row) new
+      → IsPermutation ((record { row = row; died = length old.commits + 1 }) ∷ old.dead) new.dead → new.finders ≤ old.finders + 1
+      → (after : Told K A) × RepliesDelete told row (reply.Committed n) after × IsAsTold matching new after
+  delete_committed row n r e m d c p w =
+      let l = lives row r d (λ x. let y : Ok n ≡ Err refusal.NoSuchRow = sym e ∙ x in cc) (λ x. let y : Ok n ≡ Err refusal.AlreadyDeleted = sym e ∙ x in cc) in
+      (record told { commits = told.commits ++ write.Delete row ∷ []; dead = (record { row = row; died = n }) ∷ told.dead; deletes = told.deletes + 1 },
+        (l, room_left row r d l (λ x. let y : Ok n ≡ Err refusal.CommitsFull = sym e ∙ x in cc), omega (arith, m, ap length t.commits), refl),
+        told_delete matching old told t row n new c m p w)
+
+  pub delete_refused : (row : ℕ) (why : Refusal) (r : Result ℕ Refusal) → r ≡ Err why → DeleteRefusals row r → RefusesDelete old why → Keeps matching old new → new.finders ≤ old.finders + 1
+      → (after : Told K A) × RepliesDelete told row (reply.Refused why) after × IsAsTold matching new after
+  delete_refused row why r e d w k n =
+      (record told { deletes = told.deletes + 1 }, says why e w, told_kept matching old told t new (told.deletes + 1) k (omega (arith, t.deletes, n)))
+    where
+      after : Told K A
+      after = record told { deletes = told.deletes + 1 }
+      other : (x y : Refusal) → r ≡ Err x → (x ≡ y → ⊥) → r ≡ Err y → ⊥
+      other x y p q s = let z : Err x ≡ Err y = sym p ∙ s in q (cc)
+      says : (x : Refusal) → r ≡ Err x → RefusesDelete old x → RepliesDelete told row (reply.Refused x) after
+      says x p (inl a) = subst (λ y. RepliesDelete told row (reply.Refused y) after) (sym a) (ap (λ l. status_of l row) t.commits ∙ d.never.0 (p ∙ ap Err a), refl)
+      says x p (inr (inl a)) = subst (λ y. RepliesDelete told row (reply.Refused y) after) (sym a) (ap (λ l. status_of l row) t.commits ∙ d.already.0 (p ∙ ap Err a), refl)
+      says x p (inr (inr (inl a))) =
+          let h = d.full.0 (p ∙ ap Err a) in
+          subst (λ y. RepliesDelete told row (reply.Refused y) after) (sym a) (ap (λ l. status_of l row) t.commits ∙ h.0, full_told.0 h.1, refl)
+      says x p (inr (inr (inr (inl a)))) =
+          let q = p ∙ ap Err a in
+          let l = lives row r d (other refusal.OutOfMemory refusal.NoSuchRow q (λ z. cc)) (other refusal.OutOfMemory refusal.AlreadyDeleted q (λ z. cc)) in
+          subst (λ y. RepliesDelete told row (reply.Refused y) after) (sym a) (l, room_left row r d l (other refusal.OutOfMemory refusal.CommitsFull q (λ z. cc)), refl)
+      says x p (inr (inr (inr (inr a)))) =
+          let q = p ∙ ap Err a.0 in
+          let l = lives row r d (other refusal.FindersFull refusal.NoSuchRow q (λ z. cc)) (other refusal.FindersFull refusal.AlreadyDeleted q (λ z. cc)) in
+          subst (λ y. RepliesDelete told row (reply.Refused y) after) (sym a.0) (l, room_left row r d l (other refusal.FindersFull refusal.CommitsFull q (λ z. cc)), omega (arith, t.deletes, a.1), refl)
+
+  -- the clauses of an opening's refusals, for a query that is not too deep
+  bad_room : (query : Query A) (room : ℕ) → depth_of query ≤ 32 → IsBadOpening query room ↔ IsBadRoom room
+  bad_room query room s = (
+    λ h. ⊎_elim (λ (a : room ≡ 0). inl a) (λ (b : (4096 < room) ⊎ (32 < depth_of query)). ⊎_elim (λ (x : 4096 < room). inr x) (λ (x : 32 < depth_of query). absurd (omega (arith, s, x))) b) h,
+    λ h. ⊎_elim (λ (a : room ≡ 0). inl a) (λ (x : 4096 < room). inr (inl x)) h,
+  )
+
+  none_left : IsFullOf old ↔ HasNoCursorLeft told
+  none_left = (
+    λ h. ⊎_elim (λ (a : 256 ≤ length old.cursors). inl (omega (arith, a, t.open_cursors))) (λ (b : 4294967295 ≤ old.last). inr (omega (arith, b, t.last))) h,
+    λ h. ⊎_elim (λ (a : 256 ≤ told.open_cursors). inl (omega (arith, a, t.open_cursors))) (λ (b : 4294967295 ≤ told.last). inr (omega (arith, b, t.last))) h,
+  )
+
+  pub opens : (room c : ℕ) (query : Query A) (r : Result ℕ Refusal) → r ≡ Ok c → depth_of query ≤ 32 → ((r ≡ Err refusal.BadConfig) ↔ IsBadOpening query room)
+      → ((r ≡ Err refusal.CursorsFull) ↔ ((¬ IsBadOpening query room) × IsFullOf old)) → IsOpened matching old query c new
+      → (after : Told K A) × RepliesOpen told room query (reply.Opened c) after × IsAsTold matching new after
+  opens room c query r e s b f o =
+      let good : IsBadOpening query room → ⊥ = λ h. (let x = b.1 h in let y : Ok c ≡ Err refusal.BadConfig = sym e ∙ x in cc) in
+      (record told { cursors = _; open_cursors = told.open_cursors + 1; last = c },
+        (λ h. good ((bad_room query room s).1 h), λ h. (let x = f.1 (good, none_left.1 h) in let y : Ok c ≡ Err refusal.CursorsFull = sym e ∙ x in cc), omega (arith, o.serial, t.last), refl),
+        told_opened matching old told t query c new o)
+
+  pub open_refused : (room : ℕ) (query : Query A) (why : Refusal) (r : Result ℕ Refusal) → r ≡ Err why → depth_of query ≤ 32 → ((r ≡ Err refusal.BadConfig) ↔ IsBadOpening query room)
+      → ((r ≡ Err refusal.CursorsFull) ↔ ((¬ IsBadOpening query room) × IsFullOf old)) → (why ≡ refusal.BadConfig) ⊎ (why ≡ refusal.CursorsFull) ⊎ (why ≡ refusal.OutOfMemory) → new ≡ old
+      → (after : Told K A) × RepliesOpen told room query (reply.Refused why) after × IsAsTold matching new after
+  open_refused room query why r e s b f w n = (told, says why e w, subst (λ (x : State K A). IsAsTold matching x told) (sym n) t)
+    where
+      says : (x : Refusal) → r ≡ Err x → (x ≡ refusal.BadConfig) ⊎ (x ≡ refusal.CursorsFull) ⊎ (x ≡ refusal.OutOfMemory) → RepliesOpen told room query (reply.Refused x) told
+      says x p (inl a) = subst (λ y. RepliesOpen told room query (reply.Refused y) told) (sym a) ((bad_room query room s).0 (b.0 (p ∙ ap Err a)), refl)
+      says x p (inr (inl a)) =
+          let h = f.0 (p ∙ ap Err a) in
+          subst (λ y. RepliesOpen told room query (reply.Refused y) told) (sym a) (λ g. h.0 ((bad_room query room s).1 g), none_left.0 h.1, refl)
+      says x p (inr (inr a)) =
+          let q : r ≡ Err refusal.OutOfMemory = p ∙ ap Err a in
+          let good : IsBadOpening query room → ⊥ = λ h. (let x = b.1 h in let y : Err refusal.OutOfMemory ≡ Err refusal.BadConfig = sym q ∙ x in cc) in
+          subst (λ y. RepliesOpen told room query (reply.Refused y) told) (sym a)
+            (λ h. good ((bad_room query room s).1 h), λ h. (let x = f.1 (good, none_left.1 h) in let y : Err refusal.OutOfMemory ≡ Err refusal.CursorsFull = sym q ∙ x in cc), refl)
+
+  pub swept : (n : ℕ) → Sweeps matching old n new → (after : Told K A) × RepliesSweep told (reply.Swept n) after × IsAsTold matching new after
+  swept n s =
+      let gone = filter (λ (d : DeadRow). not (is_needed old d)) old.dead in
+      let both : IsPermutation old.dead (gone ++ filter (is_needed old) old.dead) =
+          IsPermutation-trans _ _ _ (IsPermutation-filter_both (is_needed old) (λ (d : DeadRow). not (is_needed old d)) (λ d. refl) old.dead) (IsPermutation-append_comm (filter (is_needed old) old.dead) gone) in
+      let parted : IsPermutation told.dead (gone ++ new.dead) = IsPermutation-trans _ _ _ t.dead (IsPermutation-trans _ _ _ both (IsPermutation-append_right gone _ _ s.left)) in
+      let many : n ≡ length gone = omega (arith, s.counted, length_permutation _ _ t.dead, length_permutation _ _ parted, length-append gone new.dead) in
+      (record told { dead = new.dead }, (gone, new.dead, parted, many, each_needed matching old told t new.dead s.needed, refl), told_swept matching old told t new s.rest)
+
+  pub swept_some : SweepsSome matching old new → (after : Told K A) × RepliesSweep told (reply.Refused refusal.OutOfMemory) after × IsAsTold matching new after
+  swept_some s = (record told { dead = new.dead }, (s.gone, new.dead, IsPermutation-trans _ _ _ t.dead s.parted, refl), told_swept matching old told t new s.rest)
+
+  pub next_given : (c : ℕ) (given : Item K) → Nexts matching old c (Some given) new → (after : Told K A) × RepliesNext matching told c (reply.Given given) after × IsAsTold matching new after
+  next_given c given n =
+      let k = told_given matching old told t c given new n in
+      (record told { cursors = with_cursor told.cursors c (Ok (record k.f { given = k.f.given ++ given ∷ []; asked = k.asked })) }, (k.f, k.asked, k.is, k.gives, k.begins, refl), k.after)
+
+  pub next_empty : (c : ℕ) → Nexts matching old c None new → (after : Told K A) × RepliesNext matching told c reply.Empty after × IsAsTold matching new after
+  next_empty c n = let k = told_empty matching old told t c new n in (told, (k.f, k.is, k.unasked, k.listing, refl), k.after)
+
+  pub next_refused : (c : ℕ) (why : Refusal) → RefusesNext matching old c why new → (after : Told K A) × RepliesNext matching told c (reply.Refused why) after × IsAsTold matching new after
+  next_refused c why (inl p) = (told, (inl (told_refusal matching old told t c why p.0), refl), subst (λ (x : State K A). IsAsTold matching x told) (sym p.1) t)
+  next_refused c why (inr p) = let w = told_wanting matching old told t c new p.1 in (told, (inr (p.0, w.0.0, w.0.1), refl), w.1)
+
+  pub mark_asked : (c : ℕ) → Changes with_asking old c new → (after : Told K A) × RepliesMark told c reply.Asked after × IsAsTold matching new after
+  mark_asked c n =
+      let k = told_asked matching old told t c new n in
+      (record told { cursors = with_cursor told.cursors c (Ok (record k.0 { asked = true })) }, (k.0, k.1, refl), k.2)
+
+  pub closes : (c : ℕ) → Closes old c new → (after : Told K A) × RepliesClose told c reply.Closed after × IsAsTold matching new after
+  closes c n =
+      let k = told_closed matching old told t c new n in
+      (record told { cursors = with_cursor told.cursors c (Err refusal.CursorClosed); open_cursors = told.open_cursors - 1 }, (k.0, k.1, refl), k.2)

@@ -1,0 +1,29 @@
+-- A store that is as its client was told.
+use Rattle.std.specs.Prelude.{◌≡◌, ℕ, ◌≤◌, Bool, List, length, Result, Ok, Err, IsPermutation}
+use Rattle.key_class.specs.declared.refusal.Refusal.{Refusal}
+use Rattle.change_list.specs.declared.write.Write.{Write}
+use Rattle.change_list.specs.Cursors.{CursorState, Fits}
+use Rattle.store.specs.States.{State, cursor_of}
+use Rattle.front.specs.Told.{Following, Told}
+
+module _ {K A : Type 0} (matching : A → K → Bool) where
+  -- the open cursor of the store is the client's, and what it was given fits it
+  pub record IsSameCursor (commits : List (Write K)) (cursor : CursorState K A) (f : Following K A) : Type 0 where
+    pub query : f.query ≡ cursor.query
+    pub opened : f.opened ≡ cursor.opened
+    pub asked : f.asked ≡ cursor.asked
+    pub fits : Fits matching commits cursor f.given
+
+  abbrev pub AreSame : List (Write K) → Result (CursorState K A) Refusal → Result (Following K A) Refusal → Type 0
+  AreSame commits (Ok cursor) (Ok f) = IsSameCursor commits cursor f
+  AreSame commits (Err why) (Err other) = why ≡ other
+  AreSame commits _ _ = ⊥
+
+  pub record IsAsTold (state : State K A) (told : Told K A) : Type 0 where
+    pub limit : told.limit ≡ state.limit
+    pub commits : told.commits ≡ state.commits
+    pub cursors : (c : ℕ) → AreSame state.commits (cursor_of state c) (told.cursors c)
+    pub open_cursors : told.open_cursors ≡ length state.cursors
+    pub last : told.last ≡ state.last
+    pub dead : IsPermutation told.dead state.dead
+    pub deletes : state.finders ≤ told.deletes

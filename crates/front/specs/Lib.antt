@@ -1,0 +1,4 @@
+pub mod AsTold
+pub mod Held
+pub mod Lines
+pub mod Told

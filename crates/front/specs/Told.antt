@@ -1,0 +1,144 @@
+-- What a client of a session was told, and which replies may answer which requests.
+use Rattle.std.specs.Prelude.{◌≡◌, ℕ, ◌+◌, ◌-◌, ◌<◌, ◌≤◌, Bool, true, false, List, [], ◌∷◌, ◌++◌, length, Result, Ok, Err, ◌⊎◌, IsPermutation, nat_eq, if◌then◌else◌}
+use Rattle.std.specs.List.{AllByRecursion}
+use Rattle.key_class.specs.declared.refusal.Refusal.{Refusal}
+use Rattle.key_class.specs.declared.refusal.Refusal.TheVariants as refusal
+use Rattle.key_class.specs.Queries.{Query, matches_query}
+use Rattle.change_list.specs.declared.write.Write.{Write}
+use Rattle.change_list.specs.declared.write.Write.TheVariants as write
+use Rattle.change_list.specs.declared.write.Status.TheVariants as status
+use Rattle.change_list.specs.declared.item.Item.{Item}
+use Rattle.change_list.specs.declared.item.Item.TheVariants as item
+use Rattle.change_list.specs.Changes.{status_of, snapshot}
+use Rattle.change_list.specs.Listings.{IsListing, BeginsListing, without_marks}
+use Rattle.store.specs.States.{DeadRow}
+use Rattle.front.specs.declared.reply.Reply.{Reply}
+use Rattle.front.specs.declared.reply.Reply.TheVariants as reply
+
+-- an open cursor, as its client sees it
+pub record Following (K A : Type 0) : Type 0 where
+  pub query : Query A
+  -- the number of commits at its opening
+  pub opened : ℕ
+  -- what it was given, marks among it
+  pub given : List (Item K)
+  -- a mark is asked for
+  pub asked : Bool
+
+pub record Told (K A : Type 0) : Type 0 where
+  -- the greatest number of commits
+  pub limit : ℕ
+  pub commits : List (Write K)
+  -- for each serial the open cursor, or why there is none
+  pub cursors : ℕ → Result (Following K A) Refusal
+  -- how many cursors are open
+  pub open_cursors : ℕ
+  -- the last serial that was given
+  pub last : ℕ
+  -- a collection: the dead rows that no sweep removed
+  pub dead : List DeadRow
+  -- how many deletes were tried
+  pub deletes : ℕ
+
+abbrev pub IsBadRoom : ℕ → Type 0
+IsBadRoom room = (room ≡ 0) ⊎ (4096 < room)
+
+module _ {K A : Type 0} where
+  -- before the first line
+  abbrev pub nothing_told : ℕ → Told K A
+  nothing_told limit = record { limit = limit; commits = []; cursors = λ c. Err refusal.NoSuchCursor; open_cursors = 0; last = 0; dead = []; deletes = 0 }
+
+  -- the serial has this cursor, or none for this reason, and the others what they had
+  abbrev pub with_cursor : (ℕ → Result (Following K A) Refusal) → ℕ → Result (Following K A) Refusal → ℕ → Result (Following K A) Refusal
+  with_cursor cursors c now d = if nat_eq d c then now else cursors d
+
+  abbrev pub IsFull : Told K A → Type 0
+  IsFull told = told.limit ≤ length told.commits
+
+  abbrev pub HasNoCursorLeft : Told K A → Type 0
+  HasNoCursorLeft told = (256 ≤ told.open_cursors) ⊎ (4294967295 ≤ told.last)
+
+  -- pages: how many more pages may be made when the session is over
+  abbrev pub RepliesInsert : ℕ → Told K A → K → ℕ → Reply K → Told K A → Type 0
+  RepliesInsert pages old key tag (reply.Committed n) new =
+      (¬ IsFull old) × (n ≡ length old.commits + 1) × (new ≡ record old { commits = old.commits ++ write.Insert key tag ∷ [] })
+  RepliesInsert pages old key tag (reply.Refused refusal.CommitsFull) new = IsFull old × (new ≡ old)
+  RepliesInsert pages old key tag (reply.Refused refusal.PagesFull) new = (¬ IsFull old) × (pages < 2) × (new ≡ old)
+  RepliesInsert pages old key tag (reply.Refused refusal.OutOfMemory) new = (¬ IsFull old) × (new ≡ old)
+  RepliesInsert pages old key tag _ new = ⊥
+
+  abbrev pub RepliesDelete : Told K A → ℕ → Reply K → Told K A → Type 0
+  RepliesDelete old row (reply.Committed n) new =
+      (status_of old.commits row ≡ status.Live) × (¬ IsFull old) × (n ≡ length old.commits + 1)
+      × (new ≡ record old { commits = old.commits ++ write.Delete row ∷ []; dead = (record { row = row; died = n }) ∷ old.dead; deletes = old.deletes + 1 })
+  RepliesDelete old row (reply.Refused refusal.NoSuchRow) new = (status_of old.commits row ≡ status.NeverIssued) × (new ≡ record old { deletes = old.deletes + 1 })
+  RepliesDelete old row (reply.Refused refusal.AlreadyDeleted) new = (status_of old.commits row ≡ status.Dead) × (new ≡ record old { deletes = old.deletes + 1 })
+  RepliesDelete old row (reply.Refused refusal.CommitsFull) new = (status_of old.commits row ≡ status.Live) × IsFull old × (new ≡ record old { deletes = old.deletes + 1 })
+  RepliesDelete old row (reply.Refused refusal.OutOfMemory) new = (status_of old.commits row ≡ status.Live) × (¬ IsFull old) × (new ≡ record old { deletes = old.deletes + 1 })
+  RepliesDelete old row (reply.Refused refusal.FindersFull) new =
+      (status_of old.commits row ≡ status.Live) × (¬ IsFull old) × (4294967295 ≤ old.deletes) × (new ≡ record old { deletes = old.deletes + 1 })
+  RepliesDelete old row _ new = ⊥
+
+  abbrev pub RepliesOpen : Told K A → ℕ → Query A → Reply K → Told K A → Type 0
+  RepliesOpen old room query (reply.Opened c) new =
+      (¬ IsBadRoom room) × (¬ HasNoCursorLeft old) × (c ≡ old.last + 1)
+      × (new ≡ record old {
+          cursors = with_cursor old.cursors c (Ok (record { query = query; opened = length old.commits; given = []; asked = false }));
+          open_cursors = old.open_cursors + 1;
+          last = c;
+        })
+  RepliesOpen old room query (reply.Refused refusal.BadConfig) new = IsBadRoom room × (new ≡ old)
+  RepliesOpen old room query (reply.Refused refusal.CursorsFull) new = (¬ IsBadRoom room) × HasNoCursorLeft old × (new ≡ old)
+  RepliesOpen old room query (reply.Refused refusal.OutOfMemory) new = (¬ IsBadRoom room) × (¬ HasNoCursorLeft old) × (new ≡ old)
+  RepliesOpen old room query _ new = ⊥
+
+  abbrev pub RepliesMark : Told K A → ℕ → Reply K → Told K A → Type 0
+  RepliesMark old c reply.Asked new = (f : Following K A) × (old.cursors c ≡ Ok f) × (new ≡ record old { cursors = with_cursor old.cursors c (Ok (record f { asked = true })) })
+  RepliesMark old c (reply.Refused why) new = (old.cursors c ≡ Err why) × (new ≡ old)
+  RepliesMark old c _ new = ⊥
+
+  abbrev pub RepliesClose : Told K A → ℕ → Reply K → Told K A → Type 0
+  RepliesClose old c reply.Closed new =
+      (f : Following K A) × (old.cursors c ≡ Ok f)
+      × (new ≡ record old { cursors = with_cursor old.cursors c (Err refusal.CursorClosed); open_cursors = old.open_cursors - 1 })
+  RepliesClose old c (reply.Refused why) new = (old.cursors c ≡ Err why) × (new ≡ old)
+  RepliesClose old c _ new = ⊥
+
+  -- each dead row that a sweep leaves died after the opening of some open cursor
+  pub record DiedAfterOpening (told : Told K A) (dead : DeadRow) : Type 0 where
+    pub serial : ℕ
+    pub cursor : Following K A
+    pub is_open : told.cursors serial ≡ Ok cursor
+    pub opened : cursor.opened < dead.died
+
+  abbrev pub RepliesSweep : Told K A → Reply K → Told K A → Type 0
+  RepliesSweep old (reply.Swept n) new =
+      (gone left : List DeadRow) × IsPermutation old.dead (gone ++ left) × (n ≡ length gone)
+      × AllByRecursion (DiedAfterOpening old) left × (new ≡ record old { dead = left })
+  RepliesSweep old (reply.Refused refusal.OutOfMemory) new =
+      (gone left : List DeadRow) × IsPermutation old.dead (gone ++ left) × (new ≡ record old { dead = left })
+  RepliesSweep old _ new = ⊥
+
+module _ {K A : Type 0} (matching : A → K → Bool) where
+  abbrev pub wants : Following K A → K → Bool
+  wants f = matches_query matching f.query
+
+  abbrev pub RepliesFind : Told K A → Query A → Reply K → Told K A → Type 0
+  RepliesFind old query (reply.Found rows) new = (rows.items ≡ snapshot (matches_query matching query) (length old.commits) old.commits) × (new ≡ old)
+  RepliesFind old query (reply.Refused refusal.OutOfMemory) new = new ≡ old
+  RepliesFind old query _ new = ⊥
+
+  -- A mark comes only where one is asked for, tells the number of commits, and ends the asking; then all up to it was given.
+  abbrev pub GivesTo : List (Write K) → Following K A → Item K → Bool → Type 0
+  GivesTo commits f (item.Mark n) asked = (f.asked ≡ true) × (n ≡ length commits) × (asked ≡ false) × IsListing (wants f) f.opened n commits (without_marks f.given)
+  GivesTo commits f other asked = asked ≡ f.asked
+
+  abbrev pub RepliesNext : Told K A → ℕ → Reply K → Told K A → Type 0
+  RepliesNext old c (reply.Given given) new =
+      (f : Following K A) × (asked : Bool) × (old.cursors c ≡ Ok f) × GivesTo old.commits f given asked
+      × BeginsListing (wants f) f.opened (length old.commits) old.commits (without_marks (f.given ++ given ∷ []))
+      × (new ≡ record old { cursors = with_cursor old.cursors c (Ok (record f { given = f.given ++ given ∷ []; asked = asked })) })
+  RepliesNext old c reply.Empty new =
+      (f : Following K A) × (old.cursors c ≡ Ok f) × (f.asked ≡ false) × IsListing (wants f) f.opened (length old.commits) old.commits (without_marks f.given) × (new ≡ old)
+  RepliesNext old c (reply.Refused why) new = ((old.cursors c ≡ Err why) ⊎ ((why ≡ refusal.OutOfMemory) × (f : Following K A) × (old.cursors c ≡ Ok f))) × (new ≡ old)
+  RepliesNext old c _ new = ⊥

@@ -1,0 +1,10 @@
+use Rattle.std.proofs.Common.{◌≡◌, ◌++◌, ◌≤◌, take, drop, length}
+use Rattle.node.specs.Parts.{left_part}
+use Rattle.node.proofs.parts.keep_left.Given as goal
+
+abbrev pub invariant-loop-place : goal.invariant-loop-place
+invariant-loop-place g l = record {
+  behind : l.kept ≤ l.place;
+  as_many : length l.entries.items ≡ length l.fn.entries.items;
+  left : take l.kept l.entries.items ++ left_part (drop l.place l.sides) (drop l.place l.entries.items) ≡ left_part l.sides l.fn.entries.items;
+}

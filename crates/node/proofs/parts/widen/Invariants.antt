@@ -1,0 +1,9 @@
+use Rattle.std.proofs.Common.{◌≡◌, ◌++◌, take, drop, map, length}
+use Rattle.node.specs.Changes.{widened}
+use Rattle.node.proofs.parts.widen.Given as goal
+
+abbrev pub invariant-loop-place : goal.invariant-loop-place
+invariant-loop-place g l = record {
+  done : take l.place l.branches.items ++ map (widened g.C.KeyClass.union_of l.child l.key) (drop l.place l.branches.items) ≡ map (widened g.C.KeyClass.union_of l.child l.key) l.fn.branches.items;
+  len : length l.branches.items ≡ length l.fn.branches.items;
+}

@@ -1,0 +1,347 @@
+ghost use Rattle.std.specs.Prelude.{◌≡◌, ◌+◌, ◌<◌, ◌^◌, ◌++◌, ◌∷◌, [], length, map, filter, IfOk, OnOk, OnErr, option_to_list};
+ghost use Rattle.row_version.specs.Entries.{is_needed, marked};
+ghost use Rattle.node.specs.Pages.{empty_leaf, followed, entries_of, names, is_within, keys_of};
+ghost use Rattle.node.specs.Parts.{cover_of};
+ghost use Rattle.node.specs.Changes.{split_left, split_right, post_parent, post_child, post_sibling, grown_left, grown_right, risen, enlarge_parent, enlarge_child, with_rows};
+
+use crate::branch::Branch;
+use crate::parts::{
+    add_branch, bury, join_branches, join_rows, keep_left, left_entries, rekey, right_entries, sweep,
+    widen,
+};
+use key_class::{KeyClass, Sides};
+use row_version::Entry;
+use std::alloc::{AllocError, Global};
+use std::marker::Model;
+
+/// A page of the tree: a leaf, of level 0, holds rows, and an inner page branches.
+///
+/// At most one list of a page has memory of its own.
+#[derive(Drop)]
+pub struct Page<K> {
+    level: u32,
+    nsn: u32,
+    right: Option<u32>,
+    owed: bool,
+    hung: bool,
+    rows: Vec<Entry<K>>,
+    branches: Vec<Branch<K>>,
+    cover: Option<K>,
+}
+
+impl<K> Model for Page<K> {
+    ghost use Rattle.node.specs.Pages as model;
+
+    ghost Value = { model.Page K };
+
+    ghost view = { λ p. record { level = p.level; nsn = p.nsn; right = p.right; owed = p.owed; hung = p.hung; cover = p.cover; rows = p.rows.items; branches = p.branches.items } };
+}
+
+impl<K> Page<K> {
+    /// A leaf with nothing in it, and with room for `fan` rows.
+    ///
+    /// # Errors
+    /// Memory was wanting.
+    pub fn leaf(alloc: Global, fan: usize) -> Result<Page<K>, AllocError>
+        ensures { IfOk result (λ page. page ≡ empty_leaf) }
+    {
+        let rows = Vec::with_capacity(alloc, fan)?;
+        Ok(Page {
+            level: 0,
+            nsn: 0,
+            right: None,
+            owed: false,
+            hung: true,
+            rows,
+            branches: Vec::new(alloc),
+            cover: None,
+        })
+    }
+
+    /// How far it is above the leaves.
+    pub fn level(&self) -> u32
+        ensures { result ≡ self.now.level }
+    {
+        self.level
+    }
+
+    /// The number of the posting of its latest split, 0 before the first.
+    pub fn nsn(&self) -> u32
+        ensures { result ≡ self.now.nsn }
+    {
+        self.nsn
+    }
+
+    /// The page to which a split moved a part of it.
+    pub fn right(&self) -> Option<u32>
+        ensures { result ≡ self.now.right }
+    {
+        self.right
+    }
+
+    /// Whether it was split and its right sibling is not yet posted.
+    pub fn is_owed(&self) -> bool
+        ensures { result ≡ self.now.owed }
+    {
+        self.owed
+    }
+
+    /// Whether a branch of its parent names it.
+    pub fn is_hung(&self) -> bool
+        ensures { result ≡ self.now.hung }
+    {
+        self.hung
+    }
+
+    pub fn rows(&self) -> &[Entry<K>]
+        ensures { result.now ≡ self.now.rows }
+    {
+        &self.rows
+    }
+
+    pub fn branches(&self) -> &[Branch<K>]
+        ensures { result.now ≡ self.now.branches }
+    {
+        &self.branches
+    }
+
+    /// The right link, where a traversal with the memo follows it.
+    pub fn followed(&self, memo: u32) -> Option<u32>
+        ensures { option_to_list result ≡ followed self.now memo }
+    {
+        if self.owed || memo < self.nsn {
+            self.right
+        } else {
+            None
+        }
+    }
+
+    /// Whether a branch leads to the child.
+    pub fn names(&self, child: u64) -> bool
+        ensures { result ≡ names child self.now }
+    {
+        self.branches
+            .iter()
+            .any(|branch| u64::from(branch.child) == child)
+    }
+}
+
+impl<K: Copy> Page<K> {
+    /// A bound of all that it holds, none for page 0.
+    pub fn cover(&self) -> Option<K>
+        ensures { result ≡ self.now.cover }
+    {
+        self.cover
+    }
+
+    /// How many entries it has, of either kind.
+    pub fn entry_count(&self) -> usize
+        requires { entries_of self.now < 2 ^ 64 }
+        ensures { result ≡ entries_of self.now }
+    {
+        self.rows.len() + self.branches.len()
+    }
+
+    /// Whether the cover covers the key; page 0 has none, and every key counts as covered.
+    pub fn covers<C: KeyClass<Key = K>>(&self, key: K) -> bool
+        ensures { result ≡ is_within C.is_cover self.now.cover key }
+    {
+        match self.cover {
+            None => true,
+            Some(bound) => C::covers(bound, key),
+        }
+    }
+
+    /// Adds a row at the end.
+    ///
+    /// # Errors
+    /// Memory was wanting; the page is as it was.
+    pub fn place(&mut self, entry: Entry<K>) -> Result<(), AllocError>
+        ensures placed { OnOk result (self.new ≡ with_rows self.old (self.old.rows ++ entry ∷ [])) }
+        ensures unchanged { OnErr result (self.new ≡ self.old) }
+    {
+        self.rows.push(entry)?;
+        Ok(())
+    }
+
+    /// Marks the row as deleted by that commit. Commits count from 1.
+    pub fn bury(&mut self, row: u32, commit: u32)
+        requires { 0 < commit }
+        ensures { self.new ≡ with_rows self.old (map (marked row commit) self.old.rows) }
+    {
+        bury(&mut self.rows, row, commit);
+    }
+
+    /// Takes out the dead rows that nobody needs who opened at the commit `horizon` or later, and gives their number.
+    pub fn sweep(&mut self, horizon: u32) -> usize
+        ensures swept { self.new ≡ with_rows self.old (filter (is_needed horizon) self.old.rows) }
+        ensures count { result + length self.new.rows ≡ length self.old.rows }
+    {
+        let before = self.rows.len();
+        sweep(&mut self.rows, horizon);
+        before - self.rows.len()
+    }
+
+    /// What a split by sides leaves here: the left entries, and a right sibling to be posted.
+    pub fn keep_left<C: KeyClass<Key = K>>(&mut self, sides: &Sides, sibling: u32)
+        requires { entries_of self.old ≡ length sides.now }
+        ensures { self.new ≡ split_left C.union_of self.old sides.now sibling }
+    {
+        keep_left(&mut self.rows, sides);
+        keep_left(&mut self.branches, sides);
+        self.cover = cover_of::<C>(&self.rows, &self.branches);
+        self.right = Some(sibling);
+        self.owed = true;
+    }
+
+    /// What a split by sides moves to the new sibling: the right entries.
+    ///
+    /// # Errors
+    /// Memory was wanting.
+    pub fn right_half<C: KeyClass<Key = K>>(
+        &self,
+        alloc: Global,
+        sides: &Sides,
+    ) -> Result<Page<K>, AllocError>
+        requires { entries_of self.now ≡ length sides.now }
+        ensures { IfOk result (λ page. page ≡ split_right C.union_of self.now sides.now) }
+    {
+        let rows = right_entries(alloc, &self.rows, sides)?;
+        let branches = right_entries(alloc, &self.branches, sides)?;
+        let cover = cover_of::<C>(&rows, &branches);
+        Ok(Page {
+            level: self.level,
+            nsn: self.nsn,
+            right: self.right,
+            owed: false,
+            hung: false,
+            rows,
+            branches,
+            cover,
+        })
+    }
+
+    /// The page of the left entries below a root that grows; its right link leads to page `right`.
+    ///
+    /// # Errors
+    /// Memory was wanting.
+    pub fn lower_left<C: KeyClass<Key = K>>(
+        &self,
+        alloc: Global,
+        sides: &Sides,
+        right: u32,
+    ) -> Result<Page<K>, AllocError>
+        requires { entries_of self.now ≡ length sides.now }
+        ensures { IfOk result (λ page. page ≡ grown_left C.union_of self.now sides.now right) }
+    {
+        let rows = left_entries(alloc, &self.rows, sides)?;
+        let branches = left_entries(alloc, &self.branches, sides)?;
+        let cover = cover_of::<C>(&rows, &branches);
+        Ok(Page {
+            level: self.level,
+            nsn: 0,
+            right: Some(right),
+            owed: false,
+            hung: true,
+            rows,
+            branches,
+            cover,
+        })
+    }
+
+    /// The page of the right entries below a root that grows.
+    ///
+    /// # Errors
+    /// Memory was wanting.
+    pub fn lower_right<C: KeyClass<Key = K>>(
+        &self,
+        alloc: Global,
+        sides: &Sides,
+    ) -> Result<Page<K>, AllocError>
+        requires { entries_of self.now ≡ length sides.now }
+        ensures { IfOk result (λ page. page ≡ grown_right C.union_of self.now sides.now) }
+    {
+        let rows = right_entries(alloc, &self.rows, sides)?;
+        let branches = right_entries(alloc, &self.branches, sides)?;
+        let cover = cover_of::<C>(&rows, &branches);
+        Ok(Page {
+            level: self.level,
+            nsn: 0,
+            right: None,
+            owed: false,
+            hung: true,
+            rows,
+            branches,
+            cover,
+        })
+    }
+
+    /// A root that has grown: one level higher, with those branches in place of its entries.
+    pub fn rise(&mut self, alloc: Global, branches: Vec<Branch<K>>)
+        requires { self.old.level + 1 < 2 ^ 32 }
+        ensures { self.new ≡ risen self.old branches.items }
+    {
+        self.level += 1;
+        self.rows = Vec::new(alloc);
+        self.branches = branches;
+    }
+
+    /// Has the branch to the child take in the key.
+    pub fn widen_branch<C: KeyClass<Key = K>>(&mut self, child: u32, key: K)
+        ensures { self.new ≡ enlarge_parent C.union_of child key self.old }
+    {
+        widen::<C>(&mut self.branches, child, key);
+    }
+
+    /// Has the cover take in the key.
+    pub fn widen_cover<C: KeyClass<Key = K>>(&mut self, key: K)
+        ensures { self.new ≡ enlarge_child C.union_of key self.old }
+    {
+        if let Some(bound) = self.cover {
+            self.cover = Some(C::union(bound, key));
+        }
+    }
+
+    /// Names a child and its right sibling by their covers.
+    ///
+    /// # Errors
+    /// Memory was wanting; the page is as it was.
+    pub fn name_both(
+        &mut self,
+        child: (u32, Option<K>),
+        sibling: (u32, Option<K>),
+    ) -> Result<(), AllocError>
+        ensures named { OnOk result (self.new ≡ post_parent self.old child.0 child.1 sibling.0 sibling.1) }
+        ensures unchanged { OnErr result (self.new ≡ self.old) }
+    {
+        self.branches.reserve(1)?;
+        rekey(&mut self.branches, child.0, child.1);
+        add_branch(&mut self.branches, sibling.0, sibling.1);
+        Ok(())
+    }
+}
+
+impl<K> Page<K> {
+    /// Owes nothing any more, and has the number of the posting.
+    pub fn settle(&mut self, nsn: u32)
+        ensures { self.new ≡ post_child self.old nsn }
+    {
+        self.nsn = nsn;
+        self.owed = false;
+    }
+
+    /// Is named by its parent.
+    pub fn hang(&mut self)
+        ensures { self.new ≡ post_sibling self.old }
+    {
+        self.hung = true;
+    }
+}
+
+/// The union of all keys.
+fn cover_of<C: KeyClass>(rows: &[Entry<C::Key>], branches: &[Branch<C::Key>]) -> Option<C::Key>
+    ensures { result ≡ cover_of C.union_of (keys_of rows.now branches.now) }
+{
+    let bound = join_rows::<C>(None, rows);
+    join_branches::<C>(bound, branches)
+}

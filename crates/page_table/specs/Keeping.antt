@@ -1,0 +1,22 @@
+-- What a step that moves entries and changes none leaves as it was.
+use Rattle.std.specs.Prelude.{◌≡◌, ℕ, ◌<◌, ◌≤◌, List, length, All, Contains}
+use Rattle.row_version.specs.Entries.{Entry}
+use Rattle.page_table.specs.Weights.{Same}
+use Rattle.page_table.specs.Trees.{Tree, page_at, rows_under}
+
+-- No traversal under way gains or loses a row.
+pub record KeepsRows {K : Type 0} (t t' : Tree K) : Type 0 where
+  pub pages : length t.pages ≤ length t'.pages
+  pub counter : t.counter ≤ t'.counter
+  -- for everybody who began before the step
+  pub under : (q m : ℕ) → q < length t.pages → m ≤ t.counter → Same (rows_under t' q m) (rows_under t q m)
+  -- for everybody who begins at the root, before and after
+  pub whole : Same (rows_under t' 0 t'.counter) (rows_under t 0 t.counter)
+
+-- what holds of each entry of each page
+abbrev pub EachEntry : {K : Type 0} → (Entry K → Type 0) → Tree K → Type 0
+EachEntry P t = (q : ℕ) → q < length t.pages → All P (page_at t q).rows
+
+-- a page of the tree holds the entry
+abbrev pub StandsIn : {K : Type 0} → Tree K → Entry K → Type 0
+StandsIn t e = (q : ℕ) × (q < length t.pages) × Contains (page_at t q).rows e

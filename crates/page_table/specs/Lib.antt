@@ -1,0 +1,5 @@
+pub mod Keeping
+pub mod Soundness
+pub mod Stacks
+pub mod Trees
+pub mod Weights

@@ -1,0 +1,48 @@
+ghost use Rattle.std.specs.Prelude.{◌≡◌, refl};
+ghost use Rattle.query_text.specs.IntervalTexts.{interval_at, interval_text, atom_of};
+
+use crate::class::ClassText;
+use crate::lexeme::Lexeme;
+use crate::reader::{close_bracket, open_bracket, signed};
+use interval_class::{Atom, Interval, Intervals};
+use key_class::Rel;
+use std::io::{self, Write};
+
+impl ClassText for Intervals {
+    ghost key_at = { interval_at };
+
+    ghost key_text = { interval_text };
+
+    ghost atom_of = { atom_of };
+
+    ghost rel_of = { λ a. a.rel };
+
+    ghost operand_of = { λ a. a.operand };
+
+    #[tactic(auto, unfolding(crate::specs::IntervalTexts::interval_at))]
+    fn read_key<'a>(text: &[u8], lexemes: &'a [Lexeme]) -> Result<(Interval, &'a [Lexeme]), usize> {
+        let (place, rest) = open_bracket(text, lexemes)?;
+        let (lo, rest) = signed(text, rest)?;
+        let (hi, rest) = signed(text, rest)?;
+        let (_, rest) = close_bracket(text, rest)?;
+        match Interval::new(lo, hi) {
+            Ok(key) => Ok((key, rest)),
+            Err(_) => Err(place),
+        }
+    }
+
+    fn write_key<W: Write>(key: Interval, writer: &mut W) -> io::Result<()> {
+        let Interval { lo, hi } = key;
+        write!(writer, "({lo} {hi})")
+    }
+
+    fn atom(rel: Rel, operand: Interval) -> Atom {
+        Atom { rel, operand }
+    }
+
+    fn parts(atom: &Atom) -> (Rel, Interval) {
+        (atom.rel, atom.operand)
+    }
+
+    ghost atom_of_parts = { λ a. refl };
+}

@@ -1,0 +1,93 @@
+ghost use Rattle.std.specs.Prelude.{◌≡◌, ◌↔◌, ℕ, ℤ, pos, negsuc, ◌≤◌, ◌<◌, ◌^◌, ◌-◌, ◌+◌, ◌*◌, ◌≤ℤ◌, ◌<ℤ◌, unsigned_abs, IsTrue, IfSome, Some, None, MatchOption};
+ghost use Rattle.std.specs.Option.{option_map};
+ghost use Rattle.query_text.specs.Tokens.{is_negative, digits_of, word, number, token_in, number_value, number_within, decimal_value_after, least_i64, most_i64, most_u64};
+
+use crate::lexeme::{Kind, Lexeme};
+
+/// The number that one more digit makes, unless it is 2^64 or more.
+fn with_digit(value: u64, digit: u8) -> Option<u64>
+    ensures { MatchOption result (2 ^ 64 ≤ value * 10 + (digit - 48)) (λ n. n ≡ value * 10 + (digit - 48)) }
+{
+    value
+        .checked_mul(10)?
+        .checked_add(u64::from(digit.saturating_sub(b'0')))
+}
+
+/// The number that digits write, unless it is 2^64 or more.
+fn magnitude(digits: &[u8]) -> Option<u64>
+    ensures { MatchOption result (2 ^ 64 ≤ decimal_value_after 0 digits.now) (λ n. n ≡ decimal_value_after 0 digits.now) }
+{
+    let mut value = 0;
+    for digit in digits {
+        let Some(next) = with_digit(value, *digit) else {
+            return None;
+        };
+        value = next;
+    }
+    Some(value)
+}
+
+fn is_negative(bytes: &[u8]) -> bool
+    ensures { result ≡ is_negative bytes.now }
+{
+    match bytes {
+        [] => false,
+        [first, ..] => *first == b'-',
+    }
+}
+
+/// The digits behind the minus, if there is one.
+fn digits_of(bytes: &[u8]) -> &[u8]
+    ensures { result.now ≡ digits_of bytes.now }
+{
+    match bytes {
+        [b'-', digits @ ..] => digits,
+        _ => bytes,
+    }
+}
+
+/// The number that bytes write, unless its size is 2^64 or more.
+fn integer(bytes: &[u8]) -> Option<i128>
+    ensures { MatchOption result (2 ^ 64 ≤ unsigned_abs (number_value bytes.now)) (λ n. n ≡ number_value bytes.now) }
+{
+    let size = i128::from(magnitude(digits_of(bytes))?);
+    Some(if is_negative(bytes) { -size } else { size })
+}
+
+impl Lexeme {
+    /// Whether it is that word.
+    pub fn is_word(self, text: &[u8], expected: &[u8]) -> bool
+        ensures { IsTrue result ↔ (token_in text.now self ≡ word expected.now) }
+    {
+        match self.kind {
+            Kind::Word => self.bytes(text) == expected,
+            _ => false,
+        }
+    }
+
+    /// Its number, where it has one in a range.
+    fn number_within(self, text: &[u8], least: i128, most: i128) -> Option<i128>
+        requires low { negsuc (2 ^ 64 - 2) ≤ℤ least }
+        requires high { most ≤ℤ pos (2 ^ 64 - 1) }
+        ensures { result ≡ number_within least most (token_in text.now self) }
+    {
+        match self.kind {
+            Kind::Number => integer(self.bytes(text)).filter(|n| least <= *n && *n <= most),
+            _ => None,
+        }
+    }
+
+    /// Its number, where it is one of 64 bits without a sign. Leading zeros count for nothing, and `-0` is 0.
+    pub fn unsigned(self, text: &[u8]) -> Option<u64>
+        ensures { option_map pos result ≡ number_within (pos 0) most_u64 (token_in text.now self) }
+    {
+        Some(self.number_within(text, 0, i128::from(u64::MAX))? as u64)
+    }
+
+    /// Its number, where it is one of 64 bits with a sign.
+    pub fn signed(self, text: &[u8]) -> Option<i64>
+        ensures { result ≡ number_within least_i64 most_i64 (token_in text.now self) }
+    {
+        Some(self.number_within(text, i128::from(i64::MIN), i128::from(i64::MAX))? as i64)
+    }
+}

@@ -1,0 +1,290 @@
+ghost use Rattle.std.specs.Prelude.{◌≡◌, ℕ, List, ◌<◌, ◌⊎◌, length, Result, Ok, Err, IfOk, IfErr, MatchOption, true, false, [], ◌∷◌, ◌++◌};
+ghost use Rattle.key_class.specs.Queries.{query_of};
+ghost use Rattle.query_text.specs.Tokens.{Placed, placed};
+ghost use Rattle.query_text.specs.Grammar.{unit, conjunction, whole, Spells, SpellsQuery, RefusesTokens, SpellsText, RefusesText};
+ghost use Rattle.query_text.specs.Parsing.{Completes, ReadsUnit, RefusesUnit, GoesOn, RefusedAt, pending};
+ghost use Rattle.query_text.specs.declared.terminal.Terminal.TheVariants as terminal;
+ghost use Rattle.query_text.specs.declared.lexeme.Lexeme.{Lexeme};
+ghost use Rattle.query_text.specs.declared.parser.ParseError.TheVariants.{Memory};
+
+use crate::class::ClassText;
+use crate::lexeme::Lexeme;
+use crate::terminal::Terminal;
+use crate::limits::{MAX_BYTES, MAX_DEPTH};
+use crate::scanner::scan;
+use key_class::{Pred, Refusal};
+use std::alloc::{AllocError, AllocFailed, Global};
+
+/// Why there is no query.
+#[derive(Clone, Copy, Debug)]
+pub enum ParseError {
+    Memory,
+    At(usize),
+}
+
+impl From<AllocError> for ParseError {
+    ghost from_gives = { λ _ e. e ≡ Memory };
+
+    fn from(_e: AllocError) -> ParseError {
+        ParseError::Memory
+    }
+}
+
+impl<T: Drop> From<AllocFailed<T>> for ParseError {
+    ghost from_gives = { λ _ e. e ≡ Memory };
+
+    fn from(_e: AllocFailed<T>) -> ParseError {
+        ParseError::Memory
+    }
+}
+
+/// The first lexeme and the others, if there is one.
+fn first_of(lexemes: &[Lexeme]) -> Option<(Lexeme, &[Lexeme])>
+    ensures { MatchOption result (lexemes.now ≡ []) (λ r. lexemes.now ≡ r.0 ∷ r.1.now) }
+{
+    match lexemes {
+        [] => None,
+        [first, rest @ ..] => Some((*first, rest)),
+    }
+}
+
+/// What waits for the next unit, conjunction or query of a text.
+#[derive(Drop)]
+pub enum Pending<A> {
+    Not,
+    Bracket,
+    /// The left part of an `and`.
+    And(Pred<A>),
+    /// The left part of an `or`.
+    Or(Pred<A>),
+}
+
+/// The conjunction that a unit ends.
+fn conjunction_of<C: ClassText>(
+    alloc: Global,
+    stack: &mut Vec<Pending<C::Atom>>,
+    last: Pred<C::Atom>,
+) -> Result<Pred<C::Atom>, AllocError>
+    ensures { IfOk result (λ part. (len : ℕ) → Completes (C.key_at len) C.atom_of (pending stack.old.items) unit (query_of last) (pending stack.new.items) conjunction (query_of part)) }
+{
+    let mut part = last;
+    'nots: loop {
+        match stack.pop() {
+            Some(Pending::Not) => part = Pred::Not(Box::new(alloc, part)?),
+            Some(Pending::And(left)) => {
+                return Ok(Pred::And(Box::new(alloc, left)?, Box::new(alloc, part)?));
+            }
+            Some(Pending::Or(left)) => {
+                stack.push_reserved(Pending::Or(left));
+                return Ok(part);
+            }
+            Some(Pending::Bracket) => {
+                stack.push_reserved(Pending::Bracket);
+                return Ok(part);
+            }
+            None => return Ok(part),
+        }
+    }
+}
+
+/// The query that a conjunction ends.
+fn query_of_conjunction<C: ClassText>(
+    alloc: Global,
+    stack: &mut Vec<Pending<C::Atom>>,
+    last: Pred<C::Atom>,
+) -> Result<Pred<C::Atom>, AllocError>
+    ensures { IfOk result (λ found. (len : ℕ) → Completes (C.key_at len) C.atom_of (pending stack.old.items) conjunction (query_of last) (pending stack.new.items) whole (query_of found)) }
+{
+    let Some(top) = stack.pop() else {
+        return Ok(last);
+    };
+    match top {
+        Pending::Or(left) => Ok(Pred::Or(Box::new(alloc, left)?, Box::new(alloc, last)?)),
+        other => {
+            stack.push_reserved(other);
+            Ok(last)
+        }
+    }
+}
+
+/// The atom of the unit that is due, once the `not`s and brackets before it are pending.
+fn read_unit<'a, C: ClassText>(
+    text: &[u8],
+    stack: &mut Vec<Pending<C::Atom>>,
+    lexemes: &'a [Lexeme],
+) -> Result<(Pred<C::Atom>, &'a [Lexeme]), ParseError>
+    ensures read { IfOk result (λ r. ReadsUnit (C.key_at (length text.now)) C.atom_of (pending stack.old.items) (placed text.now lexemes.now) (pending stack.new.items) (query_of r.0) (placed text.now r.1.now)) }
+    ensures refused { IfErr result (λ e. RefusesUnit (C.key_at (length text.now)) C.atom_of (length text.now) (pending stack.old.items) (placed text.now lexemes.now) e) }
+    ensures shorter { IfOk result (λ r. length r.1.now < length lexemes.now) }
+{
+    let mut rest = lexemes;
+    'units: loop {
+        let Some((first, behind)) = first_of(rest) else {
+            return Err(ParseError::At(text.len()));
+        };
+        match first.terminal(text) {
+            Terminal::Not => {
+                stack.push(Pending::Not)?;
+                rest = behind;
+            }
+            Terminal::Open => {
+                stack.push(Pending::Bracket)?;
+                rest = behind;
+            }
+            Terminal::Relation(rel) => {
+                return match C::read_key(text, behind) {
+                    Ok(read) => Ok((Pred::Atom(C::atom(rel, read.0)), read.1)),
+                    Err(place) => Err(ParseError::At(place)),
+                };
+            }
+            _ => return Err(ParseError::At(first.place)),
+        }
+    }
+}
+
+/// Drops the top of a stack, if there is one.
+fn drops_top<T: Drop>(stack: &mut Vec<T>) -> bool
+    ensures dropped { result ≡ true → (top : T) × (stack.old.items ≡ stack.new.items ++ top ∷ []) }
+    ensures empty { result ≡ false → stack.old.items ≡ [] }
+{
+    stack.pop().is_some()
+}
+
+/// What comes behind a unit: another, or the text's end.
+#[derive(Drop)]
+pub enum Next<'a, A> {
+    More(&'a [Lexeme]),
+    End(Pred<A>),
+}
+
+/// What comes behind a unit, once the brackets that it closes are closed.
+fn read_behind<'a, C: ClassText>(
+    alloc: Global,
+    text: &[u8],
+    stack: &mut Vec<Pending<C::Atom>>,
+    read: Pred<C::Atom>,
+    lexemes: &'a [Lexeme],
+) -> Result<Next<'a, C::Atom>, ParseError>
+    ensures { GoesOn C.key_at C.atom_of text.now (pending stack.old.items) (query_of read) lexemes.now (pending stack.new.items) result }
+{
+    let mut part = read;
+    let mut rest = lexemes;
+    'brackets: loop {
+        let last = conjunction_of::<C>(alloc, stack, part)?;
+        let Some((first, behind)) = first_of(rest) else {
+            let found = query_of_conjunction::<C>(alloc, stack, last)?;
+            if drops_top(stack) {
+                return Err(ParseError::At(text.len()));
+            }
+            return Ok(Next::End(found));
+        };
+        match first.terminal(text) {
+            Terminal::And => {
+                stack.push(Pending::And(last))?;
+                return Ok(Next::More(behind));
+            }
+            Terminal::Or => {
+                let found = query_of_conjunction::<C>(alloc, stack, last)?;
+                stack.push(Pending::Or(found))?;
+                return Ok(Next::More(behind));
+            }
+            Terminal::Close => {
+                part = query_of_conjunction::<C>(alloc, stack, last)?;
+                if !drops_top(stack) {
+                    return Err(ParseError::At(first.place));
+                }
+                rest = behind;
+            }
+            _ => return Err(ParseError::At(first.place)),
+        }
+    }
+}
+
+/// The query that the lexemes spell up to their end, however deep.
+fn query<C: ClassText>(
+    alloc: Global,
+    text: &[u8],
+    lexemes: &[Lexeme],
+) -> Result<Pred<C::Atom>, ParseError>
+    ensures spells { IfOk result (λ q. Spells (C.key_at (length text.now)) C.atom_of whole (placed text.now lexemes.now) (query_of q) []) }
+    ensures refused { IfErr result (λ e. RefusedAt (C.key_at (length text.now)) (length text.now) (placed text.now lexemes.now) e) }
+{
+    let mut stack = Vec::new(alloc);
+    let mut rest = lexemes;
+    'units: loop {
+        let (atom, behind) = read_unit::<C>(text, &mut stack, rest)?;
+        match read_behind::<C>(alloc, text, &mut stack, atom, behind)? {
+            Next::More(next) => rest = next,
+            Next::End(found) => return Ok(found),
+        }
+    }
+}
+
+/// The query that a text's lexemes spell, up to their end. They may be the last of a text's lexemes: places count from
+/// the text's first byte.
+///
+/// # Errors
+/// `QueryText` with the place where the lexemes are refused, which for a query deeper than [`MAX_DEPTH`] is that of the
+/// first lexeme, or `OutOfMemory`.
+pub fn parse_tokens<C: ClassText>(
+    alloc: Global,
+    text: &[u8],
+    lexemes: &[Lexeme],
+) -> Result<Pred<C::Atom>, Refusal>
+    ensures spells { IfOk result (λ q. SpellsQuery C.key_at C.atom_of (length text.now) (placed text.now lexemes.now) (query_of q)) }
+    ensures refuses { (place : ℕ) → result ≡ Err (Refusal.QueryText place) → RefusesTokens C.key_at C.atom_of (length text.now) (placed text.now lexemes.now) place }
+    ensures refusals { IfErr result (λ e. (e ≡ Refusal.OutOfMemory) ⊎ ((place : ℕ) × (e ≡ Refusal.QueryText place))) }
+{
+    let Some((first, _)) = first_of(lexemes) else {
+        return Err(Refusal::QueryText(text.len() as u64));
+    };
+    match query::<C>(alloc, text, lexemes) {
+        Ok(found) => {
+            if found.is_within_depth(MAX_DEPTH) {
+                Ok(found)
+            } else {
+                Err(Refusal::QueryText(first.place as u64))
+            }
+        }
+        Err(ParseError::Memory) => Err(Refusal::OutOfMemory),
+        Err(ParseError::At(place)) => Err(Refusal::QueryText(place as u64)),
+    }
+}
+
+/// The query that a text spells.
+///
+/// # Errors
+/// `QueryText` with the place where the text is refused, which for a text of more than [`MAX_BYTES`] bytes is
+/// [`MAX_BYTES`], or `OutOfMemory`.
+pub fn parse<C: ClassText>(alloc: Global, text: &[u8]) -> Result<Pred<C::Atom>, Refusal>
+    ensures spells { IfOk result (λ q. SpellsText C.key_at C.atom_of text.now (query_of q)) }
+    ensures refuses { (place : ℕ) → result ≡ Err (Refusal.QueryText place) → RefusesText C.key_at C.atom_of text.now place }
+    ensures refusals { IfErr result (λ e. (e ≡ Refusal.OutOfMemory) ⊎ ((place : ℕ) × (e ≡ Refusal.QueryText place))) }
+{
+    if text.len() > MAX_BYTES {
+        return Err(Refusal::QueryText(MAX_BYTES as u64));
+    }
+    let mut lexemes = Vec::new(alloc);
+    scan(text, &mut lexemes)?;
+    parse_tokens::<C>(alloc, text, &lexemes)
+}
+
+#[cfg(test)]
+mod tests {
+    use super::*;
+    use interval_class::Intervals;
+    use std::test::Fail;
+
+    #[test]
+    fn many_brackets(rt: HostRuntime) -> Result<(), Fail> {
+        let mut text = Vec::new(rt.alloc());
+        for _ in 0..4096 {
+            text.push(b'(')?;
+        }
+        match parse::<Intervals>(rt.alloc(), &text) {
+            Ok(_) => assert!(rt; false),
+            Err(e) => assert_eq!(rt; e, Refusal::QueryText(4096)),
+        }
+        Ok(())
+    }
+}

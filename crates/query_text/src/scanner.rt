@@ -1,0 +1,146 @@
+ghost use Rattle.std.specs.Prelude.{◌≡◌, ℕ, ◌+◌, ◌<◌, ◌≤◌, List, [], ◌∷◌, length, OnOk, OnErr, IsOk, false, take_while, drop, ◌&&◌, vec_capacity};
+ghost use Rattle.query_text.specs.Tokens.{Placed, placed, lexeme, is_letter, is_digit, starts_with_digit, beginning, seen, FitsIn, kind_glues, Cuts};
+
+use crate::lexeme::{Kind, Lexeme};
+use std::alloc::AllocError;
+
+/// What a text begins with.
+#[derive(Clone, Copy, Debug)]
+pub enum Front {
+    Nothing,
+    Space,
+    NoToken,
+    Found(Kind, usize),
+}
+
+fn letters(bytes: &[u8]) -> usize
+    ensures { result ≡ length (take_while is_letter bytes.now) }
+{
+    bytes.iter().take_while(|b| b.is_ascii_lowercase()).count()
+}
+
+fn digits(bytes: &[u8]) -> usize
+    ensures { result ≡ length (take_while is_digit bytes.now) }
+{
+    bytes.iter().take_while(|b| b.is_ascii_digit()).count()
+}
+
+fn starts_with_digit(bytes: &[u8]) -> bool
+    ensures { result ≡ starts_with_digit bytes.now }
+{
+    match bytes {
+        [] => false,
+        [first, ..] => first.is_ascii_digit(),
+    }
+}
+
+fn front_of(bytes: &[u8]) -> Front
+    ensures is { beginning bytes.now ≡ seen bytes.now result }
+    ensures fits { FitsIn result bytes.now }
+{
+    let [first, rest @ ..] = bytes else {
+        return Front::Nothing;
+    };
+    match *first {
+        b' ' => Front::Space,
+        b'(' => Front::Found(Kind::OpenBracket, 1),
+        b')' => Front::Found(Kind::CloseBracket, 1),
+        b'{' => Front::Found(Kind::OpenBrace, 1),
+        b'}' => Front::Found(Kind::CloseBrace, 1),
+        b'a'..=b'z' => Front::Found(Kind::Word, letters(rest) + 1),
+        b'0'..=b'9' => Front::Found(Kind::Number, digits(rest) + 1),
+        b'-' if starts_with_digit(rest) => Front::Found(Kind::Number, digits(rest) + 1),
+        _ => Front::NoToken,
+    }
+}
+
+/// Whether a space has to stand between this kind and a word or a number.
+fn is_glued(kind: Kind) -> bool
+    ensures { result ≡ kind_glues kind }
+{
+    match kind {
+        Kind::Word | Kind::Number => true,
+        _ => false,
+    }
+}
+
+fn lacks_space(glued: bool, kind: Kind) -> bool
+    ensures { result ≡ (glued && kind_glues kind) }
+{
+    glued && is_glued(kind)
+}
+
+fn behind(bytes: &[u8], n: usize) -> &[u8]
+    requires { n ≤ length bytes.now }
+    ensures { result.now ≡ drop n bytes.now }
+{
+    &bytes[n..]
+}
+
+/// Appends the lexemes of the text to an empty list with room for as many as the text has bytes.
+fn cut(text: &[u8], lexemes: &mut Vec<Lexeme>)
+    requires empty { lexemes.old.items ≡ [] }
+    requires room { length text.now ≤ vec_capacity lexemes.old }
+    ensures cut { Cuts false 0 text.now (placed text.now lexemes.new.items) }
+    ensures capacity { vec_capacity lexemes.new ≡ vec_capacity lexemes.old }
+{
+    let mut rest = text;
+    let mut place = 0;
+    let mut glued = false;
+    'cut: loop {
+        match front_of(rest) {
+            Front::Nothing => return,
+            Front::Space => {
+                rest = behind(rest, 1);
+                place += 1;
+                glued = false;
+            }
+            Front::NoToken => {
+                lexemes.push_reserved(fault_at(place));
+                return;
+            }
+            Front::Found(kind, len) => {
+                if lacks_space(glued, kind) {
+                    lexemes.push_reserved(fault_at(place));
+                    return;
+                }
+                lexemes.push_reserved(Lexeme { kind, place, len });
+                rest = behind(rest, len);
+                place += len;
+                glued = is_glued(kind);
+            }
+        }
+    }
+}
+
+fn fault_at(place: usize) -> Lexeme
+    ensures { result ≡ lexeme Kind.Fault place 0 }
+{
+    Lexeme {
+        kind: Kind::Fault,
+        place,
+        len: 0,
+    }
+}
+
+/// Puts the lexemes of a text in place of those in the list, up to the first fault. A list with room for as many
+/// lexemes as the text has bytes never wants memory.
+///
+/// # Errors
+/// Memory was wanting; the list holds what it held.
+pub fn scan(text: &[u8], lexemes: &mut Vec<Lexeme>) -> Result<(), AllocError>
+    ensures cut { OnOk result (Cuts false 0 text.now (placed text.now lexemes.new.items)) }
+    ensures succeeds { length text.now ≤ vec_capacity lexemes.old → IsOk result }
+    ensures capacity { vec_capacity lexemes.old ≤ vec_capacity lexemes.new }
+    ensures err { OnErr result (lexemes.new.items ≡ lexemes.old.items) }
+{
+    lexemes.reserve(text.len().saturating_sub(lexemes.len()))?;
+    lexemes.clear();
+    cut(text, lexemes);
+    Ok(())
+}
+
+/// Nothing is done: the clause says that a text is cut into tokens in one way.
+pub fn one_cut_for_text()
+    ensures { (bytes : List ℕ) (ts us : List Placed) → Cuts false 0 bytes ts → Cuts false 0 bytes us → ts ≡ us }
+{}

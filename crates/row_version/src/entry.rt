@@ -1,0 +1,118 @@
+ghost use Rattle.std.specs.Prelude.{◌≡◌, ◌<◌, None, true, IsTrue, ◌↔◌};
+ghost use Rattle.row_version.specs.Entries.{visible_at, is_needed, died_at, marked};
+
+use std::marker::Model;
+
+/// A row on a leaf, and the commit that deleted it.
+#[derive(Clone, Copy)]
+pub struct Entry<K> {
+    key: K,
+    tag: u64,
+    row: u32,
+    // the number of the commit that deleted the row, 0 while it lives
+    died: u32,
+}
+
+impl<K> Model for Entry<K> {
+    ghost use Rattle.row_version.specs.Entries as model;
+    ghost use Rattle.row_version.specs.Entries.{death_of, number_of_death, number_of_death-death_of};
+
+    ghost Value = { model.Entry K };
+
+    ghost view = { λ e. record { key = e.key; row = e.row; tag = e.tag; died = death_of e.died } };
+
+    ghost inverse = { λ e. record { key = e.key; tag = e.tag; row = e.row; died = number_of_death e.died } };
+
+    ghost inverse_ok = { λ e h i. record { key = e.key; tag = e.tag; row = e.row; died = number_of_death-death_of e.died i } };
+}
+
+impl<K> Entry<K> {
+    /// A live row, inserted by the commit with its number.
+    pub fn new(key: K, row: u32, tag: u64) -> Entry<K>
+        ensures { result ≡ record { key = key; row = row; tag = tag; died = None } }
+    {
+        Entry {
+            key,
+            tag,
+            row,
+            died: 0,
+        }
+    }
+
+    /// The number of the row: that of the commit that inserted it.
+    pub fn row(&self) -> u32
+        ensures { result ≡ self.now.row }
+    {
+        self.row
+    }
+
+    pub fn tag(&self) -> u64
+        ensures { result ≡ self.now.tag }
+    {
+        self.tag
+    }
+
+    /// The number of the commit that deleted the row.
+    pub fn died(&self) -> Option<u32>
+        ensures { result ≡ self.now.died }
+    {
+        if self.died == 0 {
+            None
+        } else {
+            Some(self.died)
+        }
+    }
+
+    pub fn is_live(&self) -> bool
+        ensures { IsTrue result ↔ (self.now.died ≡ None) }
+    {
+        self.died == 0
+    }
+
+    /// Whether the row is there after the first `commit` commits.
+    pub fn visible_at(&self, commit: u32) -> bool
+        ensures { result ≡ visible_at commit self.now }
+    {
+        self.row <= commit && (self.died == 0 || commit < self.died)
+    }
+
+    /// Whether it lives, or died after the commit `horizon`.
+    pub fn is_needed(&self, horizon: u32) -> bool
+        ensures { result ≡ is_needed horizon self.now }
+    {
+        self.died == 0 || horizon < self.died
+    }
+}
+
+impl<K: Copy> Entry<K> {
+    pub fn key(&self) -> K
+        ensures { result ≡ self.now.key }
+    {
+        self.key
+    }
+
+    /// The same row, deleted by that commit. Commits count from 1.
+    pub fn died_at(&self, commit: u32) -> Entry<K>
+        requires { 0 < commit }
+        ensures { result ≡ died_at commit self.now }
+    {
+        Entry {
+            key: self.key,
+            tag: self.tag,
+            row: self.row,
+            died: commit,
+        }
+    }
+
+    /// The entry, deleted by that commit where it is that of the row.
+    pub fn marked(&self, row: u32, commit: u32) -> Entry<K>
+        requires { 0 < commit }
+        ensures { result ≡ marked row commit self.now }
+    {
+        if self.row == row {
+            self.died_at(commit)
+        } else {
+            *self
+        }
+    }
+}

@@ -1,0 +1,39 @@
+use Rattle.std.proofs.Common.{sym, ◌∙◌, ap}
+use Rattle.page_table.proofs.Entries.{entries_stay, entries_same}
+use Rattle.split.proofs.GrowDone.{grow_finished, grow_finished_same}
+use Rattle.split.proofs.tree.SearchTree.grow.Goals as goal
+
+pub returns-in-Some-clause-entries : goal.returns-in-Some-clause-entries
+returns-in-Some-clause-entries g c = entries_stay c.args.self.now.tree
+
+pub returns-in_err-pages-clause-entries : goal.returns-in_err-pages-clause-entries
+returns-in_err-pages-clause-entries g c = entries_same c.args.self.now.tree c.grow.new.table (c.in_err-pages.ensures.unchanged ∙ ap (λ s. s.tree) c.self.view_is)
+
+pub invariant_of-self-2 : goal.invariant_of-self-2
+invariant_of-self-2 g c =
+    (grow_finished g.C.KeyClass.is_cover g.C.KeyClass.union_of c.self.inside.table c.grow.new.table c.self.inside.fan c.self.inside.least c.self.inside.limit c.args.self.now c.self.view_is c.self.invariant
+    c.args.sides.now (sym c.grow_refusal.ensures ∙ c.in_default.is)
+    c.in_ok-pages.ensures.grown (record { itself = g.met.C.KeyClass.covers_itself; through = g.met.C.KeyClass.covers_through; left = g.met.C.KeyClass.union_covers_left; right = g.met.C.KeyClass.union_covers_right; least = g.met.C.KeyClass.union_is_least })).inv
+
+pub returns-clause-same_rows : goal.returns-clause-same_rows
+returns-clause-same_rows g c = grow_finished_same g.C.KeyClass.is_cover g.C.KeyClass.union_of c.self.inside.table c.grow.new.table c.self.inside.fan c.self.inside.least c.self.inside.limit c.args.self.now c.self.view_is c.self.invariant
+    c.args.sides.now (sym c.grow_refusal.ensures ∙ c.in_default.is)
+    c.in_ok-pages.ensures.grown
+
+pub returns-clause-kept : goal.returns-clause-kept
+returns-clause-kept g c =
+    (grow_finished g.C.KeyClass.is_cover g.C.KeyClass.union_of c.self.inside.table c.grow.new.table c.self.inside.fan c.self.inside.least c.self.inside.limit c.args.self.now c.self.view_is c.self.invariant
+    c.args.sides.now (sym c.grow_refusal.ensures ∙ c.in_default.is)
+    c.in_ok-pages.ensures.grown (record { itself = g.met.C.KeyClass.covers_itself; through = g.met.C.KeyClass.covers_through; left = g.met.C.KeyClass.union_covers_left; right = g.met.C.KeyClass.union_covers_right; least = g.met.C.KeyClass.union_is_least })).kept
+
+pub returns-clause-entries : goal.returns-clause-entries
+returns-clause-entries g c =
+    (grow_finished g.C.KeyClass.is_cover g.C.KeyClass.union_of c.self.inside.table c.grow.new.table c.self.inside.fan c.self.inside.least c.self.inside.limit c.args.self.now c.self.view_is c.self.invariant
+    c.args.sides.now (sym c.grow_refusal.ensures ∙ c.in_default.is)
+    c.in_ok-pages.ensures.grown (record { itself = g.met.C.KeyClass.covers_itself; through = g.met.C.KeyClass.covers_through; left = g.met.C.KeyClass.union_covers_left; right = g.met.C.KeyClass.union_covers_right; least = g.met.C.KeyClass.union_is_least })).moved
+
+pub returns-clause-sound : goal.returns-clause-sound
+returns-clause-sound g c =
+    (grow_finished g.C.KeyClass.is_cover g.C.KeyClass.union_of c.self.inside.table c.grow.new.table c.self.inside.fan c.self.inside.least c.self.inside.limit c.args.self.now c.self.view_is c.self.invariant
+    c.args.sides.now (sym c.grow_refusal.ensures ∙ c.in_default.is)
+    c.in_ok-pages.ensures.grown (record { itself = g.met.C.KeyClass.covers_itself; through = g.met.C.KeyClass.covers_through; left = g.met.C.KeyClass.union_covers_left; right = g.met.C.KeyClass.union_covers_right; least = g.met.C.KeyClass.union_is_least })).inv.sound

@@ -1,0 +1,3 @@
+pub mod SearchTrees
+pub mod Steps
+pub mod Tests

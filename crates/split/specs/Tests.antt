@@ -1,0 +1,75 @@
+-- The tests of each step, in their order. The first that fails gives the refusal.
+use Rattle.std.specs.Prelude.{◌≡◌, ◌⊎◌, ℕ, suc, ◌+◌, ◌/◌, Bool, true, false, not, ◌&&◌, ◌||◌, nat_eq, nat_lt, nat_le, List, [], ◌∷◌, length, count_by, Option, Some, None}
+use Rattle.key_class.specs.Splits.{is_left, is_right}
+use Rattle.key_class.specs.declared.sides.Side.{Side}
+use Rattle.key_class.specs.declared.refusal.Refusal.{Refusal}
+use Rattle.key_class.specs.declared.refusal.Refusal.TheVariants as refusal
+use Rattle.node.specs.Pages.{Page, entries_of, names, is_within}
+use Rattle.page_table.specs.Trees.{Tree, page_at}
+use Rattle.split.specs.SearchTrees.{SearchTree}
+
+-- the refusal of the first test that fails; each test is true where it fails
+abbrev pub first_failing : List (Bool × Refusal) → Option Refusal
+first_failing [] = None
+first_failing ((true, why) ∷ tests) = Some why
+first_failing ((false, why) ∷ tests) = first_failing tests
+
+-- refused by the first test that fails, or for want of memory after all tests
+abbrev pub IsRefusedBy : List (Bool × Refusal) → Refusal → Type 0
+IsRefusedBy tests why = (first_failing tests ≡ Some why) ⊎ ((first_failing tests ≡ None) × (why ≡ refusal.OutOfMemory))
+
+-- a fan of 4 to 64, parts of at least 2 up to half of it, and 1 to 65,536 pages
+abbrev pub config_tests : ℕ → ℕ → ℕ → List (Bool × Refusal)
+config_tests fan least limit =
+    (nat_lt fan 4 || (nat_lt 64 fan || (nat_lt least 2 || (nat_lt (fan / 2) least || (nat_lt limit 1 || nat_lt 65536 limit)))), refusal.BadConfig)
+    ∷ []
+
+module _ {K : Type 0} where
+  abbrev pub is_leaf : Tree K → ℕ → Bool
+  is_leaf t p = nat_lt p (length t.pages) && nat_eq (page_at t p).level 0
+
+  abbrev pub is_inner : Tree K → ℕ → Bool
+  is_inner t p = nat_lt p (length t.pages) && nat_lt 0 (page_at t p).level
+
+  -- the sides have a letter for each entry, and each part has at least the fewest entries
+  abbrev pub parts_well : ℕ → Page K → List Side → Bool
+  parts_well least page sides = nat_eq (length sides) (entries_of page) && (nat_le least (count_by is_left sides) && nat_le least (count_by is_right sides))
+
+  abbrev pub place_tests : (K → K → Bool) → SearchTree K → ℕ → K → List (Bool × Refusal)
+  place_tests is_cover s p key =
+      (not (is_leaf s.tree p), refusal.NotHere)
+      ∷ (not (is_within is_cover (page_at s.tree p).cover key), refusal.Uncovered)
+      ∷ (nat_le s.fan (entries_of (page_at s.tree p)), refusal.NodeFull)
+      ∷ []
+
+  abbrev pub enlarge_tests : (K → K → Bool) → SearchTree K → ℕ → ℕ → K → List (Bool × Refusal)
+  enlarge_tests is_cover s p c key =
+      (not (is_inner s.tree p && names c (page_at s.tree p)), refusal.NotHere)
+      ∷ (not (is_within is_cover (page_at s.tree p).cover key), refusal.Uncovered)
+      ∷ []
+
+  abbrev pub split_tests : SearchTree K → ℕ → List Side → List (Bool × Refusal)
+  split_tests s p sides =
+      (nat_eq p 0 || nat_le (length s.tree.pages) p, refusal.NotHere)
+      ∷ ((page_at s.tree p).owed, refusal.Owed)
+      ∷ (not (page_at s.tree p).hung, refusal.Unhung)
+      ∷ (nat_lt (entries_of (page_at s.tree p)) s.fan, refusal.TooFew)
+      ∷ (not (parts_well s.least (page_at s.tree p) sides), refusal.BadSides)
+      ∷ (nat_le s.limit (length s.tree.pages), refusal.PagesFull)
+      ∷ []
+
+  abbrev pub post_tests : SearchTree K → ℕ → ℕ → List (Bool × Refusal)
+  post_tests s p c =
+      (not (is_inner s.tree p && (names c (page_at s.tree p) && (page_at s.tree c).owed)), refusal.NotHere)
+      ∷ (nat_le s.fan (entries_of (page_at s.tree p)), refusal.NodeFull)
+      ∷ []
+
+  abbrev pub grow_tests : SearchTree K → List Side → List (Bool × Refusal)
+  grow_tests s sides =
+      (nat_lt (entries_of (page_at s.tree 0)) s.fan, refusal.TooFew)
+      ∷ (not (parts_well s.least (page_at s.tree 0) sides), refusal.BadSides)
+      ∷ (nat_lt s.limit (length s.tree.pages + 2), refusal.PagesFull)
+      ∷ []
+
+  abbrev pub sweep_tests : SearchTree K → ℕ → List (Bool × Refusal)
+  sweep_tests s p = (not (is_leaf s.tree p), refusal.NotHere) ∷ []

@@ -1,0 +1,392 @@
+ghost use Rattle.std.specs.Prelude.{◌≡◌, ◌+◌, ◌<◌, ◌≤◌, [], ◌∷◌, ◌++◌, ℕ, suc, length, map, filter, true, count_by, Some, None, IfOk, IfErr, OnOk, OnErr, ◌&&◌, nat_eq, nat_le};
+ghost use Rattle.key_class.specs.Splits.{is_left, is_right};
+ghost use Rattle.row_version.specs.Entries.{is_needed, marked};
+ghost use Rattle.row_version.specs.Entries as model;
+ghost use Rattle.page_table.specs.Weights.{Same, weigh};
+ghost use Rattle.page_table.specs.Trees.{page_at, rows_under, rows_of_tree, new_tree, after_rows};
+ghost use Rattle.page_table.specs.Keeping.{KeepsRows, EachEntry, StandsIn};
+ghost use Rattle.page_table.specs.Soundness.{IsSound};
+ghost use Rattle.split.specs.SearchTrees.{with_tree};
+ghost use Rattle.split.specs.Steps.{after_split, after_post, after_grow, after_enlarge};
+ghost use Rattle.split.specs.Tests.{first_failing, IsRefusedBy, is_leaf, is_inner, parts_well, config_tests, place_tests, enlarge_tests, split_tests, post_tests, grow_tests, sweep_tests};
+
+use crate::steps;
+use key_class::{KeyClass, Refusal, Side, Sides};
+use page_table::PageTable;
+use row_version::Entry;
+use std::alloc::Global;
+use std::marker::Model;
+
+/// A sound tree of pages with its limits.
+#[derive(Drop)]
+pub struct SearchTree<C: KeyClass> {
+    alloc: Global,
+    table: PageTable<C::Key>,
+    fan: usize,
+    least: usize,
+    limit: usize,
+}
+
+impl<C: KeyClass> Model for SearchTree<C> {
+    ghost use Rattle.split.specs.SearchTrees as model;
+    ghost use Rattle.split.specs.SearchTrees.{IsSearchTree};
+
+    ghost Value = { model.SearchTree C.Key };
+
+    ghost view = { λ t. record { tree = t.table; fan = t.fan; least = t.least; limit = t.limit } };
+
+    ghost invariant = { λ t. IsSearchTree C.is_cover t.table t.fan t.least t.limit };
+}
+
+impl<C: KeyClass> SearchTree<C> {
+    /// The tree of a new world: one leaf with nothing in it. A page has at most `fan` entries (4 to 64), each part of a
+    /// page that is split at least `least` (2 to half the fan), and there are at most `limit` pages (1 to 65,536).
+    ///
+    /// # Errors
+    /// BadConfig where a limit is out of its range, else want of memory.
+    pub fn new(alloc: Global, fan: u64, least: u64, limit: u64) -> Result<SearchTree<C>, Refusal>
+        ensures made { IfOk result (λ t. t ≡ record { tree = new_tree; fan = fan; least = least; limit = limit }) }
+        ensures passed { OnOk result (first_failing (config_tests fan least limit) ≡ None) }
+        ensures refused { IfErr result (IsRefusedBy (config_tests fan least limit)) }
+    {
+        if fan < 4
+            || 64 < fan
+            || least < 2
+            || fan / 2 < least
+            || limit < 1
+            || 65_536 < limit
+        {
+            return Err(Refusal::BadConfig);
+        }
+        let table = PageTable::new(alloc, fan as usize)?;
+        Ok(SearchTree {
+            alloc,
+            table,
+            fan: fan as usize,
+            least: least as usize,
+            limit: limit as usize,
+        })
+    }
+
+    /// The pages.
+    pub fn pages(&self) -> &PageTable<C::Key>
+        ensures table { result.now ≡ self.now.tree }
+        ensures sound { IsSound C.is_cover self.now.fan self.now.tree }
+    {
+        &self.table
+    }
+
+    /// The most entries of a page.
+    pub fn fan(&self) -> usize
+        ensures { result ≡ self.now.fan }
+    {
+        self.fan
+    }
+
+    /// The fewest entries of each part of a page that is split.
+    pub fn least(&self) -> usize
+        ensures { result ≡ self.now.least }
+    {
+        self.least
+    }
+
+    /// How many pages can still be made.
+    pub fn pages_left(&self) -> usize
+        ensures { result + length self.now.tree.pages ≡ self.now.limit }
+    {
+        self.limit - self.table.len()
+    }
+
+    /// Has the key of the parent's branch to the child, and the child's cover, take in the key.
+    ///
+    /// # Errors
+    /// NotHere where the parent is no inner page or has no branch to the child, Uncovered where its cover doesn't cover
+    /// the key. Nothing is changed then.
+    pub fn enlarge(&mut self, parent: u64, child: u64, key: C::Key) -> Result<(), Refusal>
+        ensures passed { OnOk result (first_failing (enlarge_tests C.is_cover self.old parent child key) ≡ None) }
+        ensures enlarged { OnOk result (self.new ≡ with_tree self.old (after_enlarge C.union_of self.old.tree parent child key)) }
+        ensures refused { IfErr result (IsRefusedBy (enlarge_tests C.is_cover self.old parent child key)) }
+        ensures unchanged { OnErr result (self.new ≡ self.old) }
+
+        // The bounds alone have changed.
+        ensures same_rows { (q m : ℕ) → q < length self.old.tree.pages → rows_under self.new.tree q m ≡ rows_under self.old.tree q m }
+        ensures kept { KeepsRows self.old.tree self.new.tree }
+        ensures entries { EachEntry (StandsIn self.old.tree) self.new.tree }
+        ensures sound { IsSound C.is_cover self.new.fan self.new.tree }
+    {
+        if let Some(refusal) = self.enlarge_refusal(parent, child, key) {
+            return Err(refusal);
+        }
+        steps::enlarge::<C>(&mut self.table, parent as u32, child as u32, key);
+        Ok(())
+    }
+
+    /// Splits a full page by sides: it keeps its left entries and owes the next page, which takes the right ones, a
+    /// posting. Gives the number of that page.
+    ///
+    /// # Errors
+    /// By the first of these that holds: NotHere where the page is the root or doesn't exist, Owed, Unhung, TooFew where
+    /// it isn't full, BadSides, PagesFull; else want of memory. Nothing is changed then.
+    pub fn split(&mut self, page: u64, sides: &Sides) -> Result<u32, Refusal>
+        ensures passed { OnOk result (first_failing (split_tests self.old page sides.now) ≡ None) }
+        ensures sibling { IfOk result (λ sibling. sibling ≡ length self.old.tree.pages) }
+        ensures split { OnOk result (self.new ≡ with_tree self.old (after_split C.union_of self.old.tree page sides.now)) }
+        ensures refused { IfErr result (IsRefusedBy (split_tests self.old page sides.now)) }
+        ensures unchanged { OnErr result (self.new ≡ self.old) }
+
+        // At every memo, not only those up to the counter.
+        ensures same_rows { (q m : ℕ) → q < length self.old.tree.pages → Same (rows_under self.new.tree q m) (rows_under self.old.tree q m) }
+        ensures kept { KeepsRows self.old.tree self.new.tree }
+        ensures entries { EachEntry (StandsIn self.old.tree) self.new.tree }
+        ensures sound { IsSound C.is_cover self.new.fan self.new.tree }
+    {
+        if let Some(refusal) = self.split_refusal(page, sides) {
+            return Err(refusal);
+        }
+        let sibling = steps::split::<C>(self.alloc, &mut self.table, page as u32, sides)?;
+        Ok(sibling)
+    }
+
+    /// Posts the right sibling of a child that owes it: the parent names both, the child owes nothing any more and has
+    /// the number of the posting.
+    ///
+    /// # Errors
+    /// NotHere where the parent is no inner page, has no branch to the child, or the child owes nothing, NodeFull where
+    /// the parent is full; else want of memory. Nothing is changed then.
+    pub fn post(&mut self, parent: u64, child: u64) -> Result<(), Refusal>
+        ensures passed { OnOk result (first_failing (post_tests self.old parent child) ≡ None) }
+        ensures posted { OnOk result ((sibling : ℕ) × ((page_at self.old.tree child).right ≡ Some sibling) × (self.new ≡ with_tree self.old (after_post self.old.tree parent child sibling))) }
+        ensures refused { IfErr result (IsRefusedBy (post_tests self.old parent child)) }
+        ensures unchanged { OnErr result (self.new ≡ self.old) }
+
+        ensures kept { KeepsRows self.old.tree self.new.tree }
+        ensures entries { EachEntry (StandsIn self.old.tree) self.new.tree }
+        ensures sound { IsSound C.is_cover self.new.fan self.new.tree }
+    {
+        if let Some(refusal) = self.post_refusal(parent, child) {
+            return Err(refusal);
+        }
+        let Some(sibling) = self.table.page(child as u32).right() else {
+            unreachable!()
+        };
+        steps::post(&mut self.table, parent as u32, child as u32, sibling)?;
+        Ok(())
+    }
+
+    /// Grows a full root by sides: the next two pages take its entries, and the root, one level higher, names both.
+    /// Gives the numbers of those pages.
+    ///
+    /// # Errors
+    /// By the first of these that holds: TooFew where the root isn't full, BadSides, PagesFull where fewer than two pages
+    /// are left; else want of memory. Nothing is changed then.
+    pub fn grow(&mut self, sides: &Sides) -> Result<(u32, u32), Refusal>
+        ensures passed { OnOk result (first_failing (grow_tests self.old sides.now) ≡ None) }
+        ensures pages { IfOk result (λ pages. (pages.0 ≡ length self.old.tree.pages) × (pages.1 ≡ suc (length self.old.tree.pages))) }
+        ensures grown { OnOk result (self.new ≡ with_tree self.old (after_grow C.union_of self.old.tree sides.now)) }
+        ensures refused { IfErr result (IsRefusedBy (grow_tests self.old sides.now)) }
+        ensures unchanged { OnErr result (self.new ≡ self.old) }
+
+        // At every memo, not only those up to the counter.
+        ensures same_rows { (q m : ℕ) → q < length self.old.tree.pages → Same (rows_under self.new.tree q m) (rows_under self.old.tree q m) }
+        ensures kept { KeepsRows self.old.tree self.new.tree }
+        ensures entries { EachEntry (StandsIn self.old.tree) self.new.tree }
+        ensures sound { IsSound C.is_cover self.new.fan self.new.tree }
+    {
+        if let Some(refusal) = self.grow_refusal(sides) {
+            return Err(refusal);
+        }
+        let pages = steps::grow::<C>(self.alloc, &mut self.table, self.fan, sides)?;
+        Ok(pages)
+    }
+
+    /// Adds a row to a leaf, at the end.
+    ///
+    /// # Errors
+    /// By the first of these that holds: NotHere where the page is no leaf, Uncovered where its cover doesn't cover the
+    /// key, NodeFull; else want of memory. Nothing is changed then.
+    pub fn place(&mut self, leaf: u64, entry: Entry<C::Key>) -> Result<(), Refusal>
+        ensures passed { OnOk result (first_failing (place_tests C.is_cover self.old leaf entry.key) ≡ None) }
+        ensures placed { OnOk result (self.new ≡ with_tree self.old (after_rows self.old.tree leaf ((page_at self.old.tree leaf).rows ++ entry ∷ []))) }
+        ensures refused { IfErr result (IsRefusedBy (place_tests C.is_cover self.old leaf entry.key)) }
+        ensures unchanged { OnErr result (self.new ≡ self.old) }
+
+        // Below the root the entry stands once more, and nothing else has changed.
+        ensures once { OnOk result ((weight : model.Entry C.Key → ℕ) → weigh weight (rows_of_tree self.new.tree) ≡ weigh weight (rows_of_tree self.old.tree) + weight entry) }
+        ensures sound { IsSound C.is_cover self.new.fan self.new.tree }
+    {
+        if let Some(refusal) = self.place_refusal(leaf, entry.key()) {
+            return Err(refusal);
+        }
+        self.table.place(leaf as u32, entry)?;
+        Ok(())
+    }
+
+    /// Marks a row of a leaf as deleted by that commit. Commits count from 1.
+    ///
+    /// # Errors
+    /// Memory was wanting; nothing is changed then.
+    pub fn bury(&mut self, leaf: u32, row: u32, commit: u32) -> Result<(), Refusal>
+        requires leaf { is_leaf self.old.tree leaf ≡ true }
+        requires counted { 0 < commit }
+        ensures buried { OnOk result (self.new ≡ with_tree self.old (after_rows self.old.tree leaf (map (marked row commit) (page_at self.old.tree leaf).rows))) }
+        ensures refused { IfErr result (λ why. why ≡ Refusal.OutOfMemory) }
+        ensures unchanged { OnErr result (self.new ≡ self.old) }
+        ensures sound { IsSound C.is_cover self.new.fan self.new.tree }
+    {
+        self.table.bury(leaf, row, commit);
+        Ok(())
+    }
+
+    /// Takes the dead rows out of a leaf that nobody needs who opened at the commit `horizon` or later, and gives their
+    /// number.
+    ///
+    /// # Errors
+    /// NotHere where the page is no leaf, else want of memory. Nothing is changed then.
+    pub fn sweep(&mut self, leaf: u64, horizon: u32) -> Result<usize, Refusal>
+        ensures passed { OnOk result (first_failing (sweep_tests self.old leaf) ≡ None) }
+        ensures swept { OnOk result (self.new ≡ with_tree self.old (after_rows self.old.tree leaf (filter (is_needed horizon) (page_at self.old.tree leaf).rows))) }
+        ensures count { IfOk result (λ count. count + length (filter (is_needed horizon) (page_at self.old.tree leaf).rows) ≡ length (page_at self.old.tree leaf).rows) }
+        ensures refused { IfErr result (IsRefusedBy (sweep_tests self.old leaf)) }
+        ensures unchanged { OnErr result (self.new ≡ self.old) }
+        ensures sound { IsSound C.is_cover self.new.fan self.new.tree }
+    {
+        if !self.is_leaf(leaf) {
+            return Err(Refusal::NotHere);
+        }
+        Ok(self.table.sweep(leaf as u32, horizon))
+    }
+
+    /// Whether the number is that of a leaf.
+    pub fn is_leaf(&self, page: u64) -> bool
+        ensures { result ≡ is_leaf self.now.tree page }
+    {
+        page < self.table.len() as u64 && self.table.page(page as u32).level() == 0
+    }
+
+    /// Why a row with the key can't be placed on a leaf.
+    pub fn place_refusal(&self, page: u64, key: C::Key) -> Option<Refusal>
+        ensures { result ≡ first_failing (place_tests C.is_cover self.now page key) }
+    {
+        if page >= self.table.len() as u64 {
+            return Some(Refusal::NotHere);
+        }
+        let leaf = self.table.page(page as u32);
+        if leaf.level() != 0 {
+            return Some(Refusal::NotHere);
+        }
+        if !leaf.covers::<C>(key) {
+            return Some(Refusal::Uncovered);
+        }
+        if self.fan <= leaf.entry_count() {
+            return Some(Refusal::NodeFull);
+        }
+        None
+    }
+
+    fn enlarge_refusal(&self, parent: u64, child: u64, key: C::Key) -> Option<Refusal>
+        ensures { result ≡ first_failing (enlarge_tests C.is_cover self.now parent child key) }
+    {
+        if parent >= self.table.len() as u64 {
+            return Some(Refusal::NotHere);
+        }
+        let parent = self.table.page(parent as u32);
+        if parent.level() == 0 || !parent.names(child) {
+            return Some(Refusal::NotHere);
+        }
+        if !parent.covers::<C>(key) {
+            return Some(Refusal::Uncovered);
+        }
+        None
+    }
+
+    fn split_refusal(&self, page: u64, sides: &Sides) -> Option<Refusal>
+        ensures { result ≡ first_failing (split_tests self.now page sides.now) }
+    {
+        let pages = self.table.len();
+        if page == 0 || page >= pages as u64 {
+            return Some(Refusal::NotHere);
+        }
+        let page = self.table.page(page as u32);
+        if page.is_owed() {
+            return Some(Refusal::Owed);
+        }
+        if !page.is_hung() {
+            return Some(Refusal::Unhung);
+        }
+        let entries = page.entry_count();
+        if entries < self.fan {
+            return Some(Refusal::TooFew);
+        }
+        if !parts_well(sides, entries, self.least) {
+            return Some(Refusal::BadSides);
+        }
+        if self.limit <= pages {
+            return Some(Refusal::PagesFull);
+        }
+        None
+    }
+
+    fn post_refusal(&self, parent: u64, child: u64) -> Option<Refusal>
+        ensures { result ≡ first_failing (post_tests self.now parent child) }
+    {
+        if parent >= self.table.len() as u64 {
+            return Some(Refusal::NotHere);
+        }
+        let parent = self.table.page(parent as u32);
+        if parent.level() == 0 || !parent.names(child) {
+            return Some(Refusal::NotHere);
+        }
+        if !self.is_owed(child) {
+            return Some(Refusal::NotHere);
+        }
+        if self.fan <= parent.entry_count() {
+            return Some(Refusal::NodeFull);
+        }
+        None
+    }
+
+    fn is_owed(&self, page: u64) -> bool
+        ensures { result ≡ (page_at self.now.tree page).owed }
+    {
+        page < self.table.len() as u64 && self.table.page(page as u32).is_owed()
+    }
+
+    fn grow_refusal(&self, sides: &Sides) -> Option<Refusal>
+        ensures { result ≡ first_failing (grow_tests self.now sides.now) }
+    {
+        let entries = self.table.page(0).entry_count();
+        if entries < self.fan {
+            return Some(Refusal::TooFew);
+        }
+        if !parts_well(sides, entries, self.least) {
+            return Some(Refusal::BadSides);
+        }
+        if self.limit < self.table.len() + 2 {
+            return Some(Refusal::PagesFull);
+        }
+        None
+    }
+}
+
+/// Whether there is a side for each entry, and at least `least` entries on each side.
+fn parts_well(sides: &Sides, entries: usize, least: usize) -> bool
+    ensures { result ≡ (nat_eq (length sides.now) entries && (nat_le least (count_by is_left sides.now) && nat_le least (count_by is_right sides.now))) }
+{
+    let (lefts, rights) = counts(sides);
+    sides.len() == entries && least <= lefts && least <= rights
+}
+
+/// How many sides are left, and how many right.
+fn counts(sides: &Sides) -> (usize, usize)
+    ensures { (result.0 ≡ count_by is_left sides.now) × (result.1 ≡ count_by is_right sides.now) }
+{
+    let mut lefts = 0;
+    let mut rights = 0;
+    for place in 0..sides.len() {
+        match sides.side(place) {
+            Side::Left => lefts += 1,
+            Side::Right => rights += 1,
+        }
+    }
+    (lefts, rights)
+}
