@@ -1,5 +1,7 @@
 pub mod Bytes
 pub mod Filling
 pub mod Opening
+pub mod Progress
 pub mod Replying
 pub mod Telling
+pub mod Writing

@@ -1,5 +1,5 @@
 -- What a session holds of the line that it reads.
-use Rattle.std.specs.Prelude.{◌≡◌, ℕ, ◌≤◌, Bool, true, false, List, [], ◌++◌, length, nat_eq, Option, if◌then◌else◌}
+use Rattle.std.specs.Prelude.{◌≡◌, ℕ, ◌<◌, ◌≤◌, Bool, true, false, List, [], ◌++◌, length, nat_eq, Option, if◌then◌else◌}
 use Rattle.std.specs.Io.KnownBytes.{Consumes, IsAtEnd}
 use Rattle.front.specs.Lines.{HasNoFeed}
 
@@ -18,3 +18,8 @@ pub record Fills (before after : Option (List ℕ)) (old : Held) (more : Bool) (
   pub consumed : Consumes before after bytes
   pub held : new ≡ record { rest = (with_room old).rest ++ bytes; overlong = (with_room old).overlong }
   pub none_at_end : more ≡ false → (bytes ≡ []) × IsAtEnd after
+
+-- the line is all that is held of it, or, where its first bytes were let go, has more bytes than a line may have
+abbrev pub IsRestOf : Bool → List ℕ → List ℕ → Type 0
+IsRestOf false whole line = whole ≡ line
+IsRestOf true whole line = 4096 < length whole

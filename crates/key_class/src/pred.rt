@@ -114,3 +114,6 @@ pub fn bounds_miss_no_match<C: KeyClass>()
     ensures no_match { (q : Query C.Atom) (b k : C.Key) → C.is_cover b k ≡ true → consistent_with_query C.is_consistent q b ≡ false → matches_query C.is_match q k ≡ false }
 {
 }
+
+#[cfg(test)]
+mod tests;

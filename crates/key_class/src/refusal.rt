@@ -159,3 +159,6 @@ pub enum Fault {
     #[error("refused {0}")]
     Refused(Refusal),
 }
+
+#[cfg(test)]
+mod tests;

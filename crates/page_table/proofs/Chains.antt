@@ -53,3 +53,15 @@ module _ {K : Type 0} (t : Tree K) (rank : ℕ → ℕ) (r : IsRanked t rank) wh
       ∙ sym (weigh-flat_map f (λ q. (page_at t q).rows ++ flat_map (λ b. rows_under t b.child t.counter) (page_at t q).branches) (chain t p m)
       ∙ weigh-each (λ q. weigh f ((page_at t q).rows ++ flat_map (λ b. rows_under t b.child t.counter) (page_at t q).branches))
       (λ q. weigh f (page_at t q).rows + weigh (λ b. U (λ x. weigh f (page_at t x).rows) b.child t.counter) (page_at t q).branches) (chain t p m) (λ i d k. one_page f _))
+
+  one_chain_page : (h : ℕ → ℕ) (q : ℕ) → weigh h (q ∷ flat_map (λ b. pages_under t b.child t.counter) (page_at t q).branches) ≡ h q + weigh (λ b. U h b.child t.counter) (page_at t q).branches
+  one_chain_page h q = ap (λ n. h q + n) (weigh-flat_map h (λ (b : Branch K). pages_under t b.child t.counter) (page_at t q).branches)
+
+  -- the pages met, read off the chain
+  pub pages_by_chain : (p m : ℕ) → p < length t.pages →
+      Same (pages_under t p m) (flat_map (λ q. q ∷ flat_map (λ b. pages_under t b.child t.counter) (page_at t q).branches) (chain t p m))
+  pages_by_chain p m l h =
+      under_by_chain h p m l
+      ∙ sym (weigh-flat_map h (λ q. q ∷ flat_map (λ b. pages_under t b.child t.counter) (page_at t q).branches) (chain t p m)
+      ∙ weigh-each (λ q. weigh h (q ∷ flat_map (λ b. pages_under t b.child t.counter) (page_at t q).branches)) (λ q. h q + weigh (λ b. U h b.child t.counter) (page_at t q).branches) (chain t p m)
+      (λ i d k. one_chain_page h _))

@@ -3,13 +3,15 @@ use Rattle.std.proofs.Common.{ℕ, zero, suc, ◌+◌, ◌*◌, ◌<◌, ◌≤�
 use Rattle.std.proofs.lemmas.List.Elements.{All-head, All-tail, All-weaker, All-nil, All-cons, All-append}
 use Rattle.node.specs.Pages.{followed}
 use Rattle.node.specs.declared.branch.Branch.{Branch}
+use Rattle.std.specs.Prelude.{Contains}
+use Rattle.std.proofs.lemmas.List.Elements.{All-contains}
 use Rattle.page_table.proofs.Counting.{false_true}
 use Rattle.page_table.proofs.Facts.{Settled, siblings_settled}
 use Rattle.page_table.proofs.Following.{All-owed}
 use Rattle.page_table.proofs.Under.{All-both, pages_under_is, under_induction}
 use Rattle.page_table.proofs.Weights.{All-flat_map}
 use Rattle.page_table.specs.Soundness.{BoundsBelow, IsBelow, IsSound, IsWithin}
-use Rattle.page_table.specs.Trees.{Tree, page_at, pages_under, rows_under}
+use Rattle.page_table.specs.Trees.{Falls, Tree, page_at, pages_under, rows_under}
 use Rattle.row_version.specs.Entries.{Entry}
 
 module _ {K : Type 0} (is_cover : K → K → Bool) (trans : (a b c : K) → is_cover a b ≡ true → is_cover b c ≡ true → is_cover a c ≡ true) where
@@ -51,3 +53,11 @@ module _ {K : Type 0} (is_cover : K → K → Bool) (trans : (a b c : K) → is_
 
     pub rows_covered : (p : ℕ) → p < length t.pages → Below p → All (λ (e : Entry K). is_cover key e.key ≡ true) (rows_under t p t.counter)
     rows_covered p l b = All-flat_map (λ (e : Entry K). is_cover key e.key ≡ true) (λ x. (page_at t x).rows) (pages_under t p t.counter) (under_covered p t.counter l refl b)
+
+-- the rows below a branch of a sound tree
+pub branch_covers : {K : Type 0} (is_cover : K → K → Bool) (through : (a b c : K) → is_cover a b ≡ true → is_cover b c ≡ true → is_cover a c ≡ true) (t : Tree K) (fan : ℕ) (sound : IsSound is_cover fan t) (p : ℕ) (b : Branch K) →
+    p < length t.pages → Contains (page_at t p).branches b → All (λ (e : Entry K). is_cover b.key e.key ≡ true) (rows_under t b.child t.counter)
+branch_covers {K} is_cover through t fan sound p b l c =
+    let w = All-contains (λ (b : Branch K). BoundsBelow is_cover t b) (page_at t p).branches b ((sound.bounded p l).below) c in
+    let f = All-contains (λ (b : Branch K). Falls (length t.pages) sound.rank p b.child) (page_at t p).branches b ((sound.ranked.links p l).down) c in
+    rows_covered is_cover through t fan sound b.key b.child f.0 (w.child, w.sibling)

@@ -1,5 +1,6 @@
 pub mod Keeping
 pub mod Soundness
 pub mod Stacks
+pub mod TraversalLaws
 pub mod Trees
 pub mod Weights

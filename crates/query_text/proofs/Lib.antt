@@ -3,3 +3,8 @@ pub mod NumberLaws
 pub mod KeyLaws
 pub mod ParserLaws
 pub mod IntervalLaws
+pub mod BoxLaws
+pub mod SetLaws
+pub mod Unique
+pub mod Meaning
+pub mod TextLaws

@@ -2,7 +2,7 @@
 use Rattle.std.specs.Prelude.{◌≡◌, ℕ, ℤ, ◌+◌, Bool, true, false, T, List, [], ◌∷◌, ◌++◌, length, Option, Some, None, Result, Ok, Err, MatchResult, if◌then◌else◌}
 use Rattle.std.specs.Borrow.{Bor}
 use Rattle.query_text.specs.declared.lexeme.Lexeme.{Lexeme}
-use Rattle.query_text.specs.Tokens.{Token, open_bracket, close_bracket, Placed, placed, number_within, Cuts}
+use Rattle.query_text.specs.Tokens.{Token, open_bracket, close_bracket, open_brace, close_brace, Placed, placed, number_within, Cuts}
 
 -- What stands at the front of the tokens, with the tokens behind it; or the place of the first fault.
 abbrev pub Reading : Type 0 → Type 0
@@ -31,6 +31,14 @@ is_open_bracket _ = false
 abbrev pub is_close_bracket : Token → Bool
 is_close_bracket close_bracket = true
 is_close_bracket _ = false
+
+abbrev pub is_open_brace : Token → Bool
+is_open_brace open_brace = true
+is_open_brace _ = false
+
+abbrev pub is_close_brace : Token → Bool
+is_close_brace close_brace = true
+is_close_brace _ = false
 
 -- the place of the first token, which has to pass the test
 abbrev pub expected_at : (Token → Bool) → ℕ → List Placed → Reading ℕ

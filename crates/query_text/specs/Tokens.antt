@@ -131,6 +131,12 @@ abbrev pub number_within : ℤ → ℤ → Token → Option ℤ
 number_within least most (number z) = if int_le least z && int_le z most then Some z else None
 number_within least most _ = None
 
+abbrev pub least_i32 : ℤ
+least_i32 = negsuc (2 ^ 31 - 1)
+
+abbrev pub most_i32 : ℤ
+most_i32 = pos (2 ^ 31 - 1)
+
 abbrev pub least_i64 : ℤ
 least_i64 = negsuc (2 ^ 63 - 1)
 

@@ -1,6 +1,7 @@
 //! The texts of queries and keys: bytes to tokens with their places, tokens to queries, and queries back to bytes.
 #![tactic(auto)]
 
+mod boxes;
 mod class;
 mod intervals;
 mod lexeme;
@@ -9,6 +10,7 @@ mod numbers;
 mod parser;
 mod reader;
 mod scanner;
+mod sets;
 mod terminal;
 
 pub use class::ClassText;

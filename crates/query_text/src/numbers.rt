@@ -1,6 +1,6 @@
 ghost use Rattle.std.specs.Prelude.{◌≡◌, ◌↔◌, ℕ, ℤ, pos, negsuc, ◌≤◌, ◌<◌, ◌^◌, ◌-◌, ◌+◌, ◌*◌, ◌≤ℤ◌, ◌<ℤ◌, unsigned_abs, IsTrue, IfSome, Some, None, MatchOption};
 ghost use Rattle.std.specs.Option.{option_map};
-ghost use Rattle.query_text.specs.Tokens.{is_negative, digits_of, word, number, token_in, number_value, number_within, decimal_value_after, least_i64, most_i64, most_u64};
+ghost use Rattle.query_text.specs.Tokens.{is_negative, digits_of, word, number, token_in, number_value, number_within, decimal_value_after, least_i32, most_i32, least_i64, most_i64, most_u64};
 
 use crate::lexeme::{Kind, Lexeme};
 
@@ -66,7 +66,7 @@ impl Lexeme {
     }
 
     /// Its number, where it has one in a range.
-    fn number_within(self, text: &[u8], least: i128, most: i128) -> Option<i128>
+    pub(crate) fn number_within(self, text: &[u8], least: i128, most: i128) -> Option<i128>
         requires low { negsuc (2 ^ 64 - 2) ≤ℤ least }
         requires high { most ≤ℤ pos (2 ^ 64 - 1) }
         ensures { result ≡ number_within least most (token_in text.now self) }
@@ -89,5 +89,12 @@ impl Lexeme {
         ensures { result ≡ number_within least_i64 most_i64 (token_in text.now self) }
     {
         Some(self.number_within(text, i128::from(i64::MIN), i128::from(i64::MAX))? as i64)
+    }
+
+    /// Its number, where it is one of 32 bits with a sign.
+    pub fn signed_32(self, text: &[u8]) -> Option<i32>
+        ensures { result ≡ number_within least_i32 most_i32 (token_in text.now self) }
+    {
+        Some(self.number_within(text, i128::from(i32::MIN), i128::from(i32::MAX))? as i32)
     }
 }

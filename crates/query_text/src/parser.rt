@@ -1,5 +1,5 @@
 ghost use Rattle.std.specs.Prelude.{◌≡◌, ℕ, List, ◌<◌, ◌⊎◌, length, Result, Ok, Err, IfOk, IfErr, MatchOption, true, false, [], ◌∷◌, ◌++◌};
-ghost use Rattle.key_class.specs.Queries.{query_of};
+ghost use Rattle.key_class.specs.Queries.{Query, query_of};
 ghost use Rattle.query_text.specs.Tokens.{Placed, placed};
 ghost use Rattle.query_text.specs.Grammar.{unit, conjunction, whole, Spells, SpellsQuery, RefusesTokens, SpellsText, RefusesText};
 ghost use Rattle.query_text.specs.Parsing.{Completes, ReadsUnit, RefusesUnit, GoesOn, RefusedAt, pending};
@@ -11,6 +11,7 @@ use crate::class::ClassText;
 use crate::lexeme::Lexeme;
 use crate::terminal::Terminal;
 use crate::limits::{MAX_BYTES, MAX_DEPTH};
+use crate::reader::first_of;
 use crate::scanner::scan;
 use key_class::{Pred, Refusal};
 use std::alloc::{AllocError, AllocFailed, Global};
@@ -35,16 +36,6 @@ impl<T: Drop> From<AllocFailed<T>> for ParseError {
 
     fn from(_e: AllocFailed<T>) -> ParseError {
         ParseError::Memory
-    }
-}
-
-/// The first lexeme and the others, if there is one.
-fn first_of(lexemes: &[Lexeme]) -> Option<(Lexeme, &[Lexeme])>
-    ensures { MatchOption result (lexemes.now ≡ []) (λ r. lexemes.now ≡ r.0 ∷ r.1.now) }
-{
-    match lexemes {
-        [] => None,
-        [first, rest @ ..] => Some((*first, rest)),
     }
 }
 
@@ -268,6 +259,21 @@ pub fn parse<C: ClassText>(alloc: Global, text: &[u8]) -> Result<Pred<C::Atom>, 
     scan(text, &mut lexemes)?;
     parse_tokens::<C>(alloc, text, &lexemes)
 }
+
+/// Nothing is done: the clauses say that a text spells one query or none, that a text is refused at one place or none,
+/// and that none is both.
+pub fn one_meaning_for_text<C: ClassText>()
+    ensures one_query { (text : List ℕ) (q r : Query C.Atom) → SpellsText C.key_at C.atom_of text q → SpellsText C.key_at C.atom_of text r → q ≡ r }
+    ensures one_place { (text : List ℕ) (p q : ℕ) → RefusesText C.key_at C.atom_of text p → RefusesText C.key_at C.atom_of text q → p ≡ q }
+    ensures not_both { (text : List ℕ) (q : Query C.Atom) (place : ℕ) → SpellsText C.key_at C.atom_of text q → RefusesText C.key_at C.atom_of text place → ⊥ }
+{}
+
+/// Nothing is done: the clauses say the same of the tokens of a text with so many bytes.
+pub fn one_meaning_for_tokens<C: ClassText>()
+    ensures one_query { (len : ℕ) (ts : List Placed) (q r : Query C.Atom) → SpellsQuery C.key_at C.atom_of len ts q → SpellsQuery C.key_at C.atom_of len ts r → q ≡ r }
+    ensures one_place { (len : ℕ) (ts : List Placed) (p q : ℕ) → RefusesTokens C.key_at C.atom_of len ts p → RefusesTokens C.key_at C.atom_of len ts q → p ≡ q }
+    ensures not_both { (len : ℕ) (ts : List Placed) (q : Query C.Atom) (place : ℕ) → SpellsQuery C.key_at C.atom_of len ts q → RefusesTokens C.key_at C.atom_of len ts place → ⊥ }
+{}
 
 #[cfg(test)]
 mod tests {

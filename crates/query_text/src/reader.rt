@@ -1,8 +1,18 @@
-ghost use Rattle.std.specs.Prelude.{◌≡◌, ◌<◌, ◌-◌, ◌^◌, ◌≤ℤ◌, pos, negsuc, length, IfOk};
-ghost use Rattle.query_text.specs.Tokens.{placed, least_i64, most_i64};
-ghost use Rattle.query_text.specs.Keys.{Gives, expected_at, number_at, is_open_bracket, is_close_bracket};
+ghost use Rattle.std.specs.Prelude.{◌≡◌, ◌<◌, [], ◌∷◌, length, IfOk, MatchOption};
+ghost use Rattle.query_text.specs.Tokens.{placed, least_i32, most_i32, least_i64, most_i64};
+ghost use Rattle.query_text.specs.Keys.{Gives, expected_at, number_at, is_open_bracket, is_close_bracket, is_open_brace};
 
 use crate::lexeme::{Kind, Lexeme};
+
+/// The first lexeme and the others, if there is one.
+pub fn first_of(lexemes: &[Lexeme]) -> Option<(Lexeme, &[Lexeme])>
+    ensures { MatchOption result (lexemes.now ≡ []) (λ r. lexemes.now ≡ r.0 ∷ r.1.now) }
+{
+    match lexemes {
+        [] => None,
+        [first, rest @ ..] => Some((*first, rest)),
+    }
+}
 
 /// The place of an opening bracket at the front, and the lexemes behind it.
 pub fn open_bracket<'a>(
@@ -38,6 +48,20 @@ pub fn close_bracket<'a>(
     }
 }
 
+/// The same of an opening brace.
+pub fn open_brace<'a>(text: &[u8], lexemes: &'a [Lexeme]) -> Result<(usize, &'a [Lexeme]), usize>
+    ensures gives { Gives text.now result (expected_at is_open_brace (length text.now) (placed text.now lexemes.now)) }
+    ensures shorter { IfOk result (λ r. length r.1.now < length lexemes.now) }
+{
+    match lexemes {
+        [] => Err(text.len()),
+        [first, rest @ ..] => match first.kind {
+            Kind::OpenBrace => Ok((first.place, rest)),
+            _ => Err(first.place),
+        },
+    }
+}
+
 /// A number of 64 bits with a sign at the front, and the lexemes behind it.
 pub fn signed<'a>(text: &[u8], lexemes: &'a [Lexeme]) -> Result<(i64, &'a [Lexeme]), usize>
     ensures gives { Gives text.now result (number_at least_i64 most_i64 (length text.now) (placed text.now lexemes.now)) }
@@ -46,6 +70,20 @@ pub fn signed<'a>(text: &[u8], lexemes: &'a [Lexeme]) -> Result<(i64, &'a [Lexem
     match lexemes {
         [] => Err(text.len()),
         [first, rest @ ..] => match first.signed(text) {
+            Some(n) => Ok((n, rest)),
+            None => Err(first.place),
+        },
+    }
+}
+
+/// The same of 32 bits.
+pub fn signed_32<'a>(text: &[u8], lexemes: &'a [Lexeme]) -> Result<(i32, &'a [Lexeme]), usize>
+    ensures gives { Gives text.now result (number_at least_i32 most_i32 (length text.now) (placed text.now lexemes.now)) }
+    ensures shorter { IfOk result (λ r. length r.1.now < length lexemes.now) }
+{
+    match lexemes {
+        [] => Err(text.len()),
+        [first, rest @ ..] => match first.signed_32(text) {
             Some(n) => Ok((n, rest)),
             None => Err(first.place),
         },

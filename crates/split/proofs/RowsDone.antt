@@ -78,3 +78,24 @@ placeable is_cover s p key passed =
 
 pub sweepable : {K : Type 0} (s : SearchTree K) (p : ℕ) → first_failing (sweep_tests s p) ≡ None → is_leaf s.tree p ≡ true
 sweepable s p passed = not_false (is_leaf s.tree p) (all_pass (sweep_tests s p) passed).0
+
+module _ {K : Type 0} (is_cover : K → K → Bool) (table table' : Tree K) (fan least limit : ℕ) (old : SearchTree K) (view : record { tree = table; fan = fan; least = least; limit = limit } ≡ old) (inv : IsSearchTree is_cover table fan least limit) (p : ℕ) where
+  module _ (entry : Entry K) (key : K) (passed : first_failing (place_tests is_cover old p key) ≡ None) (is : key ≡ entry.key) (made : table' ≡ after_rows table p ((page_at table p).rows ++ entry ∷ [])) where
+    can_place : IsPlaceable is_cover (record { tree = table; fan = fan; least = least; limit = limit }) p entry.key
+    can_place = placeable is_cover (record { tree = table; fan = fan; least = least; limit = limit }) p entry.key
+        (subst (λ s. first_failing (place_tests is_cover s p entry.key) ≡ None) (sym view) (subst (λ k. first_failing (place_tests is_cover old p k) ≡ None) is passed))
+
+    pub place_finished : IsSearchTree is_cover table' fan least limit
+    place_finished = let d = can_place in subst (λ t. IsSearchTree is_cover t fan least limit) (sym made) (placed is_cover table fan least limit inv p d.here entry d.room d.covered)
+
+    pub place_finished_once : (f : Entry K → ℕ) → weigh f (rows_of_tree table') ≡ weigh f (rows_of_tree old.tree) + f entry
+    place_finished_once f = let d = can_place in subst (λ s. weigh f (rows_of_tree table') ≡ weigh f (rows_of_tree s.tree) + f entry) view
+        (subst (λ t. weigh f (rows_of_tree t) ≡ weigh f (rows_of_tree table) + f entry) (sym made) (placed_once is_cover table fan least limit inv p d.here entry f))
+
+  pub bury_finished : (row n : ℕ) → is_leaf old.tree p ≡ true → table' ≡ after_rows table p (map (marked row n) (page_at table p).rows) → IsSearchTree is_cover table' fan least limit
+  bury_finished row n here made = subst (λ t. IsSearchTree is_cover t fan least limit) (sym made)
+      (buried is_cover table fan least limit inv p (subst (λ s. is_leaf s.tree p ≡ true) (sym view) here) row n)
+
+  pub sweep_finished : (horizon : ℕ) → is_leaf old.tree p ≡ true → table' ≡ after_rows table p (filter (is_needed horizon) (page_at table p).rows) → IsSearchTree is_cover table' fan least limit
+  sweep_finished horizon here made = subst (λ t. IsSearchTree is_cover t fan least limit) (sym made)
+      (swept is_cover table fan least limit inv p (subst (λ s. is_leaf s.tree p ≡ true) (sym view) here) horizon)

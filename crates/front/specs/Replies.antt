@@ -1,0 +1,45 @@
+-- How replies are written.
+use Rattle.std.specs.Prelude.{◌≡◌, ℕ, List, [], ◌∷◌, ◌++◌, length, codes}
+use Rattle.std.specs.List.{flat_map}
+use Rattle.std.specs.Fmt.{decimal}
+use Rattle.key_class.specs.Refusals as refusals
+use Rattle.change_list.specs.declared.item.Row.{Row}
+use Rattle.change_list.specs.declared.item.Item.{Item}
+use Rattle.change_list.specs.declared.item.Item.TheVariants as item
+use Rattle.front.specs.declared.reply.Reply.{Reply}
+use Rattle.front.specs.declared.reply.Reply.TheVariants as reply
+
+-- the rows that a reply lists
+abbrev pub listed : {K : Type 0} → Reply K → List (Row K)
+listed (reply.Found rows) = rows.items
+listed _ = []
+
+module _ {K : Type 0} (key_text : K → List ℕ) where
+  -- a row's number, its key and its tag
+  abbrev pub row_text : Row K → List ℕ
+  row_text r = decimal r.row ++ (codes " " ++ (key_text r.key ++ (codes " " ++ decimal r.tag)))
+
+  abbrev pub row_line : Row K → List ℕ
+  row_line r = codes "row " ++ (row_text r ++ codes "\n")
+
+  abbrev pub item_line : Item K → List ℕ
+  item_line (item.Row r) = row_line r
+  item_line (item.Inserted r) = codes "inserted " ++ (row_text r ++ codes "\n")
+  item_line (item.Deleted n row) = codes "deleted " ++ (decimal n ++ (codes " " ++ (decimal row ++ codes "\n")))
+  item_line (item.Mark n) = codes "mark " ++ (decimal n ++ codes "\n")
+
+  -- the first line of a reply
+  abbrev pub first_line : Reply K → List ℕ
+  first_line (reply.Committed n) = codes "committed " ++ (decimal n ++ codes "\n")
+  first_line (reply.Opened c) = codes "opened " ++ (decimal c ++ codes "\n")
+  first_line (reply.Given given) = item_line given
+  first_line reply.Empty = codes "empty\n"
+  first_line reply.Asked = codes "asked\n"
+  first_line (reply.Found rows) = codes "found " ++ (decimal (length rows.items) ++ codes "\n")
+  first_line (reply.Swept n) = codes "swept " ++ (decimal n ++ codes "\n")
+  first_line reply.Closed = codes "closed\n"
+  first_line (reply.Refused why) = codes "refused " ++ (refusals.text_of why ++ codes "\n")
+
+  -- the lines of a reply: those of the rows found stand behind the first
+  abbrev pub text_of : Reply K → List ℕ
+  text_of reply = first_line reply ++ flat_map row_line (listed reply)

@@ -1,0 +1,91 @@
+-- What a line of a session asks.
+use Rattle.std.specs.Prelude.{◌≡◌, ℕ, ℤ, pos, unsigned_abs, Bool, true, false, List, [], ◌∷◌, length, map, Option, Some, None, Result, Ok, Err, MatchResult, if◌then◌else◌, codes}
+use Rattle.std.specs.Str.{bytes_eq}
+use Rattle.std.specs.Borrow.{Bor}
+use Rattle.query_text.specs.declared.lexeme.Lexeme.{Lexeme}
+use Rattle.query_text.specs.Tokens.{Token, word, Placed, placed, most_u64}
+use Rattle.query_text.specs.Keys.{Reading, ◌>>=◌, number_at}
+use Rattle.front.specs.declared.request.Verb.{Verb}
+use Rattle.front.specs.declared.request.Verb.TheVariants as verb
+use Rattle.front.specs.declared.request.Request.{Request}
+use Rattle.front.specs.declared.request.Request.TheVariants as request
+
+-- what a word is at the front of a line
+abbrev pub verb_of_word : List ℕ → Verb
+verb_of_word w =
+    if bytes_eq w (codes "insert") then verb.Insert
+    else (if bytes_eq w (codes "delete") then verb.Delete
+    else (if bytes_eq w (codes "open") then verb.Open
+    else (if bytes_eq w (codes "next") then verb.Next
+    else (if bytes_eq w (codes "mark") then verb.Mark
+    else (if bytes_eq w (codes "find") then verb.Find
+    else (if bytes_eq w (codes "sweep") then verb.Sweep
+    else (if bytes_eq w (codes "close") then verb.Close
+    else verb.Other)))))))
+
+abbrev pub verb_of : Token → Verb
+verb_of (word w) = verb_of_word w
+verb_of _ = verb.Other
+
+-- What is asked; of a query the tokens, which are those up to the line's end.
+pub data Command (K : Type 0) : Type 0 where
+  insert_row : K → ℕ → Command K
+  delete_row next_item ask_mark close_cursor : ℕ → Command K
+  open_cursor : ℕ → List Placed → Command K
+  find_rows : List Placed → Command K
+  sweep_all : Command K
+
+-- a number from 0 to 2^64 - 1
+abbrev pub natural_at : ℕ → List Placed → Reading ℕ
+natural_at len ts = do
+  number ← number_at (pos 0) most_u64 len ts
+  Ok (unsigned_abs number.0, number.1)
+
+-- with nothing behind it
+abbrev pub alone : {A : Type 0} → A → List Placed → Result A ℕ
+alone asked [] = Ok asked
+alone asked (t ∷ ts) = Err t.place
+
+-- a command of one number
+abbrev pub one_number : {K : Type 0} → (ℕ → Command K) → ℕ → List Placed → Result (Command K) ℕ
+one_number command len ts = do
+  number ← natural_at len ts
+  alone (command number.0) number.1
+
+abbrev pub key_and_tag : {K : Type 0} → (ℕ → List Placed → Reading K) → ℕ → List Placed → Result (Command K) ℕ
+key_and_tag key_at len ts = do
+  key ← key_at len ts
+  tag ← natural_at len key.1
+  alone (insert_row key.0 tag.0) tag.1
+
+abbrev pub room_and_query : {K : Type 0} → ℕ → List Placed → Result (Command K) ℕ
+room_and_query len ts = do
+  room ← natural_at len ts
+  Ok (open_cursor room.0 room.1)
+
+-- what the tokens behind a verb ask, or the place of the first fault; any other first token is one
+abbrev pub asked_by : {K : Type 0} → (ℕ → List Placed → Reading K) → ℕ → ℕ → Verb → List Placed → Result (Command K) ℕ
+asked_by key_at len place verb.Insert ts = key_and_tag key_at len ts
+asked_by key_at len place verb.Delete ts = one_number delete_row len ts
+asked_by key_at len place verb.Open ts = room_and_query len ts
+asked_by key_at len place verb.Next ts = one_number next_item len ts
+asked_by key_at len place verb.Mark ts = one_number ask_mark len ts
+asked_by key_at len place verb.Find ts = Ok (find_rows ts)
+asked_by key_at len place verb.Sweep ts = alone sweep_all ts
+asked_by key_at len place verb.Close ts = one_number close_cursor len ts
+asked_by key_at len place verb.Other ts = Err place
+
+-- what a request with lexemes of a text asks
+abbrev pub command_of : {K : Type 0} → List ℕ → Request K → Command K
+command_of text (request.Insert key tag) = insert_row key tag
+command_of text (request.Delete row) = delete_row row
+command_of text (request.Open room lexemes) = open_cursor room (placed text lexemes.now)
+command_of text (request.Next cursor) = next_item cursor
+command_of text (request.Mark cursor) = ask_mark cursor
+command_of text (request.Find lexemes) = find_rows (placed text lexemes.now)
+command_of text request.Sweep = sweep_all
+command_of text (request.Close cursor) = close_cursor cursor
+
+-- what was returned is what reading gives
+abbrev pub IsAsked : {K : Type 0} → List ℕ → Result (Request K) ℕ → Result (Command K) ℕ → Type 0
+IsAsked text returned read = MatchResult returned (λ r. read ≡ Ok (command_of text r)) (λ place. read ≡ Err place)

@@ -1,0 +1,145 @@
+ghost use Rattle.std.specs.Prelude.{◌≡◌, ℕ, ◌+◌, ◌<◌, ◌≤◌, List, [], ◌++◌, length, codes, OnOk, IfErr, OnErr};
+ghost use Rattle.std.specs.List.{flat_map};
+ghost use Rattle.std.specs.Fmt.{decimal};
+ghost use Rattle.front.specs.Replies.{row_text, row_line, item_line, first_line, listed, text_of};
+ghost use Rattle.std.specs.Io.KnownBytes.{Appends};
+ghost use Rattle.front.specs.Written.{Writes};
+
+use crate::reply::Reply;
+use change_list::{Item, Row};
+use key_class::{Fault, Refusal};
+use query_text::ClassText;
+use std::io::{self, Write};
+
+/// How many bytes of answers are gathered before they are written.
+const GATHERED: usize = 512;
+
+/// The room for gathered answers and one line more, which has at most 443 bytes.
+pub const ANSWERS: usize = 1_024;
+
+/// Writes what was gathered.
+///
+/// # Errors
+/// `Write` where the writer failed; it may hold the beginning.
+pub fn send<W: Write>(writer: &mut W, gathered: &mut Vec<u8>) -> Result<(), Fault>
+    ensures ok { OnOk result (Writes (W.contents writer.old) gathered.old.items (W.contents writer.new) gathered.new.items []) }
+    ensures empty { OnOk result (gathered.new.items ≡ []) }
+    ensures err { IfErr result (λ e. e ≡ Fault.Write) }
+{
+    match writer.write_all(gathered.as_slice()) {
+        Ok(()) => {
+            gathered.clear();
+            Ok(())
+        }
+        Err(_) => Err(Fault::Write),
+    }
+}
+
+/// Writes what was gathered, once it is enough.
+fn send_enough<W: Write>(writer: &mut W, gathered: &mut Vec<u8>) -> Result<(), Fault>
+    ensures ok { OnOk result (Writes (W.contents writer.old) gathered.old.items (W.contents writer.new) gathered.new.items []) }
+    ensures err { IfErr result (λ e. e ≡ Fault.Write) }
+{
+    if gathered.len() < GATHERED {
+        return Ok(());
+    }
+    send(writer, gathered)
+}
+
+/// A row's number, key and tag.
+fn write_row<C: ClassText, W: Write>(row: &Row<C::Key>, writer: &mut W) -> io::Result<()>
+    ensures { OnOk result (Appends (W.contents writer.old) (W.contents writer.new) (row_text C.key_text row.now)) }
+{
+    let number = row.row;
+    write!(writer, "{number} ")?;
+    C::write_key(row.key, writer)?;
+    let tag = row.tag;
+    write!(writer, " {tag}")
+}
+
+fn write_item<C: ClassText, W: Write>(item: &Item<C::Key>, writer: &mut W) -> io::Result<()>
+    ensures { OnOk result (Appends (W.contents writer.old) (W.contents writer.new) (item_line C.key_text item.now)) }
+{
+    match item {
+        Item::Row(row) => {
+            writer.write_all(b"row ")?;
+            write_row::<C, W>(row, writer)?;
+            writer.write_all(b"\n")
+        }
+        Item::Inserted(row) => {
+            writer.write_all(b"inserted ")?;
+            write_row::<C, W>(row, writer)?;
+            writer.write_all(b"\n")
+        }
+        Item::Deleted(number, row) => writeln!(writer, "deleted {number} {row}"),
+        Item::Mark(number) => writeln!(writer, "mark {number}"),
+    }
+}
+
+fn write_row_line<C: ClassText, W: Write>(row: &Row<C::Key>, writer: &mut W) -> io::Result<()>
+    ensures { OnOk result (Appends (W.contents writer.old) (W.contents writer.new) (row_line C.key_text row.now)) }
+{
+    writer.write_all(b"row ")?;
+    write_row::<C, W>(row, writer)?;
+    writer.write_all(b"\n")
+}
+
+/// Writes a line for each row.
+fn write_rows<C: ClassText, W: Write>(writer: &mut W, gathered: &mut Vec<u8>, rows: &[Row<C::Key>]) -> Result<(), Fault>
+    ensures ok { OnOk result (Writes (W.contents writer.old) gathered.old.items (W.contents writer.new) gathered.new.items (flat_map (row_line C.key_text) rows.now)) }
+    ensures err { IfErr result (λ e. e ≡ Fault.Write) }
+{
+    for row in rows {
+        match write_row_line::<C, Vec<u8>>(row, gathered) {
+            Ok(()) => send_enough(writer, gathered)?,
+            Err(_) => return Err(Fault::Write),
+        }
+    }
+    Ok(())
+}
+
+/// Writes a reply of one line.
+fn write_line<C: ClassText, W: Write>(reply: &Reply<C::Key>, writer: &mut W) -> io::Result<()>
+    ensures { OnOk result (Appends (W.contents writer.old) (W.contents writer.new) (first_line C.key_text reply.now)) }
+{
+    match reply {
+        Reply::Committed(number) => writeln!(writer, "committed {number}"),
+        Reply::Opened(cursor) => writeln!(writer, "opened {cursor}"),
+        Reply::Given(item) => write_item::<C, W>(item, writer),
+        Reply::Empty => writer.write_all(b"empty\n"),
+        Reply::Asked => writer.write_all(b"asked\n"),
+        Reply::Found(rows) => {
+            let count = rows.len();
+            writeln!(writer, "found {count}")
+        }
+        Reply::Swept(number) => writeln!(writer, "swept {number}"),
+        Reply::Closed => writer.write_all(b"closed\n"),
+        Reply::Refused(why) => writeln!(writer, "refused {why}"),
+    }
+}
+
+/// The rows that a reply lists behind its first line.
+fn rows_of<K>(reply: &Reply<K>) -> &[Row<K>]
+    ensures { result.now ≡ listed reply.now }
+{
+    match reply {
+        Reply::Found(rows) => rows.as_slice(),
+        _ => &[],
+    }
+}
+
+/// Writes the lines of a reply, behind the answers that are gathered.
+///
+/// # Errors
+/// `Write` where the writer failed, or the gathered answers found no memory; the writer may hold the beginning.
+pub fn write_reply<C: ClassText, W: Write>(writer: &mut W, gathered: &mut Vec<u8>, reply: &Reply<C::Key>) -> Result<(), Fault>
+    ensures ok { OnOk result (Writes (W.contents writer.old) gathered.old.items (W.contents writer.new) gathered.new.items (text_of C.key_text reply.now)) }
+    ensures err { IfErr result (λ e. e ≡ Fault.Write) }
+{
+    match write_line::<C, Vec<u8>>(reply, gathered) {
+        Ok(()) => {}
+        Err(_) => return Err(Fault::Write),
+    }
+    write_rows::<C, W>(writer, gathered, rows_of(reply))?;
+    send_enough(writer, gathered)
+}

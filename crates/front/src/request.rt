@@ -1,0 +1,160 @@
+ghost use Rattle.std.specs.Prelude.{◌≡◌, ◌<◌, length, MatchResult, MatchOption, codes};
+ghost use Rattle.query_text.specs.Tokens.{token_in, placed};
+ghost use Rattle.query_text.specs.Keys.{Gives};
+ghost use Rattle.front.specs.Requests.{verb_of, verb_of_word, natural_at, alone, asked_by, key_and_tag, one_number, room_and_query, command_of, IsAsked, delete_row, next_item, ask_mark, close_cursor};
+
+use query_text::{ClassText, Kind, Lexeme};
+
+/// The word that a command begins with.
+#[derive(Clone, Copy, Debug)]
+pub enum Verb {
+    Insert,
+    Delete,
+    Open,
+    Next,
+    Mark,
+    Find,
+    Sweep,
+    Close,
+    /// Any other token.
+    Other,
+}
+
+/// What a line asks. The lexemes of a query aren't read yet.
+#[derive(Clone, Copy, Debug)]
+pub enum Request<'a, K> {
+    Insert(K, u64),
+    Delete(u64),
+    Open(u64, &'a [Lexeme]),
+    Next(u64),
+    Mark(u64),
+    Find(&'a [Lexeme]),
+    Sweep,
+    Close(u64),
+}
+
+fn verb_of_word(word: &[u8]) -> Verb
+    ensures { result ≡ verb_of_word word.now }
+{
+    if word == b"insert".as_slice() {
+        Verb::Insert
+    } else if word == b"delete".as_slice() {
+        Verb::Delete
+    } else if word == b"open".as_slice() {
+        Verb::Open
+    } else if word == b"next".as_slice() {
+        Verb::Next
+    } else if word == b"mark".as_slice() {
+        Verb::Mark
+    } else if word == b"find".as_slice() {
+        Verb::Find
+    } else if word == b"sweep".as_slice() {
+        Verb::Sweep
+    } else if word == b"close".as_slice() {
+        Verb::Close
+    } else {
+        Verb::Other
+    }
+}
+
+/// What a lexeme is at the front of a line.
+pub fn read_verb(text: &[u8], lexeme: Lexeme) -> Verb
+    ensures { result ≡ verb_of (token_in text.now lexeme) }
+{
+    match lexeme.kind {
+        Kind::Word => verb_of_word(lexeme.bytes(text)),
+        _ => Verb::Other,
+    }
+}
+
+/// A number from 0 to 2^64 - 1 at the front, and the lexemes behind it.
+///
+/// # Errors
+/// The place of the fault, which is the text's length at its end.
+fn natural<'a>(text: &[u8], lexemes: &'a [Lexeme]) -> Result<(u64, &'a [Lexeme]), usize>
+    ensures { Gives text.now result (natural_at (length text.now) (placed text.now lexemes.now)) }
+{
+    match lexemes {
+        [] => Err(text.len()),
+        [first, rest @ ..] => match first.unsigned(text) {
+            Some(number) => Ok((number, rest)),
+            None => Err(first.place),
+        },
+    }
+}
+
+/// A request with nothing behind it.
+///
+/// # Errors
+/// The place of what stands behind it.
+fn only<'a, K: Copy>(text: &[u8], request: Request<'a, K>, rest: &[Lexeme]) -> Result<Request<'a, K>, usize>
+    ensures { IsAsked text.now result (alone (command_of text.now request.entry) (placed text.now rest.now)) }
+{
+    match rest {
+        [] => Ok(request),
+        [first, ..] => Err(first.place),
+    }
+}
+
+fn insert<'a, C: ClassText>(text: &[u8], lexemes: &'a [Lexeme]) -> Result<Request<'a, C::Key>, usize>
+    ensures { IsAsked text.now result (key_and_tag C.key_at (length text.now) (placed text.now lexemes.now)) }
+{
+    let key = C::read_key(text, lexemes)?;
+    let tag = natural(text, key.1)?;
+    only(text, Request::Insert(key.0, tag.0), tag.1)
+}
+
+fn delete<'a, K: Copy>(text: &[u8], lexemes: &'a [Lexeme]) -> Result<Request<'a, K>, usize>
+    ensures { IsAsked text.now result (one_number delete_row (length text.now) (placed text.now lexemes.now)) }
+{
+    let row = natural(text, lexemes)?;
+    only(text, Request::Delete(row.0), row.1)
+}
+
+fn next<'a, K: Copy>(text: &[u8], lexemes: &'a [Lexeme]) -> Result<Request<'a, K>, usize>
+    ensures { IsAsked text.now result (one_number next_item (length text.now) (placed text.now lexemes.now)) }
+{
+    let cursor = natural(text, lexemes)?;
+    only(text, Request::Next(cursor.0), cursor.1)
+}
+
+fn mark<'a, K: Copy>(text: &[u8], lexemes: &'a [Lexeme]) -> Result<Request<'a, K>, usize>
+    ensures { IsAsked text.now result (one_number ask_mark (length text.now) (placed text.now lexemes.now)) }
+{
+    let cursor = natural(text, lexemes)?;
+    only(text, Request::Mark(cursor.0), cursor.1)
+}
+
+fn close<'a, K: Copy>(text: &[u8], lexemes: &'a [Lexeme]) -> Result<Request<'a, K>, usize>
+    ensures { IsAsked text.now result (one_number close_cursor (length text.now) (placed text.now lexemes.now)) }
+{
+    let cursor = natural(text, lexemes)?;
+    only(text, Request::Close(cursor.0), cursor.1)
+}
+
+fn open<'a, K: Copy>(text: &[u8], lexemes: &'a [Lexeme]) -> Result<Request<'a, K>, usize>
+    ensures { IsAsked text.now result (room_and_query (length text.now) (placed text.now lexemes.now)) }
+{
+    let room = natural(text, lexemes)?;
+    Ok(Request::Open(room.0, room.1))
+}
+
+/// What the lexemes behind a verb ask.
+///
+/// # Errors
+/// The place of the first fault.
+pub fn read_request<'a, C: ClassText>(text: &[u8], first: Lexeme, rest: &'a [Lexeme]) -> Result<Request<'a, C::Key>, usize>
+    ensures { IsAsked text.now result (asked_by C.key_at (length text.now) first.place (verb_of (token_in text.now first)) (placed text.now rest.now)) }
+{
+    match read_verb(text, first) {
+        Verb::Insert => insert::<C>(text, rest),
+        Verb::Delete => delete(text, rest),
+        Verb::Open => open(text, rest),
+        Verb::Next => next(text, rest),
+        Verb::Mark => mark(text, rest),
+        Verb::Find => Ok(Request::Find(rest)),
+        Verb::Sweep => only(text, Request::Sweep, rest),
+        Verb::Close => close(text, rest),
+        Verb::Other => Err(first.place),
+    }
+}

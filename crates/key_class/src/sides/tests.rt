@@ -1,0 +1,16 @@
+use super::*;
+use std::test::Fail;
+
+#[test]
+fn gathers_sides(rt: HostRuntime) -> Result<(), Fail> {
+    let mut sides = Sides::new(rt.alloc());
+    assert_eq!(rt; sides.len(), 0);
+    sides.push(Side::Right)?;
+    sides.push(Side::Left)?;
+    assert_eq!(rt; sides.len(), 2);
+    assert_eq!(rt; (sides.side(0), sides.side(1)), (Side::Right, Side::Left));
+    let sides = Sides::from_vec(vec![in rt.alloc(); Side::Left; 3]?);
+    assert_eq!(rt; sides.len(), 3);
+    assert_eq!(rt; sides.side(2), Side::Left);
+    Ok(())
+}

@@ -1,0 +1,46 @@
+-- A text means one query or is refused at one place.
+use Rattle.std.proofs.Common.{◌≡◌, ℕ, ◌<◌, ◌≤◌, List, [], ◌∷◌, sym, ◌∙◌, arith, refl, subst, false, length}
+use Rattle.key_class.specs.declared.sides.Rel.{Rel}
+use Rattle.key_class.specs.Queries.{Query, depth_of}
+use Rattle.query_text.specs.declared.limits.TheConstants.{MAX_BYTES, MAX_DEPTH}
+use Rattle.query_text.specs.Tokens.{Placed, Cuts}
+use Rattle.query_text.specs.Keys.{Reading}
+use Rattle.query_text.specs.Grammar.{whole, before, Spells, Refused, SpellsQuery, RefusesTokens, no_spelling, too_deep, SpellsText, RefusesText, too_long, refuses_tokens}
+use Rattle.query_text.proofs.CutLaws.{one_cut}
+use Rattle.query_text.proofs.Unique.{one_query, spelled_not_refused, one_place}
+
+module _ {K A : Type 0} (key_at : ℕ → List Placed → Reading K) (atom_of : Rel → K → A) where
+  pub one_query_of : (len : ℕ) (ts : List Placed) (q r : Query A) → SpellsQuery key_at atom_of len ts q → SpellsQuery key_at atom_of len ts r → q ≡ r
+  one_query_of len ts q r s u = one_query (key_at len) atom_of s.spelled u.spelled
+
+  pub not_both_of : (len : ℕ) (ts : List Placed) (q : Query A) (place : ℕ) → SpellsQuery key_at atom_of len ts q → RefusesTokens key_at atom_of len ts place → ⊥
+  not_both_of len ts q place s (no_spelling r) = spelled_not_refused (key_at len) atom_of len place s.spelled r
+  not_both_of len ts q place s (too_deep {q = r} u d) =
+      let same : q ≡ r = one_query (key_at len) atom_of s.spelled u in
+      let deep : MAX_DEPTH < depth_of q = rw same d in
+      absurd (omega (arith, s.shallow, deep))
+
+  pub one_place_of : (len : ℕ) (ts : List Placed) (p q : ℕ) → RefusesTokens key_at atom_of len ts p → RefusesTokens key_at atom_of len ts q → p ≡ q
+  one_place_of len ts p q (no_spelling r) (no_spelling s) = one_place (key_at len) atom_of len r s
+  one_place_of len ts p q (no_spelling r) (too_deep s d) = absurd (spelled_not_refused (key_at len) atom_of len p s r)
+  one_place_of len ts p q (too_deep s d) (no_spelling r) = absurd (spelled_not_refused (key_at len) atom_of len q s r)
+  one_place_of len ts p q (too_deep s d) (too_deep u e) = refl
+
+  pub one_query_of_text : (text : List ℕ) (q r : Query A) → SpellsText key_at atom_of text q → SpellsText key_at atom_of text r → q ≡ r
+  one_query_of_text text q r s u =
+      let same : u.tokens ≡ s.tokens = one_cut false 0 text u.tokens s.tokens u.cut s.cut in
+      one_query_of (length text) s.tokens q r s.query (rw same at u.query)
+
+  pub not_both_of_text : (text : List ℕ) (q : Query A) (place : ℕ) → SpellsText key_at atom_of text q → RefusesText key_at atom_of text place → ⊥
+  not_both_of_text text q place s (too_long l) = absurd (omega (arith, s.short, l))
+  not_both_of_text text q place s (refuses_tokens {ts = us} l c r) =
+      let same : us ≡ s.tokens = one_cut false 0 text us s.tokens c s.cut in
+      not_both_of (length text) s.tokens q place s.query (rw same at r)
+
+  pub one_place_of_text : (text : List ℕ) (p q : ℕ) → RefusesText key_at atom_of text p → RefusesText key_at atom_of text q → p ≡ q
+  one_place_of_text text p q (too_long l) (too_long m) = refl
+  one_place_of_text text p q (too_long l) (refuses_tokens m c r) = absurd (omega (arith, l, m))
+  one_place_of_text text p q (refuses_tokens m c r) (too_long l) = absurd (omega (arith, l, m))
+  one_place_of_text text p q (refuses_tokens {ts = ts} l c r) (refuses_tokens {ts = us} m d s) =
+      let same : us ≡ ts = one_cut false 0 text us ts d c in
+      one_place_of (length text) ts p q r (rw same at s)

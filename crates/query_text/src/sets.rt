@@ -1,0 +1,104 @@
+ghost use Rattle.std.specs.Prelude.{◌≡◌, ◌<◌, ◌≤◌, length, IfSome, IfOk, OnOk, not, ◌&&◌, ◌==◌, refl};
+ghost use Rattle.std.specs.Int.{bit_at};
+ghost use Rattle.std.specs.Io.KnownBytes.{Appends};
+ghost use Rattle.query_text.specs.Tokens.{placed, token_in};
+ghost use Rattle.query_text.specs.Keys.{Gives};
+ghost use Rattle.query_text.specs.SetTexts.{element_of, elements_at, with_elements, set_at, set_text, number_text, atom_of};
+
+use crate::class::ClassText;
+use crate::lexeme::{Kind, Lexeme};
+use crate::reader::{first_of, open_brace};
+use key_class::Rel;
+use set_class::{Atom, Elements, Sets};
+use std::io::{self, Write};
+
+/// The element that a lexeme is.
+fn element(text: &[u8], lexeme: Lexeme) -> Option<u8>
+    ensures element { result ≡ element_of (token_in text.now lexeme) }
+    ensures small { IfSome result (λ e. e ≤ 127) }
+{
+    Some(lexeme.number_within(text, 0, 127)? as u8)
+}
+
+/// The set of the elements before a closing brace.
+fn elements<'a>(text: &[u8], lexemes: &'a [Lexeme]) -> Result<(Elements, &'a [Lexeme]), usize>
+    ensures gives { Gives text.now result (with_elements 0 (elements_at (length text.now) (placed text.now lexemes.now))) }
+    ensures shorter { IfOk result (λ r. length r.1.now < length lexemes.now) }
+{
+    let mut mask = 0;
+    let mut rest = lexemes;
+    'elements: loop {
+        let Some((first, behind)) = first_of(rest) else {
+            return Err(text.len());
+        };
+        match first.kind {
+            Kind::CloseBrace => return Ok((Elements { mask }, behind)),
+            _ => {
+                let Some(found) = element(text, first) else {
+                    return Err(first.place);
+                };
+                mask = mask | 1 << found;
+                rest = behind;
+            }
+        }
+    }
+}
+
+/// Writes a number, where it is an element, and says whether no element was written yet.
+fn write_number<W: Write>(
+    key: Elements,
+    number: u8,
+    is_first: bool,
+    writer: &mut W,
+) -> io::Result<bool>
+    requires { number ≤ 127 }
+    ensures text { OnOk result (Appends (W.contents writer.old) (W.contents writer.new) (number_text key number is_first)) }
+    ensures still_first { IfOk result (λ still. still ≡ (is_first && not (bit_at key.mask number == 1))) }
+{
+    if !key.contains(number) {
+        return Ok(is_first);
+    }
+    if is_first {
+        write!(writer, "{number}")?;
+    } else {
+        write!(writer, " {number}")?;
+    }
+    Ok(false)
+}
+
+impl ClassText for Sets {
+    ghost key_at = { set_at };
+
+    ghost key_text = { set_text };
+
+    ghost atom_of = { atom_of };
+
+    ghost rel_of = { λ a. a.rel };
+
+    ghost operand_of = { λ a. a.operand };
+
+    #[tactic(auto, unfolding(crate::specs::SetTexts::set_at))]
+    fn read_key<'a>(text: &[u8], lexemes: &'a [Lexeme]) -> Result<(Elements, &'a [Lexeme]), usize> {
+        let (_, rest) = open_brace(text, lexemes)?;
+        elements(text, rest)
+    }
+
+    fn write_key<W: Write>(key: Elements, writer: &mut W) -> io::Result<()> {
+        write!(writer, "{{")?;
+        let mut is_first = true;
+        for number in 0..128 {
+            is_first = write_number(key, number, is_first, writer)?;
+        }
+        write!(writer, "}}")
+    }
+
+    fn atom(rel: Rel, operand: Elements) -> Atom {
+        Atom { rel, operand }
+    }
+
+    fn parts(atom: &Atom) -> (Rel, Elements) {
+        (atom.rel, atom.operand)
+    }
+
+    ghost atom_of_parts = { λ a. refl };
+}
