@@ -1,17 +1,16 @@
 -- What fits a cursor before a step fits it after, with the item that it gave.
-use Rattle.std.proofs.Common.{◌≡◌, ◌+◌, ◌-◌, ◌<◌, ◌≤◌, ℕ, suc, zero, Bool, true, false, not, List, [], ◌∷◌, ◌++◌, length, map, filter, Option, Some, None, ◌⊎◌, inl, inr, ⊎_elim, refl, sym, ap, ◌∙◌, arith, subst, append_assoc, length-append}
+use Rattle.std.proofs.Common.{◌≡◌, ◌+◌, ◌-◌, ◌≤◌, ℕ, Bool, false, not, List, [], ◌∷◌, ◌++◌, length, map, Option, Some, None, ◌⊎◌, inl, inr, ⊎_elim, refl, sym, ap, ◌∙◌, arith, subst, append_assoc, length-append}
 use Rattle.std.specs.Prelude.{option_to_list, IsPermutation, IfSome}
 use Rattle.std.proofs.lemmas.List.{append-nil, map-append}
-use Rattle.std.proofs.lemmas.List.Sorted.{IsPermutation-refl, IsPermutation-trans, IsPermutation-append_right, length_permutation}
+use Rattle.std.proofs.lemmas.List.Sorted.{IsPermutation-trans, IsPermutation-append_right, length_permutation}
 use Rattle.change_list.specs.declared.write.Write.{Write}
 use Rattle.change_list.specs.declared.item.Row.{Row}
 use Rattle.change_list.specs.declared.item.Item.{Item}
 use Rattle.change_list.specs.declared.item.Item.TheVariants as item
-
 use Rattle.change_list.specs.Changes.{snapshot, changes}
 use Rattle.change_list.proofs.Pushing.{filter_push, filter_push_not, changes_none, changes_push, changes_split, snapshot_push}
 use Rattle.change_list.specs.Listings.{IsListing, BeginsListing, is_mark, without_marks}
-use Rattle.change_list.specs.Cursors.{CursorState, wants, IsFollowing, Fits, IsDone}
+use Rattle.change_list.specs.Cursors.{CursorState, wants, IsFollowing, Fits}
 
 pub record IsCut {X : Type 0} (xs b a : List X) (x m : X) : Type 0 where
   pub less : List X
@@ -31,9 +30,9 @@ cut_push (y ∷ xs) (z ∷ b) a x m h =
     let e : y ≡ z = cc in
     let f : xs ++ x ∷ [] ≡ b ++ m ∷ a = cc in
     ⊎_elim
-      (λ (p : (xs ≡ b) × (x ≡ m)). let q = p.0 in inl (cc, p.1))
-      (λ (c : IsCut xs b a x m). let q = c.is in inr (record { less = c.less; behind = c.behind; is = cc }))
-      (cut_push xs b a x m f)
+    (λ (p : (xs ≡ b) × (x ≡ m)). let q = p.0 in inl (cc, p.1))
+    (λ (c : IsCut xs b a x m). let q = c.is in inr (record { less = c.less; behind = c.behind; is = cc }))
+    (cut_push xs b a x m f)
 
 pub listing_push : {K : Type 0} (wanted : K → Bool) (s n : ℕ) (commits : List (Write K)) (write : Write K) (items : List (Item K))
     → IsListing wanted s n commits items → IsListing wanted s n (commits ++ write ∷ []) items
@@ -54,9 +53,9 @@ module _ {K A : Type 0} (matching : A → K → Bool) where
         → (front behind : List (Item K)) (n : ℕ) → items ++ x ∷ [] ≡ front ++ item.Mark n ∷ behind → IsListing (wants matching before) before.opened n commits (without_marks front)
     marks_push x h front behind n e =
         ⊎_elim
-          (λ (p : (items ≡ front) × (x ≡ item.Mark n)). subst (λ l. IsListing (wants matching before) before.opened n commits (without_marks l)) p.0 (h n p.1))
-          (λ (c : IsCut items front behind x (item.Mark n)). f.marks front c.less n c.is)
-          (cut_push items front behind x (item.Mark n) e)
+        (λ (p : (items ≡ front) × (x ≡ item.Mark n)). subst (λ l. IsListing (wants matching before) before.opened n commits (without_marks l)) p.0 (h n p.1))
+        (λ (c : IsCut items front behind x (item.Mark n)). f.marks front c.less n c.is)
+        (cut_push items front behind x (item.Mark n) e)
 
     no_mark : (x : Item K) → is_mark x ≡ false → (n : ℕ) → x ≡ item.Mark n → IsListing (wants matching before) before.opened n commits (without_marks items)
     no_mark x h n e = let g : is_mark {K = K} (item.Mark n) ≡ false = subst (λ (y : Item K). is_mark y ≡ false) e h in absurd (cc)
@@ -80,7 +79,7 @@ module _ {K A : Type 0} (matching : A → K → Bool) where
     fits_row row scanning rest r =
         let w = wants matching before in
         let at : before.position ≡ before.opened =
-            ⊎_elim (λ (p : IsFollowing matching before). let z = p.none_remaining in absurd (cc)) (λ (p : before.position ≡ before.opened). p) f.in_order in
+        ⊎_elim (λ (p : IsFollowing matching before). let z = p.none_remaining in absurd (cc)) (λ (p : before.position ≡ before.opened). p) f.in_order in
         let none : changes w before.opened before.position commits ≡ [] = ap (λ p. changes w before.opened p commits) at ∙ changes_none w before.opened commits in
         record {
           rows = f.rows ++ row ∷ [];
@@ -102,8 +101,8 @@ module _ {K A : Type 0} (matching : A → K → Bool) where
         let o : before.opened ≤ position = omega (arith, f.from_opening, l) in
         let e : before.position + (position - before.position) ≡ position = omega (arith, l) in
         let longer : changes w before.opened position commits ≡ changes w before.opened before.position commits ++ option_to_list given =
-            ap (λ n. changes w before.opened n commits) (sym e) ∙ changes_split w before.opened before.position (position - before.position) commits f.from_opening
-            ∙ ap (λ n. changes w before.opened before.position commits ++ changes w before.position n commits) e ∙ ap (λ r. changes w before.opened before.position commits ++ r) t in
+        ap (λ n. changes w before.opened n commits) (sym e) ∙ changes_split w before.opened before.position (position - before.position) commits f.from_opening
+        ∙ ap (λ n. changes w before.opened before.position commits ++ changes w before.position n commits) e ∙ ap (λ r. changes w before.opened before.position commits ++ r) t in
         record {
           rows = f.rows;
           is = plain given m ∙ ap (λ r. r ++ option_to_list given) f.is ∙ append_assoc (map item.Row f.rows) (changes w before.opened before.position commits) (option_to_list given) ∙ ap (λ r. map item.Row f.rows ++ r) (sym longer);
@@ -117,6 +116,7 @@ module _ {K A : Type 0} (matching : A → K → Bool) where
         plain : (g : Option (Item K)) → IfSome g (λ x. is_mark x ≡ false) → without_marks (items ++ option_to_list g) ≡ without_marks items ++ option_to_list g
         plain None n = ap without_marks (append-nil items) ∙ sym (append-nil (without_marks items))
         plain (Some x) n = filter_push (λ i. not (is_mark i)) items x (ap not n)
+
         marks : (g : Option (Item K)) → IfSome g (λ x. is_mark x ≡ false) → (front behind : List (Item K)) (n : ℕ) → items ++ option_to_list g ≡ front ++ item.Mark n ∷ behind
             → IsListing (wants matching before) before.opened n commits (without_marks front)
         marks None n front behind k e = f.marks front behind k (sym (append-nil items) ∙ e)
@@ -153,8 +153,8 @@ module _ {K A : Type 0} (matching : A → K → Bool) where
         let w = wants matching before in
         let e : before.position + (length commits - before.position) ≡ length commits = omega (arith, f.within) in
         let whole : changes w before.opened (length commits) commits ≡ changes w before.opened before.position commits ++ changes w before.position (length commits) commits =
-            ap (λ n. changes w before.opened n commits) (sym e) ∙ changes_split w before.opened before.position (length commits - before.position) commits f.from_opening
-            ∙ ap (λ n. changes w before.opened before.position commits ++ changes w before.position n commits) e in
+        ap (λ n. changes w before.opened n commits) (sym e) ∙ changes_split w before.opened before.position (length commits - before.position) commits f.from_opening
+        ∙ ap (λ n. changes w before.opened before.position commits ++ changes w before.position n commits) e in
         record {
           rest = map item.Row before.remaining ++ changes w before.position (length commits) commits;
           listing = record {
@@ -164,10 +164,10 @@ module _ {K A : Type 0} (matching : A → K → Bool) where
             each_once = f.each_once;
             is = ⊎_elim
                 (λ (p : IsFollowing matching before).
-                  rw (f.is, p.none_remaining, whole, append-nil, append_assoc) refl)
+                rw (f.is, p.none_remaining, whole, append-nil, append_assoc) refl)
                 (λ (p : before.position ≡ before.opened).
-                  let none : changes w before.opened before.position commits ≡ [] = ap (λ p. changes w before.opened p commits) p ∙ changes_none w before.opened commits in
-                  rw (f.is, whole, none, append-nil, map-append, append_assoc) refl)
+                let none : changes w before.opened before.position commits ≡ [] = ap (λ p. changes w before.opened p commits) p ∙ changes_none w before.opened commits in
+                rw (f.is, whole, none, append-nil, map-append, append_assoc) refl)
                 f.in_order;
           };
         }

@@ -1,14 +1,13 @@
 -- A list of commits that gains one: its rows, its snapshots and its tails.
-use Rattle.std.proofs.Common.{◌≡◌, ◌+◌, ◌-◌, ◌<◌, ◌≤◌, ℕ, suc, zero, Bool, true, false, not, cond, ◌&&◌, ◌||◌, List, [], ◌∷◌, ◌++◌, length, take, filter, Option, Some, None, refl, sym, ap, ◌∙◌, arith, add-one, subst, append_assoc}
-use Rattle.std.specs.Prelude.{slice_get, nat_eq, option_to_list, option_and_then}
+use Rattle.std.proofs.Common.{◌≡◌, ◌+◌, ◌-◌, ◌<◌, ◌≤◌, ℕ, suc, zero, Bool, true, false, not, cond, ◌&&◌, ◌||◌, List, [], ◌∷◌, ◌++◌, length, take, filter, refl, sym, ap, ◌∙◌, arith, append_assoc}
+use Rattle.std.specs.Prelude.{nat_eq, option_to_list}
 use Rattle.std.specs.List.{filter_map, range_with_len, enumerate_from, list_any}
 use Rattle.std.proofs.lemmas.List.{take-append-le, append-nil}
 use Rattle.std.proofs.lemmas.List.Folds.{list_any-append}
 use Rattle.change_list.specs.declared.write.Write.{Write}
 use Rattle.change_list.specs.declared.write.Write.TheVariants.{Insert, Delete}
 use Rattle.change_list.specs.declared.item.Row.{Row}
-use Rattle.change_list.specs.declared.item.Item.{Item}
-use Rattle.change_list.specs.Changes.{inserted_row, inserted_rows, deletes, is_deleted, rows, snapshot, item_of, item_at, changes}
+use Rattle.change_list.specs.Changes.{inserted_row, inserted_rows, deletes, is_deleted, rows, snapshot, item_at, changes}
 use Rattle.change_list.proofs.Lists.{slice_get_before, range_more, filter_map_same, filter_map_cons, filter_map_push}
 
 or_false : (b : Bool) → (b || false) ≡ b

@@ -1,12 +1,12 @@
 -- A live row stands among the rows of its list of commits.
-use Rattle.std.proofs.Common.{◌≡◌, ◌+◌, ◌-◌, ◌<◌, ◌≤◌, ℕ, suc, zero, Bool, true, false, not, cond, List, [], ◌∷◌, ◌++◌, filter, Option, Some, None, refl, sym, ap, ◌∙◌, arith, subst}
+use Rattle.std.proofs.Common.{◌≡◌, ◌+◌, ◌-◌, ℕ, suc, zero, Bool, true, false, not, cond, List, [], ◌∷◌, ◌++◌, filter, Option, Some, None, refl, sym, ap, ◌∙◌, arith, subst}
 use Rattle.std.specs.Prelude.{slice_get, nat_eq, option_to_list}
 use Rattle.std.specs.List.{filter_map, enumerate_from}
 use Rattle.change_list.specs.declared.write.Write.{Write}
-use Rattle.change_list.specs.declared.write.Write.TheVariants.{Insert, Delete}
+use Rattle.change_list.specs.declared.write.Write.TheVariants.{Insert}
 use Rattle.change_list.specs.declared.write.Status.TheVariants.{Live}
 use Rattle.change_list.specs.declared.item.Row.{Row}
-use Rattle.change_list.specs.Changes.{status_of, commit_at, is_deleted, inserted_row, inserted_rows, rows}
+use Rattle.change_list.specs.Changes.{status_of, is_deleted, inserted_row, inserted_rows, rows}
 use Rattle.change_list.proofs.Lists.{filter_map_cons}
 use Rattle.change_list.proofs.Tracking.{live_row, commit_within}
 
@@ -23,6 +23,7 @@ stands_filtered {X} p x xs h s = subst (λ l. StandsIn x (filter p l)) (sym s.is
     more : (y : X) (b : Bool) (l : List X) → StandsIn x l → StandsIn x (cond b (y ∷ l) l)
     more y true l t = record { front = y ∷ t.front; back = t.back; is = ap (λ l. y ∷ l) t.is }
     more y false l t = t
+
     go : (front : List X) → StandsIn x (filter p (front ++ x ∷ s.back))
     go [] = record { front = []; back = filter p s.back; is = rw h refl }
     go (y ∷ ys) = more y (p y) (filter p (ys ++ x ∷ s.back)) (go ys)
@@ -73,7 +74,7 @@ module _ {K : Type 0} where
       let g : slice_get commits (row - 1) ≡ Some (Insert l.key l.tag) = rw z at l.is in
       let n : 1 + (row - 1) ≡ row = omega (arith, w.0) in
       let s : StandsIn (made row l.key l.tag) (inserted_rows commits) =
-          subst (λ m. StandsIn (made m l.key l.tag) (inserted_rows commits)) n (inserted_from 1 (row - 1) commits l.key l.tag g) in
+      subst (λ m. StandsIn (made m l.key l.tag) (inserted_rows commits)) n (inserted_from 1 (row - 1) commits l.key l.tag g) in
       record {
         key = l.key;
         tag = l.tag;

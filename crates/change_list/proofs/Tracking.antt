@@ -1,11 +1,11 @@
 -- A legal list of commits with its letters that gains a commit.
-use Rattle.std.proofs.Common.{◌≡◌, ◌+◌, ◌-◌, ◌<◌, ◌≤◌, ℕ, suc, zero, Bool, true, false, ◌||◌, List, [], ◌∷◌, ◌++◌, length, take, Option, Some, None, ◌⊎◌, inl, inr, refl, sym, ap, ◌∙◌, arith, add-one, subst, length-append, ⊎_elim, ◌≢◌, cond}
+use Rattle.std.proofs.Common.{◌≡◌, ◌+◌, ◌-◌, ◌<◌, ◌≤◌, ℕ, suc, zero, Bool, true, false, ◌||◌, List, [], ◌∷◌, ◌++◌, length, take, Option, Some, None, ◌⊎◌, refl, sym, ap, ◌∙◌, arith, subst, length-append, ⊎_elim, ◌≢◌}
 use Rattle.std.specs.Prelude.{slice_get, slice_set, nat_eq}
 use Rattle.std.specs.List.{list_any}
 use Rattle.std.proofs.lemmas.List.{take-append-le, take_at, length-take, length-set}
 use Rattle.change_list.specs.declared.write.Write.{Write}
 use Rattle.change_list.specs.declared.write.Write.TheVariants.{Insert, Delete}
-use Rattle.change_list.specs.declared.write.Status.TheVariants.{NeverIssued, Live, Dead}
+use Rattle.change_list.specs.declared.write.Status.TheVariants.{Live}
 use Rattle.change_list.specs.Changes.{commit_at, deletes, is_deleted, status_from, status_of, MayFollow, IsLegal, IsTracked}
 use Rattle.change_list.proofs.Lists.{slice_get_before, slice_get_push, slice_get_end, slice_get_within, slice_get_set_same, slice_get_set_other}
 use Rattle.change_list.proofs.Pushing.{list_any-push}
@@ -56,13 +56,13 @@ module _ {K : Type 0} where
   pub legal_push : (commits : List (Write K)) (write : Write K) → IsLegal commits → MayFollow commits write → IsLegal (commits ++ write ∷ [])
   legal_push commits write h m place other e =
       ⊎_elim
-        (λ (p : (slice_get commits place ≡ Some other) × (place < length commits)).
-          let l : place ≤ length commits = omega (arith, p.1) in
-          rw (take_before commits write place l) (h place other p.0))
-        (λ (p : (place ≡ length commits) × (write ≡ other)).
-          let t : take place (commits ++ write ∷ []) ≡ commits = rw p.0 (take_at commits (write ∷ []) (length commits) refl) in
-          rw t (subst (λ w. MayFollow commits w) p.1 m))
-        (slice_get_push commits write other place e)
+      (λ (p : (slice_get commits place ≡ Some other) × (place < length commits)).
+      let l : place ≤ length commits = omega (arith, p.1) in
+      rw (take_before commits write place l) (h place other p.0))
+      (λ (p : (place ≡ length commits) × (write ≡ other)).
+      let t : take place (commits ++ write ∷ []) ≡ commits = rw p.0 (take_at commits (write ∷ []) (length commits) refl) in
+      rw t (subst (λ w. MayFollow commits w) p.1 m))
+      (slice_get_push commits write other place e)
 
   -- no commit deletes a number that was never issued
   pub none_deletes : (commits : List (Write K)) (row : ℕ) → IsLegal commits → length commits < row → is_deleted commits row ≡ false
@@ -85,13 +85,17 @@ module _ {K : Type 0} where
     where
       before_or_end : (place : ℕ) → place < length commits + 1 → (place < length commits) ⊎ (place ≡ length commits)
       before_or_end place h = search arith
+
       lengthens : (place : ℕ) → is_deleted (commits ++ Insert key tag ∷ []) (place + 1) ≡ (is_deleted commits (place + 1) || false)
       lengthens place = list_any-push (deletes (place + 1)) commits (Insert key tag)
+
       or_false : (b : Bool) → (b || false) ≡ b
       or_false true = refl
       or_false false = refl
+
       old : (place : ℕ) → place < length commits → slice_get (deleted ++ false ∷ []) place ≡ Some (is_deleted (commits ++ Insert key tag ∷ []) (place + 1))
       old place h = slice_get_before deleted (false ∷ []) place (omega (arith, h, t.one_each)) ∙ t.is place h ∙ ap Some (sym (lengthens place ∙ or_false _))
+
       new : (place : ℕ) → place ≡ length commits → slice_get (deleted ++ false ∷ []) place ≡ Some (is_deleted (commits ++ Insert key tag ∷ []) (place + 1))
       new place h =
           let e : place ≡ length deleted = omega (arith, h, t.one_each) in
@@ -107,34 +111,42 @@ module _ {K : Type 0} where
     where
       now : List Bool
       now = slice_set deleted (row - 1) true
+
       before_or_end : (place : ℕ) → place < length commits + 1 → (place < length commits) ⊎ (place ≡ length commits)
       before_or_end place h = search arith
+
       same_or_not : (a b : ℕ) → (a ≡ b) ⊎ (a ≢ b)
       same_or_not a b = search arith
+
       lengthens : (place : ℕ) → is_deleted (commits ++ Delete row ∷ []) (place + 1) ≡ (is_deleted commits (place + 1) || nat_eq row (place + 1))
       lengthens place = list_any-push (deletes (place + 1)) commits (Delete row)
+
       or_false : (b c : Bool) → c ≡ false → (b || c) ≡ b
       or_false true c h = refl
       or_false false c h = h
+
       or_true : (b c : Bool) → c ≡ true → (b || c) ≡ true
       or_true true c h = refl
       or_true false c h = h
+
       within : (0 < row) × (row ≤ length commits)
       within = live_within commits row live
+
       old : (place : ℕ) → place < length commits → slice_get (slice_set deleted (row - 1) true ++ false ∷ []) place ≡ Some (is_deleted (commits ++ Delete row ∷ []) (place + 1))
       old place h =
           let b : place < length (slice_set deleted (row - 1) true) = omega (arith, h, t.one_each, length-set deleted (row - 1) true) in
           slice_get_before (slice_set deleted (row - 1) true) (false ∷ []) place b
           ∙ ⊎_elim
-              (λ (e : row - 1 ≡ place).
-                let r : row - 1 < length deleted = omega (arith, e, h, t.one_each) in
-                let s : row ≡ place + 1 = omega (arith, e, within.0) in
-                ap (slice_get (slice_set deleted (row - 1) true)) (sym e) ∙ slice_get_set_same deleted (row - 1) true r
-                ∙ ap Some (sym (lengthens place ∙ or_true _ _ (same row (place + 1) s))))
-              (λ (e : row - 1 ≢ place).
-                slice_get_set_other deleted (row - 1) place true e ∙ t.is place h
-                ∙ ap Some (sym (lengthens place ∙ or_false _ _ (differ row (place + 1) (λ (p : row ≡ place + 1). e (omega (arith, p)))))))
-              (same_or_not (row - 1) place)
+          (λ (e : row - 1 ≡ place).
+          let r : row - 1 < length deleted = omega (arith, e, h, t.one_each) in
+          let s : row ≡ place + 1 = omega (arith, e, within.0) in
+          ap (slice_get (slice_set deleted (row - 1) true)) (sym e) ∙ slice_get_set_same deleted (row - 1) true r
+          ∙ ap Some (sym (lengthens place ∙ or_true _ _ (same row (place + 1) s))))
+          (λ (e : row - 1 ≢ place).
+          slice_get_set_other deleted (row - 1) place true e ∙ t.is place h
+          ∙ ap Some (sym (lengthens place ∙ or_false _ _ (differ row (place + 1) (λ (p : row ≡ place + 1). e (omega (arith, p)))))))
+          (same_or_not (row - 1) place)
+
       new : (place : ℕ) → place ≡ length commits → slice_get (slice_set deleted (row - 1) true ++ false ∷ []) place ≡ Some (is_deleted (commits ++ Delete row ∷ []) (place + 1))
       new place h =
           let e : place ≡ length (slice_set deleted (row - 1) true) = omega (arith, h, t.one_each, length-set deleted (row - 1) true) in
@@ -156,5 +168,5 @@ module _ {K : Type 0} (commits : List (Write K)) (deleted : List Bool) (new : Li
       let live : status_of commits row ≡ Live = subst (λ v. MayFollow commits v) w m in
       let b = live_within commits row live in
       let s : slice_set letters (row - 1) true ≡ slice_set deleted (row - 1) true ++ false ∷ [] =
-          ap (λ d. slice_set d (row - 1) true) l ∙ set_before deleted (row - 1) true false (omega (arith, b.0, b.1, t.one_each)) in
+      ap (λ d. slice_set d (row - 1) true) l ∙ set_before deleted (row - 1) true false (omega (arith, b.0, b.1, t.one_each)) in
       rw (s, n, w) (tracked_delete commits deleted row t live)

@@ -1,5 +1,5 @@
 -- A list of commits, the rows that it leaves, and what its changes mean to a query.
-use Rattle.std.specs.Prelude.{◌≡◌, ℕ, ◌+◌, ◌-◌, ◌<◌, ◌≤◌, Bool, true, false, not, List, [], ◌∷◌, length, take, filter, Option, Some, None, slice_get, nat_eq, option_and_then, if◌then◌else◌}
+use Rattle.std.specs.Prelude.{◌≡◌, ℕ, ◌+◌, ◌-◌, ◌<◌, Bool, true, false, not, List, length, take, filter, Option, Some, None, slice_get, nat_eq, option_and_then, if◌then◌else◌}
 use Rattle.std.specs.List.{filter_map, enumerate_from, list_any, range_with_len}
 use Rattle.change_list.specs.declared.write.Write.{Write}
 use Rattle.change_list.specs.declared.write.Write.TheVariants.{Insert, Delete}

@@ -1,14 +1,13 @@
 -- A cursor opened or closed, told to its client.
-use Rattle.std.proofs.Common.{◌≡◌, ◌≢◌, ◌+◌, ◌-◌, ◌<◌, ◌≤◌, ℕ, suc, Bool, true, false, not, cond, ◌||◌, List, [], ◌∷◌, ◌++◌, length, filter, Option, Some, None, Result, Ok, Err, refl, sym, ap, ◌∙◌, arith, subst, length-append}
-use Rattle.std.specs.Prelude.{nat_eq, nat_lt, find, IsPermutation, if◌then◌else◌}
+use Rattle.std.proofs.Common.{◌≡◌, ◌≢◌, ◌+◌, ◌-◌, ◌<◌, ◌≤◌, ℕ, Bool, true, false, not, cond, ◌||◌, List, [], ◌∷◌, ◌++◌, length, filter, Some, None, Ok, Err, refl, sym, ap, ◌∙◌, arith, subst, length-append}
+use Rattle.std.specs.Prelude.{nat_eq, nat_lt, IsPermutation, if◌then◌else◌}
 use Rattle.key_class.specs.Queries.{Query}
-use Rattle.key_class.specs.declared.refusal.Refusal.{Refusal}
 use Rattle.key_class.specs.declared.refusal.Refusal.TheVariants as refusal
 use Rattle.change_list.specs.Cursors.{CursorState}
 use Rattle.store.specs.States.{State, cursor_of, open_or_closed, find_cursor, IsOpened, Closes, without_cursor}
 use Rattle.store.proofs.Cursors.{found_as}
 use Rattle.front.specs.Told.{Following, Told, with_cursor}
-use Rattle.front.specs.AsTold.{IsSameCursor, AreSame, IsAsTold}
+use Rattle.front.specs.AsTold.{AreSame, IsAsTold}
 use Rattle.front.proofs.Telling.{told_cursor}
 
 given_later : (last d : ℕ) → d ≢ last + 1 → nat_lt (last + 1) d ≡ nat_lt last d
@@ -52,10 +51,10 @@ module _ {K A : Type 0} where
   module _ (matching : A → K → Bool) (old : State K A) (told : Told K A) (t : IsAsTold matching old told) where
     pub told_opened : (query : Query A) (c : ℕ) (new : State K A) → IsOpened matching old query c new
         → IsAsTold matching new (record told {
-            cursors = with_cursor told.cursors c (Ok (record { query = query; opened = length told.commits; given = []; asked = false }));
-            open_cursors = told.open_cursors + 1;
-            last = c;
-          })
+          cursors = with_cursor told.cursors c (Ok (record { query = query; opened = length told.commits; given = []; asked = false }));
+          open_cursors = told.open_cursors + 1;
+          last = c;
+        })
     told_opened query c new o = record {
       limit = t.limit ∙ sym (ap (λ (s : State K A). s.limit) o.after);
       commits = t.commits ∙ sym commits;
@@ -68,8 +67,10 @@ module _ {K A : Type 0} where
       where
         commits : new.commits ≡ old.commits
         commits = ap (λ (s : State K A). s.commits) o.after
+
         f : Following K A
         f = record { query = query; opened = length told.commits; given = []; asked = false }
+
         go : (d : ℕ) (b : Bool) → nat_eq d c ≡ b → AreSame matching new.commits (cursor_of new d) (if b then Ok f else told.cursors d)
         go d true e =
             let n : d ≡ c = search (arith, e) in
@@ -82,16 +83,19 @@ module _ {K A : Type 0} where
     pub told_closed : (c : ℕ) (new : State K A) → Closes old c new
         → (f : Following K A) × (told.cursors c ≡ Ok f) × IsAsTold matching new (record told { cursors = with_cursor told.cursors c (Err refusal.CursorClosed); open_cursors = told.open_cursors - 1 })
     told_closed c new h =
-        let k = told_cursor matching old told t c h.cursor h.was_open in
-        (k.f, k.is, record {
-          limit = t.limit ∙ sym (ap (λ (s : State K A). s.limit) h.is);
-          commits = t.commits ∙ sym (ap (λ (s : State K A). s.commits) h.is);
-          cursors = λ d. subst (λ (s : State K A). AreSame matching s.commits (cursor_of s d) (with_cursor told.cursors c (Err refusal.CursorClosed) d)) (sym h.is) (go d (nat_eq d c) refl);
-          open_cursors = omega (arith, t.open_cursors, h.one_less);
-          last = t.last ∙ sym (ap (λ (s : State K A). s.last) h.is);
-          dead = subst (λ (s : State K A). IsPermutation told.dead s.dead) (sym h.is) t.dead;
-          deletes = omega (arith, t.deletes, ap (λ (s : State K A). s.finders) h.is);
-        })
+        let k = told_cursor matching old told t c h.cursor h.was_open in (
+          k.f,
+          k.is,
+          record {
+            limit = t.limit ∙ sym (ap (λ (s : State K A). s.limit) h.is);
+            commits = t.commits ∙ sym (ap (λ (s : State K A). s.commits) h.is);
+            cursors = λ d. subst (λ (s : State K A). AreSame matching s.commits (cursor_of s d) (with_cursor told.cursors c (Err refusal.CursorClosed) d)) (sym h.is) (go d (nat_eq d c) refl);
+            open_cursors = omega (arith, t.open_cursors, h.one_less);
+            last = t.last ∙ sym (ap (λ (s : State K A). s.last) h.is);
+            dead = subst (λ (s : State K A). IsPermutation told.dead s.dead) (sym h.is) t.dead;
+            deletes = omega (arith, t.deletes, ap (λ (s : State K A). s.finders) h.is);
+          },
+        )
       where
         go : (d : ℕ) (b : Bool) → nat_eq d c ≡ b → AreSame matching old.commits (cursor_of (without_cursor old c) d) (if b then Err refusal.CursorClosed else told.cursors d)
         go d true e =

@@ -1,12 +1,12 @@
 -- How far a session has come: the lines that it answered, and what it holds of the next.
-use Rattle.std.proofs.Common.{◌≡◌, ◌≢◌, ◌+◌, ◌<◌, ◌≤◌, ℕ, suc, zero, Bool, true, false, List, [], ◌∷◌, ◌++◌, length, drop, Option, Some, None, Result, Ok, Err, ◌⊎◌, inl, inr, arith, refl, sym, ap, ◌∙◌, subst, append_assoc, length-append}
+use Rattle.std.proofs.Common.{◌≡◌, ◌≢◌, ◌<◌, ◌≤◌, ℕ, suc, zero, Bool, true, false, List, [], ◌∷◌, ◌++◌, length, Option, Some, None, Result, Ok, Err, inl, inr, arith, refl, sym, ap, ◌∙◌, subst, append_assoc, length-append}
 use Rattle.std.specs.List.{flat_map, AllByRecursion}
 use Rattle.std.specs.Prelude.{nat_eq, nat_lt, ◌||◌}
 use Rattle.std.proofs.lemmas.List.Sorted.{IsPermutation-refl}
 use Rattle.change_list.specs.declared.config.Config.{Config}
 use Rattle.std.specs.Io.KnownBytes.{Consumes, Appends, Keeps}
-use Rattle.std.proofs.KnownBytes.{Consumes-trans, Consumes-kept, Appends-trans}
-use Rattle.std.proofs.lemmas.List.{append-nil, flat_map_more}
+use Rattle.std.proofs.KnownBytes.{Consumes-trans, Consumes-kept}
+use Rattle.std.proofs.lemmas.List.{append-nil}
 use Rattle.key_class.specs.declared.sides.Rel.{Rel}
 use Rattle.key_class.specs.declared.refusal.Refusal.TheVariants as refusal
 use Rattle.store.specs.States.{State, new_state}
@@ -19,7 +19,7 @@ use Rattle.front.specs.Held.{Held, with_room, Fills, IsRestOf}
 use Rattle.front.specs.Requests.{Command, insert_row, asked_by, verb_of}
 use Rattle.front.specs.Told.{Told, nothing_told, RepliesInsert}
 use Rattle.front.specs.AsTold.{IsAsTold}
-use Rattle.front.specs.Written.{Writes, written}
+use Rattle.front.specs.Written.{Writes}
 use Rattle.front.specs.Sessions.{RepliesTo, RepliesAsked, RepliesTokens, RepliesLine, text_of_answer, Answers, AnsweredAll, AnsweredWhole, Stands}
 use Rattle.front.proofs.Bytes.{no_feed_append}
 use Rattle.front.proofs.Writing.{gathers, writes_both, writes_then_nothing}
@@ -50,6 +50,7 @@ split_lines (b ∷ bs) = go (nat_eq b 10) refl (split_lines bs)
     front : (b : ℕ) (lines : List (List ℕ)) (rest : List ℕ) → b ≢ 10 → AreLines bs lines rest → Split (b ∷ bs)
     front b [] rest n a = record { lines = []; rest = b ∷ rest; are = record { joined = ap (λ l. b ∷ l) a.joined; lines_have_none = tt; rest_has_none = (n, a.rest_has_none) } }
     front b (l ∷ ls) rest n a = record { lines = (b ∷ l) ∷ ls; rest = rest; are = record { joined = ap (λ l. b ∷ l) a.joined; lines_have_none = ((n, a.lines_have_none.0), a.lines_have_none.1); rest_has_none = a.rest_has_none } }
+
     go : (t : Bool) → nat_eq b 10 ≡ t → Split bs → Split (b ∷ bs)
     go true e s =
         let n : b ≡ 10 = search (arith, e) in
@@ -83,9 +84,11 @@ holds_filled held part bytes n h = go (nat_eq (length held.rest) 4097) refl held
     let_go : (overlong : Bool) → length held.rest ≡ 4097 → Holds overlong held.rest part → Holds true ([] ++ bytes) (part ++ bytes)
     let_go false e h = (held.rest, ap (λ l. l ++ bytes) h, omega (arith, e), n)
     let_go true e h = (h.0 ++ held.rest, ap (λ l. l ++ bytes) h.1, omega (arith, e, length-append h.0 held.rest, h.2), no_feed_append h.0 held.rest h.3 n)
+
     stays : (overlong : Bool) → Holds overlong held.rest part → Holds overlong (held.rest ++ bytes) (part ++ bytes)
     stays false h = ap (λ l. l ++ bytes) h
     stays true h = (h.0, ap (λ l. l ++ bytes) h.1 ∙ append_assoc h.0 held.rest bytes, h.2, h.3)
+
     go : (b : Bool) → nat_eq (length held.rest) 4097 ≡ b → (overlong : Bool) → Holds held.overlong held.rest part → Holds (with_room held).overlong ((with_room held).rest ++ bytes) (part ++ bytes)
     go true e o h =
         let r : with_room held ≡ record { rest = []; overlong = true } = rw e refl in
@@ -193,9 +196,14 @@ module _ {K A : Type 0} (key_at : ℕ → List Placed → Reading K) (atom_of : 
         → Answers key_at atom_of matching pages key_text old (lines ++ line ∷ []) (text ++ text_of_answer key_text said) new
     answers_more pages old [] text mid line said new s a =
         (said, new, [], subst (λ (x : Told K A). RepliesLine key_at atom_of matching pages x line said new) s.1 a, (refl, refl), ap (λ t. t ++ text_of_answer key_text said) s.0 ∙ sym (append-nil (text_of_answer key_text said)))
-    answers_more pages old (l ∷ lines) text mid line said new s a =
-        (s.0, s.1, s.2 ++ text_of_answer key_text said, s.3, answers_more pages s.1 lines s.2 mid line said new s.4 a,
-          ap (λ x. x ++ text_of_answer key_text said) s.5 ∙ append_assoc (text_of_answer key_text s.0) s.2 (text_of_answer key_text said))
+    answers_more pages old (l ∷ lines) text mid line said new s a = (
+      s.0,
+      s.1,
+      s.2 ++ text_of_answer key_text said,
+      s.3,
+      answers_more pages s.1 lines s.2 mid line said new s.4 a,
+      ap (λ x. x ++ text_of_answer key_text said) s.5 ∙ append_assoc (text_of_answer key_text s.0) s.2 (text_of_answer key_text said),
+    )
 
     module _ (limit : ℕ) (r0 w0 : Option (List ℕ)) where
       pub record Progress (r w : Option (List ℕ)) (gathered : List ℕ) (store : State K A) (held : Held) : Type 0 where
@@ -252,15 +260,28 @@ module _ {K A : Type 0} (key_at : ℕ → List Placed → Reading K) (atom_of : 
 
         pub sent : (w' : Option (List ℕ)) (gathered' : List ℕ) → Writes w gathered w' gathered' [] → Progress r w' gathered' store held
         sent w' gathered' h = record {
-          lines = p.lines; text = p.text; told = p.told; part = p.part;
-          lines_have_none = p.lines_have_none; read = p.read; holds = p.holds; answers = p.answers; as_told = p.as_told;
+          lines = p.lines;
+          text = p.text;
+          told = p.told;
+          part = p.part;
+          lines_have_none = p.lines_have_none;
+          read = p.read;
+          holds = p.holds;
+          answers = p.answers;
+          as_told = p.as_told;
           wrote = writes_then_nothing w0 w w' [] gathered gathered' p.text p.wrote h;
         }
 
         pub filled : (r' : Option (List ℕ)) (more : Bool) (held' : Held) → HasNoFeed held.rest → Fills r r' held more held' → Progress r' w gathered store held'
         filled r' more held' n f = subst (λ (h : Held). Progress r' w gathered store h) (sym f.held) (record {
-          lines = p.lines; text = p.text; told = p.told; part = p.part ++ f.bytes;
-          lines_have_none = p.lines_have_none; answers = p.answers; as_told = p.as_told; wrote = p.wrote;
+          lines = p.lines;
+          text = p.text;
+          told = p.told;
+          part = p.part ++ f.bytes;
+          lines_have_none = p.lines_have_none;
+          answers = p.answers;
+          as_told = p.as_told;
+          wrote = p.wrote;
           read = subst (λ b. Consumes r0 r' b) (append_assoc (flat_map ended p.lines) p.part f.bytes) (Consumes-trans r0 r r' (flat_map ended p.lines ++ p.part) f.bytes p.read f.consumed);
           holds = holds_filled held p.part f.bytes n p.holds;
         })
@@ -288,15 +309,15 @@ module _ {K A : Type 0} (key_at : ℕ → List Placed → Reading K) (atom_of : 
           next_read =
               let h = next_whole in
               let e : flat_map ended p.lines ++ p.part ≡ flat_map ended (p.lines ++ h.whole ∷ []) ++ rest =
-                  ap (λ l. flat_map ended p.lines ++ l) h.is ∙ sym (append_assoc (flat_map ended p.lines) (ended h.whole) rest)
-                  ∙ ap (λ l. l ++ rest) (ap (λ l. flat_map ended p.lines ++ l) (sym (append-nil (ended h.whole))) ∙ sym (flat_map_both p.lines (h.whole ∷ []))) in
+              ap (λ l. flat_map ended p.lines ++ l) h.is ∙ sym (append_assoc (flat_map ended p.lines) (ended h.whole) rest)
+              ∙ ap (λ l. l ++ rest) (ap (λ l. flat_map ended p.lines ++ l) (sym (append-nil (ended h.whole))) ∙ sym (flat_map_both p.lines (h.whole ∷ []))) in
               subst (λ b. Consumes r0 r b) e p.read
 
           next_answers : (said : Option (Reply K)) (later : Told K A) → RepliesLine key_at atom_of matching store'.pages_left p.told next_whole.whole said later
               → (pages : ℕ) → pages ≤ store'.pages_left → Answers key_at atom_of matching pages key_text (nothing_told limit) (p.lines ++ next_whole.whole ∷ []) (p.text ++ text_of_answer key_text said) later
           next_answers said later a pages l =
               answers_more pages (nothing_told limit) p.lines p.text p.told next_whole.whole said later (p.answers pages (omega (arith, l, fewer)))
-                (line_fewer store'.pages_left pages l p.told next_whole.whole said later a)
+              (line_fewer store'.pages_left pages l p.told next_whole.whole said later a)
 
           -- the line was answered
           pub answered : (w' : Option (List ℕ)) (gathered' : List ℕ) → IsAnswered store store' held.overlong line (λ text. Writes w gathered w' gathered' text) → Progress r w' gathered' store' (record { rest = rest; overlong = false })

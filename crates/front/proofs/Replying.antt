@@ -1,7 +1,7 @@
 -- Replies of the store's calls that commit, open and sweep.
-use Rattle.std.proofs.Common.{◌≡◌, ◌≢◌, ◌+◌, ◌-◌, ◌<◌, ◌≤◌, ℕ, Bool, true, false, not, cond, List, [], ◌∷◌, ◌++◌, length, filter, Some, None, Result, Ok, Err, ◌⊎◌, inl, inr, ⊎_elim, refl, sym, ap, ◌∙◌, arith, subst, length-append}
+use Rattle.std.proofs.Common.{◌≡◌, ◌+◌, ◌-◌, ◌<◌, ◌≤◌, ℕ, Bool, true, not, [], ◌∷◌, ◌++◌, length, filter, Some, None, Result, Ok, Err, ◌⊎◌, inl, inr, ⊎_elim, refl, sym, ap, ◌∙◌, arith, subst, length-append}
 use Rattle.std.specs.Prelude.{◌↔◌, IsPermutation}
-use Rattle.std.proofs.lemmas.List.Sorted.{IsPermutation-refl, IsPermutation-sym, IsPermutation-trans, IsPermutation-append, IsPermutation-append_comm, IsPermutation-append_right, IsPermutation-filter_both, length_permutation}
+use Rattle.std.proofs.lemmas.List.Sorted.{IsPermutation-trans, IsPermutation-append_comm, IsPermutation-append_right, IsPermutation-filter_both, length_permutation}
 use Rattle.key_class.specs.Queries.{Query, depth_of}
 use Rattle.key_class.specs.declared.refusal.Refusal.{Refusal}
 use Rattle.key_class.specs.declared.refusal.Refusal.TheVariants as refusal
@@ -24,10 +24,11 @@ module _ {K A : Type 0} (matching : A → K → Bool) (old new : State K A) (tol
   pub insert_committed : (key : K) (tag n : ℕ) (r : Result ℕ Refusal) → r ≡ Ok n → n ≡ length old.commits + 1 → ((r ≡ Err refusal.CommitsFull) ↔ (old.limit ≤ length old.commits))
       → Commits matching old (write.Insert key tag) new → IsPermutation old.dead new.dead → new.finders ≡ old.finders
       → (after : Told K A) × RepliesInsert new.pages_left told key tag (reply.Committed n) after × IsAsTold matching new after
-  insert_committed key tag n r e m f c d w =
-      (record told { commits = told.commits ++ write.Insert key tag ∷ [] },
-        (λ h. let x : r ≡ Err refusal.CommitsFull = f.1 (full_told.1 h) in let y : Ok n ≡ Err refusal.CommitsFull = sym e ∙ x in absurd (cc), omega (arith, m, ap length t.commits), refl),
-        told_insert matching old told t key tag new c d w)
+  insert_committed key tag n r e m f c d w = (
+    record told { commits = told.commits ++ write.Insert key tag ∷ [] },
+    (λ h. let x : r ≡ Err refusal.CommitsFull = f.1 (full_told.1 h) in let y : Ok n ≡ Err refusal.CommitsFull = sym e ∙ x in absurd (cc), omega (arith, m, ap length t.commits), refl),
+    told_insert matching old told t key tag new c d w,
+  )
 
   pub insert_refused : (key : K) (tag : ℕ) (why : Refusal) (r : Result ℕ Refusal) → r ≡ Err why → ((r ≡ Err refusal.CommitsFull) ↔ (old.limit ≤ length old.commits))
       → (why ≡ refusal.OutOfMemory) ⊎ (why ≡ refusal.CommitsFull) ⊎ ((why ≡ refusal.PagesFull) × (new.pages_left < 2)) → Keeps matching old new → new.finders ≡ old.finders
@@ -36,6 +37,7 @@ module _ {K A : Type 0} (matching : A → K → Bool) (old new : State K A) (tol
     where
       not_full : (x : Refusal) → r ≡ Err x → (x ≡ refusal.CommitsFull → ⊥) → IsFull told → ⊥
       not_full x p d h = let y : r ≡ Err refusal.CommitsFull = f.1 (full_told.1 h) in let z : Err x ≡ Err refusal.CommitsFull = sym p ∙ y in d (cc)
+
       says : (x : Refusal) → r ≡ Err x → (x ≡ refusal.OutOfMemory) ⊎ (x ≡ refusal.CommitsFull) ⊎ ((x ≡ refusal.PagesFull) × (new.pages_left < 2)) → RepliesInsert new.pages_left told key tag (reply.Refused x) told
       says x p (inl a) = subst (λ y. RepliesInsert new.pages_left told key tag (reply.Refused y) told) (sym a) (not_full refusal.OutOfMemory (p ∙ ap Err a) (λ q. cc), refl)
       says x p (inr (inl a)) = subst (λ y. RepliesInsert new.pages_left told key tag (reply.Refused y) told) (sym a) (full_told.0 (f.0 (p ∙ ap Err a)), refl)
@@ -63,10 +65,11 @@ module _ {K A : Type 0} (matching : A → K → Bool) (old new : State K A) (tol
       → IsPermutation ((record { row = row; died = length old.commits + 1 }) ∷ old.dead) new.dead → new.finders ≤ old.finders + 1
       → (after : Told K A) × RepliesDelete told row (reply.Committed n) after × IsAsTold matching new after
   delete_committed row n r e m d c p w =
-      let l = lives row r d (λ x. let y : Ok n ≡ Err refusal.NoSuchRow = sym e ∙ x in cc) (λ x. let y : Ok n ≡ Err refusal.AlreadyDeleted = sym e ∙ x in cc) in
-      (record told { commits = told.commits ++ write.Delete row ∷ []; dead = (record { row = row; died = n }) ∷ told.dead; deletes = told.deletes + 1 },
+      let l = lives row r d (λ x. let y : Ok n ≡ Err refusal.NoSuchRow = sym e ∙ x in cc) (λ x. let y : Ok n ≡ Err refusal.AlreadyDeleted = sym e ∙ x in cc) in (
+        record told { commits = told.commits ++ write.Delete row ∷ []; dead = (record { row = row; died = n }) ∷ told.dead; deletes = told.deletes + 1 },
         (l, room_left row r d l (λ x. let y : Ok n ≡ Err refusal.CommitsFull = sym e ∙ x in cc), omega (arith, m, ap length t.commits), refl),
-        told_delete matching old told t row n new c m p w)
+        told_delete matching old told t row n new c m p w,
+      )
 
   pub delete_refused : (row : ℕ) (why : Refusal) (r : Result ℕ Refusal) → r ≡ Err why → DeleteRefusals row r → RefusesDelete old why → Keeps matching old new → new.finders ≤ old.finders + 1
       → (after : Told K A) × RepliesDelete told row (reply.Refused why) after × IsAsTold matching new after
@@ -75,8 +78,10 @@ module _ {K A : Type 0} (matching : A → K → Bool) (old new : State K A) (tol
     where
       after : Told K A
       after = record told { deletes = told.deletes + 1 }
+
       other : (x y : Refusal) → r ≡ Err x → (x ≡ y → ⊥) → r ≡ Err y → ⊥
       other x y p q s = let z : Err x ≡ Err y = sym p ∙ s in q (cc)
+
       says : (x : Refusal) → r ≡ Err x → RefusesDelete old x → RepliesDelete told row (reply.Refused x) after
       says x p (inl a) = subst (λ y. RepliesDelete told row (reply.Refused y) after) (sym a) (ap (λ l. status_of l row) t.commits ∙ d.never.0 (p ∙ ap Err a), refl)
       says x p (inr (inl a)) = subst (λ y. RepliesDelete told row (reply.Refused y) after) (sym a) (ap (λ l. status_of l row) t.commits ∙ d.already.0 (p ∙ ap Err a), refl)
@@ -109,10 +114,11 @@ module _ {K A : Type 0} (matching : A → K → Bool) (old new : State K A) (tol
       → ((r ≡ Err refusal.CursorsFull) ↔ ((¬ IsBadOpening query room) × IsFullOf old)) → IsOpened matching old query c new
       → (after : Told K A) × RepliesOpen told room query (reply.Opened c) after × IsAsTold matching new after
   opens room c query r e s b f o =
-      let good : IsBadOpening query room → ⊥ = λ h. (let x = b.1 h in let y : Ok c ≡ Err refusal.BadConfig = sym e ∙ x in cc) in
-      (record told { cursors = _; open_cursors = told.open_cursors + 1; last = c },
+      let good : IsBadOpening query room → ⊥ = λ h. (let x = b.1 h in let y : Ok c ≡ Err refusal.BadConfig = sym e ∙ x in cc) in (
+        record told { cursors = _; open_cursors = told.open_cursors + 1; last = c },
         (λ h. good ((bad_room query room s).1 h), λ h. (let x = f.1 (good, none_left.1 h) in let y : Ok c ≡ Err refusal.CursorsFull = sym e ∙ x in cc), omega (arith, o.serial, t.last), refl),
-        told_opened matching old told t query c new o)
+        told_opened matching old told t query c new o,
+      )
 
   pub open_refused : (room : ℕ) (query : Query A) (why : Refusal) (r : Result ℕ Refusal) → r ≡ Err why → depth_of query ≤ 32 → ((r ≡ Err refusal.BadConfig) ↔ IsBadOpening query room)
       → ((r ≡ Err refusal.CursorsFull) ↔ ((¬ IsBadOpening query room) × IsFullOf old)) → (why ≡ refusal.BadConfig) ⊎ (why ≡ refusal.CursorsFull) ⊎ (why ≡ refusal.OutOfMemory) → new ≡ old
@@ -128,13 +134,13 @@ module _ {K A : Type 0} (matching : A → K → Bool) (old new : State K A) (tol
           let q : r ≡ Err refusal.OutOfMemory = p ∙ ap Err a in
           let good : IsBadOpening query room → ⊥ = λ h. (let x = b.1 h in let y : Err refusal.OutOfMemory ≡ Err refusal.BadConfig = sym q ∙ x in cc) in
           subst (λ y. RepliesOpen told room query (reply.Refused y) told) (sym a)
-            (λ h. good ((bad_room query room s).1 h), λ h. (let x = f.1 (good, none_left.1 h) in let y : Err refusal.OutOfMemory ≡ Err refusal.CursorsFull = sym q ∙ x in cc), refl)
+          (λ h. good ((bad_room query room s).1 h), λ h. (let x = f.1 (good, none_left.1 h) in let y : Err refusal.OutOfMemory ≡ Err refusal.CursorsFull = sym q ∙ x in cc), refl)
 
   pub swept : (n : ℕ) → Sweeps matching old n new → (after : Told K A) × RepliesSweep told (reply.Swept n) after × IsAsTold matching new after
   swept n s =
       let gone = filter (λ (d : DeadRow). not (is_needed old d)) old.dead in
       let both : IsPermutation old.dead (gone ++ filter (is_needed old) old.dead) =
-          IsPermutation-trans _ _ _ (IsPermutation-filter_both (is_needed old) (λ (d : DeadRow). not (is_needed old d)) (λ d. refl) old.dead) (IsPermutation-append_comm (filter (is_needed old) old.dead) gone) in
+      IsPermutation-trans _ _ _ (IsPermutation-filter_both (is_needed old) (λ (d : DeadRow). not (is_needed old d)) (λ d. refl) old.dead) (IsPermutation-append_comm (filter (is_needed old) old.dead) gone) in
       let parted : IsPermutation told.dead (gone ++ new.dead) = IsPermutation-trans _ _ _ t.dead (IsPermutation-trans _ _ _ both (IsPermutation-append_right gone _ _ s.left)) in
       let many : n ≡ length gone = omega (arith, s.counted, length_permutation _ _ t.dead, length_permutation _ _ parted, length-append gone new.dead) in
       (record told { dead = new.dead }, (gone, new.dead, parted, many, each_needed matching old told t new.dead s.needed, refl), told_swept matching old told t new s.rest)

@@ -1,23 +1,21 @@
 -- What a call of the store does, told to its client.
-use Rattle.std.proofs.Common.{◌≡◌, ◌≢◌, ◌+◌, ◌-◌, ◌<◌, ◌≤◌, ℕ, suc, Bool, true, false, not, cond, ◌||◌, List, [], ◌∷◌, ◌++◌, length, filter, Option, Some, None, Result, Ok, Err, ◌⊎◌, inl, inr, ⊎_elim, refl, sym, ap, ◌∙◌, arith, subst}
-use Rattle.std.specs.Prelude.{nat_eq, nat_lt, find, IsPermutation, if◌then◌else◌, option_to_list}
+use Rattle.std.proofs.Common.{◌≡◌, ◌≢◌, ◌+◌, ◌≤◌, ℕ, suc, Bool, true, false, List, [], ◌∷◌, ◌++◌, length, Some, None, Result, Ok, Err, ◌⊎◌, inl, inr, ⊎_elim, refl, sym, ap, ◌∙◌, arith, subst}
+use Rattle.std.specs.Prelude.{nat_eq, IsPermutation, if◌then◌else◌}
 use Rattle.std.specs.List.{AllByRecursion}
-use Rattle.std.proofs.lemmas.List.Sorted.{IsPermutation-refl, IsPermutation-trans, IsPermutation-cons, IsPermutation-append_right, IsPermutation-filter_both, length_permutation}
-use Rattle.std.proofs.Common.{length-append}
+use Rattle.std.proofs.lemmas.List.Sorted.{IsPermutation-refl, IsPermutation-trans, IsPermutation-cons}
 use Rattle.std.proofs.lemmas.List.{append-nil}
-use Rattle.key_class.specs.Queries.{Query, matches_query}
+use Rattle.key_class.specs.Queries.{matches_query}
 use Rattle.key_class.specs.declared.refusal.Refusal.{Refusal}
-use Rattle.key_class.specs.declared.refusal.Refusal.TheVariants as refusal
 use Rattle.change_list.specs.declared.write.Write.{Write}
 use Rattle.change_list.specs.declared.write.Write.TheVariants.{Insert, Delete}
 use Rattle.change_list.specs.declared.item.Item.{Item}
 use Rattle.change_list.specs.declared.item.Item.TheVariants as item
 use Rattle.change_list.specs.Listings.{IsListing, BeginsListing, without_marks}
-use Rattle.change_list.specs.Cursors.{CursorState, Fits, IsDone, IsFollowing}
-use Rattle.change_list.proofs.Fitting.{fits_begins, fits_done, listing_push}
+use Rattle.change_list.specs.Cursors.{CursorState, Fits, IsFollowing}
+use Rattle.change_list.proofs.Fitting.{fits_begins, fits_done}
 use Rattle.store.specs.States.{State, DeadRow, cursor_of, open_or_closed, find_cursor, Stays, SameOrStays, KeepsCursors, Commits, Keeps, KeepsLiving, IsOpened, Closes, Changes, with_asking, Nexts, Wants, Gives, Answers, Sweeps, SweepsSome, is_needed, IsNeededBy}
 use Rattle.store.specs.States as states
-use Rattle.store.proofs.Cursors.{cursor_with, cursor_with_other, found_as}
+use Rattle.store.proofs.Cursors.{cursor_with, cursor_with_other}
 use Rattle.front.specs.Told.{Following, Told, with_cursor, DiedAfterOpening, GivesTo, wants}
 use Rattle.front.specs.AsTold.{IsSameCursor, AreSame, IsAsTold}
 
@@ -173,7 +171,7 @@ module _ {K A : Type 0} (matching : A → K → Bool) where
           let e : after.query ≡ f.query = q ∙ sym a.query in
           let p : after.opened ≡ f.opened = o ∙ sym a.opened in
           rw t.commits (subst (λ n. BeginsListing (matches_query matching f.query) n (length old.commits) old.commits (without_marks items)) p
-            (subst (λ x. BeginsListing (matches_query matching x) after.opened (length old.commits) old.commits (without_marks items)) e (fits_begins matching old.commits after items fits)))
+          (subst (λ x. BeginsListing (matches_query matching x) after.opened (length old.commits) old.commits (without_marks items)) e (fits_begins matching old.commits after items fits)))
 
       client_listing : (n : ℕ) (items : List (Item K)) → IsListing (matches_query matching after.query) after.opened n old.commits items → IsListing (wants matching f) f.opened n told.commits items
       client_listing n items l =
@@ -238,17 +236,22 @@ module _ {K A : Type 0} (matching : A → K → Bool) where
     -- a cursor got no memory
     pub told_wanting : (c : ℕ) (new : State K A) → Wants matching old c new → ((f : Following K A) × (told.cursors c ≡ Ok f)) × IsAsTold matching new told
     told_wanting c new n =
-        let k = told_cursor c n.before n.is_open in
-        ((k.f, k.is), told_unchanged c n.before n.after k.f new n.is_open n.strives.serial
-          (record { query = k.same.query ∙ sym n.strives.query; opened = k.same.opened ∙ sym n.strives.opened; asked = k.same.asked ∙ sym n.strives.asked; fits = n.strives.fits k.f.given k.same.fits }) k.is n.is)
+        let k = told_cursor c n.before n.is_open in (
+          (k.f, k.is),
+          told_unchanged c n.before n.after k.f new n.is_open n.strives.serial
+              (record { query = k.same.query ∙ sym n.strives.query; opened = k.same.opened ∙ sym n.strives.opened; asked = k.same.asked ∙ sym n.strives.asked; fits = n.strives.fits k.f.given k.same.fits }) k.is n.is,
+        )
 
     pub told_asked : (c : ℕ) (new : State K A) → Changes with_asking old c new
         → (f : Following K A) × (told.cursors c ≡ Ok f) × IsAsTold matching new (record told { cursors = with_cursor told.cursors c (Ok (record f { asked = true })) })
     told_asked c new n =
         let k = told_cursor c n.before n.is_open in
-        let fits : Fits matching old.commits (with_asking n.before) k.f.given = record { rows = k.same.fits.rows; is = k.same.fits.is; each_once = k.same.fits.each_once; in_order = order k.same.fits.in_order; from_opening = k.same.fits.from_opening; within = k.same.fits.within; marks = k.same.fits.marks } in
-        (k.f, k.is, told_changed c n.before (with_asking n.before) (record k.f { asked = true }) new n.is_open refl
-          (record { query = k.same.query; opened = k.same.opened; asked = refl; fits = fits }) n.is)
+        let fits : Fits matching old.commits (with_asking n.before) k.f.given = record { rows = k.same.fits.rows; is = k.same.fits.is; each_once = k.same.fits.each_once; in_order = order k.same.fits.in_order; from_opening = k.same.fits.from_opening; within = k.same.fits.within; marks = k.same.fits.marks } in (
+          k.f,
+          k.is,
+          told_changed c n.before (with_asking n.before) (record k.f { asked = true }) new n.is_open refl
+              (record { query = k.same.query; opened = k.same.opened; asked = refl; fits = fits }) n.is,
+        )
       where
         order : {k : CursorState K A} → (IsFollowing matching k) ⊎ (k.position ≡ k.opened) → (IsFollowing matching (with_asking k)) ⊎ (k.position ≡ k.opened)
         order {k} h = ⊎_elim (λ (p : IsFollowing matching k). inl (record { scanned = p.scanned; none_remaining = p.none_remaining })) (λ (p : k.position ≡ k.opened). inr p) h

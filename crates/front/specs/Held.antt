@@ -1,7 +1,6 @@
 -- What a session holds of the line that it reads.
-use Rattle.std.specs.Prelude.{◌≡◌, ℕ, ◌<◌, ◌≤◌, Bool, true, false, List, [], ◌++◌, length, nat_eq, Option, if◌then◌else◌}
+use Rattle.std.specs.Prelude.{◌≡◌, ℕ, ◌<◌, Bool, true, false, List, [], ◌++◌, length, nat_eq, Option, if◌then◌else◌}
 use Rattle.std.specs.Io.KnownBytes.{Consumes, IsAtEnd}
-use Rattle.front.specs.Lines.{HasNoFeed}
 
 -- the bytes that are held, and whether earlier ones of the line, which is too long, are not
 pub record Held : Type 0 where

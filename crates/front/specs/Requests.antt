@@ -1,8 +1,6 @@
 -- What a line of a session asks.
-use Rattle.std.specs.Prelude.{◌≡◌, ℕ, ℤ, pos, unsigned_abs, Bool, true, false, List, [], ◌∷◌, length, map, Option, Some, None, Result, Ok, Err, MatchResult, if◌then◌else◌, codes}
+use Rattle.std.specs.Prelude.{◌≡◌, ℕ, pos, unsigned_abs, List, [], ◌∷◌, Result, Ok, Err, MatchResult, if◌then◌else◌, codes}
 use Rattle.std.specs.Str.{bytes_eq}
-use Rattle.std.specs.Borrow.{Bor}
-use Rattle.query_text.specs.declared.lexeme.Lexeme.{Lexeme}
 use Rattle.query_text.specs.Tokens.{Token, word, Placed, placed, most_u64}
 use Rattle.query_text.specs.Keys.{Reading, ◌>>=◌, number_at}
 use Rattle.front.specs.declared.request.Verb.{Verb}

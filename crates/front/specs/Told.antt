@@ -83,10 +83,10 @@ module _ {K A : Type 0} where
   RepliesOpen old room query (reply.Opened c) new =
       (¬ IsBadRoom room) × (¬ HasNoCursorLeft old) × (c ≡ old.last + 1)
       × (new ≡ record old {
-          cursors = with_cursor old.cursors c (Ok (record { query = query; opened = length old.commits; given = []; asked = false }));
-          open_cursors = old.open_cursors + 1;
-          last = c;
-        })
+        cursors = with_cursor old.cursors c (Ok (record { query = query; opened = length old.commits; given = []; asked = false }));
+        open_cursors = old.open_cursors + 1;
+        last = c;
+      })
   RepliesOpen old room query (reply.Refused refusal.BadConfig) new = IsBadRoom room × (new ≡ old)
   RepliesOpen old room query (reply.Refused refusal.CursorsFull) new = (¬ IsBadRoom room) × HasNoCursorLeft old × (new ≡ old)
   RepliesOpen old room query (reply.Refused refusal.OutOfMemory) new = (¬ IsBadRoom room) × (¬ HasNoCursorLeft old) × (new ≡ old)

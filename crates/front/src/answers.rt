@@ -85,7 +85,11 @@ fn write_row_line<C: ClassText, W: Write>(row: &Row<C::Key>, writer: &mut W) -> 
 }
 
 /// Writes a line for each row.
-fn write_rows<C: ClassText, W: Write>(writer: &mut W, gathered: &mut Vec<u8>, rows: &[Row<C::Key>]) -> Result<(), Fault>
+fn write_rows<C: ClassText, W: Write>(
+    writer: &mut W,
+    gathered: &mut Vec<u8>,
+    rows: &[Row<C::Key>],
+) -> Result<(), Fault>
     ensures ok { OnOk result (Writes (W.contents writer.old) gathered.old.items (W.contents writer.new) gathered.new.items (flat_map (row_line C.key_text) rows.now)) }
     ensures err { IfErr result (λ e. e ≡ Fault.Write) }
 {
@@ -132,7 +136,11 @@ fn rows_of<K>(reply: &Reply<K>) -> &[Row<K>]
 ///
 /// # Errors
 /// `Write` where the writer failed, or the gathered answers found no memory; the writer may hold the beginning.
-pub fn write_reply<C: ClassText, W: Write>(writer: &mut W, gathered: &mut Vec<u8>, reply: &Reply<C::Key>) -> Result<(), Fault>
+pub fn write_reply<C: ClassText, W: Write>(
+    writer: &mut W,
+    gathered: &mut Vec<u8>,
+    reply: &Reply<C::Key>,
+) -> Result<(), Fault>
     ensures ok { OnOk result (Writes (W.contents writer.old) gathered.old.items (W.contents writer.new) gathered.new.items (text_of C.key_text reply.now)) }
     ensures err { IfErr result (λ e. e ≡ Fault.Write) }
 {

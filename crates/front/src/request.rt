@@ -87,7 +87,11 @@ fn natural<'a>(text: &[u8], lexemes: &'a [Lexeme]) -> Result<(u64, &'a [Lexeme])
 ///
 /// # Errors
 /// The place of what stands behind it.
-fn only<'a, K: Copy>(text: &[u8], request: Request<'a, K>, rest: &[Lexeme]) -> Result<Request<'a, K>, usize>
+fn only<'a, K: Copy>(
+    text: &[u8],
+    request: Request<'a, K>,
+    rest: &[Lexeme],
+) -> Result<Request<'a, K>, usize>
     ensures { IsAsked text.now result (alone (command_of text.now request.entry) (placed text.now rest.now)) }
 {
     match rest {
@@ -96,7 +100,10 @@ fn only<'a, K: Copy>(text: &[u8], request: Request<'a, K>, rest: &[Lexeme]) -> R
     }
 }
 
-fn insert<'a, C: ClassText>(text: &[u8], lexemes: &'a [Lexeme]) -> Result<Request<'a, C::Key>, usize>
+fn insert<'a, C: ClassText>(
+    text: &[u8],
+    lexemes: &'a [Lexeme],
+) -> Result<Request<'a, C::Key>, usize>
     ensures { IsAsked text.now result (key_and_tag C.key_at (length text.now) (placed text.now lexemes.now)) }
 {
     let key = C::read_key(text, lexemes)?;
@@ -143,7 +150,11 @@ fn open<'a, K: Copy>(text: &[u8], lexemes: &'a [Lexeme]) -> Result<Request<'a, K
 ///
 /// # Errors
 /// The place of the first fault.
-pub fn read_request<'a, C: ClassText>(text: &[u8], first: Lexeme, rest: &'a [Lexeme]) -> Result<Request<'a, C::Key>, usize>
+pub fn read_request<'a, C: ClassText>(
+    text: &[u8],
+    first: Lexeme,
+    rest: &'a [Lexeme],
+) -> Result<Request<'a, C::Key>, usize>
     ensures { IsAsked text.now result (asked_by C.key_at (length text.now) first.place (verb_of (token_in text.now first)) (placed text.now rest.now)) }
 {
     match read_verb(text, first) {

@@ -24,7 +24,13 @@ use std::io::{Read, Write};
 use store::Store;
 
 /// Opens a cursor on the query that lexemes spell.
-fn open_query<C: ClassText>(alloc: Global, store: &mut Store<C>, text: &[u8], room: u64, lexemes: &[Lexeme]) -> Reply<C::Key>
+fn open_query<C: ClassText>(
+    alloc: Global,
+    store: &mut Store<C>,
+    text: &[u8],
+    room: u64,
+    lexemes: &[Lexeme],
+) -> Reply<C::Key>
     ensures replies { (told : Told C.Key C.Atom) → IsAsTold C.is_match store.old told → (after : Told C.Key C.Atom) × WithQuery C.key_at C.atom_of (length text.now) (placed text.now lexemes.now) (λ q. RepliesOpen told room q result after) told result after × IsAsTold C.is_match store.new after }
     ensures pages { store.new.pages_left ≤ store.old.pages_left }
 {
@@ -35,7 +41,12 @@ fn open_query<C: ClassText>(alloc: Global, store: &mut Store<C>, text: &[u8], ro
 }
 
 /// Finds the rows that match the query that lexemes spell.
-fn find_query<C: ClassText>(alloc: Global, store: &mut Store<C>, text: &[u8], lexemes: &[Lexeme]) -> Reply<C::Key>
+fn find_query<C: ClassText>(
+    alloc: Global,
+    store: &mut Store<C>,
+    text: &[u8],
+    lexemes: &[Lexeme],
+) -> Reply<C::Key>
     ensures replies { (told : Told C.Key C.Atom) → IsAsTold C.is_match store.old told → (after : Told C.Key C.Atom) × WithQuery C.key_at C.atom_of (length text.now) (placed text.now lexemes.now) (λ q. RepliesFind C.is_match told q result after) told result after × IsAsTold C.is_match store.new after }
     ensures pages { store.new.pages_left ≤ store.old.pages_left }
 {
@@ -46,7 +57,12 @@ fn find_query<C: ClassText>(alloc: Global, store: &mut Store<C>, text: &[u8], le
 }
 
 /// Carries out what a line asks.
-fn carry_out<C: ClassText>(alloc: Global, store: &mut Store<C>, text: &[u8], request: Request<'_, C::Key>) -> Reply<C::Key>
+fn carry_out<C: ClassText>(
+    alloc: Global,
+    store: &mut Store<C>,
+    text: &[u8],
+    request: Request<'_, C::Key>,
+) -> Reply<C::Key>
     ensures replies { (told : Told C.Key C.Atom) → IsAsTold C.is_match store.old told → (after : Told C.Key C.Atom) × RepliesTo C.key_at C.atom_of C.is_match store.new.pages_left (length text.now) told (command_of text.now request.entry) result after × IsAsTold C.is_match store.new after }
     ensures pages { store.new.pages_left ≤ store.old.pages_left }
 {
@@ -73,7 +89,12 @@ fn first_of(lexemes: &[Lexeme]) -> Option<(Lexeme, &[Lexeme])>
 }
 
 /// What answers the tokens of a line, if it has any.
-fn reply_to_tokens<C: ClassText>(alloc: Global, store: &mut Store<C>, text: &[u8], lexemes: &[Lexeme]) -> Option<Reply<C::Key>>
+fn reply_to_tokens<C: ClassText>(
+    alloc: Global,
+    store: &mut Store<C>,
+    text: &[u8],
+    lexemes: &[Lexeme],
+) -> Option<Reply<C::Key>>
     ensures replies { (told : Told C.Key C.Atom) → IsAsTold C.is_match store.old told → (after : Told C.Key C.Atom) × RepliesTokens C.key_at C.atom_of C.is_match store.new.pages_left (length text.now) told (placed text.now lexemes.now) result after × IsAsTold C.is_match store.new after }
     ensures pages { store.new.pages_left ≤ store.old.pages_left }
 {
@@ -85,7 +106,13 @@ fn reply_to_tokens<C: ClassText>(alloc: Global, store: &mut Store<C>, text: &[u8
 }
 
 /// What answers a line. Where its first bytes were let go, `line` is the rest of it.
-fn reply_to_line<C: ClassText>(alloc: Global, store: &mut Store<C>, line: &[u8], overlong: bool, lexemes: &mut Vec<Lexeme>) -> Option<Reply<C::Key>>
+fn reply_to_line<C: ClassText>(
+    alloc: Global,
+    store: &mut Store<C>,
+    line: &[u8],
+    overlong: bool,
+    lexemes: &mut Vec<Lexeme>,
+) -> Option<Reply<C::Key>>
     requires { MAX_LINE ≤ vec_capacity lexemes.old }
     ensures replies { (told : Told C.Key C.Atom) (whole : List ℕ) → IsAsTold C.is_match store.old told → IsRestOf overlong whole line.now → (after : Told C.Key C.Atom) × RepliesLine C.key_at C.atom_of C.is_match store.new.pages_left told whole result after × IsAsTold C.is_match store.new after }
     ensures pages { store.new.pages_left ≤ store.old.pages_left }
@@ -156,13 +183,29 @@ pub fn session<C: ClassText, R: Read, W: Write>(
     'reading: for _ in 0..u64::MAX {
         send(writer, &mut gathered)?;
         if !lines.fill(reader)? {
-            answer(alloc, store, lines.rest(), lines.is_overlong(), &mut lexemes, writer, &mut gathered)?;
+            answer(
+                alloc,
+                store,
+                lines.rest(),
+                lines.is_overlong(),
+                &mut lexemes,
+                writer,
+                &mut gathered,
+            )?;
             send(writer, &mut gathered)?;
             return Ok(());
         }
         'answering: while let Some(line) = lines.line() {
             let passed = line.len() + 1;
-            answer(alloc, store, line, lines.is_overlong(), &mut lexemes, writer, &mut gathered)?;
+            answer(
+                alloc,
+                store,
+                line,
+                lines.is_overlong(),
+                &mut lexemes,
+                writer,
+                &mut gathered,
+            )?;
             lines.pass(passed);
         }
     }

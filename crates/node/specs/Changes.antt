@@ -1,5 +1,5 @@
 -- What the steps make of a page.
-use Rattle.std.specs.Prelude.{ℕ, suc, ◌+◌, Bool, true, false, cond, nat_eq, List, [], ◌∷◌, ◌++◌, Option, Some, None, map}
+use Rattle.std.specs.Prelude.{ℕ, suc, true, false, cond, nat_eq, List, [], ◌∷◌, ◌++◌, Option, Some, None, map}
 use Rattle.key_class.specs.declared.sides.Side.{Side}
 use Rattle.row_version.specs.Entries.{Entry}
 use Rattle.node.specs.declared.branch.Branch.{Branch}

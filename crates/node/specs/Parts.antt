@@ -1,5 +1,5 @@
 -- The entries of a page on one side of a split, in their order, and the union of their keys.
-use Rattle.std.specs.Prelude.{ℕ, List, [], ◌∷◌, Option, Some, None}
+use Rattle.std.specs.Prelude.{List, [], ◌∷◌, Option, Some, None}
 use Rattle.key_class.specs.declared.sides.Side.{Side}
 use Rattle.key_class.specs.declared.sides.Side.TheVariants.{Left, Right}
 

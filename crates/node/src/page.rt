@@ -6,8 +6,8 @@ ghost use Rattle.node.specs.Changes.{split_left, split_right, post_parent, post_
 
 use crate::branch::Branch;
 use crate::parts::{
-    add_branch, bury, join_branches, join_rows, keep_left, left_entries, rekey, right_entries, sweep,
-    widen,
+    add_branch, bury, join_branches, join_rows, keep_left, left_entries, rekey, right_entries,
+    sweep, widen,
 };
 use key_class::{KeyClass, Sides};
 use row_version::Entry;
@@ -261,19 +261,11 @@ impl<K: Copy> Page<K> {
         requires { entries_of self.now ≡ length sides.now }
         ensures { IfOk result (λ page. page ≡ grown_right C.union_of self.now sides.now) }
     {
-        let rows = right_entries(alloc, &self.rows, sides)?;
-        let branches = right_entries(alloc, &self.branches, sides)?;
-        let cover = cover_of::<C>(&rows, &branches);
-        Ok(Page {
-            level: self.level,
-            nsn: 0,
-            right: None,
-            owed: false,
-            hung: true,
-            rows,
-            branches,
-            cover,
-        })
+        let mut lower = self.right_half::<C>(alloc, sides)?;
+        lower.nsn = 0;
+        lower.right = None;
+        lower.hung = true;
+        Ok(lower)
     }
 
     /// A root that has grown: one level higher, with those branches in place of its entries.

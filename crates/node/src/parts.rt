@@ -68,10 +68,7 @@ pub fn keep_left<T: Copy>(entries: &mut Vec<T>, sides: &Sides)
 }
 
 /// The union of a bound, where there is one, and the keys of rows.
-pub fn join_rows<C: KeyClass>(
-    bound: Option<C::Key>,
-    rows: &[Entry<C::Key>],
-) -> Option<C::Key>
+pub fn join_rows<C: KeyClass>(bound: Option<C::Key>, rows: &[Entry<C::Key>]) -> Option<C::Key>
     ensures { result ≡ joined C.union_of bound (map (λ e. e.key) rows.now) }
 {
     let mut bound = bound;
@@ -146,11 +143,7 @@ pub fn widen<C: KeyClass>(branches: &mut Vec<Branch<C::Key>>, child: u32, key: C
     }
 }
 
-fn widened<C: KeyClass>(
-    branch: Branch<C::Key>,
-    child: u32,
-    key: C::Key,
-) -> Branch<C::Key>
+fn widened<C: KeyClass>(branch: Branch<C::Key>, child: u32, key: C::Key) -> Branch<C::Key>
     ensures { result ≡ widened C.union_of child key branch }
 {
     if branch.child == child {

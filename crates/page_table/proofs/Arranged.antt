@@ -1,7 +1,7 @@
 -- From equal weights to an arrangement, where equality of members is decided.
-use Rattle.std.proofs.Common.{◌≡◌, ◌↔◌, ◌+◌, ◌<◌, ◌≤◌, ℕ, suc, zero, Bool, true, false, cond, eqb, ◌&&◌, List, [], ◌∷◌, ◌++◌, length, map, ◌⊎◌, inl, inr, refl, sym, ap, ◌∙◌, arith, subst}
+use Rattle.std.proofs.Common.{◌≡◌, ◌↔◌, ◌+◌, ◌≤◌, ℕ, Bool, true, cond, List, [], ◌∷◌, ◌++◌, inl, inr, refl, sym, ap, ◌∙◌, arith, subst}
 use Rattle.std.specs.Prelude.{IsPermutation}
-use Rattle.std.proofs.lemmas.Bool.{cases_Bool, both_ways, and_parts, and_from, eqb-true, eq-eqb}
+use Rattle.std.proofs.lemmas.Bool.{cases_Bool}
 use Rattle.std.proofs.lemmas.List.Sorted.{IsPermutation-refl, IsPermutation-cons, IsPermutation-middle, IsPermutation-trans, IsPermutation-sym}
 use Rattle.page_table.proofs.Weights.{weigh-append}
 use Rattle.page_table.specs.Weights.{Same, weigh}
@@ -31,8 +31,8 @@ module _ {A : Type 0} (same : A → A → Bool) (exact : (x y : A) → (same x y
   arranged (x ∷ xs) ys h =
       let m = member x ys (omega (arith, it_is x, h (is_it x))) in
       let rest : Same xs (m.0 ++ m.1) = λ f.
-          let e : weigh f (x ∷ xs) ≡ weigh f (m.0 ++ x ∷ m.1) = h f ∙ ap (weigh f) m.2 in
-          let a : weigh f (m.0 ++ x ∷ m.1) ≡ weigh f m.0 + (f x + weigh f m.1) = weigh-append f m.0 (x ∷ m.1) in
-          omega (arith, e, a, weigh-append f m.0 m.1) in
+      let e : weigh f (x ∷ xs) ≡ weigh f (m.0 ++ x ∷ m.1) = h f ∙ ap (weigh f) m.2 in
+      let a : weigh f (m.0 ++ x ∷ m.1) ≡ weigh f m.0 + (f x + weigh f m.1) = weigh-append f m.0 (x ∷ m.1) in
+      omega (arith, e, a, weigh-append f m.0 m.1) in
       IsPermutation-trans (x ∷ xs) (x ∷ (m.0 ++ m.1)) ys (IsPermutation-cons x xs (m.0 ++ m.1) (arranged xs (m.0 ++ m.1) rest))
       (subst (λ zs. IsPermutation (x ∷ (m.0 ++ m.1)) zs) (sym m.2) (IsPermutation-sym (m.0 ++ x ∷ m.1) (x ∷ (m.0 ++ m.1)) (IsPermutation-middle m.0 x m.1)))

@@ -1,5 +1,5 @@
 -- The rows under (p, m) by the chain: each page of it gives its rows and what is under its branches with the counter.
-use Rattle.std.proofs.Common.{ℕ, zero, suc, ◌+◌, ◌<◌, ◌≤◌, ◌≡◌, List, [], ◌∷◌, ◌++◌, length, flat_map, option_to_list, All, refl, ap, ap₂, arith, sym, ◌∙◌, subst, Some, None, Option}
+use Rattle.std.proofs.Common.{ℕ, zero, suc, ◌+◌, ◌<◌, ◌≡◌, ◌∷◌, ◌++◌, length, flat_map, ap, arith, sym, ◌∙◌}
 use Rattle.std.proofs.lemmas.List.Elements.{All-weaker}
 use Rattle.node.specs.Pages.{followed}
 use Rattle.node.specs.declared.branch.Branch.{Branch}

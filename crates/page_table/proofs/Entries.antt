@@ -1,5 +1,5 @@
 -- Entries that stay and entries that move.
-use Rattle.std.proofs.Common.{◌≡◌, ℕ, ◌<◌, length, All, subst, sym}
+use Rattle.std.proofs.Common.{◌≡◌, subst, sym}
 use Rattle.std.specs.Prelude.{Contains}
 use Rattle.std.proofs.lemmas.List.Elements.{All-weaker, All-contains_itself, All-contains}
 use Rattle.row_version.specs.Entries.{Entry}

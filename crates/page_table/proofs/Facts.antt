@@ -1,6 +1,6 @@
 -- What follows from soundness about a page's links.
-use Rattle.std.proofs.Common.{ℕ, zero, suc, ◌+◌, ◌*◌, ◌<◌, ◌≤◌, ◌≡◌, List, [], ◌∷◌, ◌++◌, length, option_to_list, All, refl, ap, ap₂, arith, sym, ◌∙◌, subst, cond, Bool, true, false, ◌||◌, ltb, eqb, ◌⊎◌, inl, inr, Some, None, Option}
-use Rattle.std.proofs.lemmas.List.Elements.{All-head, All-tail, All-weaker, All-nil, All-cons, All-append}
+use Rattle.std.proofs.Common.{ℕ, ◌<◌, ◌≤◌, ◌≡◌, [], length, option_to_list, All, refl, ap₂, arith, ◌∙◌, subst, cond, Bool, true, false, Some, None, Option}
+use Rattle.std.proofs.lemmas.List.Elements.{All-head, All-nil, All-cons}
 use Rattle.page_table.proofs.Counting.{one-equal}
 use Rattle.page_table.proofs.Weights.{weigh-at, weigh_one}
 use Rattle.page_table.specs.Soundness.{IsReached, IsSound}

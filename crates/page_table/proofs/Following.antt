@@ -1,7 +1,7 @@
 -- Where a right link is followed.
-use Rattle.std.proofs.Common.{ℕ, zero, suc, ◌+◌, ◌*◌, ◌<◌, ◌≤◌, ◌≡◌, List, [], ◌∷◌, ◌++◌, length, map, flat_map, option_to_list, All, refl, ap, ap₂, arith, sym, ◌∙◌, subst, cond, Bool, true, false, ◌||◌, ltb, leb, eqb, ◌⊎◌, inl, inr, set, get_or, Some, None, Option, le_refl}
-use Rattle.std.proofs.lemmas.Bool.{lt-ltb, le-ltb, eq-eqb, ne_eqb}
-use Rattle.std.proofs.lemmas.List.Elements.{All-head, All-tail, All-weaker, All-nil, All-cons, All-append}
+use Rattle.std.proofs.Common.{ℕ, ◌≤◌, ◌≡◌, List, [], ◌∷◌, option_to_list, All, refl, ap, ap₂, sym, ◌∙◌, subst, cond, Bool, true, false, ◌||◌, ltb, Some, None}
+use Rattle.std.proofs.lemmas.Bool.{le-ltb}
+use Rattle.std.proofs.lemmas.List.Elements.{All-nil}
 use Rattle.node.specs.Pages.{Page, followed}
 
 pub followed-not_owed : {K : Type 0} (page : Page K) (m : ℕ) → page.owed ≡ false → followed page m ≡ cond (ltb m page.nsn) (option_to_list page.right) []

@@ -1,9 +1,8 @@
 -- What holds of every member of a list.
-use Rattle.std.proofs.Common.{ℕ, zero, suc, ◌+◌, ◌<◌, ◌≤◌, ◌≡◌, List, [], ◌∷◌, ◌++◌, length, map, All, refl, ap, arith, sym, ◌∙◌, subst, Bool, true, false, Some, None, Option}
-use Rattle.std.proofs.lemmas.List.Elements.{All-head, All-tail, All-weaker, All-nil, All-cons, All-append, All-map}
+use Rattle.std.proofs.Common.{List, [], ◌∷◌, ◌++◌, map, All, sym, subst}
+use Rattle.std.proofs.lemmas.List.Elements.{All-head, All-tail, All-nil, All-cons, All-append}
 use Rattle.std.proofs.Common.{reverse}
 use mathlib.Core.List.{reverse-cons}
-
 
 pub All-front : {X : Type 0} (P : X → Type 0) (xs ys : List X) → All P (xs ++ ys) → All P xs
 All-front P [] ys h = All-nil P

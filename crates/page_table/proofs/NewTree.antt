@@ -1,5 +1,5 @@
 -- A new tree is sound.
-use Rattle.std.proofs.Common.{ℕ, zero, suc, ◌+◌, ◌<◌, ◌≤◌, ◌≡◌, List, [], ◌∷◌, length, option_to_list, All, refl, ap, arith, sym, ◌∙◌, subst, Bool, true, false, ◌⊎◌, inl, inr, Some, None, Option}
+use Rattle.std.proofs.Common.{ℕ, zero, suc, ◌<◌, ◌≡◌, refl, arith, Bool, true, false, ◌⊎◌, inl, inr, Some, None}
 use Rattle.std.proofs.lemmas.List.Elements.{All-nil}
 use Rattle.page_table.proofs.Counting.{false_true}
 use Rattle.page_table.specs.Soundness.{IsBounded, IsReached, IsShaped, IsSound}

@@ -1,6 +1,6 @@
 -- Rows under a child have keys that the entry's key covers; and what a visit does to what is left under a stack.
-use Rattle.std.proofs.Common.{ℕ, zero, suc, ◌+◌, ◌*◌, ◌<◌, ◌≤◌, ◌≡◌, List, [], ◌∷◌, ◌++◌, length, map, flat_map, option_to_list, All, refl, ap, ap₂, arith, sym, ◌∙◌, subst, cond, Bool, true, false, ◌||◌, ltb, eqb, ◌⊎◌, inl, inr, Some, None, Option}
-use Rattle.std.proofs.lemmas.List.Elements.{All-head, All-tail, All-weaker, All-nil, All-cons, All-append}
+use Rattle.std.proofs.Common.{ℕ, ◌<◌, ◌≡◌, length, option_to_list, All, refl, arith, sym, subst, Bool, true, Some, None, Option}
+use Rattle.std.proofs.lemmas.List.Elements.{All-weaker, All-cons, All-append}
 use Rattle.node.specs.Pages.{followed}
 use Rattle.node.specs.declared.branch.Branch.{Branch}
 use Rattle.std.specs.Prelude.{Contains}

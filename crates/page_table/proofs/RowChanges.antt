@@ -1,7 +1,6 @@
 -- A change of one leaf's rows: what is under every (page, memo), and that the tree stays sound.
-use Rattle.std.proofs.Common.{ℕ, zero, suc, ◌+◌, ◌*◌, ◌<◌, ◌≤◌, ◌≡◌, List, [], ◌∷◌, ◌++◌, length, map, option_to_list, All, refl, ap, ap₂, arith, sym, ◌∙◌, subst, cond, Bool, true, false, ◌⊎◌, inl, inr, Some, None, Option}
+use Rattle.std.proofs.Common.{ℕ, suc, ◌+◌, ◌*◌, ◌<◌, ◌≤◌, ◌≡◌, List, [], ◌∷◌, ◌++◌, length, option_to_list, All, refl, ap, ap₂, arith, sym, ◌∙◌, subst, cond, Bool, inl, inr}
 use Rattle.std.proofs.lemmas.List.{get_or-set_same, get_or-set_other}
-use Rattle.std.proofs.lemmas.List.Elements.{All-weaker, All-nil}
 use Rattle.node.specs.Changes.{with_rows}
 use Rattle.node.specs.Pages.{Page}
 use Rattle.node.specs.declared.branch.Branch.{Branch}

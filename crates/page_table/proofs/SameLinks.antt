@@ -1,5 +1,5 @@
 -- A change that leaves the links of every page (rows, keys, covers and marks of hanging aside) leaves the pages met.
-use Rattle.std.proofs.Common.{ℕ, zero, suc, ◌+◌, ◌<◌, ◌≤◌, ◌≡◌, List, [], ◌∷◌, ◌++◌, length, map, flat_map, option_to_list, All, refl, ap, ap₂, arith, sym, ◌∙◌, subst, cond, Bool, true, false, ◌||◌, ltb, ◌⊎◌, inl, inr, set, get_or, Some, None, Option}
+use Rattle.std.proofs.Common.{ℕ, zero, suc, ◌<◌, ◌≡◌, List, [], ◌∷◌, ◌++◌, length, map, flat_map, option_to_list, refl, ap, ap₂, sym, ◌∙◌, subst, cond, ◌||◌, ltb, inl, inr}
 use mathlib.Core.Path.{fun_ext}
 use Rattle.std.proofs.lemmas.List.{get_or-set_same, get_or-set_other}
 use Rattle.node.specs.Pages.{Page}

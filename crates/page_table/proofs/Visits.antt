@@ -1,6 +1,6 @@
 -- A visit moves what was left under its item to the page's own rows and what is left under what it pushes.
-use Rattle.std.proofs.Common.{ℕ, zero, suc, ◌+◌, ◌*◌, ◌<◌, ◌≤◌, ◌≡◌, List, [], ◌∷◌, ◌++◌, length, map, flat_map, option_to_list, All, refl, ap, ap₂, arith, sym, ◌∙◌, subst, cond, Bool, true, false, ◌||◌, ltb, eqb, ◌⊎◌, inl, inr, Some, None, Option, reverse, filter}
-use Rattle.std.proofs.lemmas.List.Elements.{All-head, All-tail, All-weaker, All-nil, All-cons, All-append}
+use Rattle.std.proofs.Common.{ℕ, ◌+◌, ◌<◌, ◌≤◌, ◌≡◌, List, [], ◌∷◌, length, map, All, refl, ap, ap₂, arith, sym, ◌∙◌, cond, Bool, true, false, reverse, filter}
+use Rattle.std.proofs.lemmas.List.Elements.{All-head, All-tail, All-weaker}
 use mathlib.Core.Path.{fun_ext}
 use mathlib.Core.List.{reverse-cons}
 use Rattle.node.specs.Pages.{followed}

@@ -1,5 +1,5 @@
 -- What a step that moves entries and changes none leaves as it was.
-use Rattle.std.specs.Prelude.{◌≡◌, ℕ, ◌<◌, ◌≤◌, List, length, All, Contains}
+use Rattle.std.specs.Prelude.{ℕ, ◌<◌, ◌≤◌, length, All, Contains}
 use Rattle.row_version.specs.Entries.{Entry}
 use Rattle.page_table.specs.Weights.{Same}
 use Rattle.page_table.specs.Trees.{Tree, page_at, rows_under}

@@ -1,6 +1,5 @@
 -- What every step keeps of a tree.
-use Rattle.std.specs.Prelude.{◌≡◌, ◌⊎◌, ℕ, suc, ◌+◌, ◌<◌, ◌≤◌, Bool, true, false, cond, List, [], length, Option, Some, None, option_to_list, All}
-use Rattle.row_version.specs.Entries.{Entry}
+use Rattle.std.specs.Prelude.{◌≡◌, ◌⊎◌, ℕ, suc, ◌+◌, ◌<◌, ◌≤◌, Bool, true, false, cond, [], length, Option, Some, None, option_to_list, All}
 use Rattle.node.specs.declared.branch.Branch.{Branch}
 use Rattle.node.specs.Pages.{Page}
 use Rattle.page_table.specs.Weights.{weigh, one_if_equal}

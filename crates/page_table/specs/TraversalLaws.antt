@@ -6,7 +6,6 @@ use Rattle.node.specs.Pages.{followed}
 use Rattle.page_table.specs.Weights.{weigh, Same, one_if_equal}
 use Rattle.page_table.specs.Trees.{Tree, page_at, pages_under, rows_under, chain, after_rows}
 use Rattle.page_table.specs.Stacks.{StackItem, IsStack, rows_left, pages_left, pushed}
-use Rattle.page_table.specs.Keeping.{KeepsRows}
 
 module _ {K : Type 0} where
   -- the chain from (p, m) is p, followed by the chain of its right link, where that is followed

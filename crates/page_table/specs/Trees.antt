@@ -1,5 +1,5 @@
 -- A table of pages as a tree: the pages and the rows under a page and a memo.
-use Rattle.std.specs.Prelude.{◌≡◌, ℕ, zero, suc, ◌<◌, Bool, false, cond, List, [], ◌∷◌, ◌++◌, length, Option, None, slice_index_or, slice_set, flat_map, option_to_list, All}
+use Rattle.std.specs.Prelude.{ℕ, zero, suc, ◌<◌, false, cond, List, [], ◌∷◌, ◌++◌, length, None, slice_index_or, slice_set, flat_map, option_to_list, All}
 use Rattle.row_version.specs.Entries.{Entry}
 use Rattle.node.specs.declared.branch.Branch.{Branch}
 use Rattle.node.specs.Pages.{Page, empty_leaf, followed}

@@ -37,10 +37,7 @@ impl<K: Copy> PageTable<K> {
         let root = Page::leaf(alloc, fan)?;
         let mut pages = Vec::with_capacity(alloc, 1)?;
         pages.push_reserved(root);
-        Ok(PageTable {
-            pages,
-            counter: 0,
-        })
+        Ok(PageTable { pages, counter: 0 })
     }
 
     /// How many pages there are.

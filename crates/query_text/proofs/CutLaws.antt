@@ -4,7 +4,8 @@ use Rattle.std.proofs.lemmas.List.{append-nil}
 use Rattle.query_text.specs.declared.lexeme.Kind.{Kind}
 use Rattle.query_text.specs.declared.lexeme.Kind.TheVariants as kind
 use Rattle.query_text.specs.declared.lexeme.Lexeme.{Lexeme}
-use Rattle.query_text.specs.Tokens.{Token, fault, Placed, placed, at, lexeme, token_of, kind_glues, glues, Beginning, nothing, space, no_token, begins, beginning, Cuts, cut_nothing, cut_space, cut_token, cut_missing_space, cut_no_token}
+use Rattle.query_text.specs.Scanning.{lexeme, kind_glues}
+use Rattle.query_text.specs.Tokens.{Token, fault, Placed, placed, at, token_of, glues, Beginning, nothing, space, no_token, begins, beginning, Cuts, cut_nothing, cut_space, cut_token, cut_missing_space, cut_no_token}
 
 -- what the first of the bytes leaves to be cut
 abbrev pub Rest : Bool → ℕ → List ℕ → List Placed → Beginning → Type 0

@@ -8,3 +8,4 @@ pub mod SetLaws
 pub mod Unique
 pub mod Meaning
 pub mod TextLaws
+pub mod PrintLaws

@@ -1,16 +1,16 @@
 -- A set is read from its elements, and its text is read as that set.
-use Rattle.std.proofs.Common.{◌≡◌, ◌⊎◌, ⊎_elim, ℕ, zero, suc, ℤ, pos, ◌+◌, ◌*◌, ◌%◌, ◌^◌, ◌<◌, ◌≤◌, max, Bool, true, false, not, ◌&&◌, ◌==◌, List, [], ◌∷◌, ◌++◌, length, Option, Some, None, Result, Ok, Err, ap, sym, refl, ◌∙◌, append_assoc, length-append, arith, add-one, one-mul, bit_or, w64, FitsSigned, cond}
+use Rattle.std.proofs.Common.{◌≡◌, ◌↔◌, ◌⊎◌, ⊎_elim, ℕ, zero, suc, ℤ, pos, ◌+◌, ◌*◌, ◌%◌, ◌^◌, ◌<◌, ◌≤◌, max, Bool, true, false, not, ◌&&◌, ◌==◌, leb, List, [], ◌∷◌, ◌++◌, length, Option, Some, None, Result, Ok, Err, ap, sym, refl, ◌∙◌, append_assoc, length-append, arith, add-one, one-mul, bit_or, w64, FitsSigned, cond}
 use Rattle.std.specs.Prelude.{codes, int_le}
 use Rattle.std.specs.Int.{bit_at}
 use Rattle.std.specs.Int.Bits.{or_zero_l, or_zero_r}
-use Rattle.std.specs.List.{flat_map}
+use Rattle.std.specs.List.{flat_map, Contains}
+use Rattle.std.proofs.lemmas.List.Elements.{Contains-append_left, Contains-append_right, Contains-push, Contains-push_cases, Contains-append_cases}
 use Rattle.std.specs.Fmt.{decimal}
 use Rattle.std.proofs.lemmas.Int.{ints}
 use Rattle.std.proofs.lemmas.List.{append-nil}
 use Rattle.std.proofs.lemmas.Grind.{flat_map-append}
 use Rattle.std.proofs.lemmas.Nat.Bits.{bit_at_or, bit_at-zero, bit_at-lt, bit_at-pow_same, bit_at-pow_other, bit_at_above, same_from_bits}
-use Rattle.std.proofs.lemmas.Bool.{cases_eq, eq-eqb}
-use Rattle.std.proofs.str.Laws.{order}
+use Rattle.std.proofs.lemmas.Bool.{cases_eq, eq-eqb, cases_lt, le-leb}
 use Rattle.std.proofs.Math.Nat.{mod-eq_of_lt}
 use Rattle.std.proofs.Math.Bool.{and-true}
 use Rattle.std.proofs.Math.Pow.{pow-lt}
@@ -53,13 +53,13 @@ reads_element mask len e ts us place k bs f n s = rw (f, not_close k bs n, sym s
 
 -- the elements of a set
 
-elements_step : (n : ℕ) (k : Elements) → elements_below (suc n) k ≡ elements_below n k ++ cond (bit_at k.mask n == 1) (n ∷ []) []
+elements_step : (n : ℕ) (m : ℕ) → elements_below (suc n) m ≡ elements_below n m ++ cond (bit_at m n == 1) (n ∷ []) []
 unfolding elements_below
-elements_step n k = refl
+elements_step n m = refl
 
-pub no_elements : (k : Elements) → elements_below 0 k ≡ []
+pub no_elements : (m : ℕ) → elements_below 0 m ≡ []
 unfolding elements_below
-no_elements k = refl
+no_elements m = refl
 
 -- text
 
@@ -69,23 +69,23 @@ spaced_more (e ∷ es) n =
     let f : ℕ → List ℕ = λ x. codes " " ++ decimal x in
     ap (λ (x : List ℕ). decimal e ++ x) (flat_map-append f es (n ∷ []) ∙ ap (λ (x : List ℕ). flat_map f es ++ x) (append-nil (f n))) ∙ sym (append_assoc (decimal e) (flat_map f es) (f n))
 
-pub written_more : (n : ℕ) (k : Elements) → spaced (elements_below (suc n) k) ≡ spaced (elements_below n k) ++ number_text k n (is_empty (elements_below n k))
-written_more n k = rw (elements_step n k) (by_test (bit_at k.mask n == 1))
+pub written_more : (n : ℕ) (m : ℕ) → spaced (elements_below (suc n) m) ≡ spaced (elements_below n m) ++ number_text m n (is_empty (elements_below n m))
+written_more n m = rw (elements_step n m) (by_test (bit_at m n == 1))
   where
-    by_test : (b : Bool) → spaced (elements_below n k ++ cond b (n ∷ []) []) ≡ spaced (elements_below n k) ++ cond b (cond (is_empty (elements_below n k)) (decimal n) (codes " " ++ decimal n)) []
-    by_test true = spaced_more (elements_below n k) n
+    by_test : (b : Bool) → spaced (elements_below n m ++ cond b (n ∷ []) []) ≡ spaced (elements_below n m) ++ cond b (cond (is_empty (elements_below n m)) (decimal n) (codes " " ++ decimal n)) []
+    by_test true = spaced_more (elements_below n m) n
     by_test false = rw (append-nil, append-nil)
 
 is_empty-append : (es : List ℕ) (n : ℕ) → is_empty (es ++ n ∷ []) ≡ false
 is_empty-append [] n = refl
 is_empty-append (e ∷ es) n = refl
 
-pub still_empty : (n : ℕ) (k : Elements) → is_empty (elements_below (suc n) k) ≡ is_empty (elements_below n k) && not (bit_at k.mask n == 1)
-still_empty n k = rw (elements_step n k) (by_test (bit_at k.mask n == 1))
+pub still_empty : (n : ℕ) (m : ℕ) → is_empty (elements_below (suc n) m) ≡ is_empty (elements_below n m) && not (bit_at m n == 1)
+still_empty n m = rw (elements_step n m) (by_test (bit_at m n == 1))
   where
-    by_test : (b : Bool) → is_empty (elements_below n k ++ cond b (n ∷ []) []) ≡ is_empty (elements_below n k) && not b
-    by_test true = is_empty-append (elements_below n k) n ∙ sym (and_false (is_empty (elements_below n k)))
-    by_test false = rw append-nil (sym (and-true (is_empty (elements_below n k))))
+    by_test : (b : Bool) → is_empty (elements_below n m ++ cond b (n ∷ []) []) ≡ is_empty (elements_below n m) && not b
+    by_test true = is_empty-append (elements_below n m) n ∙ sym (and_false (is_empty (elements_below n m)))
+    by_test false = rw append-nil (sym (and-true (is_empty (elements_below n m))))
 
 -- the mask
 
@@ -93,12 +93,12 @@ mask_of-append : (xs ys : List ℕ) → mask_of (xs ++ ys) ≡ bit_or (mask_of x
 mask_of-append [] ys = sym (or_zero_l (mask_of ys))
 mask_of-append (x ∷ xs) ys = ap (bit_or (2 ^ x)) (mask_of-append xs ys) ∙ sym (or-assoc (2 ^ x) (mask_of xs) (mask_of ys))
 
-bit_more : (n : ℕ) (k : Elements) (i : ℕ) (b : Bool) → bit_at (mask_of (elements_below n k ++ cond b (n ∷ []) [])) i ≡ max (bit_at (mask_of (elements_below n k)) i) (cond b (bit_at (2 ^ n) i) 0)
-bit_more n k i true =
-    let e : mask_of (elements_below n k ++ n ∷ []) ≡ bit_or (mask_of (elements_below n k)) (2 ^ n) = mask_of-append (elements_below n k) (n ∷ []) ∙ ap (bit_or (mask_of (elements_below n k))) (or_zero_r (2 ^ n)) in
-    rw e (bit_at_or (mask_of (elements_below n k)) (2 ^ n) i)
-bit_more n k i false =
-    let e : mask_of (elements_below n k ++ []) ≡ mask_of (elements_below n k) = ap mask_of (append-nil (elements_below n k)) in
+bit_more : (n : ℕ) (m : ℕ) (i : ℕ) (b : Bool) → bit_at (mask_of (elements_below n m ++ cond b (n ∷ []) [])) i ≡ max (bit_at (mask_of (elements_below n m)) i) (cond b (bit_at (2 ^ n) i) 0)
+bit_more n m i true =
+    let e : mask_of (elements_below n m ++ n ∷ []) ≡ bit_or (mask_of (elements_below n m)) (2 ^ n) = mask_of-append (elements_below n m) (n ∷ []) ∙ ap (bit_or (mask_of (elements_below n m))) (or_zero_r (2 ^ n)) in
+    rw e (bit_at_or (mask_of (elements_below n m)) (2 ^ n) i)
+bit_more n m i false =
+    let e : mask_of (elements_below n m ++ []) ≡ mask_of (elements_below n m) = ap mask_of (append-nil (elements_below n m)) in
     rw e (omega arith)
 
 other_bit : (b : Bool) (n i : ℕ) → (i ≡ n → ⊥) → cond b (bit_at (2 ^ n) i) 0 ≡ 0
@@ -111,21 +111,136 @@ this_bit m n = ⊎_elim
     (λ (h : bit_at m n ≡ 1 → ⊥). let z : bit_at m n ≡ 0 = omega (arith, h, bit_at-lt m n) in rw z refl)
     (cases_eq (bit_at m n) 1)
 
-pub mask_below : (n : ℕ) (k : Elements) → ((i : ℕ) → i < n → bit_at (mask_of (elements_below n k)) i ≡ bit_at k.mask i) × ((i : ℕ) → n ≤ i → bit_at (mask_of (elements_below n k)) i ≡ 0)
-mask_below zero k = (λ i h. absurd (omega arith), λ i h. rw (no_elements k) (bit_at-zero i))
-mask_below (suc n) k = (lower, upper)
-  where
-    b = bit_at k.mask n == 1
-    more : (i : ℕ) → bit_at (mask_of (elements_below (suc n) k)) i ≡ max (bit_at (mask_of (elements_below n k)) i) (cond (bit_at k.mask n == 1) (bit_at (2 ^ n) i) 0)
-    more i = rw (elements_step n k) (bit_more n k i (bit_at k.mask n == 1))
-    ih = mask_below n k
-    lower : (i : ℕ) → i < suc n → bit_at (mask_of (elements_below (suc n) k)) i ≡ bit_at k.mask i
-    lower i h = ⊎_elim
-        (λ (e : i ≡ n). omega (arith, more i, ih.1 i (omega arith), rw (← e) (this_bit k.mask i)))
-        (λ (d : i ≡ n → ⊥). let below : i < n = omega (arith, d) in omega (arith, more i, ih.0 i below, other_bit b n i d))
-        (cases_eq i n)
-    upper : (i : ℕ) → suc n ≤ i → bit_at (mask_of (elements_below (suc n) k)) i ≡ 0
-    upper i h = omega (arith, more i, ih.1 i (omega arith), other_bit b n i (λ e. omega arith))
+one_bit_more : (n : ℕ) (m : ℕ) (i : ℕ) → bit_at (mask_of (elements_below (suc n) m)) i ≡ max (bit_at (mask_of (elements_below n m)) i) (cond (bit_at m n == 1) (bit_at (2 ^ n) i) 0)
+one_bit_more n m i = rw (elements_step n m) (bit_more n m i (bit_at m n == 1))
 
-pub mask_of_elements : (k : Elements) → k.mask < 2 ^ 128 → mask_of (elements_below 128 k) ≡ k.mask
-mask_of_elements k h = same_from_bits _ _ (λ i. ⊎_elim (λ (l : i < 128). (mask_below 128 k).0 i l) (λ (g : 128 ≤ i). (mask_below 128 k).1 i g ∙ sym (bit_at_above k.mask 128 i h g)) (order i 128))
+bits_above : (n : ℕ) (m : ℕ) (i : ℕ) → n ≤ i → bit_at (mask_of (elements_below n m)) i ≡ 0
+bits_above zero m i h = rw (no_elements m) (bit_at-zero i)
+bits_above (suc n) m i h =
+    let old : bit_at (mask_of (elements_below n m)) i ≡ 0 = bits_above n m i (omega arith) in
+    omega (arith, one_bit_more n m i, old, other_bit (bit_at m n == 1) n i (λ e. omega arith))
+
+bits_below : (n : ℕ) (m : ℕ) (i : ℕ) → i < n → bit_at (mask_of (elements_below n m)) i ≡ bit_at m i
+bits_below zero m i h = absurd (omega arith)
+bits_below (suc n) m i h = ⊎_elim
+    (λ (e : i ≡ n).
+      let old : bit_at (mask_of (elements_below n m)) i ≡ 0 = bits_above n m i (omega arith) in
+      let this : cond (bit_at m n == 1) (bit_at (2 ^ n) i) 0 ≡ bit_at m i = rw (← e) (this_bit m i) in
+      omega (arith, one_bit_more n m i, old, this))
+    (λ (d : i ≡ n → ⊥).
+      let below : i < n = omega (arith, d) in
+      let old : bit_at (mask_of (elements_below n m)) i ≡ bit_at m i = bits_below n m i below in
+      omega (arith, one_bit_more n m i, old, other_bit (bit_at m n == 1) n i d))
+    (cases_eq i n)
+
+pub mask_of_elements : (m : ℕ) → m < 2 ^ 128 → mask_of (elements_below 128 m) ≡ m
+mask_of_elements m h = same_from_bits _ _ (λ i. ⊎_elim (λ (l : i < 128). bits_below 128 m i l) (λ (g : 128 ≤ i). bits_above 128 m i g ∙ sym (bit_at_above m 128 i h g)) (cases_lt i 128))
+
+-- reading the text back
+
+abbrev IsSmall : List ℕ → Type 0
+IsSmall [] = Unit {0}
+IsSmall (e ∷ es) = (e ≤ 127) × IsSmall es
+
+small-append : (es : List ℕ) (n : ℕ) → IsSmall es → n ≤ 127 → IsSmall (es ++ n ∷ [])
+small-append [] n h k = (k, tt)
+small-append (e ∷ es) n h k = (h.0, small-append es n h.1 k)
+
+small_below : (n : ℕ) (m : ℕ) → n ≤ 128 → IsSmall (elements_below n m)
+small_below zero m h = rw (no_elements m) tt
+small_below (suc n) m h = rw (elements_step n m) (by_test (bit_at m n == 1) (small_below n m (omega arith)))
+  where
+    by_test : (b : Bool) → IsSmall (elements_below n m) → IsSmall (elements_below n m ++ cond b (n ∷ []) [])
+    by_test true s = small-append (elements_below n m) n s (omega arith)
+    by_test false s = rw append-nil s
+
+abbrev others : List ℕ → List ℕ
+others es = flat_map (λ f. codes " " ++ decimal f) es
+
+no_digit_next : (es bytes : List ℕ) → starts_with_digit (others es ++ (125 ∷ bytes)) ≡ false
+no_digit_next [] bytes = refl
+no_digit_next (e ∷ es) bytes = refl
+
+element_read : (len place e : ℕ) (ts us : List Placed) (es : List ℕ) → e ≤ 127 → elements_at len ts ≡ Ok (es, us) → elements_at len (at place (number (pos e)) ∷ ts) ≡ Ok (e ∷ es, us)
+element_read len place e ts us es h r =
+    rw (le-leb 0 e (omega arith), le-leb e 127 h, r) refl
+
+-- elements behind the first, and the closing brace
+others_read : (es : List ℕ) → IsSmall es → (len place : ℕ) (bytes : List ℕ) (ts : List Placed) → Cuts false (place + (length (others es) + 1)) bytes ts → (us : List Placed) × Cuts true place (others es ++ (125 ∷ bytes)) us × (elements_at len us ≡ Ok (es, ts))
+others_read [] s len place bytes ts c = (at place close_brace ∷ ts, cuts_close_brace true place bytes ts c, refl)
+others_read (e ∷ es) s len place bytes ts c =
+    let next = place + 1 + length (decimal e) in
+    let end : place + (length (others (e ∷ es)) + 1) ≡ next + (length (others es) + 1) = simp length-append (omega arith) in
+    let more = others_read es s.1 len next bytes ts (rw end at c) in
+    let small : e ≤ 127 = s.0 in
+    let fits : FitsSigned w64 (pos e) = omega (arith, ints) in
+    let text : (decimal e ++ others es) ++ (125 ∷ bytes) ≡ decimal e ++ (others es ++ (125 ∷ bytes)) = append_assoc (decimal e) (others es) (125 ∷ bytes) in
+    let all = cuts_space true place _ _ (cuts_number (pos e) fits (place + 1) (others es ++ (125 ∷ bytes)) more.0 (no_digit_next es bytes) more.1) in
+    (at (place + 1) (number (pos e)) ∷ more.0, rw text all, element_read len (place + 1) e more.0 ts es s.0 more.2)
+
+-- elements and the closing brace
+spaced_read : (es : List ℕ) → IsSmall es → (len place : ℕ) (bytes : List ℕ) (ts : List Placed) → Cuts false (place + (length (spaced es) + 1)) bytes ts → (us : List Placed) × Cuts false place (spaced es ++ (125 ∷ bytes)) us × (elements_at len us ≡ Ok (es, ts))
+spaced_read [] s len place bytes ts c = (at place close_brace ∷ ts, cuts_close_brace false place bytes ts c, refl)
+spaced_read (e ∷ es) s len place bytes ts c =
+    let next = place + length (decimal e) in
+    let end : place + (length (spaced (e ∷ es)) + 1) ≡ next + (length (others es) + 1) = simp length-append (omega arith) in
+    let more = others_read es s.1 len next bytes ts (rw end at c) in
+    let small : e ≤ 127 = s.0 in
+    let fits : FitsSigned w64 (pos e) = omega (arith, ints) in
+    let text : (decimal e ++ others es) ++ (125 ∷ bytes) ≡ decimal e ++ (others es ++ (125 ∷ bytes)) = append_assoc (decimal e) (others es) (125 ∷ bytes) in
+    let all = cuts_number (pos e) fits place (others es ++ (125 ∷ bytes)) more.0 (no_digit_next es bytes) more.1 in
+    (at place (number (pos e)) ∷ more.0, rw text all, element_read len place e more.0 ts es s.0 more.2)
+
+set_at_is : (k : Elements) → k.mask < 2 ^ 128 → (len place : ℕ) (us ts : List Placed) → elements_at len us ≡ Ok (elements_below 128 k.mask, ts) → set_at len (at place open_brace ∷ us) ≡ Ok (k, ts)
+unfolding set_at
+set_at_is k h len place us ts e = rw (e, or_zero_l, mask_of_elements k.mask h)
+
+pub set_reads_back : (k : Elements) → k.mask < 2 ^ 128 → ReadsBack set_at (set_text k) k
+set_reads_back k h len place glued bytes ts c =
+    let es = elements_below 128 k.mask in
+    let end : place + length (set_text k) ≡ place + 1 + (length (spaced es) + 1) = simp length-append (omega arith) in
+    let inner = spaced_read es (small_below 128 k.mask (omega arith)) len (place + 1) bytes ts (rw end at c) in
+    let text : (spaced es ++ (125 ∷ [])) ++ bytes ≡ spaced es ++ (125 ∷ bytes) = append_assoc (spaced es) (125 ∷ []) bytes in
+    (at place open_brace ∷ inner.0, rw text (cuts_open_brace glued place _ _ inner.1), set_at_is k h len place inner.0 ts inner.2)
+
+-- the elements of a mask
+
+contains_nothing : (e : ℕ) → Contains [] e → ⊥
+contains_nothing e c = absurd (omega (arith, c.1))
+
+mask_contains : (es : List ℕ) (e : ℕ) → bit_at (mask_of es) e ≡ 1 → Contains es e
+mask_contains [] e h = absurd (omega (arith, bit_at-zero e, h))
+mask_contains (x ∷ xs) e h = ⊎_elim
+    (λ (q : e ≡ x). rw q (Contains-append_left (x ∷ []) xs x (Contains-push [] x)))
+    (λ (n : e ≡ x → ⊥).
+      let rest : bit_at (mask_of xs) e ≡ 1 = omega (arith, bit_at_or (2 ^ x) (mask_of xs) e, bit_at-pow_other x e n, h) in
+      Contains-append_right (x ∷ []) xs e (mask_contains xs e rest))
+    (cases_eq e x)
+
+contains_in_mask : (es : List ℕ) (e : ℕ) → Contains es e → bit_at (mask_of es) e ≡ 1
+contains_in_mask [] e c = absurd (contains_nothing e c)
+contains_in_mask (x ∷ xs) e c = ⊎_elim
+    (λ (l : Contains (x ∷ []) e). ⊎_elim
+      (λ (no : Contains [] e). absurd (contains_nothing e no))
+      (λ (q : x ≡ e).
+        let own_bit : bit_at (2 ^ x) e ≡ 1 = rw (← q) (bit_at-pow_same x) in
+        omega (arith, bit_at_or (2 ^ x) (mask_of xs) e, bit_at-lt (mask_of xs) e, own_bit))
+      (Contains-push_cases [] x e l))
+    (λ (r : Contains xs e).
+      let rest : bit_at (mask_of xs) e ≡ 1 = contains_in_mask xs e r in
+      omega (arith, bit_at_or (2 ^ x) (mask_of xs) e, bit_at-lt (2 ^ x) e, rest))
+    (Contains-append_cases (x ∷ []) xs e c)
+
+pub mask_means : (es : List ℕ) (e : ℕ) → (bit_at (mask_of es) e ≡ 1) ↔ Contains es e
+mask_means es e = (mask_contains es e, contains_in_mask es e)
+
+pub elements_mean : (n m e : ℕ) → Contains (elements_below n m) e ↔ ((e < n) × (bit_at m e ≡ 1))
+elements_mean n m e = (
+  λ c.
+    let bit = contains_in_mask (elements_below n m) e c in
+    ⊎_elim
+      (λ (l : e < n). (l, sym (bits_below n m e l) ∙ bit))
+      (λ (g : n ≤ e). absurd (omega (arith, bits_above n m e g, bit)))
+      (cases_lt e n),
+  λ p. mask_contains (elements_below n m) e (bits_below n m e p.0 ∙ p.1),
+)

@@ -3,5 +3,7 @@ pub mod Grammar
 pub mod IntervalTexts
 pub mod Keys
 pub mod Parsing
+pub mod Printing
+pub mod Scanning
 pub mod SetTexts
 pub mod Tokens

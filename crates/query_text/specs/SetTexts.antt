@@ -36,10 +36,10 @@ set_at len ts = do
   brace ← expected_at is_open_brace len ts
   with_elements 0 (elements_at len brace.1)
 
--- the elements below a number, rising and once each
-unfoldable pub elements_below : ℕ → Elements → List ℕ
-elements_below zero k = []
-elements_below (suc n) k = elements_below n k ++ (if bit_at k.mask n == 1 then n ∷ [] else [])
+-- the elements of a mask below a number, rising and once each
+unfoldable pub elements_below : ℕ → ℕ → List ℕ
+elements_below zero mask = []
+elements_below (suc n) mask = elements_below n mask ++ (if bit_at mask n == 1 then n ∷ [] else [])
 
 -- numbers with one space between them
 abbrev pub spaced : List ℕ → List ℕ
@@ -47,11 +47,11 @@ spaced [] = []
 spaced (e ∷ es) = decimal e ++ flat_map (λ f. codes " " ++ decimal f) es
 
 -- what a number adds to the text of a set: nothing, unless it is an element
-abbrev pub number_text : Elements → ℕ → Bool → List ℕ
-number_text k n is_first = if bit_at k.mask n == 1 then (if is_first then decimal n else codes " " ++ decimal n) else []
+abbrev pub number_text : ℕ → ℕ → Bool → List ℕ
+number_text mask n is_first = if bit_at mask n == 1 then (if is_first then decimal n else codes " " ++ decimal n) else []
 
 abbrev pub set_text : Elements → List ℕ
-set_text k = codes "{" ++ (spaced (elements_below 128 k) ++ codes "}")
+set_text k = codes "{" ++ (spaced (elements_below 128 k.mask) ++ codes "}")
 
 abbrev pub atom_of : Rel → Elements → Atom
 atom_of rel operand = record { rel = rel; operand = operand }

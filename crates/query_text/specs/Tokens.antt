@@ -4,8 +4,6 @@ use Rattle.std.specs.Char.{is_ascii_digit, is_ascii_lowercase}
 use Rattle.query_text.specs.declared.lexeme.Kind.{Kind}
 use Rattle.query_text.specs.declared.lexeme.Kind.TheVariants as kind
 use Rattle.query_text.specs.declared.lexeme.Lexeme.{Lexeme}
-use Rattle.query_text.specs.declared.scanner.Front.{Front}
-use Rattle.query_text.specs.declared.scanner.Front.TheVariants.{Nothing, Space, NoToken, Found}
 
 -- A word has its bytes, and a number its value. A fault stands where no token can.
 pub data Token : Type 0 where
@@ -102,29 +100,9 @@ token_of kind.Fault bs = fault
 abbrev pub token_in : List ℕ → Lexeme → Token
 token_in text l = token_of l.kind (take l.len (drop l.place text))
 
-abbrev pub lexeme : Kind → ℕ → ℕ → Lexeme
-lexeme k p n = record { kind = k; place = p; len = n }
-
 -- the lexemes of a text as tokens with their places
 abbrev pub placed : List ℕ → List Lexeme → List Placed
 placed text ls = map (λ l. at l.place (token_in text l)) ls
-
--- what the scanner saw at the front of the bytes
-abbrev pub seen : List ℕ → Front → Beginning
-seen bs Nothing = nothing
-seen bs Space = space
-seen bs NoToken = no_token
-seen bs (Found k n) = begins (token_of k (take n bs)) n
-
-abbrev pub FitsIn : Front → List ℕ → Type 0
-FitsIn (Found k n) bs = (0 < n) × (n ≤ length bs)
-FitsIn Nothing bs = Unit {0}
-FitsIn _ bs = 0 < length bs
-
-abbrev pub kind_glues : Kind → Bool
-kind_glues kind.Word = true
-kind_glues kind.Number = true
-kind_glues _ = false
 
 -- the number of a token, where it is one in the range
 abbrev pub number_within : ℤ → ℤ → Token → Option ℤ

@@ -46,5 +46,7 @@ impl ClassText for Boxes {
         (atom.rel, atom.operand)
     }
 
+    ghost key_text_is_apart = { λ k. refl };
+
     ghost atom_of_parts = { λ a. refl };
 }

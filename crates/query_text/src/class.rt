@@ -1,8 +1,9 @@
-ghost use Rattle.std.specs.Prelude.{◌≡◌, ℕ, ◌<◌, List, Result, length, IfOk, IfErr, OnOk};
+ghost use Rattle.std.specs.Prelude.{◌≡◌, ℕ, ◌<◌, true, List, Result, length, IfOk, IfErr, OnOk};
 ghost use Rattle.std.specs.Io.KnownBytes.{Appends};
 ghost use Rattle.key_class.specs.declared.sides.Rel.{Rel};
 ghost use Rattle.query_text.specs.Tokens.{Placed, placed};
 ghost use Rattle.query_text.specs.Keys.{Reading, Gives, ReadsBack};
+ghost use Rattle.query_text.specs.Printing.{begins_apart};
 
 use crate::lexeme::Lexeme;
 use key_class::{KeyClass, Rel};
@@ -47,6 +48,8 @@ pub trait ClassText: KeyClass {
     fn parts(atom: &Self::Atom) -> (Rel, Self::Key)
         ensures rel { result.0 ≡ rel_of atom.now }
         ensures operand { result.1 ≡ operand_of atom.now };
+
+    ghost key_text_is_apart: { (k : Self.Key) → begins_apart (key_text k) ≡ true };
 
     ghost atom_of_parts: { (a : Self.Atom) → atom_of (rel_of a) (operand_of a) ≡ a };
 }

@@ -44,5 +44,7 @@ impl ClassText for Intervals {
         (atom.rel, atom.operand)
     }
 
+    ghost key_text_is_apart = { λ k. refl };
+
     ghost atom_of_parts = { λ a. refl };
 }

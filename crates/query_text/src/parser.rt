@@ -274,23 +274,3 @@ pub fn one_meaning_for_tokens<C: ClassText>()
     ensures one_place { (len : ℕ) (ts : List Placed) (p q : ℕ) → RefusesTokens C.key_at C.atom_of len ts p → RefusesTokens C.key_at C.atom_of len ts q → p ≡ q }
     ensures not_both { (len : ℕ) (ts : List Placed) (q : Query C.Atom) (place : ℕ) → SpellsQuery C.key_at C.atom_of len ts q → RefusesTokens C.key_at C.atom_of len ts place → ⊥ }
 {}
-
-#[cfg(test)]
-mod tests {
-    use super::*;
-    use interval_class::Intervals;
-    use std::test::Fail;
-
-    #[test]
-    fn many_brackets(rt: HostRuntime) -> Result<(), Fail> {
-        let mut text = Vec::new(rt.alloc());
-        for _ in 0..4096 {
-            text.push(b'(')?;
-        }
-        match parse::<Intervals>(rt.alloc(), &text) {
-            Ok(_) => assert!(rt; false),
-            Err(e) => assert_eq!(rt; e, Refusal::QueryText(4096)),
-        }
-        Ok(())
-    }
-}

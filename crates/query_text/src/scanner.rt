@@ -1,5 +1,6 @@
 ghost use Rattle.std.specs.Prelude.{◌≡◌, ℕ, ◌+◌, ◌<◌, ◌≤◌, List, [], ◌∷◌, length, OnOk, OnErr, IsOk, false, take_while, drop, ◌&&◌, vec_capacity};
-ghost use Rattle.query_text.specs.Tokens.{Placed, placed, lexeme, is_letter, is_digit, starts_with_digit, beginning, seen, FitsIn, kind_glues, Cuts};
+ghost use Rattle.query_text.specs.Tokens.{Placed, placed, is_letter, is_digit, starts_with_digit, beginning, Cuts};
+ghost use Rattle.query_text.specs.Scanning.{lexeme, seen, FitsIn, kind_glues};
 
 use crate::lexeme::{Kind, Lexeme};
 use std::alloc::AllocError;

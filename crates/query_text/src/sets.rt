@@ -1,9 +1,11 @@
-ghost use Rattle.std.specs.Prelude.{◌≡◌, ◌<◌, ◌≤◌, length, IfSome, IfOk, OnOk, not, ◌&&◌, ◌==◌, refl};
+ghost use Rattle.std.specs.Prelude.{◌≡◌, ◌↔◌, ℕ, List, Contains, ◌<◌, ◌≤◌, length, IfSome, IfOk, OnOk, not, ◌&&◌, ◌==◌, refl};
 ghost use Rattle.std.specs.Int.{bit_at};
 ghost use Rattle.std.specs.Io.KnownBytes.{Appends};
+ghost use Rattle.set_class.specs.Sets.{IsElementOf};
+ghost use Rattle.set_class.specs.declared.elements.Elements.{Elements};
 ghost use Rattle.query_text.specs.Tokens.{placed, token_in};
 ghost use Rattle.query_text.specs.Keys.{Gives};
-ghost use Rattle.query_text.specs.SetTexts.{element_of, elements_at, with_elements, set_at, set_text, number_text, atom_of};
+ghost use Rattle.query_text.specs.SetTexts.{element_of, elements_at, with_elements, mask_of, elements_below, set_at, set_text, number_text, atom_of};
 
 use crate::class::ClassText;
 use crate::lexeme::{Kind, Lexeme};
@@ -44,18 +46,18 @@ fn elements<'a>(text: &[u8], lexemes: &'a [Lexeme]) -> Result<(Elements, &'a [Le
     }
 }
 
-/// Writes a number, where it is an element, and says whether no element was written yet.
+/// Writes a number, where it is an element of the mask, and says whether no element was written yet.
 fn write_number<W: Write>(
-    key: Elements,
+    mask: u128,
     number: u8,
     is_first: bool,
     writer: &mut W,
 ) -> io::Result<bool>
     requires { number ≤ 127 }
-    ensures text { OnOk result (Appends (W.contents writer.old) (W.contents writer.new) (number_text key number is_first)) }
-    ensures still_first { IfOk result (λ still. still ≡ (is_first && not (bit_at key.mask number == 1))) }
+    ensures text { OnOk result (Appends (W.contents writer.old) (W.contents writer.new) (number_text mask number is_first)) }
+    ensures still_first { IfOk result (λ still. still ≡ (is_first && not (bit_at mask number == 1))) }
 {
-    if !key.contains(number) {
+    if mask >> number & 1 == 0 {
         return Ok(is_first);
     }
     if is_first {
@@ -84,10 +86,11 @@ impl ClassText for Sets {
     }
 
     fn write_key<W: Write>(key: Elements, writer: &mut W) -> io::Result<()> {
+        let mask = key.mask;
         write!(writer, "{{")?;
         let mut is_first = true;
         for number in 0..128 {
-            is_first = write_number(key, number, is_first, writer)?;
+            is_first = write_number(mask, number, is_first, writer)?;
         }
         write!(writer, "}}")
     }
@@ -100,5 +103,14 @@ impl ClassText for Sets {
         (atom.rel, atom.operand)
     }
 
+    ghost key_text_is_apart = { λ k. refl };
+
     ghost atom_of_parts = { λ a. refl };
 }
+
+/// Nothing is done: the clauses say that a set has the elements that its text names, and that its text names all of
+/// them.
+pub fn set_texts_name_their_elements()
+    ensures read { (named : List ℕ) (e : ℕ) → IsElementOf (record { mask = mask_of named }) e ↔ Contains named e }
+    ensures written { (set : Elements) (e : ℕ) → Contains (elements_below 128 set.mask) e ↔ ((e < 128) × IsElementOf set e) }
+{}

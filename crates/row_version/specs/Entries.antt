@@ -1,5 +1,5 @@
 -- An entry of a leaf: a row, and the commit that deleted it.
-use Rattle.std.specs.Prelude.{◌≡◌, ℕ, zero, suc, ◌≤◌, Bool, true, false, ◌&&◌, nat_le, nat_lt, nat_eq, cond, Option, Some, None, refl}
+use Rattle.std.specs.Prelude.{◌≡◌, ℕ, zero, suc, Bool, true, ◌&&◌, nat_le, nat_lt, nat_eq, cond, Option, Some, None, refl}
 
 pub record Entry (K : Type 0) : Type 0 where
   pub key : K

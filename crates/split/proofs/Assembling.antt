@@ -1,5 +1,5 @@
 -- The steps of the code, put together, make the tree of the step.
-use Rattle.std.proofs.Common.{◌≡◌, ◌≢◌, ℕ, suc, ◌+◌, ◌<◌, List, [], ◌∷◌, ◌++◌, length, Option, set, refl, ap, ap₂, sym, ◌∙◌, add-one}
+use Rattle.std.proofs.Common.{◌≡◌, ◌≢◌, ℕ, suc, ◌+◌, ◌<◌, List, [], ◌∷◌, ◌++◌, length, Option, set, ap, ap₂, sym, ◌∙◌, add-one}
 use Rattle.std.proofs.lemmas.List.{set_comm, set-append_left, get_or-set_other}
 use Rattle.std.proofs.Math.ListN.{get_or-append}
 use Rattle.key_class.specs.declared.sides.Side.{Side}

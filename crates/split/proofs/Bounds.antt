@@ -1,6 +1,6 @@
 -- The union of a list of keys is the least key that covers each.
-use Rattle.std.proofs.Common.{ℕ, zero, suc, ◌+◌, ◌<◌, ◌≤◌, ◌≡◌, List, [], ◌∷◌, ◌++◌, length, map, All, refl, ap, arith, sym, ◌∙◌, subst, Bool, true, false, Some, None, Option}
-use Rattle.std.proofs.lemmas.List.Elements.{All-head, All-tail, All-weaker, All-nil, All-cons, All-append, All-map}
+use Rattle.std.proofs.Common.{◌<◌, ◌≡◌, List, [], ◌∷◌, length, map, All, arith, Bool, true}
+use Rattle.std.proofs.lemmas.List.Elements.{All-head, All-tail, All-nil, All-cons, All-append, All-map}
 use Rattle.node.specs.Pages.{keys_of}
 use Rattle.node.specs.Parts.{cover_of}
 use Rattle.node.specs.declared.branch.Branch.{Branch}

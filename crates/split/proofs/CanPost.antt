@@ -1,6 +1,6 @@
 -- In a sound tree a posting needs only that an entry of p names c and c is owed.
-use Rattle.std.proofs.Common.{ℕ, zero, suc, ◌+◌, ◌<◌, ◌≤◌, ◌≡◌, List, [], ◌∷◌, ◌++◌, length, map, option_to_list, All, refl, ap, ap₂, arith, sym, ◌∙◌, subst, cond, Bool, true, false, ◌⊎◌, inl, inr, Some, None, Option}
-use Rattle.std.proofs.lemmas.List.Elements.{All-head, All-tail, All-weaker, All-nil, All-cons}
+use Rattle.std.proofs.Common.{ℕ, ◌<◌, ◌≤◌, ◌≡◌, [], length, option_to_list, All, refl, arith, sym, subst, cond, Bool, true, false, Some, None, Option}
+use Rattle.std.proofs.lemmas.List.Elements.{All-head, All-nil, All-cons}
 use Rattle.node.specs.Pages.{Page}
 use Rattle.node.specs.declared.branch.Branch.{Branch}
 use Rattle.page_table.proofs.Counting.{false_true, named-All, named_branch, not_named}

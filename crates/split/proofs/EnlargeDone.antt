@@ -1,5 +1,5 @@
 -- An enlargement whose tests pass keeps the tree sound and its rows.
-use Rattle.std.proofs.Common.{◌≡◌, ◌≢◌, ℕ, suc, ◌+◌, ◌<◌, ◌≤◌, Bool, true, false, not, ◌&&◌, ltb, leb, eqb, length, None, sym, subst, arith}
+use Rattle.std.proofs.Common.{◌≡◌, ◌≢◌, ℕ, ◌<◌, Bool, ◌&&◌, ltb, length, None, sym, subst, arith}
 use Rattle.std.proofs.lemmas.Bool.{ltb-true, and_parts}
 use Rattle.node.specs.Pages.{names, is_within}
 use Rattle.page_table.specs.Trees.{Tree, page_at, naming, rows_under, Falls}

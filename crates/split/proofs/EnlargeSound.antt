@@ -1,9 +1,8 @@
 -- An enlargement changes bounds only, and keeps the tree sound.
-use Rattle.std.proofs.Common.{ℕ, zero, suc, ◌+◌, ◌<◌, ◌≤◌, ◌≡◌, List, [], ◌∷◌, ◌++◌, length, map, flat_map, option_to_list, All, refl, ap, ap₂, arith, sym, ◌∙◌, subst, cond, Bool, true, false, eqb, ◌⊎◌, inl, inr, Some, None, Option}
-use mathlib.Core.Path.{fun_ext}
+use Rattle.std.proofs.Common.{ℕ, suc, ◌+◌, ◌<◌, ◌≤◌, ◌≡◌, List, [], ◌∷◌, length, map, option_to_list, All, refl, ap, ap₂, arith, sym, ◌∙◌, subst, cond, Bool, true, false, eqb, inl, inr, Some, None, Option}
 use Rattle.std.proofs.lemmas.List.{length-map, get_or-set_same, get_or-set_other}
 use Rattle.std.proofs.lemmas.Bool.{eq-eqb, ne_eqb}
-use Rattle.std.proofs.lemmas.List.Elements.{All-weaker, All-nil, All-map, All-get_or}
+use Rattle.std.proofs.lemmas.List.Elements.{All-weaker, All-map}
 use Rattle.node.specs.Changes.{enlarge_child, enlarge_parent, widened, wider}
 use Rattle.node.specs.Pages.{Page}
 use Rattle.node.specs.declared.branch.Branch.{Branch}

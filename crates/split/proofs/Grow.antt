@@ -1,7 +1,7 @@
 -- A growth of the root keeps what is under every page and memo.
-use Rattle.std.proofs.Common.{ℕ, zero, suc, ◌+◌, ◌*◌, ◌<◌, ◌≤◌, ◌≡◌, List, [], ◌∷◌, ◌++◌, length, map, flat_map, option_to_list, All, refl, ap, ap₂, arith, sym, ◌∙◌, subst, cond, Bool, true, false, ◌||◌, ltb, leb, eqb, ◌⊎◌, inl, inr, set, get_or, Some, None, Option, add-zero}
+use Rattle.std.proofs.Common.{ℕ, suc, ◌+◌, ◌<◌, ◌≡◌, List, [], ◌++◌, length, option_to_list, All, refl, ap, ap₂, arith, sym, ◌∙◌, subst, cond, false, ◌||◌, ltb, eqb, inl, inr, Some, None, Option, add-zero}
 use Rattle.std.proofs.lemmas.Bool.{lt-ltb, le-ltb, eq-eqb, ne_eqb}
-use Rattle.std.proofs.lemmas.List.Elements.{All-head, All-tail, All-weaker, All-nil, All-cons, All-append}
+use Rattle.std.proofs.lemmas.List.Elements.{All-weaker, All-nil, All-cons, All-append}
 use Rattle.key_class.specs.declared.sides.Side.{Side}
 use Rattle.node.specs.Changes.{branch_to, grown_left, grown_right, grown_root}
 use Rattle.node.specs.Pages.{Page, followed}

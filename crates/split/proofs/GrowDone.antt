@@ -1,5 +1,5 @@
 -- A growth whose tests pass keeps the tree sound and its rows.
-use Rattle.std.proofs.Common.{◌≡◌, ℕ, suc, ◌+◌, ◌*◌, ◌<◌, ◌≤◌, Bool, true, false, not, ◌&&◌, ltb, leb, eqb, List, length, None, count_by, sym, subst, arith}
+use Rattle.std.proofs.Common.{◌≡◌, ℕ, ◌+◌, ◌<◌, ◌≤◌, Bool, ◌&&◌, leb, eqb, List, length, None, count_by, sym, subst, arith}
 use Rattle.std.proofs.lemmas.Bool.{ltb-false, leb-true, eqb-true, and_parts}
 use Rattle.key_class.specs.Splits.{is_left, is_right}
 use Rattle.key_class.specs.declared.sides.Side.{Side}

@@ -1,9 +1,6 @@
 -- A growth of the root keeps the tree sound.
-use Rattle.std.proofs.Common.{ℕ, zero, suc, ◌+◌, ◌<◌, ◌≤◌, ◌≡◌, List, [], ◌∷◌, ◌++◌, length, map, option_to_list, All, refl, ap, ap₂, arith, sym, ◌∙◌, subst, cond, Bool, true, false, eqb, ◌⊎◌, inl, inr, set, get_or, Some, None, Option, length-append}
-use Rattle.std.proofs.lemmas.Bool.{eq-eqb, ne_eqb}
-use Rattle.std.proofs.lemmas.List.Elements.{All-head, All-tail, All-weaker, All-nil, All-cons, All-append}
-use Rattle.std.proofs.Math.ListN.{get_or-append}
-use Rattle.std.proofs.lemmas.List.{get_or-set_other}
+use Rattle.std.proofs.Common.{ℕ, suc, ◌+◌, ◌<◌, ◌≤◌, ◌≡◌, List, [], length, option_to_list, All, refl, ap, arith, sym, ◌∙◌, subst, cond, Bool, true, false, eqb, ◌⊎◌, inl, inr, Some, None, Option, length-append}
+use Rattle.std.proofs.lemmas.List.Elements.{All-weaker, All-nil, All-cons, All-append}
 use Rattle.key_class.specs.declared.sides.Side.{Side}
 use Rattle.node.proofs.PartEnds.{left_part-nil, right_part-nil}
 use Rattle.node.specs.Changes.{branch_to, grown_left, grown_right, grown_root}

@@ -1,7 +1,6 @@
 -- The tree of a new world is sound.
-use Rattle.std.proofs.Common.{◌≡◌, ℕ, ◌+◌, ◌*◌, ◌/◌, ◌<◌, ◌≤◌, Bool, length, sym, subst, arith}
+use Rattle.std.proofs.Common.{◌≡◌, ℕ, ◌/◌, ◌≤◌, Bool, sym, subst, arith}
 use Rattle.page_table.specs.Trees.{Tree, new_tree}
-use Rattle.page_table.specs.Soundness.{IsSound}
 use Rattle.page_table.proofs.NewTree.{new_sound}
 use Rattle.split.specs.SearchTrees.{IsSearchTree}
 

@@ -1,6 +1,6 @@
 -- What both parts of a page hold is what the page held.
-use Rattle.std.proofs.Common.{ℕ, zero, suc, ◌+◌, ◌<◌, ◌≤◌, ◌≡◌, List, [], ◌∷◌, ◌++◌, length, map, flat_map, All, refl, ap, ap₂, arith, sym, ◌∙◌, cond, Bool, true, false, get_or, set}
-use Rattle.std.proofs.lemmas.List.Elements.{All-head, All-tail, All-cons, All-nil, All-append}
+use Rattle.std.proofs.Common.{ℕ, ◌+◌, ◌≡◌, List, [], ◌∷◌, length, All, arith}
+use Rattle.std.proofs.lemmas.List.Elements.{All-head, All-tail, All-cons, All-nil}
 use Rattle.key_class.specs.declared.sides.Side.{Side}
 use Rattle.key_class.specs.declared.sides.Side.TheVariants.{Left, Right}
 use Rattle.node.specs.Parts.{left_part, right_part}

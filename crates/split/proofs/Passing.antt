@@ -1,5 +1,5 @@
 -- What follows where no test fails.
-use Rattle.std.proofs.Common.{◌≡◌, ℕ, suc, ◌+◌, ◌<◌, ◌≤◌, Bool, true, false, not, ◌&&◌, ◌||◌, ltb, leb, eqb, List, [], ◌∷◌, length, Option, Some, None, count_by, refl, ap, sym, ◌∙◌, arith}
+use Rattle.std.proofs.Common.{◌≡◌, Bool, true, false, not, ◌||◌, List, [], ◌∷◌, None, refl}
 use Rattle.key_class.specs.declared.refusal.Refusal.{Refusal}
 use Rattle.split.specs.Tests.{first_failing}
 

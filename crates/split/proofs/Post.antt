@@ -1,7 +1,6 @@
 -- A posting keeps what is under every page and memo up to the old counter.
-use Rattle.std.proofs.Common.{ℕ, zero, suc, ◌+◌, ◌*◌, ◌<◌, ◌≤◌, ◌≡◌, List, [], ◌∷◌, ◌++◌, length, map, flat_map, option_to_list, All, refl, ap, ap₂, arith, sym, ◌∙◌, subst, cond, Bool, true, false, ◌||◌, ltb, leb, eqb, ◌⊎◌, inl, inr, set, get_or, Some, None, Option, true≢false}
-use Rattle.std.proofs.lemmas.Bool.{lt-ltb, le-ltb, eq-eqb, ne_eqb}
-use Rattle.std.proofs.lemmas.List.Elements.{All-head, All-tail, All-weaker, All-nil, All-cons, All-append}
+use Rattle.std.proofs.Common.{ℕ, suc, ◌+◌, ◌*◌, ◌<◌, ◌≡◌, List, [], ◌∷◌, length, map, All, refl, ap, arith, sym, ◌∙◌, subst, cond, Bool, true, false, eqb, inl, inr, Some, None, Option}
+use Rattle.std.proofs.lemmas.List.Elements.{All-head, All-tail, All-nil, All-cons}
 use Rattle.node.specs.Changes.{post_child, post_parent, post_sibling, rekeyed}
 use Rattle.node.specs.Pages.{Page}
 use Rattle.node.specs.declared.branch.Branch.{Branch}

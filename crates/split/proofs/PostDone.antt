@@ -1,5 +1,5 @@
 -- A posting whose tests pass keeps the tree sound and its rows.
-use Rattle.std.proofs.Common.{◌≡◌, ◌≢◌, ℕ, suc, ◌+◌, ◌<◌, ◌≤◌, Bool, true, false, not, ◌&&◌, ltb, leb, eqb, length, Some, None, sym, subst, arith}
+use Rattle.std.proofs.Common.{◌≡◌, ◌≢◌, ℕ, ◌<◌, Bool, true, ◌&&◌, ltb, length, Some, None, sym, subst, arith}
 use Rattle.std.proofs.lemmas.Bool.{ltb-true, leb-false, and_parts}
 use Rattle.node.specs.Pages.{entries_of, names}
 use Rattle.page_table.specs.Trees.{Tree, page_at, naming}

@@ -1,7 +1,7 @@
 -- What is under every page and memo after a posting.
-use Rattle.std.proofs.Common.{ℕ, zero, suc, ◌+◌, ◌*◌, ◌<◌, ◌≤◌, ◌≡◌, List, [], ◌∷◌, ◌++◌, length, map, flat_map, option_to_list, All, refl, ap, ap₂, arith, sym, ◌∙◌, subst, cond, Bool, true, false, ◌||◌, ltb, leb, eqb, ◌⊎◌, inl, inr, set, get_or, Some, None, Option, le_refl}
+use Rattle.std.proofs.Common.{ℕ, suc, ◌+◌, ◌*◌, ◌<◌, ◌≤◌, ◌≡◌, [], ◌∷◌, ◌++◌, length, map, option_to_list, All, refl, ap, ap₂, arith, sym, ◌∙◌, subst, cond, ltb, eqb, ◌⊎◌, inl, inr, Some, None, Option, le_refl}
 use Rattle.std.proofs.lemmas.Bool.{lt-ltb, le-ltb, eq-eqb, ne_eqb}
-use Rattle.std.proofs.lemmas.List.Elements.{All-head, All-tail, All-weaker, All-nil, All-cons, All-append}
+use Rattle.std.proofs.lemmas.List.Elements.{All-head, All-nil, All-cons, All-append}
 use Rattle.node.specs.Changes.{branch_to, post_child, post_parent, post_sibling, rekeyed}
 use Rattle.node.specs.Pages.{Page, followed}
 use Rattle.node.specs.declared.branch.Branch.{Branch}

@@ -1,5 +1,5 @@
 -- A change of a leaf's rows keeps the tree sound.
-use Rattle.std.proofs.Common.{◌≡◌, ℕ, suc, ◌+◌, ◌<◌, ◌≤◌, Bool, true, false, not, ◌&&◌, ltb, leb, eqb, cond, List, [], ◌∷◌, ◌++◌, length, map, filter, None, All, refl, ap, sym, ◌∙◌, subst, arith, length-append}
+use Rattle.std.proofs.Common.{◌≡◌, ℕ, ◌+◌, ◌<◌, ◌≤◌, Bool, true, false, ltb, eqb, cond, List, [], ◌∷◌, ◌++◌, length, map, filter, None, All, refl, sym, subst, arith, length-append}
 use Rattle.std.proofs.lemmas.Bool.{ltb-true, leb-false, eqb-true, and_parts}
 use Rattle.std.proofs.lemmas.List.{length-map}
 use Rattle.std.proofs.lemmas.List.Elements.{All-append, All-cons, All-nil, All-map, All-filter, All-weaker}
@@ -7,7 +7,7 @@ use Rattle.row_version.specs.Entries.{Entry, is_needed, marked, died_at}
 use Rattle.node.specs.Pages.{entries_of, is_within}
 use Rattle.page_table.specs.Weights.{weigh}
 use Rattle.page_table.specs.Trees.{Tree, page_at, after_rows, rows_of_tree}
-use Rattle.page_table.specs.Soundness.{IsSound, IsWithin}
+use Rattle.page_table.specs.Soundness.{IsWithin}
 use Rattle.page_table.proofs.RowChanges.{rows_sound, rows_length}
 use Rattle.page_table.proofs.RowsOnce.{place_all}
 use Rattle.page_table.proofs.Visits.{weigh-filter_le, weigh-ones}

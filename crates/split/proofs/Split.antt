@@ -1,10 +1,7 @@
 -- A split keeps what is under every page and memo.
-use Rattle.std.proofs.Common.{ℕ, zero, suc, ◌+◌, ◌<◌, ◌≤◌, ◌≡◌, List, [], ◌∷◌, ◌++◌, length, map, flat_map, option_to_list, All, refl, ap, ap₂, arith, sym, ◌∙◌, subst, cond, Bool, true, false, ◌||◌, ltb, eqb, ◌⊎◌, inl, inr, set, get_or, Some, None, Option}
-use Rattle.std.proofs.lemmas.List.{length-append, get_or-set_same, get_or-set_other}
+use Rattle.std.proofs.Common.{ℕ, suc, ◌<◌, ◌≤◌, ◌≡◌, List, [], length, refl, ap, arith, sym, ◌∙◌, subst, cond, ltb, eqb, inl, inr}
 use Rattle.std.proofs.lemmas.Bool.{lt-ltb, le-ltb, eq-eqb, ne_eqb}
-use Rattle.std.proofs.Math.ListN.{get_or-append, length-set}
-use Rattle.std.proofs.Math.Seq.{get_or-append_seam}
-use Rattle.std.proofs.lemmas.List.Elements.{All-head, All-tail, All-weaker, All-nil, All-cons}
+use Rattle.std.proofs.lemmas.List.Elements.{All-weaker, All-nil, All-cons}
 use Rattle.key_class.specs.declared.sides.Side.{Side}
 use Rattle.node.specs.Changes.{split_left, split_right}
 use Rattle.node.specs.Pages.{Page}

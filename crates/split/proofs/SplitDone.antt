@@ -1,6 +1,6 @@
 -- A split whose tests pass keeps the tree sound and its rows.
-use Rattle.std.proofs.Common.{◌≡◌, ◌≢◌, ℕ, suc, ◌+◌, ◌*◌, ◌<◌, ◌≤◌, Bool, true, false, not, ◌&&◌, ◌||◌, ltb, leb, eqb, List, [], ◌∷◌, length, None, count_by, refl, ap, sym, ◌∙◌, subst, arith}
-use Rattle.std.proofs.lemmas.Bool.{ltb-false, leb-false, eqb-false, leb-true, eqb-true, and_parts}
+use Rattle.std.proofs.Common.{◌≡◌, ℕ, ◌<◌, ◌≤◌, Bool, true, false, ◌&&◌, leb, eqb, List, length, None, count_by, sym, subst, arith}
+use Rattle.std.proofs.lemmas.Bool.{leb-false, eqb-false, leb-true, eqb-true, and_parts}
 use Rattle.key_class.specs.Splits.{is_left, is_right}
 use Rattle.key_class.specs.declared.sides.Side.{Side}
 use Rattle.node.specs.Pages.{entries_of}

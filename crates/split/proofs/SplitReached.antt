@@ -1,7 +1,6 @@
 -- A split keeps how often links lead to each page.
-use Rattle.std.proofs.Common.{ℕ, zero, suc, ◌+◌, ◌<◌, ◌≤◌, ◌≡◌, List, [], ◌∷◌, ◌++◌, length, map, option_to_list, All, refl, ap, ap₂, arith, sym, ◌∙◌, subst, cond, Bool, true, false, ◌||◌, ltb, eqb, ◌⊎◌, inl, inr, set, get_or, Some, None, Option}
-use Rattle.std.proofs.lemmas.Bool.{eq-eqb, ne_eqb}
-use Rattle.std.proofs.lemmas.List.Elements.{All-weaker, All-nil, All-from_get_or}
+use Rattle.std.proofs.Common.{ℕ, ◌+◌, ◌<◌, ◌≤◌, ◌≡◌, List, [], ◌∷◌, ◌++◌, length, All, refl, ap, arith, sym, ◌∙◌, subst, cond, Bool, true, false, eqb, set}
+use Rattle.std.proofs.lemmas.List.Elements.{All-weaker, All-from_get_or}
 use Rattle.key_class.specs.declared.sides.Side.{Side}
 use Rattle.node.specs.Changes.{split_left, split_right}
 use Rattle.node.specs.Pages.{Page}

@@ -1,5 +1,5 @@
 -- A split keeps the tree sound.
-use Rattle.std.proofs.Common.{ℕ, zero, suc, ◌+◌, ◌<◌, ◌≤◌, ◌≡◌, List, [], ◌∷◌, ◌++◌, length, map, option_to_list, All, refl, ap, ap₂, arith, sym, ◌∙◌, subst, cond, Bool, true, false, ◌||◌, ◌⊎◌, inl, inr, Some, None, Option}
+use Rattle.std.proofs.Common.{ℕ, suc, ◌+◌, ◌<◌, ◌≡◌, List, [], length, option_to_list, All, refl, ap, arith, sym, ◌∙◌, subst, cond, Bool, true, false, ◌⊎◌, inl, inr}
 use Rattle.std.proofs.lemmas.List.Elements.{All-weaker, All-nil, All-cons}
 use Rattle.key_class.specs.declared.sides.Side.{Side}
 use Rattle.node.proofs.PartEnds.{left_part-nil, right_part-nil}

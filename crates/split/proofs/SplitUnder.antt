@@ -1,7 +1,6 @@
 -- What is under every page and memo after a split is what was, with the new page beside each p.
-use Rattle.std.proofs.Common.{ℕ, zero, suc, ◌+◌, ◌<◌, ◌≤◌, ◌≡◌, List, [], ◌∷◌, ◌++◌, length, map, flat_map, option_to_list, All, refl, ap, ap₂, arith, sym, ◌∙◌, subst, cond, Bool, true, false, ◌||◌, ltb, eqb, ◌⊎◌, inl, inr, set, get_or, Some, None, Option}
+use Rattle.std.proofs.Common.{ℕ, ◌+◌, ◌<◌, ◌≡◌, List, [], ◌∷◌, length, All, refl, ap, ap₂, arith, sym, ◌∙◌, subst, cond, false, ltb, eqb, inl, inr}
 use Rattle.std.proofs.lemmas.Bool.{lt-ltb, le-ltb, eq-eqb, ne_eqb}
-use Rattle.std.proofs.lemmas.List.Elements.{All-head, All-tail, All-weaker, All-nil, All-cons}
 use Rattle.key_class.specs.declared.sides.Side.{Side}
 use Rattle.node.specs.Changes.{split_left, split_right}
 use Rattle.node.specs.Pages.{Page, followed}

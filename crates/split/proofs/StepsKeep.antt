@@ -1,5 +1,5 @@
 -- Split, Post, Grow and Enlarge move rows and change none.
-use Rattle.std.proofs.Common.{◌≡◌, ◌+◌, ◌<◌, ◌≤◌, ℕ, suc, zero, Bool, true, false, List, [], ◌∷◌, ◌++◌, length, All, refl, sym, ap, ◌∙◌, arith, subst}
+use Rattle.std.proofs.Common.{◌≡◌, ◌<◌, ℕ, suc, Bool, List, length, All, sym, ap, arith, subst}
 use Rattle.std.proofs.lemmas.List.Elements.{All-nil}
 use Rattle.split.proofs.PostUnder as post
 use Rattle.split.proofs.EnlargeSound as enlarge

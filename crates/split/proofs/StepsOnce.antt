@@ -1,5 +1,5 @@
 -- A step keeps the rows below the root.
-use Rattle.std.proofs.Common.{ℕ, zero, suc, ◌+◌, ◌*◌, ◌<◌, ◌≤◌, ◌≡◌, List, [], ◌∷◌, ◌++◌, length, refl, ap, arith, sym, ◌∙◌, subst, Bool, true, false}
+use Rattle.std.proofs.Common.{ℕ, ◌≡◌, List, sym, subst, Bool, true}
 use Rattle.key_class.specs.declared.sides.Side.{Side}
 use Rattle.page_table.proofs.Counting.{false_true}
 use Rattle.page_table.specs.Soundness.{IsSound}

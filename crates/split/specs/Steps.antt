@@ -1,8 +1,6 @@
 -- The tree after a step, and what each step rests on.
-use Rattle.std.specs.Prelude.{◌≡◌, ℕ, suc, ◌+◌, ◌<◌, ◌≤◌, Bool, true, false, List, [], ◌∷◌, length, Option, Some, None, option_to_list, All}
+use Rattle.std.specs.Prelude.{◌≡◌, ℕ, suc, ◌<◌, ◌≤◌, true, false, List, length, Some, None, option_to_list, All}
 use Rattle.key_class.specs.declared.sides.Side.{Side}
-use Rattle.row_version.specs.Entries.{Entry}
-use Rattle.node.specs.declared.branch.Branch.{Branch}
 use Rattle.node.specs.Pages.{Page, keys_of}
 use Rattle.node.specs.Parts.{left_part, right_part, cover_of}
 use Rattle.node.specs.Changes.{split_left, split_right, post_parent, post_child, post_sibling, grown_left, grown_right, grown_root, enlarge_parent, enlarge_child}

@@ -1,5 +1,5 @@
 -- The tests of each step, in their order. The first that fails gives the refusal.
-use Rattle.std.specs.Prelude.{◌≡◌, ◌⊎◌, ℕ, suc, ◌+◌, ◌/◌, Bool, true, false, not, ◌&&◌, ◌||◌, nat_eq, nat_lt, nat_le, List, [], ◌∷◌, length, count_by, Option, Some, None}
+use Rattle.std.specs.Prelude.{◌≡◌, ◌⊎◌, ℕ, ◌+◌, ◌/◌, Bool, true, false, not, ◌&&◌, ◌||◌, nat_eq, nat_lt, nat_le, List, [], ◌∷◌, length, count_by, Option, Some, None}
 use Rattle.key_class.specs.Splits.{is_left, is_right}
 use Rattle.key_class.specs.declared.sides.Side.{Side}
 use Rattle.key_class.specs.declared.refusal.Refusal.{Refusal}

@@ -9,12 +9,7 @@ use page_table::PageTable;
 use std::alloc::{AllocError, Global};
 
 /// The key of the parent's branch to the child, and the child's cover, take in the key.
-pub fn enlarge<C: KeyClass>(
-    table: &mut PageTable<C::Key>,
-    parent: u32,
-    child: u32,
-    key: C::Key,
-)
+pub fn enlarge<C: KeyClass>(table: &mut PageTable<C::Key>, parent: u32, child: u32, key: C::Key)
     requires parent_exists { parent < length table.old.pages }
     requires child_exists { child < length table.old.pages }
     requires apart { parent ≢ child }

@@ -49,13 +49,7 @@ impl<C: KeyClass> SearchTree<C> {
         ensures passed { OnOk result (first_failing (config_tests fan least limit) ≡ None) }
         ensures refused { IfErr result (IsRefusedBy (config_tests fan least limit)) }
     {
-        if fan < 4
-            || 64 < fan
-            || least < 2
-            || fan / 2 < least
-            || limit < 1
-            || 65_536 < limit
-        {
+        if fan < 4 || 64 < fan || least < 2 || fan / 2 < least || limit < 1 || 65_536 < limit {
             return Err(Refusal::BadConfig);
         }
         let table = PageTable::new(alloc, fan as usize)?;

@@ -1,16 +1,15 @@
 -- The items of single commits, and commits without any.
-use Rattle.std.proofs.Common.{◌≡◌, ◌+◌, ◌-◌, ◌<◌, ◌≤◌, ℕ, Bool, true, false, List, [], ◌∷◌, ◌++◌, length, take, Option, Some, None, refl, sym, ap, ◌∙◌, arith, subst, ◌⊎◌, inl, inr, ⊎_elim}
+use Rattle.std.proofs.Common.{◌≡◌, ◌+◌, ◌-◌, ◌<◌, ◌≤◌, ℕ, Bool, true, false, List, [], ◌++◌, length, take, Option, Some, None, refl, sym, ap, ◌∙◌, arith, subst}
 use Rattle.std.specs.Prelude.{slice_get, nat_eq, option_to_list, option_and_then, IfSome, is_some}
 use Rattle.change_list.specs.declared.write.Write.{Write}
 use Rattle.change_list.specs.declared.write.Write.TheVariants.{Insert, Delete}
 use Rattle.change_list.specs.declared.item.Item.{Item}
-use Rattle.change_list.specs.declared.item.Row.{Row}
 use Rattle.change_list.specs.declared.item.Item.TheVariants.{Inserted, Deleted}
-use Rattle.change_list.specs.Changes.{commit_at, item_at, item_of, if_wanted, deleted_item, IsLegal, status_of, changes}
-use Rattle.change_list.proofs.Tracking.{live_row, commit_within, take_before}
+use Rattle.change_list.specs.Changes.{commit_at, item_at, item_of, if_wanted, deleted_item, IsLegal, changes}
+use Rattle.change_list.proofs.Tracking.{live_row}
 use Rattle.change_list.proofs.Lists.{slice_get_within, slice_get_before}
 use Rattle.change_list.proofs.Pushing.{changes_more, changes_none}
-use Rattle.std.proofs.lemmas.List.{take-append-drop, length-take-le}
+use Rattle.std.proofs.lemmas.List.{take-append-drop}
 use Rattle.change_list.specs.Listings.{is_mark}
 use Rattle.store.specs.Steps.{Passes}
 
@@ -61,10 +60,12 @@ module _ {K : Type 0} where
         wanted_no_mark : (b : Bool) (i : Item K) → is_mark i ≡ false → IfSome (if_wanted b i) (λ i. is_mark i ≡ false)
         wanted_no_mark true i h = h
         wanted_no_mark false i h = tt
+
         by_row : (row : ℕ) (found : Option (Write K)) → IfSome (deleted_item wanted (place + 1) row found) (λ i. is_mark i ≡ false)
         by_row row (Some (Insert key tag)) = wanted_no_mark (wanted key) (Deleted (place + 1) row) refl
         by_row row (Some (Delete other)) = tt
         by_row row None = tt
+
         by_commit : (found : Option (Write K)) → IfSome (option_and_then (item_of wanted (take place commits) (place + 1)) found) (λ i. is_mark i ≡ false)
         by_commit None = tt
         by_commit (Some (Insert key tag)) = wanted_no_mark (wanted key) (Inserted (record { row = place + 1; key = key; tag = tag })) refl

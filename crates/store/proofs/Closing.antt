@@ -1,5 +1,5 @@
 -- The cursors that are left.
-use Rattle.std.proofs.Common.{◌≡◌, ◌≤◌, ℕ, Bool, true, false, not, cond, List, [], ◌∷◌, map, filter, refl, ap, Ok, arith, length, ◌+◌}
+use Rattle.std.proofs.Common.{◌≡◌, ℕ, Bool, true, false, not, cond, List, [], ◌∷◌, map, filter, refl, ap, Ok}
 use Rattle.std.proofs.lemmas.List.{length-map}
 use Rattle.std.specs.Prelude.{nat_eq}
 use Rattle.std.specs.List.{AllByRecursion}
@@ -38,7 +38,7 @@ module _ {K A : Type 0} where
   pub closes : (matching : A → K → Bool) (commits : List (Write K)) (entries : List (Entry K)) (cursors : List (Held K A)) (last c : ℕ) → IsSound commits entries cursors last → (limit pages : ℕ) (k : CursorState K A)
       → cursor_of (record { limit = limit; commits = commits; cursors = map (shown matching entries) cursors; last = last; dead = dead_rows entries; pages_left = pages; finders = 0 }) c ≡ Ok k
       → Closes (record { limit = limit; commits = commits; cursors = map (shown matching entries) cursors; last = last; dead = dead_rows entries; pages_left = pages; finders = 0 }) c
-          (record { limit = limit; commits = commits; cursors = map (shown matching entries) (filter (is_other c) cursors); last = last; dead = dead_rows entries; pages_left = pages; finders = 0 })
+      (record { limit = limit; commits = commits; cursors = map (shown matching entries) (filter (is_other c) cursors); last = last; dead = dead_rows entries; pages_left = pages; finders = 0 })
   closes matching commits entries cursors last c s limit pages k o =
       let f = found_as (record { limit = limit; commits = commits; cursors = map (shown matching entries) cursors; last = last; dead = dead_rows entries; pages_left = pages; finders = 0 }) c k o in
       let n = one_less matching entries c 0 last cursors k s.serials f.found in

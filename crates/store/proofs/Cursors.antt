@@ -1,10 +1,8 @@
 -- The cursor with a serial, after it was put back changed, after another was, and after a new one came.
-use Rattle.std.proofs.Common.{◌≡◌, ◌≢◌, ◌+◌, ◌<◌, ◌≤◌, ℕ, Bool, true, false, not, cond, ◌||◌, List, [], ◌∷◌, ◌++◌, Option, Some, None, Result, Ok, Err, refl, sym, ap, ◌∙◌, arith, subst}
-use Rattle.std.specs.Prelude.{nat_eq, nat_lt, find, if◌then◌else◌}
-use Rattle.change_list.specs.declared.write.Write.{Write}
+use Rattle.std.proofs.Common.{◌≡◌, ◌≢◌, ◌<◌, ℕ, Bool, true, false, cond, ◌||◌, List, [], ◌∷◌, ◌++◌, Option, Some, None, Ok, Err, refl, sym, ap, ◌∙◌, arith, subst}
+use Rattle.std.specs.Prelude.{nat_eq, nat_lt, if◌then◌else◌}
 use Rattle.change_list.specs.declared.item.Item.{Item}
 use Rattle.change_list.specs.Cursors.{CursorState, work}
-use Rattle.key_class.specs.declared.refusal.Refusal.{Refusal}
 use Rattle.key_class.specs.declared.refusal.Refusal.TheVariants as refusal
 use Rattle.store.specs.States.{State, cursor_of, open_or_closed, find_cursor, replaced, with_cursor, work_of, work_at, Nexts, Gave}
 
@@ -23,6 +21,7 @@ module _ {K A : Type 0} where
     where
       same : nat_eq after.serial c ≡ true
       same = search (arith, s)
+
       go : (find_cursor c ks ≡ Some k → find_cursor c (replaced after ks) ≡ Some after) → (b : Bool) → nat_eq x.serial c ≡ b → find_cursor c (x ∷ ks) ≡ Some k → find_cursor c (replaced after (x ∷ ks)) ≡ Some after
       go r true e h = let q : nat_eq x.serial after.serial ≡ true = subst (λ n. nat_eq x.serial n ≡ true) (sym s) e in rw (q, same) refl
       go r false e h = let q : nat_eq x.serial after.serial ≡ false = subst (λ n. nat_eq x.serial n ≡ false) (sym s) e in rw (q, e) (r (rw e at h))

@@ -1,23 +1,22 @@
 -- The entries after a delete: one of them died, and nothing else changed.
-use Rattle.std.proofs.Common.{◌≡◌, ◌≢◌, ◌+◌, ◌<◌, ◌≤◌, ℕ, suc, zero, Bool, true, false, not, cond, ◌&&◌, List, [], ◌∷◌, ◌++◌, length, map, filter, Option, Some, None, refl, sym, ap, ◌∙◌, arith, subst, length-append, add-one}
-use Rattle.std.specs.Prelude.{nat_eq, nat_le, nat_lt, is_none, IsPermutation}
-use Rattle.std.specs.List.{AllByRecursion, filter_map}
+use Rattle.std.proofs.Common.{◌≡◌, ◌+◌, ◌<◌, ◌≤◌, ℕ, Bool, true, false, not, cond, ◌&&◌, List, [], ◌∷◌, ◌++◌, length, map, filter, Option, Some, None, refl, sym, ap, ◌∙◌, arith, subst, length-append}
+use Rattle.std.specs.Prelude.{nat_eq, nat_le, is_none, IsPermutation}
+use Rattle.std.specs.List.{AllByRecursion}
 use Rattle.std.proofs.lemmas.List.{map-append}
 use Rattle.std.proofs.lemmas.List.Elements.{filter_map-append}
 use Rattle.std.proofs.lemmas.List.Sorted.{IsPermutation-refl, IsPermutation-sym, IsPermutation-middle}
 use Rattle.change_list.specs.declared.write.Write.{Write}
-use Rattle.change_list.specs.declared.write.Write.TheVariants.{Insert, Delete}
+use Rattle.change_list.specs.declared.write.Write.TheVariants.{Delete}
 use Rattle.change_list.specs.declared.write.Status.TheVariants.{Live}
 use Rattle.change_list.specs.declared.item.Row.{Row}
-use Rattle.change_list.specs.Changes.{rows, status_of}
+use Rattle.change_list.specs.Changes.{status_of}
 use Rattle.change_list.proofs.Pushing.{rows_delete}
 use Rattle.change_list.proofs.Rows.{StandsIn, live_stands}
-use Rattle.change_list.proofs.Tracking.{legal_push, live_within}
+use Rattle.change_list.proofs.Tracking.{legal_push}
 use Rattle.key_class.specs.Queries.{Query, matches_query}
-use Rattle.change_list.specs.Cursors.{CursorState, Fits}
 use Rattle.store.specs.declared.entry.Entry.{Entry}
-use Rattle.store.specs.Entries.{Held, shown, rows_to_scan, seen_rows, is_visible_at, is_live, row_of, dies_after, dead_from, dead_rows, IsWithin, IsRising, Agree, IsSound, marked}
-use Rattle.store.specs.States.{DeadRow, Stays, KeepsCursors, Commits}
+use Rattle.store.specs.Entries.{Held, shown, rows_to_scan, seen_rows, is_visible_at, is_live, row_of, dies_after, dead_from, dead_rows, IsWithin, IsRising, IsSound, marked}
+use Rattle.store.specs.States.{Stays, Commits}
 use Rattle.change_list.proofs.Fitting.{fits_push}
 use Rattle.store.proofs.Keeping.{keeps_cursors, each_tt, as_many}
 
@@ -50,6 +49,7 @@ module _ {K : Type 0} (row n : ℕ) where
       parts : (a b : Bool) → (a && b) ≡ true → b ≡ true
       parts true b h = h
       parts false b h = absurd (cc)
+
       dying : (d : Option ℕ) → is_none d ≡ true → dies_after s (Some n) ≡ dies_after s d
       dying None h = search (arith, l)
       dying (Some m) h = absurd (cc)
@@ -58,7 +58,7 @@ module _ {K : Type 0} (row n : ℕ) where
   seen_marked wanted s l [] = refl
   seen_marked wanted s l (e ∷ es) =
       let v : (is_visible_at s (marked row n e) && wanted (row_of (marked row n e)).key) ≡ (is_visible_at s e && wanted e.key) =
-          ap (λ b. b && wanted (row_of (marked row n e)).key) (visible_marked s l e) ∙ ap (λ (r : Row K). is_visible_at s e && wanted r.key) (row_of_marked e) in
+      ap (λ b. b && wanted (row_of (marked row n e)).key) (visible_marked s l e) ∙ ap (λ (r : Row K). is_visible_at s e && wanted r.key) (row_of_marked e) in
       go (seen_marked wanted s l es) (is_visible_at s (marked row n e) && wanted (row_of (marked row n e)).key) (is_visible_at s e && wanted e.key) v
     where
       go : seen_rows wanted s (map (marked row n) es) ≡ seen_rows wanted s es → (a b : Bool) → a ≡ b → map row_of (cond a (marked row n e ∷ filter (λ e. is_visible_at s e && wanted e.key) (map (marked row n) es)) (filter (λ e. is_visible_at s e && wanted e.key) (map (marked row n) es)))
@@ -125,6 +125,7 @@ module _ {K : Type 0} where
     where
       later : IsFound row es → IsFound row (x ∷ es)
       later f = record { entry = f.entry; stands = record { front = x ∷ f.stands.front; back = f.stands.back; is = ap (λ l. x ∷ l) f.stands.is }; number = f.number; live = f.live }
+
       by_died : ((fs : List (Row K)) → map row_of (filter is_live es) ≡ fs ++ r ∷ back → IsFound row es) → (d : Option ℕ) → x.died ≡ d → (front : List (Row K)) → map row_of (filter is_live (x ∷ es)) ≡ front ++ r ∷ back → IsFound row (x ∷ es)
       by_died f (Some n) d front k =
           let m : map row_of (filter is_live es) ≡ front ++ r ∷ back = rw d at k in
@@ -153,14 +154,14 @@ module _ {K : Type 0} where
       let here : dies row n e ≡ true = rw (f.number, f.live) (search arith) in
       let m : marked row n e ≡ record e { died = Some n } = marked_dies row n e here in
       let new : map (marked row n) es ≡ front ++ (record e { died = Some n }) ∷ back =
-          ap (map (marked row n)) f.stands.is ∙ map-append (marked row n) front (e ∷ back)
-          ∙ ap (λ l. l ++ map (marked row n) (e ∷ back)) a ∙ ap (λ x. front ++ x ∷ map (marked row n) back) m ∙ ap (λ l. front ++ (record e { died = Some n }) ∷ l) b in
+      ap (map (marked row n)) f.stands.is ∙ map-append (marked row n) front (e ∷ back)
+      ∙ ap (λ l. l ++ map (marked row n) (e ∷ back)) a ∙ ap (λ x. front ++ x ∷ map (marked row n) back) m ∙ ap (λ l. front ++ (record e { died = Some n }) ∷ l) b in
       let dead : dead_rows (map (marked row n) es) ≡ dead_rows front ++ (record { row = row; died = n }) ∷ dead_rows back =
-          ap dead_rows new ∙ dead_split front back (record e { died = Some n }) ∙ ap (λ k. dead_rows front ++ (record { row = k; died = n }) ∷ dead_rows back) f.number in
+      ap dead_rows new ∙ dead_split front back (record e { died = Some n }) ∙ ap (λ k. dead_rows front ++ (record { row = k; died = n }) ∷ dead_rows back) f.number in
       let old : dead_rows es ≡ dead_rows front ++ dead_rows back =
-          ap dead_rows f.stands.is ∙ dead_split front back e ∙ ap (λ d. dead_rows front ++ dead_rows ((record e { died = d }) ∷ back)) f.live in
+      ap dead_rows f.stands.is ∙ dead_split front back e ∙ ap (λ d. dead_rows front ++ dead_rows ((record e { died = d }) ∷ back)) f.live in
       let middle : IsPermutation ((record { row = row; died = n }) ∷ (dead_rows front ++ dead_rows back)) (dead_rows front ++ (record { row = row; died = n }) ∷ dead_rows back) =
-          IsPermutation-sym _ _ (IsPermutation-middle (dead_rows front) (record { row = row; died = n }) (dead_rows back)) in
+      IsPermutation-sym _ _ (IsPermutation-middle (dead_rows front) (record { row = row; died = n }) (dead_rows back)) in
       rw (dead, old) middle
 
 module _ {K A : Type 0} (matching : A → K → Bool) (commits : List (Write K)) (entries : List (Entry K)) (row : ℕ) (live : status_of commits row ≡ Live) where
@@ -174,11 +175,14 @@ module _ {K A : Type 0} (matching : A → K → Bool) (commits : List (Write K))
 
   stays_delete : (h : Held K A) → Unit {0} → Stays matching commits (commits ++ Delete row ∷ []) (shown matching entries h) (shown matching after h)
   stays_delete h u = record {
-    query = refl; opened = refl; scanning = refl; asked = refl;
+    query = refl;
+    opened = refl;
+    scanning = refl;
+    asked = refl;
     fits = λ items f.
-      let b : h.opened ≤ length commits = omega (arith, f.from_opening, f.within) in
-      let same : (shown matching entries h).remaining ≡ (shown matching after h).remaining = ap (λ r. h.pending ++ r) (sym (seen_delete h.query h.opened h.scanning b)) in
-      fits_push matching commits (shown matching entries h) items f (Delete row) _ (subst (λ r. IsPermutation (shown matching entries h).remaining r) same (IsPermutation-refl _));
+        let b : h.opened ≤ length commits = omega (arith, f.from_opening, f.within) in
+        let same : (shown matching entries h).remaining ≡ (shown matching after h).remaining = ap (λ r. h.pending ++ r) (sym (seen_delete h.query h.opened h.scanning b)) in
+        fits_push matching commits (shown matching entries h) items f (Delete row) _ (subst (λ r. IsPermutation (shown matching entries h).remaining r) same (IsPermutation-refl _));
   }
 
   module _ (cursors : List (Held K A)) (last : ℕ) (s : IsSound commits entries cursors last) where
@@ -211,11 +215,15 @@ module _ {K A : Type 0} (matching : A → K → Bool) (commits : List (Write K))
 
     pub delete_commits : (limit pages : ℕ)
         → Commits matching
-            (record { limit = limit; commits = commits; cursors = map (shown matching entries) cursors; last = last; dead = dead_rows entries; pages_left = pages; finders = 0 })
-            (Delete row)
-            (record { limit = limit; commits = commits ++ Delete row ∷ []; cursors = map (shown matching after) cursors; last = last; dead = dead_rows after; pages_left = pages; finders = 0 })
+        (record { limit = limit; commits = commits; cursors = map (shown matching entries) cursors; last = last; dead = dead_rows entries; pages_left = pages; finders = 0 })
+        (Delete row)
+        (record { limit = limit; commits = commits ++ Delete row ∷ []; cursors = map (shown matching after) cursors; last = last; dead = dead_rows after; pages_left = pages; finders = 0 })
     delete_commits limit pages = record {
-      limit = refl; commits = refl; last = refl; pages = omega arith; as_many = as_many matching entries after cursors;
+      limit = refl;
+      commits = refl;
+      last = refl;
+      pages = omega arith;
+      as_many = as_many matching entries after cursors;
       cursors = keeps_cursors matching commits (commits ++ Delete row ∷ []) entries after (λ h. Unit {0}) stays_delete cursors limit last pages pages (dead_rows entries) (dead_rows after) (each_tt cursors);
     }
 

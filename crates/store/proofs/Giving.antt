@@ -1,5 +1,5 @@
 -- A whole `next` of a cursor: a row, else the next change, else a mark, else nothing.
-use Rattle.std.proofs.Common.{◌≡◌, ◌+◌, ◌-◌, ◌<◌, ◌≤◌, ℕ, Bool, true, false, cond, List, [], ◌∷◌, ◌++◌, length, Option, Some, None, refl, sym, ap, ◌∙◌, arith, subst}
+use Rattle.std.proofs.Common.{◌≡◌, ◌+◌, ◌-◌, ◌<◌, ◌≤◌, ℕ, Bool, true, false, cond, List, ◌∷◌, ◌++◌, length, Option, Some, None, refl, sym, ap, ◌∙◌, arith, subst}
 use Rattle.std.specs.Prelude.{option_to_list, IfSome, is_some}
 use Rattle.std.proofs.lemmas.List.{append-nil}
 use Rattle.change_list.specs.declared.write.Write.{Write}
@@ -9,7 +9,7 @@ use Rattle.change_list.specs.declared.item.Item.TheVariants as item
 use Rattle.key_class.specs.Queries.{matches_query}
 use Rattle.store.specs.declared.entry.Entry.{Entry}
 use Rattle.change_list.specs.Listings.{is_mark}
-use Rattle.change_list.specs.Cursors.{CursorState, IsFollowing, Fits, IsDone, wants, work}
+use Rattle.change_list.specs.Cursors.{IsFollowing, Fits, work}
 use Rattle.store.specs.Entries.{Held, shown}
 use Rattle.store.specs.States.{Gives, Answers}
 use Rattle.store.specs.Steps.{TakesRow, Passes}
@@ -20,7 +20,7 @@ module _ {K A : Type 0} (matching : A → K → Bool) (commits : List (Write K))
       → Gives matching commits (shown matching entries before) (Some (item.Row row)) (shown matching entries after)
   gives_row row after t =
       subst (λ a. Gives matching commits (shown matching entries before) (Some (item.Row row)) (shown matching entries a)) (sym t.same)
-        (go after.scanning after.pending (subst (λ a. (shown matching entries before).remaining ≡ row ∷ (shown matching entries a).remaining) t.same t.remaining))
+      (go after.scanning after.pending (subst (λ a. (shown matching entries before).remaining ≡ row ∷ (shown matching entries a).remaining) t.same t.remaining))
     where
       go : (s : Bool) (p : List (Row K)) → (shown matching entries before).remaining ≡ row ∷ (shown matching entries (record before { scanning = s; pending = p })).remaining
           → Gives matching commits (shown matching entries before) (Some (item.Row row)) (shown matching entries (record before { scanning = s; pending = p }))
@@ -31,7 +31,7 @@ module _ {K A : Type 0} (matching : A → K → Bool) (commits : List (Write K))
     fits_mid : (items : List (Item K)) → Fits matching commits (shown matching entries before) items → Fits matching commits (shown matching entries mid) items
     fits_mid items f =
         subst (λ a. Fits matching commits (shown matching entries a) items) (sym t.same)
-          (go mid.scanning mid.pending (t.finished refl).scanned (subst (λ a. (shown matching entries before).remaining ≡ (shown matching entries a).remaining) t.same t.remaining))
+        (go mid.scanning mid.pending (t.finished refl).scanned (subst (λ a. (shown matching entries before).remaining ≡ (shown matching entries a).remaining) t.same t.remaining))
       where
         go : (s : Bool) (p : List (Row K)) → s ≡ false → (shown matching entries before).remaining ≡ (shown matching entries (record before { scanning = s; pending = p })).remaining
             → Fits matching commits (shown matching entries (record before { scanning = s; pending = p })) items
@@ -70,6 +70,7 @@ module _ {K A : Type 0} (matching : A → K → Bool) (commits : List (Write K))
               → IfSome g (λ _. work commits (shown matching entries (record mid { position = position })) < work commits (shown matching entries before))
           less None a = tt
           less (Some i) a = less_behind mid.asked (omega (arith, a.0, a.1))
+
           answer : (g : Option (Item K)) → is_some g ≡ true → IfSome g (λ x. is_mark x ≡ false) → Answers matching commits (shown matching entries before) g (shown matching entries (record mid { position = position }))
           answer None h n = absurd (cc)
           answer (Some (item.Mark k)) h n = absurd (cc)

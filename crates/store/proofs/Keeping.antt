@@ -1,24 +1,21 @@
 -- The entries after an insert, a delete or a sweep, and the cursors, which keep what fits them.
-use Rattle.std.proofs.Common.{◌≡◌, ◌+◌, ◌-◌, ◌<◌, ◌≤◌, ◌≢◌, ℕ, suc, zero, Bool, true, false, not, cond, ◌&&◌, ◌||◌, List, [], ◌∷◌, ◌++◌, length, take, drop, map, filter, Option, Some, None, Result, Ok, Err, refl, sym, ap, ◌∙◌, arith, subst, length-append, ⊎_elim, min}
-use Rattle.std.specs.Prelude.{nat_eq, nat_le, nat_lt, is_none, find, IsPermutation, slice_get, slice_set, if◌then◌else◌}
-use Rattle.std.specs.List.{filter_map, AllByRecursion}
-use Rattle.std.proofs.lemmas.List.{append-nil, map-append, take_all, length-map}
+use Rattle.std.proofs.Common.{◌≡◌, ◌+◌, ◌<◌, ◌≤◌, ℕ, Bool, true, false, ◌&&◌, ◌||◌, List, [], ◌∷◌, ◌++◌, length, take, map, filter, Option, Some, None, Err, refl, sym, ap, ◌∙◌, arith, subst, length-append}
+use Rattle.std.specs.Prelude.{nat_eq, nat_lt, is_none, IsPermutation, if◌then◌else◌}
+use Rattle.std.specs.List.{AllByRecursion}
+use Rattle.std.proofs.lemmas.List.{map-append, take_all, length-map}
 use Rattle.std.proofs.lemmas.List.Sorted.{IsPermutation-refl}
 use Rattle.std.proofs.lemmas.Bool.{lt-leb, le-leb}
 use Rattle.change_list.specs.declared.write.Write.{Write}
-use Rattle.change_list.specs.declared.write.Write.TheVariants.{Insert, Delete}
+use Rattle.change_list.specs.declared.write.Write.TheVariants.{Insert}
 use Rattle.change_list.specs.declared.item.Row.{Row}
-use Rattle.change_list.specs.declared.item.Item.{Item}
-use Rattle.change_list.specs.Changes.{rows, IsLegal, MayFollow, status_of, snapshot}
-use Rattle.change_list.proofs.Pushing.{filter_push, filter_push_not, filter_twice, rows_insert, rows_delete}
+use Rattle.change_list.specs.Changes.{rows, snapshot}
+use Rattle.change_list.proofs.Pushing.{filter_push, filter_push_not, filter_twice, rows_insert}
 use Rattle.change_list.proofs.Tracking.{legal_push, none_deletes}
 use Rattle.key_class.specs.Queries.{Query, matches_query}
-use Rattle.key_class.specs.declared.refusal.Refusal.{Refusal}
 use Rattle.key_class.specs.declared.refusal.Refusal.TheVariants as refusal
 use Rattle.store.specs.declared.entry.Entry.{Entry}
-use Rattle.change_list.specs.Cursors.{CursorState, Fits}
-use Rattle.store.specs.Entries.{Held, shown, rows_to_scan, seen_rows, is_visible_at, is_live, row_of, dies_after, dead_rows, IsWithin, IsRising, Agree, IsSound, marked}
-use Rattle.store.specs.States.{State, cursor_of, open_or_closed, find_cursor, Stays, SameOrStays, KeepsCursors, Commits, Keeps, DeadRow, IsOpened}
+use Rattle.store.specs.Entries.{Held, shown, rows_to_scan, seen_rows, is_visible_at, is_live, row_of, dies_after, dead_rows, IsWithin, IsRising, Agree, IsSound}
+use Rattle.store.specs.States.{open_or_closed, find_cursor, Stays, SameOrStays, KeepsCursors, Commits, DeadRow, IsOpened}
 use Rattle.change_list.proofs.Fitting.{fits_push, fits_new}
 use Rattle.store.proofs.Serials.{rise_push, found_last}
 
@@ -48,15 +45,15 @@ module _ {K A : Type 0} (matching : A → K → Bool) (commits later : List (Wri
   -- a state with these entries, and one with those
   pub keeps_cursors : (hs : List (Held K A)) (limit last pages less : ℕ) (dead dying : List DeadRow) → AllByRecursion P hs
       → KeepsCursors matching
-          (record { limit = limit; commits = commits; cursors = map (shown matching entries) hs; last = last; dead = dead; pages_left = pages; finders = 0 })
-          (record { limit = limit; commits = later; cursors = map (shown matching now) hs; last = last; dead = dying; pages_left = less; finders = 0 })
+      (record { limit = limit; commits = commits; cursors = map (shown matching entries) hs; last = last; dead = dead; pages_left = pages; finders = 0 })
+      (record { limit = limit; commits = later; cursors = map (shown matching now) hs; last = last; dead = dying; pages_left = less; finders = 0 })
   keeps_cursors hs limit last pages less dead dying a c = by_test (nat_eq c 0 || nat_lt last c) (keeps_found c hs a)
     where
       by_test : (b : Bool)
           → SameOrStays matching commits later (open_or_closed (find_cursor c (map (shown matching entries) hs))) (open_or_closed (find_cursor c (map (shown matching now) hs)))
           → SameOrStays matching commits later
-              (if b then Err refusal.NoSuchCursor else open_or_closed (find_cursor c (map (shown matching entries) hs)))
-              (if b then Err refusal.NoSuchCursor else open_or_closed (find_cursor c (map (shown matching now) hs)))
+          (if b then Err refusal.NoSuchCursor else open_or_closed (find_cursor c (map (shown matching entries) hs)))
+          (if b then Err refusal.NoSuchCursor else open_or_closed (find_cursor c (map (shown matching now) hs)))
       by_test true r = refl
       by_test false r = r
 
@@ -82,11 +79,14 @@ module _ {K A : Type 0} (matching : A → K → Bool) (commits : List (Write K))
 
   stays_insert : (h : Held K A) → Unit {0} → Stays matching commits (commits ++ Insert key tag ∷ []) (shown matching entries h) (shown matching (entries ++ fresh ∷ []) h)
   stays_insert h u = record {
-    query = refl; opened = refl; scanning = refl; asked = refl;
+    query = refl;
+    opened = refl;
+    scanning = refl;
+    asked = refl;
     fits = λ items f.
-      let b : h.opened ≤ length commits = omega (arith, f.from_opening, f.within) in
-      let same : (shown matching entries h).remaining ≡ (shown matching (entries ++ fresh ∷ []) h).remaining = ap (λ r. h.pending ++ r) (sym (seen_push h.query h.opened h.scanning b)) in
-      fits_push matching commits (shown matching entries h) items f (Insert key tag) _ (subst (λ r. IsPermutation (shown matching entries h).remaining r) same (IsPermutation-refl _));
+        let b : h.opened ≤ length commits = omega (arith, f.from_opening, f.within) in
+        let same : (shown matching entries h).remaining ≡ (shown matching (entries ++ fresh ∷ []) h).remaining = ap (λ r. h.pending ++ r) (sym (seen_push h.query h.opened h.scanning b)) in
+        fits_push matching commits (shown matching entries h) items f (Insert key tag) _ (subst (λ r. IsPermutation (shown matching entries h).remaining r) same (IsPermutation-refl _));
   }
 
   dead_push : dead_rows (entries ++ fresh ∷ []) ≡ dead_rows entries
@@ -121,7 +121,7 @@ module _ {K A : Type 0} (matching : A → K → Bool) (commits : List (Write K))
                 ∙ sym (rows_insert commits key tag (none_deletes commits (length commits + 1) s.legal l));
             numbers = rw n (each_push (λ (e : Entry K). (e.row ≤ length commits + 1) × IsWithin (length commits + 1) e.died) entries fresh
                 (each_weaker (λ (e : Entry K). (e.row ≤ length commits) × IsWithin (length commits) e.died) (λ (e : Entry K). (e.row ≤ length commits + 1) × IsWithin (length commits + 1) e.died)
-                  (λ e p. (omega (arith, p.0), within_later (length commits) e.died p.1)) entries s.agree.numbers)
+                (λ e p. (omega (arith, p.0), within_later (length commits) e.died p.1)) entries s.agree.numbers)
                 (omega arith, tt));
             rising = rising_push 0 entries s.agree.rising s.agree.numbers (omega arith);
           };
@@ -130,11 +130,15 @@ module _ {K A : Type 0} (matching : A → K → Bool) (commits : List (Write K))
 
     pub insert_commits : (limit pages : ℕ)
         → Commits matching
-            (record { limit = limit; commits = commits; cursors = map (shown matching entries) cursors; last = last; dead = dead_rows entries; pages_left = pages; finders = 0 })
-            (Insert key tag)
-            (record { limit = limit; commits = commits ++ Insert key tag ∷ []; cursors = map (shown matching (entries ++ fresh ∷ [])) cursors; last = last; dead = dead_rows (entries ++ fresh ∷ []); pages_left = pages; finders = 0 })
+        (record { limit = limit; commits = commits; cursors = map (shown matching entries) cursors; last = last; dead = dead_rows entries; pages_left = pages; finders = 0 })
+        (Insert key tag)
+        (record { limit = limit; commits = commits ++ Insert key tag ∷ []; cursors = map (shown matching (entries ++ fresh ∷ [])) cursors; last = last; dead = dead_rows (entries ++ fresh ∷ []); pages_left = pages; finders = 0 })
     insert_commits limit pages = record {
-      limit = refl; commits = refl; last = refl; pages = omega arith; as_many = as_many matching entries (entries ++ fresh ∷ []) cursors;
+      limit = refl;
+      commits = refl;
+      last = refl;
+      pages = omega arith;
+      as_many = as_many matching entries (entries ++ fresh ∷ []) cursors;
       cursors = keeps_cursors matching commits (commits ++ Insert key tag ∷ []) entries (entries ++ fresh ∷ []) (λ h. Unit {0}) stays_insert cursors limit last pages pages (dead_rows entries) (dead_rows (entries ++ fresh ∷ [])) (each_tt cursors);
     }
 
@@ -189,18 +193,21 @@ module _ {K A : Type 0} (matching : A → K → Bool) (commits : List (Write K))
 
   pub is_opened : (limit pages : ℕ)
       → IsOpened matching
-          (record { limit = limit; commits = commits; cursors = map (shown matching entries) cursors; last = last; dead = dead_rows entries; pages_left = pages; finders = 0 })
-          query (last + 1)
-          (record { limit = limit; commits = commits; cursors = map (shown matching entries) (cursors ++ new_cursor ∷ []); last = last + 1; dead = dead_rows entries; pages_left = pages; finders = 0 })
+      (record { limit = limit; commits = commits; cursors = map (shown matching entries) cursors; last = last; dead = dead_rows entries; pages_left = pages; finders = 0 })
+      query (last + 1)
+      (record { limit = limit; commits = commits; cursors = map (shown matching entries) (cursors ++ new_cursor ∷ []); last = last + 1; dead = dead_rows entries; pages_left = pages; finders = 0 })
   is_opened limit pages = record {
     serial = refl;
     cursor = shown matching entries new_cursor;
     after = rw (map-append) refl;
-    number = refl; query = refl; opened = refl; unasked = refl;
+    number = refl;
+    query = refl;
+    opened = refl;
+    unasked = refl;
     is_open =
         let z : nat_eq (last + 1) 0 ≡ false = search arith in
         let l : nat_lt (last + 1) (last + 1) ≡ false = search arith in
         rw (z, l, found_last matching entries 0 last cursors new_cursor refl s.serials) refl;
     fits = fits_new matching commits (shown matching entries new_cursor) refl refl
-      (subst (λ l. IsPermutation (snapshot (matches_query matching query) (length commits) commits) l) (sym (seen_found commits entries s.agree (matches_query matching query))) (IsPermutation-refl _));
+        (subst (λ l. IsPermutation (snapshot (matches_query matching query) (length commits) commits) l) (sym (seen_found commits entries s.agree (matches_query matching query))) (IsPermutation-refl _));
   }

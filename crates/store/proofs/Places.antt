@@ -1,15 +1,14 @@
 -- The place of an open cursor among the others.
-use Rattle.std.proofs.Common.{◌≡◌, ◌+◌, ◌<◌, ◌≤◌, ℕ, suc, zero, Bool, true, false, List, [], ◌∷◌, ◌++◌, length, map, Option, Some, None, Ok, Err, refl, sym, ap, ◌∙◌, arith, subst, ◌||◌, cond}
-use Rattle.std.specs.Prelude.{nat_eq, nat_lt, slice_get, slice_set, find, if◌then◌else◌, slice_index_or}
+use Rattle.std.proofs.Common.{◌≡◌, ◌+◌, ◌<◌, ◌≤◌, ℕ, suc, zero, Bool, true, false, List, [], ◌∷◌, length, map, Some, None, Ok, Err, refl, sym, ap, ◌∙◌, arith, subst, ◌||◌}
+use Rattle.std.specs.Prelude.{nat_eq, nat_lt, slice_get, slice_set, slice_index_or}
 use Rattle.key_class.specs.declared.refusal.Refusal.TheVariants as refusal
 use Rattle.change_list.specs.declared.write.Write.{Write}
-use Rattle.std.specs.List.{AllByRecursion}
 use Rattle.store.specs.declared.entry.Entry.{Entry}
 use Rattle.change_list.specs.Cursors.{CursorState}
 use Rattle.store.specs.Entries.{Held, shown, IsSound}
 use Rattle.store.proofs.Serials.{rise_set}
 use Rattle.std.proofs.lemmas.List.{length-map}
-use Rattle.store.specs.States.{DeadRow, State, cursor_of, open_or_closed, find_cursor, replaced, with_cursor, IsAt}
+use Rattle.store.specs.States.{DeadRow, State, cursor_of, find_cursor, replaced, with_cursor, IsAt}
 
 module _ {K A : Type 0} where
   -- none of the first cursors has the serial

@@ -1,5 +1,5 @@
 -- The serials of open cursors, which rise.
-use Rattle.std.proofs.Common.{◌≡◌, ◌+◌, ◌<◌, ◌≤◌, ℕ, suc, zero, Bool, true, false, not, cond, List, [], ◌∷◌, ◌++◌, length, map, filter, Option, Some, None, refl, sym, ap, ◌∙◌, arith, subst, min}
+use Rattle.std.proofs.Common.{◌≡◌, ◌+◌, ◌<◌, ◌≤◌, ℕ, suc, zero, Bool, true, false, not, cond, List, [], ◌∷◌, ◌++◌, length, map, filter, Some, refl, sym, ap, ◌∙◌, arith, subst, min}
 use Rattle.std.specs.Prelude.{nat_eq, slice_get, slice_set, nat_lt, if◌then◌else◌}
 use Rattle.change_list.specs.Cursors.{CursorState}
 use Rattle.store.specs.declared.entry.Entry.{Entry}
@@ -85,15 +85,19 @@ module _ {K A : Type 0} where
       where
         itself : nat_eq h.serial h.serial ≡ true
         itself = search arith
+
         here : h.scanning ≡ true → h.opened < m → IsScanBefore above last m (h ∷ hs)
         here s o = record { cursor = h; found = rw itself refl; scanning = s; opened = o; above_it = r.0; given = rise_within h.serial last hs r.1 }
+
         later : IsScanBefore h.serial last m hs → IsScanBefore above last m (h ∷ hs)
         later b =
             let d : nat_eq h.serial b.cursor.serial ≡ false = search (arith, b.above_it) in
             record { cursor = b.cursor; found = rw d b.found; scanning = b.scanning; opened = b.opened; above_it = omega (arith, r.0, b.above_it); given = b.given }
+
         opened_before : (b : Bool) → nat_lt h.opened m ≡ b → (least_opening n hs < m → IsScanBefore h.serial last m hs) → h.scanning ≡ true → min h.opened (least_opening n hs) < m → IsScanBefore above last m (h ∷ hs)
         opened_before true t s e l = here e (search (arith, t))
         opened_before false t s e l = let o : m ≤ h.opened = search (arith, t) in later (s (omega (arith, l, o)))
+
         go : (least_opening n hs < m → IsScanBefore h.serial last m hs) → (b : Bool) → h.scanning ≡ b → (if b then min h.opened (least_opening n hs) else least_opening n hs) < m → IsScanBefore above last m (h ∷ hs)
         go s true e l = opened_before (nat_lt h.opened m) refl s e l
         go s false e l = later (s l)

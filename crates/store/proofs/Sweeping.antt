@@ -1,17 +1,15 @@
 -- The entries that a sweep leaves, and the cursors, whose scans lose nothing.
-use Rattle.std.proofs.Common.{◌≡◌, ◌+◌, ◌-◌, ◌<◌, ◌≤◌, ℕ, Bool, true, false, not, cond, ◌&&◌, List, [], ◌∷◌, ◌++◌, length, map, filter, Option, Some, None, refl, sym, ap, ◌∙◌, arith, subst, min}
+use Rattle.std.proofs.Common.{◌≡◌, ◌+◌, ◌-◌, ◌<◌, ◌≤◌, ℕ, Bool, true, false, cond, ◌&&◌, List, [], ◌∷◌, ◌++◌, length, map, filter, Option, Some, None, refl, sym, ap, ◌∙◌, arith, subst, min}
 use Rattle.std.specs.Prelude.{nat_eq, nat_le, nat_lt, is_none, IsPermutation, if◌then◌else◌}
-use Rattle.std.specs.List.{AllByRecursion, filter_map}
+use Rattle.std.specs.List.{AllByRecursion}
 use Rattle.std.proofs.lemmas.List.Sorted.{IsPermutation-refl}
 use Rattle.change_list.specs.declared.write.Write.{Write}
 use Rattle.change_list.specs.declared.item.Row.{Row}
-use Rattle.change_list.specs.declared.item.Item.{Item}
-use Rattle.change_list.proofs.Lists.{filter_map_cons}
 use Rattle.key_class.specs.Queries.{Query, matches_query}
 use Rattle.change_list.specs.Cursors.{CursorState, Fits}
 use Rattle.store.specs.declared.entry.Entry.{Entry}
-use Rattle.store.specs.Entries.{Held, shown, rows_to_scan, seen_rows, is_visible_at, is_live, row_of, dies_after, dead_from, dead_rows, IsWithin, IsRising, Agree, IsSound, least_opening}
-use Rattle.store.specs.States.{State, DeadRow, Stays, KeepsCursors, KeepsLiving, Sweeps, IsNeededBy, is_needed, horizon_of}
+use Rattle.store.specs.Entries.{Held, shown, rows_to_scan, is_visible_at, is_live, row_of, dies_after, dead_rows, IsWithin, IsRising, IsSound, least_opening}
+use Rattle.store.specs.States.{State, DeadRow, Stays, Sweeps, IsNeededBy, horizon_of}
 use Rattle.store.proofs.Keeping.{keeps_cursors, as_many}
 use Rattle.store.proofs.Serials.{scan_before}
 use Rattle.store.proofs.Closing.{each_filtered}
@@ -130,7 +128,7 @@ module _ {K A : Type 0} (matching : A → K → Bool) (commits : List (Write K))
   stays_swept h b =
       let r : (shown matching entries h).remaining ≡ (shown matching left h).remaining = ap (λ r. h.pending ++ r) (sym (same_seen h.scanning h.query h.opened b)) in
       let same : shown matching entries h ≡ shown matching left h =
-          ap (λ (r : List (Row K)). let k : CursorState K A = record { serial = h.serial; query = h.query; opened = h.opened; scanning = h.scanning; remaining = r; position = h.position; asked = h.asked } in k) r in
+      ap (λ (r : List (Row K)). let k : CursorState K A = record { serial = h.serial; query = h.query; opened = h.opened; scanning = h.scanning; remaining = r; position = h.position; asked = h.asked } in k) r in
       record { query = refl; opened = refl; scanning = refl; asked = refl; fits = λ items f. subst (λ k. Fits matching commits k items) same f }
 
   pub sound_sweep : IsSound commits left cursors last
@@ -174,9 +172,9 @@ module _ {K A : Type 0} (matching : A → K → Bool) (commits : List (Write K))
 
   pub sweeps : (limit pages number : ℕ) → number ≡ length entries - length left
       → Sweeps matching
-          (record { limit = limit; commits = commits; cursors = map (shown matching entries) cursors; last = last; dead = dead_rows entries; pages_left = pages; finders = 0 })
-          number
-          (record { limit = limit; commits = commits; cursors = map (shown matching left) cursors; last = last; dead = dead_rows left; pages_left = pages; finders = 0 })
+      (record { limit = limit; commits = commits; cursors = map (shown matching entries) cursors; last = last; dead = dead_rows entries; pages_left = pages; finders = 0 })
+      number
+      (record { limit = limit; commits = commits; cursors = map (shown matching left) cursors; last = last; dead = dead_rows left; pages_left = pages; finders = 0 })
   sweeps limit pages number e =
       let d = dead_left horizon entries in
       let lives : length (filter is_live left) ≡ length (filter is_live entries) = ap length (filter_within (is_left horizon) is_live entries (live_left horizon)) in
@@ -184,7 +182,12 @@ module _ {K A : Type 0} (matching : A → K → Bool) (commits : List (Write K))
       let fewer : length (dead_rows left) ≤ length (dead_rows entries) = rw d (fewer_left (λ (x : DeadRow). nat_lt horizon x.died) (dead_rows entries)) in
       record {
         rest = record {
-          limit = refl; commits = refl; last = refl; pages = refl; finders = refl; as_many = as_many matching entries left cursors;
+          limit = refl;
+          commits = refl;
+          last = refl;
+          pages = refl;
+          finders = refl;
+          as_many = as_many matching entries left cursors;
           cursors = keeps_cursors matching commits commits entries left (λ (h : Held K A). h.scanning ≡ true → horizon ≤ h.opened) stays_swept cursors limit last pages pages (dead_rows entries) (dead_rows left)
               (least_below (length commits) horizon cursors (omega arith));
         };
@@ -192,6 +195,6 @@ module _ {K A : Type 0} (matching : A → K → Bool) (commits : List (Write K))
         counted = omega (arith, e, counted horizon entries, counted horizon left, lives, fewer);
         left =
             let same : filter (λ (x : DeadRow). nat_lt (horizon_of (length commits) (map (shown matching entries) cursors)) x.died) (dead_rows entries) ≡ dead_rows left =
-                ap (λ n. filter (λ (x : DeadRow). nat_lt n x.died) (dead_rows entries)) f ∙ sym d in
+            ap (λ n. filter (λ (x : DeadRow). nat_lt n x.died) (dead_rows entries)) f ∙ sym d in
             subst (λ l. IsPermutation l (dead_rows left)) (sym same) (IsPermutation-refl (dead_rows left));
       }

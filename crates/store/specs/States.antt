@@ -1,5 +1,5 @@
 -- What contracts see of a store, and what its calls do to it.
-use Rattle.std.specs.Prelude.{◌≡◌, ℕ, ◌+◌, ◌-◌, ◌<◌, ◌≤◌, Bool, true, false, not, ◌&&◌, ◌||◌, nat_le, nat_lt, nat_eq, List, [], ◌∷◌, ◌++◌, length, map, filter, find, min, Option, Some, None, Result, Ok, Err, IsPermutation, if◌then◌else◌, option_to_list, slice_get, slice_set, ◌⊎◌, IfSome}
+use Rattle.std.specs.Prelude.{◌≡◌, ℕ, ◌+◌, ◌-◌, ◌<◌, ◌≤◌, Bool, true, false, not, ◌||◌, nat_lt, nat_eq, List, [], ◌∷◌, ◌++◌, length, filter, find, min, Option, Some, None, Result, Ok, Err, IsPermutation, if◌then◌else◌, option_to_list, slice_get, slice_set, ◌⊎◌, IfSome}
 use Rattle.std.specs.List.{AllByRecursion}
 use Rattle.change_list.specs.declared.config.Config.{Config}
 use Rattle.change_list.specs.declared.write.Write.{Write}

@@ -1,10 +1,9 @@
 -- The steps of a cursor of the plain body.
-use Rattle.std.specs.Prelude.{◌≡◌, ℕ, ◌+◌, ◌<◌, ◌≤◌, Bool, true, false, List, [], ◌∷◌, ◌++◌, length, Option, Some, None, option_to_list, IfSome}
+use Rattle.std.specs.Prelude.{◌≡◌, ℕ, ◌<◌, ◌≤◌, Bool, false, List, ◌++◌, length, Option, None, option_to_list, IfSome}
 use Rattle.change_list.specs.declared.write.Write.{Write}
 use Rattle.change_list.specs.declared.item.Row.{Row}
 use Rattle.change_list.specs.declared.item.Item.{Item}
 use Rattle.change_list.specs.Changes.{changes}
-use Rattle.key_class.specs.Queries.{matches_query}
 use Rattle.store.specs.declared.entry.Entry.{Entry}
 use Rattle.store.specs.Entries.{Held, shown}
 use Rattle.change_list.specs.Listings.{is_mark}

@@ -71,7 +71,8 @@ impl<C: KeyClass> Store<C> {
         ensures number { result ≡ length self.now.commits }
         ensures legal { IsLegal self.now.commits }
     {
-        self.changes.len() as u64
+        let commits = self.changes.len();
+        commits as u64
     }
 
     /// The commit with a number. The first has number 1.
@@ -99,7 +100,12 @@ impl<C: KeyClass> Store<C> {
         self.entries.try_reserve(1)?;
         self.changes.push(Write::Insert(key, tag))?;
         let number = count + 1;
-        let _pushed = self.entries.push(Entry { key, row: number, tag, died: None });
+        let _pushed = self.entries.push(Entry {
+            key,
+            row: number,
+            tag,
+            died: None,
+        });
         Ok(number)
     }
 
@@ -179,7 +185,15 @@ impl<C: KeyClass> Store<C> {
         let count = self.changes.len() as u64;
         let serial = self.last + 1;
         let pending = VecDeque::new(self.alloc);
-        self.cursors.push(Cursor { serial, query, opened: count, scanning: true, pending, position: count, asked: false })?;
+        self.cursors.push(Cursor {
+            serial,
+            query,
+            opened: count,
+            scanning: true,
+            pending,
+            position: count,
+            asked: false,
+        })?;
         self.last = serial;
         Ok(serial)
     }
@@ -228,9 +242,11 @@ impl<C: KeyClass> Store<C> {
     {
         let horizon = horizon::<C>(&self.cursors, self.changes.len() as u64);
         let before = self.entries.len();
-        self.entries.retain(|entry: &Entry<C::Key>| -> bool
-            ensures { result ≡ dies_after horizon entry.now.died }
-        { entry.outlives(horizon) });
+        self.entries.retain(
+            |entry: &Entry<C::Key>| -> bool
+                ensures { result ≡ dies_after horizon entry.now.died }
+            { entry.outlives(horizon) },
+        );
         Ok((before - self.entries.len()) as u64)
     }
 
@@ -253,9 +269,11 @@ impl<C: KeyClass> Store<C> {
         ensures err { IfErr result (λ why. (cursor_of self.old c ≡ Err why) × (self.new ≡ self.old)) }
     {
         self.place_of(c)?;
-        self.cursors.retain(|cursor: &Cursor<C>| -> bool
-            ensures { result ≡ not (nat_eq cursor.now.serial c) }
-        { cursor.serial != c });
+        self.cursors.retain(
+            |cursor: &Cursor<C>| -> bool
+                ensures { result ≡ not (nat_eq cursor.now.serial c) }
+            { cursor.serial != c },
+        );
         Ok(())
     }
 
@@ -303,7 +321,11 @@ fn mark_dead<K>(entries: &mut Vec<Entry<K>>, row: u64, number: u64)
 }
 
 /// The live rows of a list of entries that match.
-fn live_rows<C: KeyClass>(alloc: Global, entries: &[Entry<C::Key>], query: &Pred<C::Atom>) -> Result<Vec<Row<C::Key>>, AllocError>
+fn live_rows<C: KeyClass>(
+    alloc: Global,
+    entries: &[Entry<C::Key>],
+    query: &Pred<C::Atom>,
+) -> Result<Vec<Row<C::Key>>, AllocError>
     ensures { IfOk result (λ rows. rows.items ≡ map row_of (filter (λ e. is_live e && matches_query C.is_match (query_of query.now) e.key) entries.now)) }
 {
     let mut rows = Vec::new(alloc);

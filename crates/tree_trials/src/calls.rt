@@ -12,6 +12,29 @@ fn key(lo: i64, hi: i64) -> Result<Interval, Fail> {
 }
 
 #[test]
+fn tells_versions_of_a_row(rt: HostRuntime) -> Result<(), Fail> {
+    let live = Entry::new(key(1, 2)?, 5, 9);
+    assert_eq!(rt; (live.key(), live.row(), live.tag()), (key(1, 2)?, 5, 9));
+    let dead = live.died_at(8);
+    assert!(rt; live.is_live() && !dead.is_live());
+    for (commit, sees_live, sees_dead) in [
+        (4, false, false),
+        (5, true, true),
+        (7, true, true),
+        (8, true, false),
+    ] {
+        assert_eq!(rt; live.visible_at(commit), sees_live, "{commit}");
+        assert_eq!(rt; dead.visible_at(commit), sees_dead, "{commit}");
+    }
+    assert!(rt; dead.is_needed(7) && !dead.is_needed(8) && live.is_needed(8));
+    assert_eq!(rt;
+        (live.marked(5, 8).died(), live.marked(6, 8).died()),
+        (Some(8), None)
+    );
+    Ok(())
+}
+
+#[test]
 fn changes_a_page(rt: HostRuntime) -> Result<(), Fail> {
     let alloc = rt.alloc();
     let mut page = Page::leaf(alloc, 4)?;
@@ -28,8 +51,14 @@ fn changes_a_page(rt: HostRuntime) -> Result<(), Fail> {
     assert_eq!(rt; sides.len(), 3);
     let right = page.right_half::<Intervals>(alloc, &sides)?;
     assert_eq!(rt; right.cover(), Some(key(1, 9)?));
-    assert_eq!(rt; page.lower_right::<Intervals>(alloc, &sides)?.rows().len(), 2);
-    assert_eq!(rt; page.lower_left::<Intervals>(alloc, &sides, 2)?.right(), Some(2));
+    assert_eq!(rt;
+        page.lower_right::<Intervals>(alloc, &sides)?.rows().len(),
+        2
+    );
+    assert_eq!(rt;
+        page.lower_left::<Intervals>(alloc, &sides, 2)?.right(),
+        Some(2)
+    );
     page.keep_left::<Intervals>(&sides, 1);
     assert_eq!(rt; page.cover(), Some(key(2, 9)?));
     assert_eq!(rt; page.followed(0), Some(1));
@@ -49,7 +78,12 @@ fn changes_a_page(rt: HostRuntime) -> Result<(), Fail> {
     root.name_both((1, Some(key(2, 9)?)), (3, Some(key(1, 1)?)))?;
     root.hang();
     assert!(rt; root.names(3) && !root.names(2) && root.is_hung());
-    assert!(rt; root.branches().iter().map(|branch| (branch.child, branch.key)).eq([(1, key(2, 9)?), (3, key(1, 1)?)].into_iter()));
+    assert!(rt;
+        root.branches()
+            .iter()
+            .map(|branch| (branch.child, branch.key))
+            .eq([(1, key(2, 9)?), (3, key(1, 1)?)].into_iter())
+    );
     Ok(())
 }
 

@@ -148,7 +148,12 @@ fn answers_the_worked_trace(rt: HostRuntime) -> Result<(), Fail> {
         assert_eq!(rt; page.right(), right);
         assert!(rt; page.is_hung() && !page.is_owed());
         assert_eq!(rt; page.rows().len(), rows.len());
-        assert!(rt; page.rows().iter().map(|entry| entry.row()).eq(rows.iter().copied()));
+        assert!(rt;
+            page.rows()
+                .iter()
+                .map(|entry| entry.row())
+                .eq(rows.iter().copied())
+        );
     }
     Ok(())
 }
@@ -156,7 +161,14 @@ fn answers_the_worked_trace(rt: HostRuntime) -> Result<(), Fail> {
 #[test]
 fn refuses_configurations_and_full_tables(rt: HostRuntime) -> Result<(), Fail> {
     let alloc = rt.alloc();
-    for (fan, least, limit) in [(4, 3, 9), (65, 2, 9), (3, 2, 9), (4, 1, 9), (4, 2, 0), (4, 2, 65_537)] {
+    for (fan, least, limit) in [
+        (4, 3, 9),
+        (65, 2, 9),
+        (3, 2, 9),
+        (4, 1, 9),
+        (4, 2, 0),
+        (4, 2, 65_537),
+    ] {
         let refused = SearchTree::<Intervals>::new(alloc, fan, least, limit).err();
         assert_eq!(rt; refused, Some(Refusal::BadConfig), "{fan} {least} {limit}");
     }
@@ -190,7 +202,11 @@ fn buries_and_sweeps_rows(rt: HostRuntime) -> Result<(), Fail> {
     assert_eq!(rt; tree.sweep(9, 4), Err(Refusal::NotHere));
     let table = tree.pages();
     assert_eq!(rt; table.len(), 1);
-    let died = table.page(0).rows().iter().map(|entry| (entry.row(), entry.died()));
+    let died = table
+        .page(0)
+        .rows()
+        .iter()
+        .map(|entry| (entry.row(), entry.died()));
     assert!(rt; died.eq([(1, None), (3, Some(5))].into_iter()));
     assert_eq!(rt; tree.sweep(0, 5), Ok(1));
     assert_eq!(rt; tree.place_refusal(0, Interval::new(7, 7)?), None);

@@ -12,10 +12,20 @@ fn makes_sets_of_small_numbers(rt: HostRuntime) -> Result<(), Fail> {
     assert_eq!(rt; Elements::new(&[127, 0, 1, 0])?.mask, (1 << 127) + 3);
     assert_eq!(rt; Elements::empty().with(5)?.with(5)?, Elements::new(&[5])?);
     assert_eq!(rt; Elements::new(&[1, 128]).err(), Some(Refusal::BadConfig));
-    assert_eq!(rt; Elements::new(&[1]).ok().map(|set| set.contains(1)), Some(true));
+    assert_eq!(rt;
+        Elements::new(&[1]).ok().map(|set| set.contains(1)),
+        Some(true)
+    );
     assert_eq!(rt; Elements::empty().with(200).err(), Some(Refusal::BadConfig));
     let set = Elements::new(&[0, 64, 127])?;
-    for (number, wanted) in [(0, true), (1, false), (64, true), (127, true), (128, false), (255, false)] {
+    for (number, wanted) in [
+        (0, true),
+        (1, false),
+        (64, true),
+        (127, true),
+        (128, false),
+        (255, false),
+    ] {
         assert_eq!(rt; set.contains(number), wanted, "{number}");
     }
     Ok(())
@@ -29,7 +39,13 @@ fn matches_by_elements(rt: HostRuntime) -> Result<(), Fail> {
     for (rel, operand, matches, empty_matches, consistent) in [
         (Rel::Overlaps, Elements::new(&[2, 9])?, true, false, true),
         (Rel::Overlaps, Elements::new(&[3])?, false, false, true),
-        (Rel::Overlaps, Elements::new(&[0, 127])?, false, false, false),
+        (
+            Rel::Overlaps,
+            Elements::new(&[0, 127])?,
+            false,
+            false,
+            false,
+        ),
         (Rel::Overlaps, empty, false, false, false),
         (Rel::Within, Elements::new(&[1, 2, 9])?, true, true, true),
         (Rel::Within, Elements::new(&[2, 3])?, false, true, true),
@@ -45,8 +61,16 @@ fn matches_by_elements(rt: HostRuntime) -> Result<(), Fail> {
         (Rel::Same, empty, false, true, true),
     ] {
         let atom = Atom { rel, operand };
-        assert_eq!(rt; asked::<Sets>(&atom, Elements::new(&[1, 2])?, bound), (matches, consistent), "{atom:?}");
-        assert_eq!(rt; asked::<Sets>(&atom, empty, bound), (empty_matches, consistent), "{atom:?}");
+        assert_eq!(rt;
+            asked::<Sets>(&atom, Elements::new(&[1, 2])?, bound),
+            (matches, consistent),
+            "{atom:?}"
+        );
+        assert_eq!(rt;
+            asked::<Sets>(&atom, empty, bound),
+            (empty_matches, consistent),
+            "{atom:?}"
+        );
     }
     Ok(())
 }
@@ -86,7 +110,16 @@ static SPLITS: [Split; 5] = [
         sides: "llrr",
     },
     Split {
-        sets: &[&[0, 127], &[127], &[], &[0, 1, 2, 64], &[1], &[], &[1, 2, 3], &[]],
+        sets: &[
+            &[0, 127],
+            &[127],
+            &[],
+            &[0, 1, 2, 64],
+            &[1],
+            &[],
+            &[1, 2, 3],
+            &[],
+        ],
         least: 4,
         sides: "lllrrlrr",
     },
@@ -147,7 +180,12 @@ fn splits_sixty_four_sets(rt: HostRuntime) -> Result<(), Fail> {
 /// Holds whichever allocation is refused.
 #[test]
 fn answers_want_of_memory(rt: HostRuntime) -> Result<(), Fail> {
-    let keys = [Elements::new(&[1])?, Elements::new(&[1, 2])?, Elements::new(&[9])?, Elements::new(&[9, 10])?];
+    let keys = [
+        Elements::new(&[1])?,
+        Elements::new(&[1, 2])?,
+        Elements::new(&[9])?,
+        Elements::new(&[9, 10])?,
+    ];
     let before = keys;
     let sides = match Sets::pick_split(rt.alloc(), &keys, 2) {
         Ok(sides) => sides,
@@ -158,7 +196,10 @@ fn answers_want_of_memory(rt: HostRuntime) -> Result<(), Fail> {
     };
     assert_eq!(rt; keys, before);
     assert_eq!(rt; sides.len(), 4);
-    for (place, side) in [Side::Left, Side::Left, Side::Right, Side::Right].iter().enumerate() {
+    for (place, side) in [Side::Left, Side::Left, Side::Right, Side::Right]
+        .iter()
+        .enumerate()
+    {
         assert_eq!(rt; sides.side(place), *side);
     }
     Ok(())

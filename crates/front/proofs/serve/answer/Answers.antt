@@ -1,4 +1,4 @@
-use Rattle.std.proofs.Common.{◌≡◌, Option, Some, None, [], subst, sym}
+use Rattle.std.proofs.Common.{Option, Some, None, [], subst, sym}
 use Rattle.std.proofs.lemmas.List.{append-nil}
 use Rattle.front.specs.declared.reply.Reply.{Reply}
 use Rattle.front.specs.Sessions.{RepliesLine}

@@ -1,4 +1,4 @@
-use Rattle.std.proofs.Common.{◌≡◌, ℕ, List, Result, length, Some, refl, sym, subst}
+use Rattle.std.proofs.Common.{ℕ, List, Result, length, Some, refl, sym, subst}
 use Rattle.query_text.specs.declared.lexeme.Lexeme.{Lexeme}
 use Rattle.query_text.specs.Tokens.{placed}
 use Rattle.front.specs.Requests.{Command}

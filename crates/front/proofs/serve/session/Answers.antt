@@ -1,9 +1,8 @@
-use Rattle.std.proofs.Common.{rules, arith, ◌≡◌, ◌+◌, ℕ, Bool, List, length, drop, sym, ap, subst, refl}
+use Rattle.std.proofs.Common.{arith, ◌+◌, ℕ, Bool, List, length, drop, subst}
 use Rattle.std.specs.Result.{OnOk}
 use Rattle.front.specs.Written.{Writes}
-use Rattle.front.specs.Lines.{HasNoFeed}
-use Rattle.front.specs.Held.{Held, Fills}
-use Rattle.front.proofs.Progress.{Progress, begin, new_as_told, stands_now, sent, filled, cut_short, answered, stands_after, ended_all, stands_last, no_feed_at_end, keeps_itself}
+use Rattle.front.specs.Held.{Fills}
+use Rattle.front.proofs.Progress.{begin, new_as_told, stands_now, sent, filled, cut_short, answered, stands_after, ended_all, stands_last, no_feed_at_end, keeps_itself}
 use Rattle.front.proofs.serve.session.Goals as goal
 
 pub reading-init : goal.reading-init
@@ -34,9 +33,10 @@ returns-then-not-branch-clause-ok g c =
     let p = filled g.C.ClassText.key_at g.C.ClassText.atom_of g.C.KeyClass.is_match g.C.ClassText.key_text c.args.store.now.limit (g.R.Read.remaining c.args.reader.now) (g.W.Write.contents c.args.writer.now) (g.R.Read.remaining c.reading.reader) (g.W.Write.contents c.send.new.writer) c.send.new.gathered.items c.reading.store c.reading.lines (sent g.C.ClassText.key_at g.C.ClassText.atom_of g.C.KeyClass.is_match g.C.ClassText.key_text c.args.store.now.limit (g.R.Read.remaining c.args.reader.now) (g.W.Write.contents c.args.writer.now) (g.R.Read.remaining c.reading.reader) (g.W.Write.contents c.reading.writer) c.reading.gathered.items c.reading.store c.reading.lines c.reading.invariant.progress (g.W.Write.contents c.send.new.writer) c.send.new.gathered.items c.in_ok-send.ensures.ok) (g.R.Read.remaining c.fill.new.reader) c.in_ok-fill.field-0 c.fill.new.self c.reading.invariant.no_feed c.in_ok-fill.ensures.ok in
     let n = no_feed_at_end (g.R.Read.remaining c.reading.reader) (g.R.Read.remaining c.fill.new.reader) c.reading.lines c.fill.new.self c.reading.invariant.no_feed (subst (λ (b : Bool). Fills (g.R.Read.remaining c.reading.reader) (g.R.Read.remaining c.fill.new.reader) c.reading.lines b c.fill.new.self) c.if-not-branch.true c.in_ok-fill.ensures.ok) in
     let f = rw (c.rest.ensures, c.is_overlong.ensures) at c.in_ok-answer.ensures.answers in
-    let s = c.in_ok-send-2.ensures in
-    ((c.in_ok-fill.ensures.ok.none_at_end c.if-not-branch.true).1,
-      ended_all g.C.ClassText.key_at g.C.ClassText.atom_of g.C.KeyClass.is_match g.C.ClassText.key_text c.args.store.now.limit (g.R.Read.remaining c.args.reader.now) (g.W.Write.contents c.args.writer.now) (g.R.Read.remaining c.fill.new.reader) (g.W.Write.contents c.send.new.writer) c.send.new.gathered.items c.reading.store c.fill.new.self p n c.answer.new.store c.answer.ensures.pages (g.W.Write.contents c.answer.new.writer) (g.W.Write.contents c.send-then-not-branch.new.writer) c.answer.new.gathered.items c.send-then-not-branch.new.gathered.items f s.ok s.empty)
+    let s = c.in_ok-send-2.ensures in (
+      (c.in_ok-fill.ensures.ok.none_at_end c.if-not-branch.true).1,
+      ended_all g.C.ClassText.key_at g.C.ClassText.atom_of g.C.KeyClass.is_match g.C.ClassText.key_text c.args.store.now.limit (g.R.Read.remaining c.args.reader.now) (g.W.Write.contents c.args.writer.now) (g.R.Read.remaining c.fill.new.reader) (g.W.Write.contents c.send.new.writer) c.send.new.gathered.items c.reading.store c.fill.new.self p n c.answer.new.store c.answer.ensures.pages (g.W.Write.contents c.answer.new.writer) (g.W.Write.contents c.send-then-not-branch.new.writer) c.answer.new.gathered.items c.send-then-not-branch.new.gathered.items f s.ok s.empty,
+    )
 
 pub returns-in_err-send-2-clause-write : goal.returns-in_err-send-2-clause-write
 returns-in_err-send-2-clause-write g c =

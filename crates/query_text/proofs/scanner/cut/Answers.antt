@@ -1,7 +1,7 @@
 use Rattle.std.proofs.Common.{◌≡◌, ℕ, ◌+◌, ◌-◌, ◌++◌, List, [], ◌∷◌, sym, arith, rules, drop, length, length-drop, length-append, drop-drop, ap, ◌∙◌}
 
 use Rattle.query_text.specs.declared.lexeme.Kind.TheVariants as kind
-use Rattle.query_text.specs.Tokens.{lexeme}
+use Rattle.query_text.specs.Scanning.{lexeme}
 use Rattle.query_text.proofs.CutLaws.{cut_more, cut_on_space, cut_end, cut_fault, cut_glued}
 use Rattle.query_text.proofs.scanner.cut.Goals as goal
 

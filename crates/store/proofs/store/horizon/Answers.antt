@@ -1,4 +1,4 @@
-use Rattle.std.proofs.Common.{rules, arith}
+use Rattle.std.proofs.Common.{arith}
 use Rattle.store.proofs.Sweeping.{least_within}
 use Rattle.store.proofs.store.horizon.Goals as goal
 

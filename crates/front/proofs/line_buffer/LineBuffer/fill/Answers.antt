@@ -19,28 +19,28 @@ returns-clause-ok g c =
     let moved : (with_items i.bytes c.moved_to_front.new.bytes).items ≡ c.moved_to_front.new.bytes = with_items_is i.bytes c.moved_to_front.new.bytes (omega (arith, c.moved_to_front.auto.bytes, c.deref_mut.ensures.len)) in
     let read : (with_items m.self-inside.bytes c.read_behind.new.bytes).items ≡ c.read_behind.new.bytes = with_items_is m.self-inside.bytes c.read_behind.new.bytes (omega (arith, c.read_behind.auto.bytes, c.deref_mut-2.ensures.len)) in
     let rest : take m.held c.read_behind.new.bytes ≡ (with_room h).rest =
-        elim m.branch [
-          in-Some w ↦
-            let e = w.in-Some.ensures.some in
-            let l : i.end - i.start < 4097 = omega (arith, e.0, e.1, many, c.moved_to_front.auto.bytes) in
-            let r = room_kept i.bytes.items i.start i.end i.overlong v.1 ends l in
-            c.read_behind.ensures.held
-            ∙ ap (take m.held) (c.deref_mut-2.ensures.value ∙ ap (λ s. s.bytes.items) w.self-inside-is ∙ moved)
-            ∙ ap (λ k. take k c.moved_to_front.new.bytes) w.held-is ∙ e.2
-            ∙ ap (λ (xs : List ℕ). take w.in-Some.held (drop i.start xs)) first
-            ∙ ap (λ k. take k (drop i.start i.bytes.items)) e.0 ∙ sym (ap (λ (x : Held). x.rest) r)
-        | in-None w ↦
-            let r = room_made i.bytes.items i.start i.end i.overlong v.1 ends (w.in-None.ensures.none refl ∙ many) in
-            ap (λ k. take k c.read_behind.new.bytes) w.held-is ∙ sym (ap (λ (x : Held). x.rest) r)
-        ] in
+    elim m.branch [
+      | in-Some w ↦
+          let e = w.in-Some.ensures.some in
+          let l : i.end - i.start < 4097 = omega (arith, e.0, e.1, many, c.moved_to_front.auto.bytes) in
+          let r = room_kept i.bytes.items i.start i.end i.overlong v.1 ends l in
+          c.read_behind.ensures.held
+          ∙ ap (take m.held) (c.deref_mut-2.ensures.value ∙ ap (λ s. s.bytes.items) w.self-inside-is ∙ moved)
+          ∙ ap (λ k. take k c.moved_to_front.new.bytes) w.held-is ∙ e.2
+          ∙ ap (λ (xs : List ℕ). take w.in-Some.held (drop i.start xs)) first
+          ∙ ap (λ k. take k (drop i.start i.bytes.items)) e.0 ∙ sym (ap (λ (x : Held). x.rest) r)
+      | in-None w ↦
+          let r = room_made i.bytes.items i.start i.end i.overlong v.1 ends (w.in-None.ensures.none refl ∙ many) in
+          ap (λ k. take k c.read_behind.new.bytes) w.held-is ∙ sym (ap (λ (x : Held). x.rest) r)
+    ] in
     let over : m.self-inside.overlong ≡ (with_room h).overlong =
-        elim m.branch [
-          in-Some w ↦
-            let e = w.in-Some.ensures.some in
-            let l : i.end - i.start < 4097 = omega (arith, e.0, e.1, many, c.moved_to_front.auto.bytes) in
-            ap (λ s. s.overlong) w.self-inside-is ∙ sym (ap (λ (x : Held). x.overlong) (room_kept i.bytes.items i.start i.end i.overlong v.1 ends l))
-        | in-None w ↦
-            ap (λ s. s.overlong) w.self-inside-is ∙ sym (ap (λ (x : Held). x.overlong) (room_made i.bytes.items i.start i.end i.overlong v.1 ends (w.in-None.ensures.none refl ∙ many)))
-        ] in
+    elim m.branch [
+      | in-Some w ↦
+          let e = w.in-Some.ensures.some in
+          let l : i.end - i.start < 4097 = omega (arith, e.0, e.1, many, c.moved_to_front.auto.bytes) in
+          ap (λ s. s.overlong) w.self-inside-is ∙ sym (ap (λ (x : Held). x.overlong) (room_kept i.bytes.items i.start i.end i.overlong v.1 ends l))
+      | in-None w ↦
+          ap (λ s. s.overlong) w.self-inside-is ∙ sym (ap (λ (x : Held). x.overlong) (room_made i.bytes.items i.start i.end i.overlong v.1 ends (w.in-None.ensures.none refl ∙ many)))
+    ] in
     let ended : c.in_ok-count.count ≡ 0 → IsAtEnd (g.R.Read.remaining c.read_behind.new.reader) = λ z. c.read_behind.ensures.end (c.in_ok-count.was ∙ ap Ok z) in
     rw (← c.self.view_is, read) (fills (g.R.Read.remaining c.args.reader.now) (g.R.Read.remaining c.read_behind.new.reader) h c.read_behind.new.bytes m.held c.in_ok-count.count m.self-inside.overlong c.in_ok-count.ensures.ok ended rest over)

@@ -1,4 +1,4 @@
-use Rattle.std.proofs.Common.{◌≡◌, List, ℕ, ap, false}
+use Rattle.std.proofs.Common.{List, ℕ, ap, false}
 use Rattle.front.specs.Held.{Held}
 use Rattle.front.proofs.Bytes.{held_behind}
 use Rattle.front.proofs.line_buffer.LineBuffer.pass.Goals as goal

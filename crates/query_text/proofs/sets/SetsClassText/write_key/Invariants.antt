@@ -5,6 +5,6 @@ use Rattle.query_text.proofs.sets.SetsClassText.write_key.Given as goal
 
 abbrev pub invariant-loop-number : goal.invariant-loop-number
 invariant-loop-number g l = record {
-  written : Appends (g.W.Write.contents l.fn.writer) (g.W.Write.contents l.writer) (123 ∷ spaced (elements_below l.number l.key));
-  first : l.is_first ≡ is_empty (elements_below l.number l.key);
+  written : Appends (g.W.Write.contents l.fn.writer) (g.W.Write.contents l.writer) (123 ∷ spaced (elements_below l.number l.mask));
+  first : l.is_first ≡ is_empty (elements_below l.number l.mask);
 }

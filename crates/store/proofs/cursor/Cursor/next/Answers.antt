@@ -1,8 +1,5 @@
-use Rattle.std.proofs.Common.{rules, arith, ◌≡◌, None, Some, sym, ◌∙◌, subst, true, false, refl, ap}
+use Rattle.std.proofs.Common.{rules, None, sym, subst}
 use Rattle.store.specs.Steps.{TakesRow}
-use Rattle.store.specs.States.{Gives}
-use Rattle.store.specs.Entries.{shown}
-use Rattle.change_list.specs.declared.item.Item.TheVariants as item
 use Rattle.store.proofs.Giving.{gives_row, gives_change, gives_mark, gives_none}
 use Rattle.store.proofs.cursor.Cursor.next.Goals as goal
 

@@ -1,4 +1,4 @@
-use Rattle.std.proofs.Common.{◌≡◌, refl, sym, ◌∙◌, subst}
+use Rattle.std.proofs.Common.{◌≡◌, sym, ◌∙◌}
 use Rattle.change_list.specs.Changes.{status_of}
 use Rattle.change_list.specs.declared.write.Status.TheVariants.{Live}
 use Rattle.store.proofs.Deleting.{sound_delete, delete_commits, delete_dead}

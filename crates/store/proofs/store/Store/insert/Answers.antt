@@ -1,6 +1,5 @@
-use Rattle.std.proofs.Common.{rules, arith, ◌≡◌, ◌+◌, ◌++◌, ◌∷◌, [], length, None, true, refl, sym, ap, ◌∙◌, subst}
+use Rattle.std.proofs.Common.{arith, ◌≡◌, true}
 use Rattle.std.specs.Prelude.{is_ok}
-use Rattle.change_list.specs.declared.write.Write.TheVariants.{Insert}
 use Rattle.store.proofs.Keeping.{sound_insert, insert_commits, insert_dead}
 use Rattle.store.proofs.store.Store.insert.Goals as goal
 

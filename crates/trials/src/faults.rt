@@ -1,0 +1,122 @@
+use super::rows::CONFIG;
+use front::session;
+use interval_class::Intervals;
+use key_class::Fault;
+use std::io::{self, ErrorKind, Read, Write};
+use std::test::Fail;
+use store::Store;
+
+/// A reader that gives some bytes at a time, and fails at its last call.
+#[derive(Drop)]
+struct Breaking<'a> {
+    rest: &'a [u8],
+    at_once: usize,
+    calls: usize,
+}
+
+impl<'a> Read for Breaking<'a> {
+    fn read(&mut self, buf: &mut [u8]) -> io::Result<usize> {
+        if self.calls == 0 {
+            return Err(ErrorKind::BrokenPipe.into());
+        }
+        self.calls -= 1;
+        let count = self.at_once.min(self.rest.len()).min(buf.len());
+        let (given, rest) = self.rest.split_at(count);
+        buf[..count].copy_from_slice(given);
+        self.rest = rest;
+        Ok(count)
+    }
+}
+
+/// A writer that keeps some bytes at a time, and fails at its last call.
+#[derive(Drop)]
+struct Stopping {
+    kept: Vec<u8>,
+    at_once: usize,
+    calls: usize,
+}
+
+impl Write for Stopping {
+    fn write(&mut self, buf: &[u8]) -> io::Result<usize> {
+        if self.calls == 0 {
+            return Err(ErrorKind::BrokenPipe.into());
+        }
+        self.calls -= 1;
+        let count = self.at_once.min(buf.len());
+        match self.kept.extend_from_slice(&buf[..count]) {
+            Ok(()) => Ok(count),
+            Err(_) => Err(ErrorKind::OutOfMemory.into()),
+        }
+    }
+
+    fn flush(&mut self) -> io::Result<()> {
+        Ok(())
+    }
+}
+
+const INPUT: &[u8] = b"insert (5 5) 0\nfind overlaps(5 5)\ninsert (6 6) 1\n";
+
+/// The answers of as many first lines of the input.
+const ANSWERS: [&str; 4] = [
+    "",
+    "committed 1\n",
+    "committed 1\nfound 1\nrow 1 (5 5) 0\n",
+    "committed 1\nfound 1\nrow 1 (5 5) 0\ncommitted 2\n",
+];
+
+#[test]
+fn reader_that_fails(rt: HostRuntime) -> Result<(), Fail> {
+    for at_once in [1, 7, 20, 100] {
+        for calls in 0..50 {
+            let mut store = Store::<Intervals>::new(rt.alloc(), CONFIG)?;
+            let mut reader = Breaking {
+                rest: INPUT,
+                at_once,
+                calls,
+            };
+            let mut writer = Vec::new(rt.alloc());
+            let result = session(rt.alloc(), &mut reader, &mut writer, &mut store);
+            let whole = INPUT
+                .iter()
+                .take(at_once.saturating_mul(calls))
+                .filter(|byte| **byte == b'\n')
+                .count();
+            if at_once.saturating_mul(calls.saturating_sub(1)) < INPUT.len() {
+                assert!(rt; matches!(result, Err(Fault::Read)));
+            } else {
+                assert!(rt; result.is_ok());
+            }
+            assert_eq!(rt;
+                Some(writer.as_slice()),
+                ANSWERS.get(whole).map(|text| text.as_bytes())
+            );
+        }
+    }
+    Ok(())
+}
+
+#[test]
+fn writer_that_fails(rt: HostRuntime) -> Result<(), Fail> {
+    let all = ANSWERS[3].as_bytes();
+    for at_once in [1, 7, 20, 100] {
+        for calls in 0..50 {
+            let mut store = Store::<Intervals>::new(rt.alloc(), CONFIG)?;
+            let mut reader = INPUT;
+            let mut writer = Stopping {
+                kept: Vec::new(rt.alloc()),
+                at_once,
+                calls,
+            };
+            let result = session(rt.alloc(), &mut reader, &mut writer, &mut store);
+            let kept = all.len().min(at_once.saturating_mul(calls));
+            if kept < all.len() {
+                assert!(rt; matches!(result, Err(Fault::Write)));
+            } else {
+                assert!(rt; result.is_ok());
+            }
+            assert_eq!(rt; writer.kept.as_slice(), &all[..kept]);
+            assert_eq!(rt; store.commits(), 2);
+        }
+    }
+    Ok(())
+}
