@@ -40,7 +40,11 @@ fn matches_by_points(rt: HostRuntime) -> Result<(), Fail> {
         (Rel::Same, key(2, -1, 5, 5)?, false, false),
     ] {
         let atom = Atom { rel, operand };
-        assert_eq!(rt; asked::<Boxes>(&atom, key(2, 2, 5, 5)?, bound), (matches, consistent), "{atom:?}");
+        assert_eq!(rt;
+            asked::<Boxes>(&atom, key(2, 2, 5, 5)?, bound),
+            (matches, consistent),
+            "{atom:?}"
+        );
     }
     Ok(())
 }
@@ -56,7 +60,10 @@ fn measures_boxes(rt: HostRuntime) -> Result<(), Fail> {
     assert_eq!(rt; Boxes::penalty(plane, last), 0);
     assert_eq!(rt; Boxes::penalty(key(0, 0, 1, 1)?, key(3, 0, 3, 0)?), 4);
     assert_eq!(rt; Boxes::union(first, last), plane);
-    assert_eq!(rt; Boxes::union(key(0, 5, 2, 6)?, key(1, 0, 1, 1)?), key(0, 0, 2, 6)?);
+    assert_eq!(rt;
+        Boxes::union(key(0, 5, 2, 6)?, key(1, 0, 1, 1)?),
+        key(0, 0, 2, 6)?
+    );
     assert!(rt; Boxes::covers(plane, first) && !Boxes::covers(first, plane));
     let holds = Atom {
         rel: Rel::Holds,
@@ -76,7 +83,12 @@ struct Split {
 
 static SPLITS: [Split; 6] = [
     Split {
-        boxes: &[[0, 0, 0, 0], [1, 1, 1, 1], [10, 10, 10, 10], [11, 11, 11, 11]],
+        boxes: &[
+            [0, 0, 0, 0],
+            [1, 1, 1, 1],
+            [10, 10, 10, 10],
+            [11, 11, 11, 11],
+        ],
         least: 2,
         sides: "llrr",
     },
@@ -169,9 +181,18 @@ fn splits_sixty_four_boxes(rt: HostRuntime) -> Result<(), Fail> {
             keys.push(placed(ends, 0, scale)?)?;
         }
         for (least, wanted) in [
-            (12, "lrlrlrlrlrllrlrlrlrlrllrlrlrlrlrllrlrlrlrlrllrlrlrlrlrllrlrlrlrl"),
-            (31, "lrlrlrlrlrllrlrlrlrlrllrlrlrlrlrllrlrlrlrlrrlrlrlrlrlrrlrlrlrlrl"),
-            (32, "lrlrlrlrlrllrlrlrlrlrllrlrlrlrlrrlrlrlrlrlrrlrlrlrlrlrrlrlrlrlrl"),
+            (
+                12,
+                "lrlrlrlrlrllrlrlrlrlrllrlrlrlrlrllrlrlrlrlrllrlrlrlrlrllrlrlrlrl",
+            ),
+            (
+                31,
+                "lrlrlrlrlrllrlrlrlrlrllrlrlrlrlrllrlrlrlrlrrlrlrlrlrlrrlrlrlrlrl",
+            ),
+            (
+                32,
+                "lrlrlrlrlrllrlrlrlrlrllrlrlrlrlrrlrlrlrlrlrrlrlrlrlrlrrlrlrlrlrl",
+            ),
         ] {
             assert!(rt; least >= 1);
             let sides = Boxes::pick_split(rt.alloc(), &keys, least)?;
@@ -218,7 +239,12 @@ fn splits_at_the_ends(rt: HostRuntime) -> Result<(), Fail> {
 /// Holds whichever allocation is refused.
 #[test]
 fn answers_want_of_memory(rt: HostRuntime) -> Result<(), Fail> {
-    let keys = [key(0, 0, 0, 0)?, key(1, 1, 1, 1)?, key(10, 10, 10, 10)?, key(11, 11, 11, 11)?];
+    let keys = [
+        key(0, 0, 0, 0)?,
+        key(1, 1, 1, 1)?,
+        key(10, 10, 10, 10)?,
+        key(11, 11, 11, 11)?,
+    ];
     let before = keys;
     let sides = match Boxes::pick_split(rt.alloc(), &keys, 2) {
         Ok(sides) => sides,
@@ -229,7 +255,10 @@ fn answers_want_of_memory(rt: HostRuntime) -> Result<(), Fail> {
     };
     assert_eq!(rt; keys, before);
     assert_eq!(rt; sides.len(), 4);
-    for (place, side) in [Side::Left, Side::Left, Side::Right, Side::Right].iter().enumerate() {
+    for (place, side) in [Side::Left, Side::Left, Side::Right, Side::Right]
+        .iter()
+        .enumerate()
+    {
         assert_eq!(rt; sides.side(place), *side);
     }
     Ok(())

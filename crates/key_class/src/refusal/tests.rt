@@ -18,7 +18,12 @@ fn prints_refusals(rt: HostRuntime) -> Result<(), Fail> {
         (Refusal::Unhung, 12, "Unhung", "12 Unhung"),
         (Refusal::BadSides, 13, "BadSides", "13 BadSides"),
         (Refusal::NoSuchRow, 14, "NoSuchRow", "14 NoSuchRow"),
-        (Refusal::AlreadyDeleted, 15, "AlreadyDeleted", "15 AlreadyDeleted"),
+        (
+            Refusal::AlreadyDeleted,
+            15,
+            "AlreadyDeleted",
+            "15 AlreadyDeleted",
+        ),
         (Refusal::NoSuchCursor, 16, "NoSuchCursor", "16 NoSuchCursor"),
         (Refusal::CursorClosed, 17, "CursorClosed", "17 CursorClosed"),
         (Refusal::NoRoom, 18, "NoRoom", "18 NoRoom"),
@@ -50,5 +55,8 @@ fn prints_faults(rt: HostRuntime) -> Result<(), Fail> {
 #[test]
 fn converts_want_of_memory(rt: HostRuntime) {
     assert_eq!(rt; Refusal::from(AllocError), Refusal::OutOfMemory);
-    assert_eq!(rt; Refusal::from(AllocFailed { value: 7u8 }), Refusal::OutOfMemory);
+    assert_eq!(rt;
+        Refusal::from(AllocFailed { value: 7u8 }),
+        Refusal::OutOfMemory
+    );
 }
