@@ -141,10 +141,9 @@ impl fmt::Display for Refusal {
         let number = self.number();
         let name = self.name();
         match self {
-            Refusal::QueryText(place) | Refusal::Line(place) => write!(
-                f,
-                "{number} {name} {place}"
-            ),
+            Refusal::QueryText(place) | Refusal::Line(place) => {
+                write!(f, "{number} {name} {place}")
+            }
             _ => write!(f, "{number} {name}"),
         }
     }

@@ -1,5 +1,5 @@
 -- A box is read from its bracket, its ends and its closing bracket, and its text is read as that box.
-use Rattle.std.proofs.Common.{◌≡◌, ◌⊎◌, ⊎_elim, ℕ, ℤ, pos, negsuc, ◌+◌, ◌≤ℤ◌, ◌<ℤ◌, Bool, true, false, ◌&&◌, T, List, [], ◌∷◌, ◌++◌, length, Option, Some, None, Result, Ok, Err, ap, refl, ◌∙◌, append_assoc, length-append, arith, w32, w64, FitsSigned}
+use Rattle.std.proofs.Common.{◌≡◌, ◌⊎◌, ⊎_elim, ℕ, ℤ, pos, negsuc, ◌+◌, ◌≤ℤ◌, ◌<ℤ◌, true, ◌&&◌, List, [], ◌∷◌, ◌++◌, length, Some, None, Ok, Err, ap, refl, ◌∙◌, append_assoc, length-append, arith, w32, w64, FitsSigned}
 use Rattle.std.specs.Prelude.{int_le}
 use Rattle.std.specs.Fmt.{signed_decimal}
 use Rattle.std.specs.Int.Signed.{le_z_yes}
@@ -7,7 +7,7 @@ use Rattle.std.proofs.lemmas.Int.{ints}
 use Rattle.box_class.specs.declared.boxes.BoxKey.{BoxKey}
 use Rattle.box_class.specs.BoxLaws.{same_box}
 use Rattle.query_text.specs.Tokens.{Placed, at, number, open_bracket, close_bracket, least_i32, most_i32}
-use Rattle.query_text.specs.Keys.{when, expected_at, number_at, is_open_bracket, is_close_bracket, ReadsBack}
+use Rattle.query_text.specs.Keys.{expected_at, number_at, is_open_bracket, is_close_bracket, ReadsBack}
 use Rattle.query_text.specs.BoxTexts.{box_of, box_at, box_text}
 use Rattle.query_text.proofs.TextLaws.{cuts_open, cuts_close, cuts_number, cuts_number_space, number_read}
 use Rattle.query_text.proofs.KeyLaws.{when_holds, when_none}
@@ -56,7 +56,8 @@ box_reads_back k fx1 fy1 fx2 fy2 len place glued bytes ts c =
     let third = cuts_number_space k.x2 (fits_64 k.x2 fx2) r _ _ fourth in
     let second = cuts_number_space k.y1 (fits_64 k.y1 fy1) q _ _ third in
     let first = cuts_number_space k.x1 (fits_64 k.x1 fx1) p _ _ second in
-    let all = cuts_open glued place _ _ first in
-    (at place open_bracket ∷ at p (number k.x1) ∷ at q (number k.y1) ∷ at r (number k.x2) ∷ at s (number k.y2) ∷ at t close_bracket ∷ ts,
-     rw text all,
-     box_at_is len _ _ _ _ _ _ _ _ _ _ _ _ _ refl (number_read least_i32 most_i32 k.x1 len p _ (fits_32 k.x1 fx1)) (number_read least_i32 most_i32 k.y1 len q _ (fits_32 k.y1 fy1)) (number_read least_i32 most_i32 k.x2 len r _ (fits_32 k.x2 fx2)) (number_read least_i32 most_i32 k.y2 len s _ (fits_32 k.y2 fy2)) refl k refl refl refl refl)
+    let all = cuts_open glued place _ _ first in (
+      at place open_bracket ∷ at p (number k.x1) ∷ at q (number k.y1) ∷ at r (number k.x2) ∷ at s (number k.y2) ∷ at t close_bracket ∷ ts,
+      rw text all,
+      box_at_is len _ _ _ _ _ _ _ _ _ _ _ _ _ refl (number_read least_i32 most_i32 k.x1 len p _ (fits_32 k.x1 fx1)) (number_read least_i32 most_i32 k.y1 len q _ (fits_32 k.y1 fy1)) (number_read least_i32 most_i32 k.x2 len r _ (fits_32 k.x2 fx2)) (number_read least_i32 most_i32 k.y2 len s _ (fits_32 k.y2 fy2)) refl k refl refl refl refl,
+    )

@@ -1,5 +1,5 @@
 -- The tokens of a text are cut in one way, and one more of them is cut as the scanner goes on.
-use Rattle.std.proofs.Common.{◌≡◌, ℕ, ◌+◌, Bool, true, false, ◌&&◌, List, [], ◌∷◌, ◌++◌, take, drop, map, sym, ◌∙◌, ap, subst, append_assoc, refl, ◌⊎◌, inl, inr, ⊎_elim}
+use Rattle.std.proofs.Common.{◌≡◌, ℕ, ◌+◌, Bool, true, false, ◌&&◌, List, [], ◌∷◌, ◌++◌, take, drop, sym, ◌∙◌, ap, append_assoc, refl, ◌⊎◌, inl, inr, ⊎_elim}
 use Rattle.std.proofs.lemmas.List.{append-nil}
 use Rattle.query_text.specs.declared.lexeme.Kind.{Kind}
 use Rattle.query_text.specs.declared.lexeme.Kind.TheVariants as kind

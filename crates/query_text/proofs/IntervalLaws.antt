@@ -1,12 +1,11 @@
 -- An interval is read from its bracket, its ends and its closing bracket.
-use Rattle.std.proofs.Common.{◌≡◌, ℕ, ℤ, ◌+◌, Bool, true, false, T, List, [], ◌∷◌, ◌++◌, length, Option, Some, None, Result, Ok, ap, refl, ◌∙◌, append_assoc, length-append, arith, w64, FitsSigned}
+use Rattle.std.proofs.Common.{◌≡◌, ℕ, ℤ, ◌+◌, true, List, [], ◌∷◌, ◌++◌, length, Some, Ok, ap, refl, ◌∙◌, append_assoc, length-append, arith, w64, FitsSigned}
 use Rattle.std.specs.Fmt.{signed_decimal}
 use Rattle.std.specs.Prelude.{int_le}
-use Rattle.std.specs.Int.Signed.{le_z_yes}
 use Rattle.interval_class.specs.declared.interval.Interval.{Interval}
 use Rattle.interval_class.specs.Same.{same_interval}
 use Rattle.query_text.specs.Tokens.{Placed, at, number, open_bracket, close_bracket, least_i64, most_i64}
-use Rattle.query_text.specs.Keys.{when, expected_at, number_at, is_open_bracket, is_close_bracket, ReadsBack}
+use Rattle.query_text.specs.Keys.{expected_at, number_at, is_open_bracket, is_close_bracket, ReadsBack}
 use Rattle.query_text.specs.IntervalTexts.{interval_of, interval_at, interval_text}
 use Rattle.query_text.proofs.TextLaws.{cuts_open, cuts_close, cuts_number, cuts_number_space, number_read, fits_64}
 use Rattle.query_text.proofs.KeyLaws.{when_holds}
@@ -31,7 +30,8 @@ interval_reads_back k lo_fits hi_fits len place glued bytes ts c =
     let closing = cuts_close true r bytes ts (rw end at c) in
     let second = cuts_number k.hi hi_fits q (41 ∷ bytes) (at r close_bracket ∷ ts) refl closing in
     let first = cuts_number_space k.lo lo_fits p (hi ++ (41 ∷ bytes)) (at q (number k.hi) ∷ at r close_bracket ∷ ts) second in
-    let all = cuts_open glued place (lo ++ (32 ∷ (hi ++ (41 ∷ bytes)))) (at p (number k.lo) ∷ at q (number k.hi) ∷ at r close_bracket ∷ ts) first in
-    (at place open_bracket ∷ at p (number k.lo) ∷ at q (number k.hi) ∷ at r close_bracket ∷ ts,
-     rw text all,
-     interval_at_is len _ _ _ _ _ _ _ _ _ k refl (number_read least_i64 most_i64 k.lo len p _ (fits_64 k.lo lo_fits)) (number_read least_i64 most_i64 k.hi len q _ (fits_64 k.hi hi_fits)) refl refl refl)
+    let all = cuts_open glued place (lo ++ (32 ∷ (hi ++ (41 ∷ bytes)))) (at p (number k.lo) ∷ at q (number k.hi) ∷ at r close_bracket ∷ ts) first in (
+      at place open_bracket ∷ at p (number k.lo) ∷ at q (number k.hi) ∷ at r close_bracket ∷ ts,
+      rw text all,
+      interval_at_is len _ _ _ _ _ _ _ _ _ k refl (number_read least_i64 most_i64 k.lo len p _ (fits_64 k.lo lo_fits)) (number_read least_i64 most_i64 k.hi len q _ (fits_64 k.hi hi_fits)) refl refl refl,
+    )

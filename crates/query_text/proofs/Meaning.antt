@@ -1,11 +1,11 @@
 -- A text means one query or is refused at one place.
-use Rattle.std.proofs.Common.{◌≡◌, ℕ, ◌<◌, ◌≤◌, List, [], ◌∷◌, sym, ◌∙◌, arith, refl, subst, false, length}
+use Rattle.std.proofs.Common.{◌≡◌, ℕ, ◌<◌, List, arith, refl, false, length}
 use Rattle.key_class.specs.declared.sides.Rel.{Rel}
 use Rattle.key_class.specs.Queries.{Query, depth_of}
-use Rattle.query_text.specs.declared.limits.TheConstants.{MAX_BYTES, MAX_DEPTH}
-use Rattle.query_text.specs.Tokens.{Placed, Cuts}
+use Rattle.query_text.specs.declared.limits.TheConstants.{MAX_DEPTH}
+use Rattle.query_text.specs.Tokens.{Placed}
 use Rattle.query_text.specs.Keys.{Reading}
-use Rattle.query_text.specs.Grammar.{whole, before, Spells, Refused, SpellsQuery, RefusesTokens, no_spelling, too_deep, SpellsText, RefusesText, too_long, refuses_tokens}
+use Rattle.query_text.specs.Grammar.{SpellsQuery, RefusesTokens, no_spelling, too_deep, SpellsText, RefusesText, too_long, refuses_tokens}
 use Rattle.query_text.proofs.CutLaws.{one_cut}
 use Rattle.query_text.proofs.Unique.{one_query, spelled_not_refused, one_place}
 

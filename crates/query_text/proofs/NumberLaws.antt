@@ -1,5 +1,5 @@
 -- What digits write grows with each digit.
-use Rattle.std.proofs.Common.{◌≡◌, ℕ, suc, ◌+◌, ◌-◌, ◌*◌, ◌<◌, ◌≤◌, List, [], ◌∷◌, drop, length, get_or, arith, ap, refl}
+use Rattle.std.proofs.Common.{◌≡◌, ℕ, suc, ◌+◌, ◌-◌, ◌*◌, ◌<◌, ◌≤◌, List, [], ◌∷◌, drop, length, get_or, arith}
 use Rattle.std.proofs.Math.Seq.{drop-cons}
 use Rattle.query_text.specs.Tokens.{decimal_value_after}
 

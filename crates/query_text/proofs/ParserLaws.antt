@@ -1,20 +1,18 @@
 -- What the reader's steps make of what it has read.
-use Rattle.std.proofs.Common.{◌≡◌, ℕ, zero, suc, List, [], ◌∷◌, ◌++◌, Option, Some, None, Result, Ok, Err, ap, refl, Bool, true, false, sym, ◌∙◌, ◌<◌, reverse}
+use Rattle.std.proofs.Common.{◌≡◌, ℕ, suc, List, [], ◌∷◌, ◌++◌, Ok, Err, ap, refl, sym, ◌∙◌, ◌<◌}
 use Rattle.std.proofs.lemmas.List.{reverse-append, append-nil}
 use Rattle.key_class.specs.declared.sides.Rel.{Rel}
 use Rattle.key_class.specs.declared.pred.Pred.{Pred}
 use Rattle.key_class.specs.Queries.{Query, query_of, atom, both, either, never, depth_of}
 use Rattle.query_text.specs.declared.terminal.Terminal.{Terminal}
 use Rattle.query_text.specs.declared.terminal.Terminal.TheVariants as terminal
-use Rattle.query_text.specs.declared.parser.ParseError.{ParseError}
-use Rattle.query_text.specs.declared.parser.ParseError.TheVariants.{Memory, At}
 use Rattle.query_text.specs.declared.parser.Pending.{Pending}
 use Rattle.query_text.specs.declared.parser.Pending.TheVariants.{Not, Bracket, And, Or}
 use Rattle.query_text.specs.declared.limits.TheConstants.{MAX_DEPTH}
 use Rattle.query_text.specs.Tokens.{Placed}
 use Rattle.query_text.specs.Keys.{Reading}
-use Rattle.query_text.specs.Grammar.{terminal_of, Level, whole, conjunction, unit, Spells, one_conjunction, or_of, one_unit, and_of, not_of, in_brackets, relation_of, Point, before, behind, move, goes, key_follows, refused, Refused, ends_before, ends_open, stuck, moves, bad_key, good_key, RefusesTokens, no_spelling, too_deep}
-use Rattle.query_text.specs.Parsing.{open_brackets, Waits, at_start, in_whole, in_conjunction, behind_or, behind_and, behind_not, behind_bracket, HasRead, Completes, RefusedAt, pending}
+use Rattle.query_text.specs.Grammar.{terminal_of, Level, whole, conjunction, unit, Spells, one_conjunction, or_of, one_unit, and_of, not_of, in_brackets, relation_of, before, behind, move, refused, Refused, ends_before, ends_open, stuck, moves, bad_key, good_key, RefusesTokens, no_spelling, too_deep}
+use Rattle.query_text.specs.Parsing.{open_brackets, Waits, at_start, in_whole, in_conjunction, behind_or, behind_and, behind_not, behind_bracket, HasRead, Completes, pending}
 
 pub pending-push : {A : Type 0} (ps : List (Pending A)) (p : Pending A) → pending (ps ++ p ∷ []) ≡ p ∷ pending ps
 pending-push ps p = reverse-append ps (p ∷ [])

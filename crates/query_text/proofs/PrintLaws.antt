@@ -1,5 +1,5 @@
 -- The text that printing gives is cut into tokens that spell the query.
-use Rattle.std.proofs.Common.{◌≡◌, ℕ, ◌+◌, ◌≤◌, ◌||◌, ◌&&◌, Bool, true, false, not, List, [], ◌∷◌, ◌++◌, length, drop, Result, Ok, ap, sym, refl, ◌∙◌, append_assoc, length-append, arith, add_assoc}
+use Rattle.std.proofs.Common.{◌≡◌, ℕ, ◌+◌, ◌≤◌, true, false, not, List, [], ◌∷◌, ◌++◌, length, drop, refl, append_assoc, length-append, arith}
 use Rattle.std.specs.Prelude.{codes}
 use Rattle.std.proofs.Math.Seq.{drop-append_seam}
 use Rattle.std.proofs.lemmas.List.{append-nil}
@@ -11,9 +11,9 @@ use Rattle.query_text.specs.declared.limits.TheConstants.{MAX_BYTES, MAX_DEPTH}
 use Rattle.query_text.specs.declared.terminal.Terminal.TheVariants as terminal
 use Rattle.query_text.specs.Tokens.{Placed, at, word, open_bracket, close_bracket, is_letter, begins, beginning, Cuts, cut_nothing, cut_space, cut_token}
 use Rattle.query_text.specs.Keys.{Reading, ReadsBack}
-use Rattle.query_text.specs.Grammar.{rel_word, keyword_of, terminal_of, Level, whole, conjunction, unit, Spells, one_conjunction, or_of, one_unit, and_of, not_of, in_brackets, relation_of, SpellsQuery, SpellsText}
+use Rattle.query_text.specs.Grammar.{rel_word, keyword_of, Level, whole, conjunction, unit, Spells, one_conjunction, or_of, one_unit, and_of, not_of, in_brackets, relation_of, SpellsText}
 use Rattle.query_text.specs.Printing.{is_or, is_and_or_or, bracketed, text_of, atom_text, begins_apart, EachAtom, IsSpelling}
-use Rattle.query_text.proofs.TextLaws.{cuts_open, cuts_close, cuts_space}
+use Rattle.query_text.proofs.TextLaws.{cuts_open, cuts_close}
 
 not_letter : (b : ℕ) → not (is_letter b) ≡ true → is_letter b ≡ false
 not_letter b h = not-true (is_letter b) h

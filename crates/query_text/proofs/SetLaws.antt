@@ -1,6 +1,6 @@
 -- A set is read from its elements, and its text is read as that set.
-use Rattle.std.proofs.Common.{◌≡◌, ◌↔◌, ◌⊎◌, ⊎_elim, ℕ, zero, suc, ℤ, pos, ◌+◌, ◌*◌, ◌%◌, ◌^◌, ◌<◌, ◌≤◌, max, Bool, true, false, not, ◌&&◌, ◌==◌, leb, List, [], ◌∷◌, ◌++◌, length, Option, Some, None, Result, Ok, Err, ap, sym, refl, ◌∙◌, append_assoc, length-append, arith, add-one, one-mul, bit_or, w64, FitsSigned, cond}
-use Rattle.std.specs.Prelude.{codes, int_le}
+use Rattle.std.proofs.Common.{◌≡◌, ◌↔◌, ⊎_elim, ℕ, zero, suc, pos, ◌+◌, ◌*◌, ◌%◌, ◌^◌, ◌<◌, ◌≤◌, max, Bool, true, false, not, ◌&&◌, ◌==◌, List, [], ◌∷◌, ◌++◌, length, Some, Ok, Err, ap, sym, refl, ◌∙◌, append_assoc, length-append, arith, one-mul, bit_or, w64, FitsSigned, cond}
+use Rattle.std.specs.Prelude.{codes}
 use Rattle.std.specs.Int.{bit_at}
 use Rattle.std.specs.Int.Bits.{or_zero_l, or_zero_r}
 use Rattle.std.specs.List.{flat_map, Contains}
@@ -17,8 +17,8 @@ use Rattle.std.proofs.Math.Pow.{pow-lt}
 use Rattle.set_class.specs.declared.elements.Elements.{Elements}
 use Rattle.query_text.specs.declared.lexeme.Kind.{Kind}
 use Rattle.query_text.specs.declared.lexeme.Kind.TheVariants as kind
-use Rattle.query_text.specs.Tokens.{Token, Placed, at, number, open_brace, close_brace, fault, token_of, starts_with_digit, Cuts}
-use Rattle.query_text.specs.Keys.{Reading, ◌>>=◌, or_fault_at, is_close_brace, ReadsBack}
+use Rattle.query_text.specs.Tokens.{Placed, at, number, open_brace, close_brace, token_of, starts_with_digit, Cuts}
+use Rattle.query_text.specs.Keys.{Reading, ◌>>=◌, is_close_brace, ReadsBack}
 use Rattle.query_text.specs.SetTexts.{element_of, elements_at, mask_of, with_elements, set_at, elements_below, spaced, set_text, number_text, is_empty}
 use Rattle.query_text.proofs.TextLaws.{and_false, cuts_open_brace, cuts_close_brace, cuts_space, cuts_number}
 
@@ -124,13 +124,13 @@ bits_below : (n : ℕ) (m : ℕ) (i : ℕ) → i < n → bit_at (mask_of (elemen
 bits_below zero m i h = absurd (omega arith)
 bits_below (suc n) m i h = ⊎_elim
     (λ (e : i ≡ n).
-      let old : bit_at (mask_of (elements_below n m)) i ≡ 0 = bits_above n m i (omega arith) in
-      let this : cond (bit_at m n == 1) (bit_at (2 ^ n) i) 0 ≡ bit_at m i = rw (← e) (this_bit m i) in
-      omega (arith, one_bit_more n m i, old, this))
+    let old : bit_at (mask_of (elements_below n m)) i ≡ 0 = bits_above n m i (omega arith) in
+    let this : cond (bit_at m n == 1) (bit_at (2 ^ n) i) 0 ≡ bit_at m i = rw (← e) (this_bit m i) in
+    omega (arith, one_bit_more n m i, old, this))
     (λ (d : i ≡ n → ⊥).
-      let below : i < n = omega (arith, d) in
-      let old : bit_at (mask_of (elements_below n m)) i ≡ bit_at m i = bits_below n m i below in
-      omega (arith, one_bit_more n m i, old, other_bit (bit_at m n == 1) n i d))
+    let below : i < n = omega (arith, d) in
+    let old : bit_at (mask_of (elements_below n m)) i ≡ bit_at m i = bits_below n m i below in
+    omega (arith, one_bit_more n m i, old, other_bit (bit_at m n == 1) n i d))
     (cases_eq i n)
 
 pub mask_of_elements : (m : ℕ) → m < 2 ^ 128 → mask_of (elements_below 128 m) ≡ m
@@ -213,22 +213,22 @@ mask_contains [] e h = absurd (omega (arith, bit_at-zero e, h))
 mask_contains (x ∷ xs) e h = ⊎_elim
     (λ (q : e ≡ x). rw q (Contains-append_left (x ∷ []) xs x (Contains-push [] x)))
     (λ (n : e ≡ x → ⊥).
-      let rest : bit_at (mask_of xs) e ≡ 1 = omega (arith, bit_at_or (2 ^ x) (mask_of xs) e, bit_at-pow_other x e n, h) in
-      Contains-append_right (x ∷ []) xs e (mask_contains xs e rest))
+    let rest : bit_at (mask_of xs) e ≡ 1 = omega (arith, bit_at_or (2 ^ x) (mask_of xs) e, bit_at-pow_other x e n, h) in
+    Contains-append_right (x ∷ []) xs e (mask_contains xs e rest))
     (cases_eq e x)
 
 contains_in_mask : (es : List ℕ) (e : ℕ) → Contains es e → bit_at (mask_of es) e ≡ 1
 contains_in_mask [] e c = absurd (contains_nothing e c)
 contains_in_mask (x ∷ xs) e c = ⊎_elim
     (λ (l : Contains (x ∷ []) e). ⊎_elim
-      (λ (no : Contains [] e). absurd (contains_nothing e no))
-      (λ (q : x ≡ e).
-        let own_bit : bit_at (2 ^ x) e ≡ 1 = rw (← q) (bit_at-pow_same x) in
-        omega (arith, bit_at_or (2 ^ x) (mask_of xs) e, bit_at-lt (mask_of xs) e, own_bit))
-      (Contains-push_cases [] x e l))
+    (λ (no : Contains [] e). absurd (contains_nothing e no))
+    (λ (q : x ≡ e).
+    let own_bit : bit_at (2 ^ x) e ≡ 1 = rw (← q) (bit_at-pow_same x) in
+    omega (arith, bit_at_or (2 ^ x) (mask_of xs) e, bit_at-lt (mask_of xs) e, own_bit))
+    (Contains-push_cases [] x e l))
     (λ (r : Contains xs e).
-      let rest : bit_at (mask_of xs) e ≡ 1 = contains_in_mask xs e r in
-      omega (arith, bit_at_or (2 ^ x) (mask_of xs) e, bit_at-lt (2 ^ x) e, rest))
+    let rest : bit_at (mask_of xs) e ≡ 1 = contains_in_mask xs e r in
+    omega (arith, bit_at_or (2 ^ x) (mask_of xs) e, bit_at-lt (2 ^ x) e, rest))
     (Contains-append_cases (x ∷ []) xs e c)
 
 pub mask_means : (es : List ℕ) (e : ℕ) → (bit_at (mask_of es) e ≡ 1) ↔ Contains es e
@@ -237,8 +237,8 @@ mask_means es e = (mask_contains es e, contains_in_mask es e)
 pub elements_mean : (n m e : ℕ) → Contains (elements_below n m) e ↔ ((e < n) × (bit_at m e ≡ 1))
 elements_mean n m e = (
   λ c.
-    let bit = contains_in_mask (elements_below n m) e c in
-    ⊎_elim
+      let bit = contains_in_mask (elements_below n m) e c in
+      ⊎_elim
       (λ (l : e < n). (l, sym (bits_below n m e l) ∙ bit))
       (λ (g : n ≤ e). absurd (omega (arith, bits_above n m e g, bit)))
       (cases_lt e n),

@@ -1,5 +1,5 @@
 -- Texts that are cut back into the tokens that they were written from.
-use Rattle.std.proofs.Common.{◌≡◌, ℕ, zero, suc, ℤ, pos, negsuc, neg_ℤ, ◌+◌, ◌-◌, ◌*◌, ◌^◌, ◌<◌, ◌≤◌, Bool, true, false, ◌&&◌, ◌||◌, ◌==◌, cond, List, [], ◌∷◌, ◌++◌, length, take, drop, ap, sym, ◌∙◌, refl, arith, rules, one-add, add_assoc, lit<, Option, Some, None, Result, Ok, w64, w32, FitsSigned}
+use Rattle.std.proofs.Common.{◌≡◌, ℕ, suc, ℤ, pos, negsuc, neg_ℤ, ◌+◌, ◌^◌, ◌<◌, ◌≤◌, Bool, true, false, ◌&&◌, ◌==◌, List, [], ◌∷◌, ◌++◌, length, drop, ap, sym, ◌∙◌, refl, arith, rules, one-add, add_assoc, lit<, Ok, w64, FitsSigned}
 use Rattle.std.specs.Prelude.{take_while, int_le}
 use Rattle.std.specs.Str.{all_ascii_digits}
 use Rattle.std.specs.Fmt.{decimal, signed_decimal}
@@ -10,7 +10,7 @@ use Rattle.std.proofs.lemmas.Bool.Decides.{Decides-eqb}
 use Rattle.std.proofs.Math.Seq.{drop-append_seam}
 use Rattle.std.proofs.lemmas.Int.{ints}
 use Rattle.query_text.specs.Keys.{number_at}
-use Rattle.query_text.specs.Tokens.{Token, Placed, at, word, number, open_bracket, close_bracket, open_brace, close_brace, is_letter, is_digit, decimal_value_after, starts_with_digit, Beginning, space, begins, spelled, beginning, number_value, glues, least_i64, most_i64, Cuts, cut_space, cut_token}
+use Rattle.query_text.specs.Tokens.{Placed, at, number, open_bracket, close_bracket, open_brace, close_brace, is_letter, is_digit, decimal_value_after, starts_with_digit, begins, beginning, least_i64, most_i64, Cuts, cut_space, cut_token}
 
 own : IsNumeralModel (λ ds. all_ascii_digits ds ≡ true) (decimal_value_after 0)
 own = numerals_by_fold _ (search rules) decimal_value_after (search rules)

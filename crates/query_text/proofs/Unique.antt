@@ -1,12 +1,12 @@
 -- No tokens spell two queries, none that spell a query are refused, and none are refused at two places.
-use Rattle.std.proofs.Common.{◌≡◌, ℕ, zero, suc, List, [], ◌∷◌, Option, Some, None, Result, Ok, Err, ap, refl, sym, ◌∙◌, subst}
+use Rattle.std.proofs.Common.{◌≡◌, ℕ, zero, suc, List, [], ◌∷◌, Option, Some, None, Ok, Err, ap, refl, sym, ◌∙◌, subst}
 use Rattle.key_class.specs.declared.sides.Rel.{Rel}
 use Rattle.key_class.specs.Queries.{Query, atom, both, either, never}
 use Rattle.query_text.specs.declared.terminal.Terminal.{Terminal}
 use Rattle.query_text.specs.declared.terminal.Terminal.TheVariants as terminal
 use Rattle.query_text.specs.Tokens.{Placed}
 use Rattle.query_text.specs.Keys.{Reading}
-use Rattle.query_text.specs.Grammar.{terminal_of, Level, whole, conjunction, unit, Spells, one_conjunction, or_of, one_unit, and_of, not_of, in_brackets, relation_of, Point, before, behind, Move, goes, key_follows, refused, move, Refused, ends_before, ends_open, stuck, moves, bad_key, good_key}
+use Rattle.query_text.specs.Grammar.{terminal_of, Level, whole, conjunction, unit, Spells, one_conjunction, or_of, one_unit, and_of, not_of, in_brackets, relation_of, Point, before, behind, goes, key_follows, refused, move, Refused, ends_before, ends_open, stuck, moves, bad_key, good_key}
 
 -- what an open bracket, or the text, has read so far
 record Frame (A : Type 0) : Type 0 where

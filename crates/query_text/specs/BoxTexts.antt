@@ -1,5 +1,5 @@
 -- The text of a box: the lower ends and then the upper ends, between round brackets.
-use Rattle.std.specs.Prelude.{ℕ, ℤ, int_le, List, [], ◌∷◌, ◌++◌, Option, Some, Result, Ok, Err, codes}
+use Rattle.std.specs.Prelude.{ℕ, ℤ, int_le, List, ◌++◌, Option, Some, codes}
 use Rattle.std.specs.Int.Signed.{le_z_yes}
 use Rattle.std.specs.Fmt.{signed_decimal}
 use Rattle.key_class.specs.declared.sides.Rel.{Rel}

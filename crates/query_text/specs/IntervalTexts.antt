@@ -1,5 +1,5 @@
 -- The text of an interval: its ends between round brackets.
-use Rattle.std.specs.Prelude.{◌≡◌, ℕ, ℤ, ◌≤ℤ◌, int_le, Bool, true, false, T, List, [], ◌∷◌, ◌++◌, Option, Some, None, Result, Ok, Err, codes}
+use Rattle.std.specs.Prelude.{ℕ, ℤ, int_le, List, ◌++◌, Option, Some, codes}
 use Rattle.std.specs.Int.Signed.{le_z_yes}
 use Rattle.std.specs.Fmt.{signed_decimal}
 use Rattle.key_class.specs.declared.sides.Rel.{Rel}

@@ -1,5 +1,5 @@
 -- What the reader of queries has read, and what it still waits for.
-use Rattle.std.specs.Prelude.{◌≡◌, ℕ, zero, suc, ◌<◌, Bool, true, false, List, [], ◌∷◌, length, reverse, Result, Ok, Err}
+use Rattle.std.specs.Prelude.{◌≡◌, ℕ, suc, ◌<◌, List, [], ◌∷◌, length, reverse, Result, Ok, Err}
 use Rattle.key_class.specs.declared.sides.Rel.{Rel}
 use Rattle.key_class.specs.declared.pred.Pred.{Pred}
 use Rattle.key_class.specs.Queries.{Query, query_of}
@@ -13,7 +13,7 @@ use Rattle.query_text.specs.declared.parser.Next.{Next}
 use Rattle.query_text.specs.declared.parser.Next.TheVariants.{More, End}
 use Rattle.query_text.specs.Tokens.{Placed, placed}
 use Rattle.query_text.specs.Keys.{Reading}
-use Rattle.query_text.specs.Grammar.{terminal_of, Level, whole, conjunction, unit, Spells, Point, before, behind, Refused}
+use Rattle.query_text.specs.Grammar.{terminal_of, Level, whole, conjunction, unit, Spells, before, Refused}
 
 -- how many brackets are open
 abbrev pub open_brackets : {A : Type 0} → List (Pending A) → ℕ

@@ -1,9 +1,9 @@
 -- How a query is written.
-use Rattle.std.specs.Prelude.{◌≡◌, ℕ, ◌+◌, Bool, true, false, not, ◌||◌, List, [], ◌∷◌, ◌++◌, length, codes}
+use Rattle.std.specs.Prelude.{ℕ, Bool, true, false, not, List, [], ◌∷◌, ◌++◌, length, codes}
 use Rattle.key_class.specs.declared.sides.Rel.{Rel}
 use Rattle.key_class.specs.Queries.{Query, atom, both, either, never}
 use Rattle.query_text.specs.Tokens.{Placed, is_letter, Cuts}
-use Rattle.query_text.specs.Keys.{Reading, ReadsBack}
+use Rattle.query_text.specs.Keys.{Reading}
 use Rattle.query_text.specs.Grammar.{rel_word, whole, Spells}
 
 abbrev pub is_or : {A : Type 0} → Query A → Bool

@@ -1,5 +1,5 @@
 -- The text of a set: its elements between braces.
-use Rattle.std.specs.Prelude.{ℕ, zero, suc, ℤ, pos, unsigned_abs, ◌^◌, ◌==◌, bit_or, Bool, true, false, List, [], ◌∷◌, ◌++◌, Option, Result, Ok, Err, if◌then◌else◌, codes}
+use Rattle.std.specs.Prelude.{ℕ, zero, suc, pos, unsigned_abs, ◌^◌, ◌==◌, bit_or, Bool, true, false, List, [], ◌∷◌, ◌++◌, Option, Ok, Err, if◌then◌else◌, codes}
 use Rattle.std.specs.Int.{bit_at}
 use Rattle.std.specs.List.{flat_map}
 use Rattle.std.specs.Option.{option_map}

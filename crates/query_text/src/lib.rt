@@ -18,8 +18,8 @@ mod tests;
 
 pub use class::ClassText;
 pub use lexeme::{Kind, Lexeme};
+pub use limits::{MAX_BYTES, MAX_DEPTH};
 pub use parser::{one_meaning_for_text, one_meaning_for_tokens, parse, parse_tokens};
 pub use printer::print;
-pub use limits::{MAX_BYTES, MAX_DEPTH};
 pub use scanner::{one_cut_for_text, scan};
 pub use sets::set_texts_name_their_elements;

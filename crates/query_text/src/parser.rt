@@ -9,10 +9,10 @@ ghost use Rattle.query_text.specs.declared.parser.ParseError.TheVariants.{Memory
 
 use crate::class::ClassText;
 use crate::lexeme::Lexeme;
-use crate::terminal::Terminal;
 use crate::limits::{MAX_BYTES, MAX_DEPTH};
 use crate::reader::first_of;
 use crate::scanner::scan;
+use crate::terminal::Terminal;
 use key_class::{Pred, Refusal};
 use std::alloc::{AllocError, AllocFailed, Global};
 

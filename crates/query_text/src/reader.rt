@@ -15,10 +15,7 @@ pub fn first_of(lexemes: &[Lexeme]) -> Option<(Lexeme, &[Lexeme])>
 }
 
 /// The place of an opening bracket at the front, and the lexemes behind it.
-pub fn open_bracket<'a>(
-    text: &[u8],
-    lexemes: &'a [Lexeme],
-) -> Result<(usize, &'a [Lexeme]), usize>
+pub fn open_bracket<'a>(text: &[u8], lexemes: &'a [Lexeme]) -> Result<(usize, &'a [Lexeme]), usize>
     ensures gives { Gives text.now result (expected_at is_open_bracket (length text.now) (placed text.now lexemes.now)) }
     ensures shorter { IfOk result (λ r. length r.1.now < length lexemes.now) }
 {
@@ -32,10 +29,7 @@ pub fn open_bracket<'a>(
 }
 
 /// The same of a closing bracket.
-pub fn close_bracket<'a>(
-    text: &[u8],
-    lexemes: &'a [Lexeme],
-) -> Result<(usize, &'a [Lexeme]), usize>
+pub fn close_bracket<'a>(text: &[u8], lexemes: &'a [Lexeme]) -> Result<(usize, &'a [Lexeme]), usize>
     ensures gives { Gives text.now result (expected_at is_close_bracket (length text.now) (placed text.now lexemes.now)) }
     ensures shorter { IfOk result (λ r. length r.1.now < length lexemes.now) }
 {

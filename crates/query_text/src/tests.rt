@@ -1,4 +1,7 @@
-use crate::{ClassText, Kind, Lexeme, one_cut_for_text, one_meaning_for_text, one_meaning_for_tokens, parse, parse_tokens, print, scan, set_texts_name_their_elements};
+use crate::{
+    ClassText, Kind, Lexeme, one_cut_for_text, one_meaning_for_text, one_meaning_for_tokens, parse,
+    parse_tokens, print, scan, set_texts_name_their_elements,
+};
 use box_class::{BoxKey, Boxes};
 use interval_class::{Interval, Intervals};
 use key_class::{Pred, Refusal, Rel};
@@ -140,7 +143,10 @@ fn queries_are_printed_with_fewest_brackets(rt: HostRuntime) -> Result<(), Fail>
             b"overlaps(-9223372036854775808 9223372036854775807)",
             b"overlaps(-9223372036854775808 9223372036854775807)",
         ),
-        (b"not (same(1 1) or same(2 2))", b"not (same(1 1) or same(2 2))"),
+        (
+            b"not (same(1 1) or same(2 2))",
+            b"not (same(1 1) or same(2 2))",
+        ),
     ];
     for (text, expected) in table.iter() {
         assert!(rt; prints::<Intervals>(rt.alloc(), text, expected));
@@ -227,7 +233,8 @@ fn lines_are_read_from_their_tokens(rt: HostRuntime) -> Result<(), Fail> {
         Err(refusal) => assert_eq!(rt; refusal, Refusal::QueryText(13)),
     }
 
-    let numbers = b"18446744073709551615 18446744073709551616 -0 -1 -9223372036854775808 -9223372036854775809 x";
+    let numbers =
+        b"18446744073709551615 18446744073709551616 -0 -1 -9223372036854775808 -9223372036854775809 x";
     scan(numbers, &mut lexemes)?;
     let values = [
         (Some(18_446_744_073_709_551_615), None),

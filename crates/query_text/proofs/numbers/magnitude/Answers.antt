@@ -1,5 +1,4 @@
-use Rattle.std.proofs.Common.{◌≡◌, ◌^◌, ◌≤◌}
-use Rattle.query_text.specs.Tokens.{decimal_value_after}
+use Rattle.std.proofs.Common.{◌^◌}
 use Rattle.query_text.proofs.NumberLaws.{large_stays}
 use Rattle.query_text.proofs.numbers.magnitude.Goals as goal
 

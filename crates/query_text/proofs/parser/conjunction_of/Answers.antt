@@ -1,6 +1,5 @@
-use Rattle.std.proofs.Common.{◌≡◌, [], ◌∷◌, ◌++◌, rules, sym}
+use Rattle.std.proofs.Common.{◌≡◌, [], rules}
 use Rattle.key_class.specs.Queries.{query_of}
-use Rattle.query_text.specs.declared.parser.Pending.TheVariants.{Not, Bracket, And, Or}
 use Rattle.query_text.proofs.ParserLaws.{completes_not, completes_and, completes_first_unit, completes_unit_behind_or, completes_unit_behind_bracket}
 use Rattle.query_text.proofs.parser.conjunction_of.Goals as goal
 

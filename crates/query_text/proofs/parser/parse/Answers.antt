@@ -1,4 +1,4 @@
-use Rattle.std.proofs.Common.{◌≡◌, ℕ, sym, arith}
+use Rattle.std.proofs.Common.{◌≡◌}
 use Rattle.query_text.specs.Grammar.{too_long, refuses_tokens}
 use Rattle.query_text.proofs.parser.parse.Goals as goal
 

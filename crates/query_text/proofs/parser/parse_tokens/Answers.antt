@@ -1,4 +1,4 @@
-use Rattle.std.proofs.Common.{◌≡◌, ℕ, IsTrue, false, [], ◌∷◌, ◌<◌, ◌≤◌, rules, sym, ap, arith, length}
+use Rattle.std.proofs.Common.{◌≡◌, ℕ, IsTrue, false, ◌<◌, ◌≤◌, ap, arith, length}
 use Rattle.key_class.specs.Queries.{query_of, depth_of}
 use Rattle.query_text.specs.Tokens.{placed, at, token_in}
 use Rattle.query_text.specs.Grammar.{no_spelling}

@@ -1,4 +1,4 @@
-use Rattle.std.proofs.Common.{◌≡◌, [], ◌<◌, rules, sym, ap, arith, length}
+use Rattle.std.proofs.Common.{arith, length}
 use Rattle.std.proofs.lemmas.Result.{err_from_is_err_and}
 use Rattle.query_text.specs.Tokens.{placed}
 use Rattle.query_text.proofs.ParserLaws.{waits_at_start}

@@ -1,4 +1,4 @@
-use Rattle.std.proofs.Common.{◌≡◌, [], ◌∷◌, ◌++◌, rules, sym}
+use Rattle.std.proofs.Common.{◌≡◌, [], rules}
 use Rattle.key_class.specs.Queries.{query_of}
 use Rattle.query_text.proofs.ParserLaws.{completes_or, completes_first, completes_no_or}
 use Rattle.query_text.proofs.parser.query_of_conjunction.Goals as goal

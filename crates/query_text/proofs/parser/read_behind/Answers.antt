@@ -1,4 +1,4 @@
-use Rattle.std.proofs.Common.{◌≡◌, [], ◌∷◌, ◌++◌, rules, sym, ap, arith, length, ◌∙◌, List, refl}
+use Rattle.std.proofs.Common.{sym, ap, arith, length, ◌∙◌, refl}
 use Rattle.key_class.specs.Queries.{query_of}
 use Rattle.query_text.specs.declared.lexeme.Lexeme.{Lexeme}
 use Rattle.query_text.specs.Tokens.{placed, at, token_in}
@@ -27,18 +27,20 @@ returns-in-And g c = λ ts h.
     let text = c.args.text.now in
     let n = length text in
     let first = at c.in-Some.first.place (token_in text c.in-Some.first) in
-    let part = c.in_ok-last.ensures n ts (placed text c.brackets.rest.now) (c.brackets.invariant.read ts h) in
-    (waits_behind_and (g.C.ClassText.key_at n) g.C.ClassText.atom_of c.conjunction_of.new.stack.items c.push.new.self.items c.in_ok-last.last ts (placed text c.brackets.rest.now) (placed text c.in-Some.behind.now) first c.in_ok-push-in-And.ensures.items (ap (placed text) c.in-Some.ensures) (sym c.in-And.ensures) part,
-     omega (arith, ap (length {A = Lexeme}) c.in-Some.ensures, c.brackets.invariant.shorter))
+    let part = c.in_ok-last.ensures n ts (placed text c.brackets.rest.now) (c.brackets.invariant.read ts h) in (
+      waits_behind_and (g.C.ClassText.key_at n) g.C.ClassText.atom_of c.conjunction_of.new.stack.items c.push.new.self.items c.in_ok-last.last ts (placed text c.brackets.rest.now) (placed text c.in-Some.behind.now) first c.in_ok-push-in-And.ensures.items (ap (placed text) c.in-Some.ensures) (sym c.in-And.ensures) part,
+      omega (arith, ap (length {A = Lexeme}) c.in-Some.ensures, c.brackets.invariant.shorter),
+    )
 
 pub returns-in-Or : goal.returns-in-Or
 returns-in-Or g c = λ ts h.
     let text = c.args.text.now in
     let n = length text in
     let first = at c.in-Some.first.place (token_in text c.in-Some.first) in
-    let part = c.in_ok-last.ensures n ts (placed text c.brackets.rest.now) (c.brackets.invariant.read ts h) in
-    (waits_behind_or (g.C.ClassText.key_at n) g.C.ClassText.atom_of c.query_of_conjunction-in-Or.new.stack.items c.push-in-Or.new.self.items c.in_ok-found-in-Or.found ts (placed text c.brackets.rest.now) (placed text c.in-Some.behind.now) first c.in_ok-push-in-Or.ensures.items (ap (placed text) c.in-Some.ensures) (sym c.in-Or.ensures) (c.in_ok-found-in-Or.ensures n ts (placed text c.brackets.rest.now) part),
-     omega (arith, ap (length {A = Lexeme}) c.in-Some.ensures, c.brackets.invariant.shorter))
+    let part = c.in_ok-last.ensures n ts (placed text c.brackets.rest.now) (c.brackets.invariant.read ts h) in (
+      waits_behind_or (g.C.ClassText.key_at n) g.C.ClassText.atom_of c.query_of_conjunction-in-Or.new.stack.items c.push-in-Or.new.self.items c.in_ok-found-in-Or.found ts (placed text c.brackets.rest.now) (placed text c.in-Some.behind.now) first c.in_ok-push-in-Or.ensures.items (ap (placed text) c.in-Some.ensures) (sym c.in-Or.ensures) (c.in_ok-found-in-Or.ensures n ts (placed text c.brackets.rest.now) part),
+      omega (arith, ap (length {A = Lexeme}) c.in-Some.ensures, c.brackets.invariant.shorter),
+    )
 
 pub returns-then-not-drops_top : goal.returns-then-not-drops_top
 returns-then-not-drops_top g c = λ ts h.
@@ -57,8 +59,8 @@ brackets-preserved g c =
     let top = c.if-not-drops_top.ensures.dropped refl in
     record {
       read = λ ts h.
-        let part = c.in_ok-last.ensures n ts (placed text c.brackets.rest.now) (c.brackets.invariant.read ts h) in
-        closes_bracket (g.C.ClassText.key_at n) g.C.ClassText.atom_of c.query_of_conjunction-in-Close.new.stack.items c.drops_top-in-Close.new.stack.items top.0 (query_of c.in_ok-part-in-Close.part) ts (placed text c.brackets.rest.now) (placed text c.in-Some.behind.now) first top.1 (ap (placed text) c.in-Some.ensures) (sym c.in-Close.ensures) (c.in_ok-part-in-Close.ensures n ts (placed text c.brackets.rest.now) part);
+          let part = c.in_ok-last.ensures n ts (placed text c.brackets.rest.now) (c.brackets.invariant.read ts h) in
+          closes_bracket (g.C.ClassText.key_at n) g.C.ClassText.atom_of c.query_of_conjunction-in-Close.new.stack.items c.drops_top-in-Close.new.stack.items top.0 (query_of c.in_ok-part-in-Close.part) ts (placed text c.brackets.rest.now) (placed text c.in-Some.behind.now) first top.1 (ap (placed text) c.in-Some.ensures) (sym c.in-Close.ensures) (c.in_ok-part-in-Close.ensures n ts (placed text c.brackets.rest.now) part);
       shorter = omega (arith, ap (length {A = Lexeme}) c.in-Some.ensures, c.brackets.invariant.shorter);
     }
 

@@ -1,4 +1,4 @@
-use Rattle.std.proofs.Common.{◌≡◌, ◌≤◌, List, length}
+use Rattle.std.proofs.Common.{◌≤◌, List, length}
 use Rattle.key_class.specs.Queries.{query_of}
 use Rattle.query_text.specs.Tokens.{Placed, placed}
 use Rattle.query_text.specs.Grammar.{unit}

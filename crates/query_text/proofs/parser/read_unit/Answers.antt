@@ -1,4 +1,4 @@
-use Rattle.std.proofs.Common.{◌≡◌, [], ◌∷◌, ◌++◌, rules, sym, ap, arith, length, ◌∙◌, List}
+use Rattle.std.proofs.Common.{sym, ap, arith, length, ◌∙◌}
 use Rattle.query_text.specs.declared.lexeme.Lexeme.{Lexeme}
 use Rattle.query_text.specs.Tokens.{placed, at, token_in}
 use Rattle.query_text.specs.Parsing.{pending}

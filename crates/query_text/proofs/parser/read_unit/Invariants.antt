@@ -1,4 +1,4 @@
-use Rattle.std.proofs.Common.{◌≡◌, ◌≤◌, List, length}
+use Rattle.std.proofs.Common.{◌≤◌, List, length}
 use Rattle.query_text.specs.Tokens.{Placed, placed}
 use Rattle.query_text.specs.Grammar.{unit}
 use Rattle.query_text.specs.Parsing.{Waits, pending}

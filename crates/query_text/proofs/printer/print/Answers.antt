@@ -1,4 +1,4 @@
-use Rattle.std.proofs.Common.{◌≡◌, [], ◌++◌, ap, sym, ◌∙◌, rules}
+use Rattle.std.proofs.Common.{◌≡◌}
 use Rattle.key_class.specs.Queries.{query_of}
 use Rattle.query_text.specs.Printing.{text_of, atom_text, IsSpelling}
 use Rattle.query_text.proofs.PrintLaws.{spells_written, spelling_is_read}

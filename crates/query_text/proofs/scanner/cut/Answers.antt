@@ -1,5 +1,4 @@
-use Rattle.std.proofs.Common.{◌≡◌, ℕ, ◌+◌, ◌-◌, ◌++◌, List, [], ◌∷◌, sym, arith, rules, drop, length, length-drop, length-append, drop-drop, ap, ◌∙◌}
-
+use Rattle.std.proofs.Common.{◌≡◌, ◌-◌, ◌++◌, [], ◌∷◌, sym, arith, rules, drop, length, length-drop, length-append, drop-drop, ap, ◌∙◌}
 use Rattle.query_text.specs.declared.lexeme.Kind.TheVariants as kind
 use Rattle.query_text.specs.Scanning.{lexeme}
 use Rattle.query_text.proofs.CutLaws.{cut_more, cut_on_space, cut_end, cut_fault, cut_glued}

@@ -1,4 +1,4 @@
-use Rattle.std.proofs.Common.{◌≡◌, ap, sym, ◌∙◌, length, arith, take, drop}
+use Rattle.std.proofs.Common.{ap, sym, ◌∙◌, length, arith, take, drop}
 use Rattle.query_text.specs.declared.lexeme.Lexeme.{Lexeme}
 use Rattle.query_text.specs.Tokens.{placed}
 use Rattle.query_text.proofs.SetLaws.{reads_close, reads_element, shifted}

@@ -1,4 +1,4 @@
-use Rattle.std.proofs.Common.{◌≡◌, ap, Err, length, rules, w32, FitsSigned}
+use Rattle.std.proofs.Common.{ap, Err, length, rules, w32, FitsSigned}
 use Rattle.std.proofs.lemmas.Int.{to_z-of_z}
 use Rattle.query_text.specs.Tokens.{placed}
 use Rattle.query_text.proofs.BoxLaws.{box_at_is, box_at_fails}

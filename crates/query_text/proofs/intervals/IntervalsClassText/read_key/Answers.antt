@@ -1,4 +1,4 @@
-use Rattle.std.proofs.Common.{◌≡◌, length, rules, w64, FitsSigned}
+use Rattle.std.proofs.Common.{length, rules, w64, FitsSigned}
 use Rattle.std.proofs.lemmas.Int.{to_z-of_z}
 use Rattle.query_text.specs.Tokens.{placed}
 use Rattle.query_text.proofs.IntervalLaws.{interval_at_is}

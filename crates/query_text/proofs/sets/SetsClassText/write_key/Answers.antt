@@ -1,7 +1,5 @@
-use Rattle.std.proofs.Common.{◌≡◌, ◌<◌, ◌^◌, ◌∷◌, [], rules, sym, ap, ◌∙◌, add-one, arith, refl, Result, Ok, Err, OnOk}
-use Rattle.std.specs.Io.KnownBytes.{Appends}
+use Rattle.std.proofs.Common.{◌≡◌, rules, add-one, arith, refl, Result, Ok, Err, OnOk}
 use Rattle.std.proofs.KnownBytes.{Appends-trans}
-use Rattle.query_text.specs.SetTexts.{spaced, elements_below, number_text, is_empty}
 use Rattle.query_text.proofs.SetLaws.{no_elements, written_more, still_empty, set_reads_back}
 use Rattle.query_text.proofs.sets.SetsClassText.write_key.Goals as goal
 
