@@ -1,6 +1,8 @@
-//! Trials of sessions over memory: rows of lines and their answers, and readers and writers that fail.
+//! Trials over memory: calls of a store, sessions of lines with their answers, readers and writers that fail.
 #![tactic(auto)]
 
+#[cfg(test)]
+mod calls;
 #[cfg(test)]
 mod faults;
 #[cfg(test)]
