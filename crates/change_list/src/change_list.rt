@@ -1,6 +1,7 @@
-ghost use Rattle.std.specs.Prelude.{◌≡◌, ◌+◌, ◌<◌, ◌++◌, ◌∷◌, [], length, slice_get, OnOk, OnErr, IfSome};
+ghost use Rattle.std.specs.Prelude.{◌≡◌, ◌+◌, ◌<◌, ◌++◌, ◌∷◌, [], length, slice_get, OnOk, OnErr, IfOk, IfErr, IfSome};
 ghost use Rattle.change_list.specs.Changes.{status_of, commit_at, MayFollow, IsLegal};
 
+use crate::roomy_list::RoomyList;
 use crate::write::{Status, Write};
 use std::alloc::{AllocError, Global};
 use std::marker::Model;
@@ -8,9 +9,9 @@ use std::marker::Model;
 /// A list of commits that only grows. Commit 1 is the first.
 #[derive(Drop)]
 pub struct ChangeList<K> {
-    commits: Vec<Write<K>>,
+    pub(crate) commits: Vec<Write<K>>,
     /// At place n - 1, whether a commit deletes row n.
-    deleted: Vec<bool>,
+    pub(crate) deleted: Vec<bool>,
 }
 
 impl<K> Model for ChangeList<K> {
@@ -81,5 +82,23 @@ impl<K: Copy> ChangeList<K> {
             self.deleted[(row - 1) as usize] = true;
         }
         Ok(())
+    }
+
+    /// The list with memory for one more commit.
+    ///
+    /// # Errors
+    /// Memory was wanting; gives the list back.
+    pub fn reserve(self) -> Result<RoomyList<K>, ChangeList<K>>
+        ensures ok { IfOk result (λ roomy. roomy ≡ self) }
+        ensures err { IfErr result (λ list. list ≡ self) }
+    {
+        let ChangeList {
+            mut commits,
+            mut deleted,
+        } = self;
+        if commits.try_reserve(1).is_err() || deleted.try_reserve(1).is_err() {
+            return Err(ChangeList { commits, deleted });
+        }
+        Ok(RoomyList { commits, deleted })
     }
 }

@@ -5,9 +5,11 @@
 mod change_list;
 mod config;
 mod item;
+mod roomy_list;
 mod write;
 
 pub use change_list::ChangeList;
 pub use config::Config;
 pub use item::{Item, Row};
+pub use roomy_list::RoomyList;
 pub use write::{Status, Write};

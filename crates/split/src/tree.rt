@@ -66,6 +66,7 @@ impl<C: KeyClass> SearchTree<C> {
     pub fn pages(&self) -> &PageTable<C::Key>
         ensures table { result.now ≡ self.now.tree }
         ensures sound { IsSound C.is_cover self.now.fan self.now.tree }
+        ensures few { length self.now.tree.pages ≤ 65536 }
     {
         &self.table
     }

@@ -1,0 +1,4 @@
+pub mod Fitting
+pub mod Offering
+pub mod OpenCursors
+pub mod Sending

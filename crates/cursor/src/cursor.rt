@@ -1,0 +1,245 @@
+ghost use Rattle.std.specs.Prelude.{◌≡◌, ◌↔◌, ◌+◌, ◌<◌, ◌≤◌, ℕ, true, false, [], ◌∷◌, ◌++◌, List, length, Some, None, slice_get, IfOk, OnOk};
+ghost use Rattle.key_class.specs.Queries.{query_of};
+ghost use Rattle.change_list.specs.declared.item.Item.{Item};
+ghost use Rattle.change_list.specs.declared.write.Write.{Write};
+ghost use Rattle.change_list.specs.Changes.{snapshot};
+ghost use Rattle.page_table.specs.Stacks.{IsStack};
+ghost use Rattle.page_table.specs.Soundness.{IsSound};
+ghost use Rattle.page_table.specs.Trees.{Tree};
+ghost use Rattle.page_table.specs.Weights.{Same};
+ghost use Rattle.scan.specs.Scanning.{to_find};
+ghost use Rattle.mailbox.specs.Outlets.{Takes};
+ghost use Rattle.cursor.specs.OpenCursors.{words, wants, Turns, tree_work, is_scanning};
+ghost use Rattle.cursor.specs.Fitting.{FitsOver, KeepsFitting, GivesFitting};
+ghost use Rattle.cursor.specs.Offering.{IsOffered};
+ghost use Rattle.cursor.specs.Sending.{TurnsTo};
+
+use crate::change_item::change_item;
+use change_list::{ChangeList, Item, Row};
+use key_class::{KeyClass, Pred, Refusal};
+use mailbox::{Outlet, Taken};
+use page_table::PageTable;
+use scan::Stack;
+use std::alloc::Global;
+use std::collections::VecDeque;
+use std::marker::Model;
+
+/// What a turn did.
+#[derive(Clone, Copy, Debug, PartialEq, Eq)]
+pub enum Turned {
+    /// An item went to the outlet.
+    Offered,
+    /// The page with the number was read.
+    Visited(u32),
+    /// The commit with the number isn't asked for.
+    Passed(u64),
+}
+
+/// An open cursor.
+#[derive(Drop)]
+pub struct Cursor<C: KeyClass, O: Outlet<C::Key>> {
+    serial: u64,
+    query: Pred<C::Atom>,
+    opened: u32,
+    stack: Stack,
+    pending: VecDeque<Row<C::Key>>,
+    position: u64,
+    asked: bool,
+    outlet: O,
+}
+
+impl<C: KeyClass, O: Outlet<C::Key>> Model for Cursor<C, O> {
+    ghost use Rattle.key_class.specs.Queries.{query_of};
+    ghost use Rattle.key_class.specs.QueryCodes.{query_code};
+    ghost use Rattle.std.specs.Coded.{codes};
+    ghost use Rattle.cursor.specs.OpenCursors.{OpenCursor};
+
+    ghost Value = { OpenCursor C.Key C.Atom };
+
+    ghost coded = { Prim.hlevel (codes, query_code) };
+
+    ghost view = { λ c. record { serial = c.serial; query = query_of c.query; opened = c.opened; stack = c.stack; pending = c.pending.items; position = c.position; asked = c.asked; room = O.room_of c.outlet; unread = O.unread c.outlet } };
+}
+
+impl<C: KeyClass, O: Outlet<C::Key>> Cursor<C, O> {
+    /// A cursor opened after `opened` commits, at a tree's root when the number of its latest posting was `counter`. It
+    /// takes no memory.
+    pub fn new(
+        alloc: Global,
+        serial: u64,
+        query: Pred<C::Atom>,
+        opened: u32,
+        counter: u32,
+        outlet: O,
+    ) -> Self
+        ensures new { result ≡ record { serial = serial; query = query_of query; opened = opened; stack = (record { page = 0; memo = counter }) ∷ []; pending = []; position = opened; asked = false; room = O.room_of outlet; unread = O.unread outlet } }
+        ensures fits { let w = words C.is_match C.is_consistent C.is_cover C.union_of O.may_take O.may_refuse O.is_emptied_elsewhere in (tree : Tree C.Key) (commits : List (Write C.Key)) → opened ≡ length commits → Same (to_find (wants w result) opened tree result.stack) (snapshot (wants w result) opened commits) → FitsOver w tree commits result [] }
+    {
+        Cursor {
+            serial,
+            query,
+            opened,
+            stack: Stack::at_root(alloc, counter),
+            pending: VecDeque::new(alloc),
+            position: u64::from(opened),
+            asked: false,
+            outlet,
+        }
+    }
+
+    pub fn serial(&self) -> u64
+        ensures { result ≡ self.now.serial }
+    {
+        self.serial
+    }
+
+    /// The number of commits at its opening.
+    pub fn opened(&self) -> u32
+        ensures { result ≡ self.now.opened }
+    {
+        self.opened
+    }
+
+    /// Whether pages are left to be visited.
+    pub fn is_scanning(&self) -> bool
+        ensures scanning { result ≡ is_scanning self.now.stack }
+        ensures over { (result ≡ false) ↔ (self.now.stack ≡ []) }
+    {
+        !self.stack.is_empty()
+    }
+
+    /// Asks for a mark once all before it was given.
+    pub fn ask_mark(&mut self)
+        ensures asked { self.new ≡ record self.old { asked = true } }
+        ensures fits { (tree : Tree C.Key) (commits : List (Write C.Key)) → KeepsFitting (words C.is_match C.is_consistent C.is_cover C.union_of O.may_take O.may_refuse O.is_emptied_elsewhere) tree commits self.old self.new }
+    {
+        self.asked = true;
+    }
+
+    /// Takes out the item at the front of the outlet.
+    pub fn take(&mut self) -> Taken<C::Key>
+        ensures takes { Takes O.is_emptied_elsewhere self.old.unread result self.new.unread }
+        ensures others { self.new ≡ record self.old { unread = self.new.unread } }
+        ensures fits { (tree : Tree C.Key) (commits : List (Write C.Key)) → KeepsFitting (words C.is_match C.is_consistent C.is_cover C.union_of O.may_take O.may_refuse O.is_emptied_elsewhere) tree commits self.old self.new }
+    {
+        self.outlet.take()
+    }
+
+    /// Offers a pending row.
+    fn offer_row(&mut self, row: Row<C::Key>) -> Result<Turned, Refusal>
+        ensures { IsOffered (words C.is_match C.is_consistent C.is_cover C.union_of O.may_take O.may_refuse O.is_emptied_elsewhere) (Item.Row row) self.old result self.new }
+    {
+        match self.outlet.offer(Item::Row(row)) {
+            Ok(()) => {
+                self.pending.pop_front();
+                Ok(Turned::Offered)
+            }
+            Err(_) => Err(Refusal::NoRoom),
+        }
+    }
+
+    /// Visits a page.
+    fn visit(&mut self, alloc: Global, table: &PageTable<C::Key>) -> Result<Turned, Refusal>
+        requires stack { IsStack table.now self.old.stack }
+        requires none_pending { self.old.pending ≡ [] }
+        requires scanning { is_scanning self.old.stack ≡ true }
+        ensures { (commits : List (Write C.Key)) → Turns (words C.is_match C.is_consistent C.is_cover C.union_of O.may_take O.may_refuse O.is_emptied_elsewhere) table.now commits self.old result self.new }
+    {
+        match self
+            .stack
+            .visit::<C>(alloc, table, &self.query, self.opened)
+        {
+            Ok(Some(visited)) => {
+                self.pending = visited.rows;
+                Ok(Turned::Visited(visited.page))
+            }
+            Ok(None) => unreachable!(),
+            Err(_) => Err(Refusal::OutOfMemory),
+        }
+    }
+
+    /// Offers the item of the next commit, or passes it where it isn't asked for; after the last commit offers a mark
+    /// that was asked for.
+    fn follow(&mut self, changes: &ChangeList<C::Key>) -> Result<Turned, Refusal>
+        requires none_pending { self.old.pending ≡ [] }
+        requires scanned { self.old.stack ≡ [] }
+        ensures { (tree : Tree C.Key) → Turns (words C.is_match C.is_consistent C.is_cover C.union_of O.may_take O.may_refuse O.is_emptied_elsewhere) tree changes.now self.old result self.new }
+    {
+        if self.position >= changes.len() as u64 {
+            return self.offer_mark();
+        }
+        let number = self.position + 1;
+        match change_item::<C>(changes, &self.query, self.position) {
+            Some(item) => match self.outlet.offer(item) {
+                Ok(()) => {
+                    self.position = number;
+                    Ok(Turned::Offered)
+                }
+                Err(_) => Err(Refusal::NoRoom),
+            },
+            None => {
+                self.position = number;
+                Ok(Turned::Passed(number))
+            }
+        }
+    }
+
+    /// Offers a mark, where one was asked for.
+    fn offer_mark(&mut self) -> Result<Turned, Refusal>
+        requires none_pending { self.old.pending ≡ [] }
+        requires scanned { self.old.stack ≡ [] }
+        ensures { (tree : Tree C.Key) (commits : List (Write C.Key)) → length commits ≤ self.old.position → Turns (words C.is_match C.is_consistent C.is_cover C.union_of O.may_take O.may_refuse O.is_emptied_elsewhere) tree commits self.old result self.new }
+    {
+        if !self.asked {
+            return Err(Refusal::Idle);
+        }
+        match self.outlet.offer(Item::Mark(self.position)) {
+            Ok(()) => {
+                self.asked = false;
+                Ok(Turned::Offered)
+            }
+            Err(_) => Err(Refusal::NoRoom),
+        }
+    }
+
+    /// A turn, the first of the pieces of work that applies.
+    fn advance(
+        &mut self,
+        alloc: Global,
+        table: &PageTable<C::Key>,
+        changes: &ChangeList<C::Key>,
+    ) -> Result<Turned, Refusal>
+        requires { IsStack table.now self.old.stack }
+        ensures { Turns (words C.is_match C.is_consistent C.is_cover C.union_of O.may_take O.may_refuse O.is_emptied_elsewhere) table.now changes.now self.old result self.new }
+    {
+        if let Some(row) = self.pending.front() {
+            let row = *row;
+            return self.offer_row(row);
+        }
+        if !self.stack.is_empty() {
+            return self.visit(alloc, table);
+        }
+        self.follow(changes)
+    }
+
+    /// One turn, the first of these that applies: a row that was found is offered; a page is visited; the next commit's
+    /// item is offered, or the commit passed where it isn't asked for; a mark that was asked for is offered.
+    ///
+    /// # Errors
+    /// The outlet had no room, nothing was to do, or memory was wanting in a visit; the cursor is as it was.
+    pub fn turn(
+        &mut self,
+        alloc: Global,
+        table: &PageTable<C::Key>,
+        changes: &ChangeList<C::Key>,
+    ) -> Result<Turned, Refusal>
+        requires { IsStack table.now self.old.stack }
+        ensures turns { Turns (words C.is_match C.is_consistent C.is_cover C.union_of O.may_take O.may_refuse O.is_emptied_elsewhere) table.now changes.now self.old result self.new }
+        ensures sends { TurnsTo changes.now self.old self.new }
+        ensures fits { (fan : ℕ) → IsSound C.is_cover fan table.now → GivesFitting (words C.is_match C.is_consistent C.is_cover C.union_of O.may_take O.may_refuse O.is_emptied_elsewhere) table.now changes.now self.old self.new }
+        ensures less_work { let w = words C.is_match C.is_consistent C.is_cover C.union_of O.may_take O.may_refuse O.is_emptied_elsewhere in OnOk result ((fan : ℕ) → IsSound C.is_cover fan table.now → tree_work w table.now changes.now self.new < tree_work w table.now changes.now self.old) }
+        ensures stack { (fan : ℕ) → IsSound C.is_cover fan table.now → IsStack table.now self.new.stack }
+    {
+        self.advance(alloc, table, changes)
+    }
+}

@@ -1,0 +1,19 @@
+-- What contracts see of an outlet: the items that are still to be taken, and what an offer and a take do to them.
+use Rattle.std.specs.Prelude.{◌≡◌, ℕ, Bool, true, false, List, [], ◌∷◌}
+use Rattle.change_list.specs.declared.item.Item.{Item}
+use Rattle.mailbox.specs.declared.outlet.Taken.{Taken}
+use Rattle.mailbox.specs.declared.outlet.Taken.TheVariants as taken
+
+-- a bounded list of items
+pub record Tray (K : Type 0) : Type 0 where
+  -- how many it holds at most
+  pub room : ℕ
+  pub held : List (Item K)
+
+module _ {K : Type 0} where
+  -- A take gives the front, and nothing exactly where there is no item; where somebody else empties the outlet it
+  -- takes nothing out.
+  abbrev pub Takes : Bool → List (Item K) → Taken K → List (Item K) → Type 0
+  Takes elsewhere before (taken.Item item) after = (elsewhere ≡ false) × (before ≡ item ∷ after)
+  Takes elsewhere before taken.Nothing after = (elsewhere ≡ false) × (before ≡ []) × (after ≡ [])
+  Takes elsewhere before taken.Elsewhere after = (elsewhere ≡ true) × (after ≡ before)

@@ -1,0 +1,64 @@
+ghost use Rattle.std.specs.Prelude.{◌≡◌, ℕ, Bool, true, List, [], ◌∷◌, ◌++◌, length, IfOk, IfErr, OnOk, OnErr};
+ghost use Rattle.change_list.specs.declared.item.Item.{Item};
+ghost use Rattle.mailbox.specs.Outlets.{Takes};
+
+use change_list::Item;
+use std::alloc::{AllocError, Global};
+
+/// What a take of an outlet gives.
+#[derive(Clone, Copy, Debug, PartialEq, Eq)]
+pub enum Taken<K> {
+    /// The item at the front, which is there no more.
+    Item(Item<K>),
+    /// No item was there.
+    Nothing,
+    /// Somebody else empties the outlet.
+    Elsewhere,
+}
+
+/// Where the items of a cursor go.
+pub trait Outlet<K>: Drop {
+    /// What is handed to the side that empties the outlet.
+    type End: Drop;
+
+    /// How many items fit.
+    ghost room_of: { Self → ℕ };
+
+    /// The items that it was offered and that this side hasn't taken, in their order.
+    ghost unread: { Self → List (Item K) };
+
+    /// Whether an offer may be taken, at that room and with that many unread items.
+    ghost may_take: { ℕ → ℕ → Bool };
+
+    /// Whether an offer may be handed back, at that room and with that many unread items.
+    ghost may_refuse: { ℕ → ℕ → Bool };
+
+    /// Whether somebody else empties it.
+    ghost is_emptied_elsewhere: { Bool };
+
+    /// An outlet with that room and no item, and its other end.
+    ///
+    /// # Errors
+    /// Memory was wanting.
+    fn make(alloc: Global, room: u32) -> Result<(Self, Self::End), AllocError>
+        ensures room { IfOk result (λ made. room_of made.0 ≡ room) }
+        ensures empty { IfOk result (λ made. unread made.0 ≡ []) };
+
+    /// Adds an item, or hands it back.
+    fn offer(&mut self, item: Item<K>) -> Result<(), Item<K>>
+        ensures taken { OnOk result (unread self.new ≡ unread self.old ++ item ∷ []) }
+        ensures may_take { OnOk result (may_take (room_of self.old) (length (unread self.old)) ≡ true) }
+        ensures handed_back { IfErr result (λ back. back ≡ item) }
+        ensures unchanged { OnErr result (unread self.new ≡ unread self.old) }
+        ensures may_refuse { OnErr result (may_refuse (room_of self.old) (length (unread self.old)) ≡ true) }
+        ensures room { room_of self.new ≡ room_of self.old };
+
+    /// Takes out the item at the front.
+    fn take(&mut self) -> Taken<K>
+        ensures takes { Takes is_emptied_elsewhere (unread self.old) result (unread self.new) }
+        ensures room { room_of self.new ≡ room_of self.old };
+
+    /// Whether somebody else empties outlets of this kind.
+    fn is_emptied_elsewhere() -> bool
+        ensures { result ≡ is_emptied_elsewhere };
+}

@@ -1,0 +1,74 @@
+ghost use Rattle.std.specs.Prelude.{◌≡◌, ◌<◌, ◌≤◌, ◌↔◌, true, false, List, [], ◌∷◌, ◌++◌, length, nat_lt, nat_le, IfOk, IfErr, OnOk, OnErr, IsOk, IfSome, slice_get, drop};
+ghost use Rattle.mailbox.specs.Outlets.{Takes};
+
+use crate::outlet::{Outlet, Taken};
+use change_list::Item;
+use std::alloc::{AllocError, Global};
+use std::collections::VecDeque;
+use std::marker::Model;
+
+/// A bounded list of items, first in first out. Its places are reserved when it is made.
+#[derive(Drop)]
+pub struct Tray<K> {
+    items: VecDeque<Item<K>>,
+    room: u32,
+}
+
+impl<K> Model for Tray<K> {
+    ghost use Rattle.std.specs.Prelude.{◌≤◌};
+    ghost use Rattle.std.specs.VecDeque.{deque_capacity};
+    ghost use Rattle.mailbox.specs.Outlets.{Tray};
+
+    ghost Value = { Tray K };
+
+    ghost view = { λ tray. record { room = tray.room; held = tray.items.items } };
+
+    ghost invariant = { λ tray. tray.room ≤ deque_capacity tray.items };
+}
+
+impl<K: Copy> Outlet<K> for Tray<K> {
+    type End = ();
+
+    ghost room_of = { λ tray. tray.room };
+
+    ghost unread = { λ tray. tray.held };
+
+    ghost may_take = { λ room count. nat_lt count room };
+
+    ghost may_refuse = { λ room count. nat_le room count };
+
+    ghost is_emptied_elsewhere = { false };
+
+    fn make(alloc: Global, room: u32) -> Result<(Tray<K>, ()), AllocError>
+        ensures made { IfOk result (λ made. made.0 ≡ record { room = room; held = [] }) }
+    {
+        let items = VecDeque::with_capacity(alloc, room as usize)?;
+        Ok((Tray { items, room }, ()))
+    }
+
+    fn offer(&mut self, item: Item<K>) -> Result<(), Item<K>>
+        ensures takes { IsOk result ↔ (length self.old.held < self.old.room) }
+        ensures taken { OnOk result (self.new ≡ record self.old { held = self.old.held ++ item ∷ [] }) }
+        ensures handed_back { IfErr result (λ back. (back ≡ item) × (self.new ≡ self.old)) }
+    {
+        if self.items.len() >= self.room as usize {
+            return Err(item);
+        }
+        self.items.push_back_reserved(item);
+        Ok(())
+    }
+
+    fn take(&mut self) -> Taken<K> {
+        match self.items.pop_front() {
+            Some(item) => Taken::Item(item),
+            None => Taken::Nothing,
+        }
+    }
+
+    fn is_emptied_elsewhere() -> bool {
+        false
+    }
+}
+
+#[cfg(test)]
+mod tests;

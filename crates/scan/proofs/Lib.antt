@@ -1,0 +1,9 @@
+pub mod Agreement
+pub mod Arranged
+pub mod Commits
+pub mod Finders
+pub mod Opening
+pub mod Scans
+pub mod Seeking
+pub mod Seen
+pub mod Visiting

@@ -1,0 +1,54 @@
+-- What a finder looks for, and one visit of it.
+use Rattle.std.specs.Prelude.{◌≡◌, ℕ, ◌≤◌, Bool, List, ◌∷◌, [], ◌++◌, Some, nat_eq}
+use Rattle.std.specs.List.{list_any}
+use Rattle.row_version.specs.Entries.{Entry}
+use Rattle.change_list.specs.Changes.{commit_at}
+use Rattle.change_list.specs.declared.write.Write.{Write}
+use Rattle.change_list.specs.declared.write.Write.TheVariants.{Insert}
+use Rattle.page_table.specs.Soundness.{IsSound}
+use Rattle.page_table.specs.Stacks.{StackItem, IsStack, rows_left}
+use Rattle.page_table.specs.Trees.{Tree, page_at}
+use Rattle.page_table.specs.Weights.{weigh}
+use Rattle.scan.specs.Agreement.{Agrees, is_row}
+use Rattle.scan.specs.Scanning.{GoesOn, LowersWork}
+use Rattle.scan.specs.declared.stack.Sought.{Sought}
+use Rattle.scan.specs.declared.stack.Sought.TheVariants.{Here, Further}
+
+module _ {K : Type 0} where
+  -- one of the entries is that of the row
+  abbrev pub holds : ℕ → List (Entry K) → Bool
+  holds row entries = list_any (λ e. nat_eq e.row row) entries
+
+  -- the finder of a row: its stack is one, and the row stands once under it
+  pub record IsFinder (row : ℕ) (t : Tree K) (stack : List StackItem) : Type 0 where
+    pub exists : IsStack t stack
+    pub there : weigh (is_row row) (rows_left t stack) ≡ 1
+
+  -- the last item's page holds the row, and nothing changes
+  pub record FindsHere (row : ℕ) (t : Tree K) (old : List StackItem) (page : ℕ) (new : List StackItem) : Type 0 where
+    pub rest : List StackItem
+    pub memo : ℕ
+    pub last : old ≡ rest ++ (record { page = page; memo = memo }) ∷ []
+    pub there : 1 ≤ weigh (is_row row) (page_at t page).rows
+    pub unchanged : new ≡ old
+
+  -- it doesn't, and the finder goes on to what may
+  pub record SeeksFurther (covering : K → Bool) (row : ℕ) (t : Tree K) (old : List StackItem) (page : ℕ) (new : List StackItem) : Type 0 where
+    pub memo : ℕ
+    pub goes_on : GoesOn covering t old (record { page = page; memo = memo }) new
+    pub lacks : weigh (is_row row) (page_at t page).rows ≡ 0
+
+  -- one visit of a finder, by what it met
+  abbrev pub Seeks : (K → Bool) → ℕ → Tree K → List StackItem → Sought → List StackItem → Type 0
+  Seeks covering row t old (Here page) new = FindsHere row t old page new
+  Seeks covering row t old (Further page) new = SeeksFurther covering row t old page new
+
+  -- in a sound tree that agrees with the commits, the finder of a row with that key is one still
+  abbrev pub KeepsFinder : (K → K → Bool) → K → ℕ → Tree K → List StackItem → List StackItem → Type 0
+  KeepsFinder is_cover key row t old new =
+      (fan tag : ℕ) (commits : List (Write K)) → IsSound is_cover fan t → Agrees t commits → commit_at commits row ≡ Some (Insert key tag) → IsFinder row t old → IsFinder row t new
+
+  -- where it goes on, fewer pages are left
+  abbrev pub SeeksLess : (K → K → Bool) → Tree K → List StackItem → Sought → List StackItem → Type 0
+  SeeksLess is_cover t old (Here page) new = Unit {0}
+  SeeksLess is_cover t old (Further page) new = LowersWork is_cover t old new

@@ -1,0 +1,5 @@
+pub mod Agreement
+pub mod Finding
+pub mod LeafChanges
+pub mod ScanLaws
+pub mod Scanning

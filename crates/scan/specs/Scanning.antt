@@ -1,0 +1,57 @@
+-- What a scan has still to find, and one visit of it.
+use Rattle.std.specs.Prelude.{◌≡◌, ℕ, ◌+◌, ◌≤◌, Bool, ◌&&◌, List, [], ◌∷◌, ◌++◌, length, map, filter, reverse}
+use Rattle.change_list.specs.declared.item.Row.{Row}
+use Rattle.row_version.specs.Entries.{Entry, visible_at}
+use Rattle.node.specs.declared.branch.Branch.{Branch}
+use Rattle.page_table.specs.Soundness.{IsSound}
+use Rattle.page_table.specs.Stacks.{StackItem, rows_left, pages_left, pushed}
+use Rattle.page_table.specs.Trees.{Tree, page_at}
+use Rattle.page_table.specs.Weights.{Same}
+
+-- the item to be visited next
+pub record IsNext (stack : List StackItem) (item : StackItem) : Type 0 where
+  pub rest : List StackItem
+  pub is : stack ≡ rest ++ item ∷ []
+
+module _ {K : Type 0} where
+  -- the row of an entry
+  abbrev pub row_of : Entry K → Row K
+  row_of e = record { row = e.row; key = e.key; tag = e.tag }
+
+  -- the row is there after the first s commits and its key is wanted
+  abbrev pub is_seen : (K → Bool) → ℕ → Entry K → Bool
+  is_seen wanted s e = visible_at s e && wanted e.key
+
+  -- the rows that are seen, of some entries
+  abbrev pub seen : (K → Bool) → ℕ → List (Entry K) → List (Row K)
+  seen wanted s entries = map row_of (filter (is_seen wanted s) entries)
+
+  -- what a scan has still to find
+  abbrev pub to_find : (K → Bool) → ℕ → Tree K → List StackItem → List (Row K)
+  to_find wanted s t stack = seen wanted s (rows_left t stack)
+
+  -- the items for the children whose bounds are wanted, the first child last
+  abbrev pub child_items : (K → Bool) → ℕ → List (Branch K) → List StackItem
+  child_items wanted memo branches = reverse (map (λ b. record { page = b.child; memo = memo }) (filter (λ b. wanted b.key) branches))
+
+  -- the last item goes, and what follows its page is pushed
+  pub record GoesOn (wanted : K → Bool) (t : Tree K) (old : List StackItem) (item : StackItem) (new : List StackItem) : Type 0 where
+    pub rest : List StackItem
+    pub before : old ≡ rest ++ item ∷ []
+    pub after : new ≡ rest ++ pushed t (λ b. wanted b.key) item.page item.memo
+
+  -- one visit: the last item goes, its page is read, what follows it is pushed
+  pub record Visits (consistent wanted : K → Bool) (s : ℕ) (t : Tree K) (old : List StackItem) (page : ℕ) (noted : List (Row K)) (new : List StackItem) : Type 0 where
+    pub rest : List StackItem
+    pub memo : ℕ
+    pub before : old ≡ rest ++ (record { page = page; memo = memo }) ∷ []
+    pub after : new ≡ rest ++ pushed t (λ b. consistent b.key) page memo
+    pub noted_is : noted ≡ seen wanted s (page_at t page).rows
+
+  -- in a sound tree what is noted, with what is still to be found, is what was to be found before
+  abbrev pub LosesNothing : (K → K → Bool) → (K → Bool) → ℕ → Tree K → List StackItem → List (Row K) → List StackItem → Type 0
+  LosesNothing is_cover wanted s t old noted new = (fan : ℕ) → IsSound is_cover fan t → Same (noted ++ to_find wanted s t new) (to_find wanted s t old)
+
+  -- in a sound tree fewer pages are left
+  abbrev pub LowersWork : (K → K → Bool) → Tree K → List StackItem → List StackItem → Type 0
+  LowersWork is_cover t old new = (fan : ℕ) → IsSound is_cover fan t → length (pages_left t new) + 1 ≤ length (pages_left t old)

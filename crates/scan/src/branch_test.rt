@@ -1,0 +1,34 @@
+ghost use Rattle.std.specs.Prelude.{◌≡◌, Bool};
+ghost use Rattle.key_class.specs.Queries.{query_of, consistent_with_query};
+
+use key_class::{KeyClass, Pred};
+
+/// Which children a traversal goes to, by their bounds.
+pub trait BranchTest<C: KeyClass> {
+    ghost wants: { Self → C.Key → Bool };
+
+    fn is_wanted(&self, bound: C::Key) -> bool
+        ensures { result ≡ wants self.now bound };
+}
+
+/// The bounds that cover a key.
+#[derive(Clone, Copy)]
+pub struct Covering<K> {
+    pub key: K,
+}
+
+impl<C: KeyClass> BranchTest<C> for Covering<C::Key> {
+    ghost wants = { λ test bound. C.is_cover bound test.key };
+
+    fn is_wanted(&self, bound: C::Key) -> bool {
+        C::covers(bound, self.key)
+    }
+}
+
+impl<C: KeyClass> BranchTest<C> for Pred<C::Atom> {
+    ghost wants = { λ query bound. consistent_with_query C.is_consistent (query_of query) bound };
+
+    fn is_wanted(&self, bound: C::Key) -> bool {
+        self.consistent::<C>(bound)
+    }
+}

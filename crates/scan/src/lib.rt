@@ -1,0 +1,16 @@
+//! Traversals of the tree: the stack of pages that are still to be visited, and one visit of a scan. Its specs have what
+//! it means that the entries of a tree agree with a list of commits, and what a scan has still to find.
+#![tactic(auto)]
+
+mod branch_test;
+mod laws;
+mod rows;
+mod stack;
+#[cfg(test)]
+mod tests;
+
+pub use branch_test::{BranchTest, Covering};
+pub use laws::{
+    entries_follow_commits, finders_survive_steps, scans_begin_with_snapshots, scans_survive_steps,
+};
+pub use stack::{Sought, Stack, Visited};

@@ -1,0 +1,46 @@
+ghost use Rattle.std.specs.Prelude.{◌≡◌, IfOk};
+ghost use Rattle.key_class.specs.Queries.{query_of, matches_query};
+ghost use Rattle.scan.specs.Finding.{holds};
+ghost use Rattle.scan.specs.Scanning.{seen, row_of};
+
+use change_list::Row;
+use key_class::{KeyClass, Pred};
+use row_version::Entry;
+use std::alloc::{AllocError, Global};
+use std::collections::VecDeque;
+
+/// The rows that are there after the first `commit` commits and match, in their order. Takes no memory where there is
+/// none.
+pub fn seen_rows<C: KeyClass>(
+    alloc: Global,
+    entries: &[Entry<C::Key>],
+    query: &Pred<C::Atom>,
+    commit: u32,
+) -> Result<VecDeque<Row<C::Key>>, AllocError>
+    ensures { IfOk result (λ rows. rows.items ≡ seen (matches_query C.is_match (query_of query.now)) commit entries.now) }
+{
+    let mut rows = VecDeque::new(alloc);
+    for entry in entries {
+        if entry.visible_at(commit) && query.matches::<C>(entry.key()) {
+            rows.push_back(row_of(entry))?;
+        }
+    }
+    Ok(rows)
+}
+
+/// Whether an entry is that of the row.
+pub fn holds_row<K>(entries: &[Entry<K>], row: u32) -> bool
+    ensures { result ≡ holds row entries.now }
+{
+    entries.iter().any(|entry| entry.row() == row)
+}
+
+fn row_of<K: Copy>(entry: &Entry<K>) -> Row<K>
+    ensures { result ≡ row_of entry.now }
+{
+    Row {
+        row: u64::from(entry.row()),
+        key: entry.key(),
+        tag: entry.tag(),
+    }
+}

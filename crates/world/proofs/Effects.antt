@@ -1,0 +1,74 @@
+-- What a trace needs to know of a step.
+use Rattle.std.proofs.Common.{◌≡◌, ◌+◌, ◌<◌, ◌≤◌, ℕ, false, List, [], ◌∷◌, ◌++◌, length, Some, None}
+use Rattle.std.specs.Prelude.{option_to_list}
+use Rattle.key_class.specs.Queries.{query_of}
+use Rattle.key_class.specs.declared.pred.Pred.{Pred}
+use Rattle.key_class.specs.declared.refusal.Refusal.TheVariants as refusal
+use Rattle.change_list.specs.declared.item.Item.{Item}
+use Rattle.change_list.specs.Changes.{IsLegal}
+use Rattle.change_list.specs.Cursors.{Fits}
+use Rattle.cursor.specs.OpenCursors.{Words, OpenCursor, shown}
+use Rattle.world.specs.declared.event.Event.{Event}
+use Rattle.world.specs.declared.event.Event.TheVariants as event
+use Rattle.world.specs.declared.reply.Reply.{Reply}
+use Rattle.world.specs.declared.reply.Reply.TheVariants as reply
+use Rattle.world.specs.States.{State, cursor_at}
+use Rattle.world.specs.Traces.{written, taken_by, asks}
+use Rattle.world.specs.Promises.{ServesAll}
+
+module _ {K A : Type 0} where
+  -- a cursor that is open before and after, and whose mailbox had the item at its front
+  pub record Taking (old : State K A) (c : ℕ) (item : Item K) (new : State K A) : Type 0 where
+    pub before : OpenCursor K A
+    pub after : OpenCursor K A
+    pub rest : List (Item K)
+    pub was_open : cursor_at old c ≡ Some before
+    pub is_open : cursor_at new c ≡ Some after
+    pub front : before.unread ≡ item ∷ rest
+
+  -- a serial that was given, and whose cursor is closed
+  pub record IsShut (s : State K A) (c : ℕ) : Type 0 where
+    pub positive : 0 < c
+    pub given : c ≤ s.last
+    pub closed : cursor_at s c ≡ None
+
+module _ {K A : Type 0} (w : Words K A) where
+  -- a cursor that wasn't there before
+  pub record IsFresh (old new : State K A) (query : Pred A) (c : ℕ) : Type 0 where
+    pub serial : old.last < c
+    pub given : c ≤ new.last
+    pub cursor : OpenCursor K A
+    pub is_open : cursor_at new c ≡ Some cursor
+    pub query_is : cursor.query ≡ query_of query
+    pub opened : cursor.opened ≡ length old.commits
+    pub unread : cursor.unread ≡ []
+    pub fits : Fits w.matching new.commits (shown w new.search.tree cursor) []
+
+module _ {C O K A E : Type 0} (w : Words K A) where
+  abbrev pub Opening : State K A → State K A → Event C K A → Reply C O K A E → Type 0
+  Opening old new (event.Open query room) (reply.Opened c end) = IsFresh w old new query c
+  Opening old new e r = Unit {0}
+
+  abbrev pub Closing : State K A → Event C K A → Reply C O K A E → Type 0
+  Closing new (event.Close c) reply.Closed = IsShut new c
+  Closing new e r = Unit {0}
+
+  abbrev pub Numbering : State K A → Reply C O K A E → Type 0
+  Numbering old (reply.Committed stamp) = stamp.number ≡ length old.commits + 1
+  Numbering old r = Unit {0}
+
+  pub record Effect (old : State K A) (e : Event C K A) (r : Reply C O K A E) (new : State K A) : Type 0 where
+    pub commits : new.commits ≡ old.commits ++ option_to_list (written (e, r))
+    pub legal : IsLegal new.commits
+    pub serves : ServesAll w old e r new
+    pub last : old.last ≤ new.last
+    pub within : (c : ℕ) (k : OpenCursor K A) → cursor_at new c ≡ Some k → c ≤ new.last
+    -- a closed serial stays closed
+    pub shut : (c : ℕ) → c ≤ old.last → cursor_at old c ≡ None → cursor_at new c ≡ None
+    -- a cursor that appears has a new serial, holds nothing and is asked for no mark
+    pub appears : (c : ℕ) (k : OpenCursor K A) → cursor_at old c ≡ None → cursor_at new c ≡ Some k → (old.last < c) × (k.unread ≡ []) × (k.asked ≡ false)
+    pub takes : (c : ℕ) (item : Item K) → taken_by c (e, r) ≡ Some item → Taking old c item new
+    pub opening : Opening old new e r
+    pub closing : Closing new e r
+    pub silent : (c : ℕ) → IsShut old c → asks e c → r ≡ reply.Refused refusal.CursorClosed
+    pub numbering : Numbering old r

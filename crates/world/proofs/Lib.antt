@@ -1,0 +1,14 @@
+pub mod Askings
+pub mod Effects
+pub mod Faithful
+pub mod Handling
+pub mod PageSteps
+pub mod Placing
+pub mod Refusing
+pub mod Running
+pub mod Searching
+pub mod Serials
+pub mod Serving
+pub mod Sounding
+pub mod Stepping
+pub mod Turning

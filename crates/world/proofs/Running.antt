@@ -1,0 +1,92 @@
+-- The loop over a list of events.
+use Rattle.std.proofs.Common.{◌≡◌, ◌+◌, ◌<◌, ℕ, List, [], ◌∷◌, ◌++◌, length, take, get_or, refl, sym, ◌∙◌, arith, subst, length-append, length-take}
+use Rattle.std.specs.List.{zip}
+use Rattle.std.proofs.lemmas.List.{take_more, append-nil}
+use Rattle.std.proofs.Common.{append_assoc}
+use Rattle.std.proofs.Common.{Result, Ok, Err}
+use Rattle.key_class.specs.declared.refusal.Refusal.{Refusal}
+use Rattle.key_class.specs.declared.refusal.Refusal.TheVariants as refusal
+use Rattle.change_list.specs.declared.config.Config.{Config}
+use Rattle.change_list.specs.Configs.{IsWithinLimits}
+use Rattle.change_list.proofs.Lists.{zip_push}
+use Rattle.cursor.specs.OpenCursors.{Words}
+use Rattle.cursor.proofs.WordLaws.{WordLaws}
+use Rattle.world.specs.declared.event.Event.{Event}
+use Rattle.world.specs.declared.event.Event.TheVariants as event
+use Rattle.world.specs.declared.reply.Reply.{Reply}
+use Rattle.world.specs.declared.reply.Reply.TheVariants as reply
+use Rattle.world.specs.States.{State, new_state, IsSoundWorld}
+use Rattle.world.specs.Steps.{Step, Runs, IsCopy}
+use Rattle.world.specs.Traces.{IsFaithful}
+use Rattle.world.proofs.Sounding.{new_sound_world}
+use Rattle.world.proofs.Stepping.{step_leads}
+use Rattle.world.proofs.Faithful.{Inv, Inv-push, faithful}
+
+module _ {C O K A E : Type 0} (w : Words K A) where
+  inv_start : (config : Config) → Inv {C = C} {O = O} {E = E} w [] (new_state config)
+  inv_start config = record {
+    commits = refl;
+    legal = λ place write h. absurd (cc);
+    opened = λ i c query o. let h = o.is in absurd (cc);
+    untaken = λ c l. refl;
+    taken_given = λ j c x h. absurd (cc);
+    within = λ c k h. absurd (cc);
+    marks = λ i j c n query o h. absurd (cc);
+    askings = λ c. record { places = []; rising = λ j first second e f. absurd (cc); each = λ i n e. absurd (cc) };
+    closed = λ i c h. absurd (cc);
+    silent = λ i j c later answer h l k a. absurd (cc);
+    numbered = λ i e stamp h. absurd (cc);
+  }
+
+  inv_runs : WordLaws w → (done todo : List (Event C K A × Reply C O K A E)) (old new : State K A) → IsSoundWorld w.is_cover old → Inv w done old → Runs w old todo new → Inv w (done ++ todo) new
+  inv_runs laws done [] old new s I h = rw (append-nil done, h) I
+  inv_runs laws done (m ∷ todo) old new s I h =
+      let leads = step_leads w laws 0 old s m.0 m.1 h.0 h.1 in
+      let more = inv_runs laws (done ++ m ∷ []) todo h.0 new leads.sound (Inv-push w done old h.0 m.0 m.1 I leads.effect) h.2 in
+      rw append_assoc at more
+
+  pub runs_faithful : WordLaws w → (config : Config) → IsWithinLimits config → (trace : List (Event C K A × Reply C O K A E)) (last : State K A) → Runs w (new_state config) trace last → IsFaithful w.matching trace
+  runs_faithful laws config limits trace last h =
+      faithful w trace last (inv_runs laws [] trace (new_state config) last (new_sound_world w.is_cover config limits) (inv_start config) h)
+
+  -- a run that goes on by one step
+  runs_push : (old mid new : State K A) (trace : List (Event C K A × Reply C O K A E)) (e : Event C K A) (r : Reply C O K A E) → Runs w old trace mid → Step w 0 mid e r new → Runs w old (trace ++ (e, r) ∷ []) new
+  runs_push old mid new [] e r h d = (new, subst (λ s. Step w 0 s e r new) h d, refl)
+  runs_push old mid new (m ∷ trace) e r h d = (h.0, h.1, runs_push h.0 mid new trace e r h.2 d)
+
+  -- a step by a copy is a step by the event
+  step_copied : (old : State K A) (e copy : Event C K A) (r : Reply C O K A E) (new : State K A) → IsCopy e copy → Step w 0 old copy r new → Step w 0 old e r new
+  step_copied old (event.Open query room) copy r new h d = opened r (subst (λ k. Step w 0 old k r new) h.2 d)
+    where
+      opened : (r : Reply C O K A E) → Step w 0 old (event.Open h.0 room) r new → Step w 0 old (event.Open query room) r new
+      opened (reply.Refused why) d = record { cause = rw (← h.1) d.cause; unchanged = d.unchanged }
+      opened (reply.Opened c end) d = record { passed = rw (← h.1) d.passed; change = record { serial = d.change.serial; after = rw (← h.1) d.change.after } }
+      opened r d = absurd d.change
+  step_copied old e copy r new h d = subst (λ k. Step w 0 old k r new) h d
+
+  -- the first events were answered by a run from a new world
+  pub record HasRun (config : Config) (events : List (Event C K A)) (count : ℕ) (replies : List (Reply C O K A E)) (s : State K A) : Type 0 where
+    pub counted : length replies ≡ count
+    pub ran : Runs w (new_state config) (zip (take count events) replies) s
+
+  pub has_run_none : (config : Config) (events : List (Event C K A)) → HasRun config events 0 [] (new_state config)
+  has_run_none config events = record { counted = refl; ran = refl }
+
+  pub has_run_push : (config : Config) (events : List (Event C K A)) (count : ℕ) (replies : List (Reply C O K A E)) (s new : State K A) (e copy : Event C K A) (r : Reply C O K A E)
+      → HasRun config events count replies s → count < length events → get_or events count e ≡ e → IsCopy e copy → Step w 0 s copy r new → HasRun config events (count + 1) (replies ++ r ∷ []) new
+  has_run_push config events count replies s new e copy r h l is same d =
+      let step = step_copied s e copy r new same d in
+      let n : length (take count events) ≡ length replies = omega (arith, length-take {A = Event C K A}, h.counted) in
+      record {
+        counted = omega (arith, h.counted, length-append replies (r ∷ []));
+        ran = rw (take_more events count e l, is, zip_push (take count events) replies e r n) (runs_push (new_state config) s new (zip (take count events) replies) e r h.ran step);
+      }
+
+-- a call that answered want of memory didn't refuse the configuration
+pub no_bad_config : {X : Type 0} (r : Result X Refusal) → r ≡ Err refusal.OutOfMemory → r ≡ Err refusal.BadConfig → ⊥
+no_bad_config (Ok x) h b = cc
+no_bad_config (Err why) h b =
+    let e : why ≡ refusal.OutOfMemory = cc in
+    let f : why ≡ refusal.BadConfig = cc in
+    let g : refusal.OutOfMemory ≡ refusal.BadConfig = sym e ∙ f in
+    cc

@@ -1,0 +1,133 @@
+-- Every change of an event keeps a world sound.
+use Rattle.std.proofs.Common.{◌≡◌, ◌+◌, ◌<◌, ℕ, Bool, List, [], ◌∷◌, ◌++◌, length, None, refl, sym, arith, subst, All, length-append}
+use Rattle.std.proofs.lemmas.List.Elements.{All-nil}
+use Rattle.change_list.specs.declared.config.Config.{Config}
+use Rattle.change_list.specs.Configs.{IsWithinLimits}
+use Rattle.change_list.specs.declared.write.Write.TheVariants.{Insert}
+use Rattle.change_list.proofs.Tracking.{legal_push}
+use Rattle.row_version.specs.Entries.{Entry}
+use Rattle.page_table.specs.Trees.{Tree, page_at, after_rows, new_tree}
+use Rattle.split.specs.SearchTrees.{SearchTree}
+use Rattle.split.specs.SearchTrees.{IsSearchTree, with_tree}
+use Rattle.split.proofs.Done.{IsDone}
+use Rattle.std.proofs.Common.{Result, Ok, Err}
+use Rattle.std.specs.Prelude.{OnOk, OnErr}
+use Rattle.key_class.specs.declared.refusal.Refusal.{Refusal}
+use Rattle.split.proofs.NewSearchTree.{new_search_tree}
+use Rattle.scan.proofs.Agreement.{new_agrees, keeps_agrees, place_agrees}
+use Rattle.scan.proofs.Scans.{keeps_stack, rows_stack}
+use Rattle.scan.proofs.Opening.{open_stack}
+use Rattle.cursor.specs.OpenCursors.{OpenCursor}
+use Rattle.world.specs.Serials.{without, Rise}
+use Rattle.world.specs.States.{State, new_state, with_pages, with_cursor, IsAtWork, IsSoundWorld}
+use Rattle.world.proofs.Serials.{rise_push, rise_put, rise_without, all_put, all_push, all_without, length_put, length_without}
+
+module _ {K A : Type 0} (is_cover : K → K → Bool) where
+  all_kept : (P Q : OpenCursor K A → Type 0) → ((k : OpenCursor K A) → P k → Q k) → (ks : List (OpenCursor K A)) → All P ks → All Q ks
+  all_kept P Q h ks a = λ i d l. h _ (a i d l)
+
+  module _ (old : State K A) (s : IsSoundWorld is_cover old) where
+    -- a step that moves entries and changes none
+    pub moved_sound : (tree : Tree K) → IsDone is_cover old.search.tree tree old.search.fan old.search.least old.search.limit → IsSoundWorld is_cover (with_pages old tree)
+    moved_sound tree d = record {
+      tree = d.inv;
+      legal = s.legal;
+      agrees = keeps_agrees old.search.tree tree old.commits d.kept d.moved s.agrees;
+      at_work = all_kept (λ k. IsAtWork old.search.tree old.commits k) (λ k. IsAtWork tree old.commits k) (λ k h. record { stack = keeps_stack old.search.tree tree k.stack d.kept h.stack; from_opening = h.from_opening; within = h.within }) old.cursors s.at_work;
+      serials = s.serials;
+      few_commits = s.few_commits;
+      commit_limit = s.commit_limit;
+      few_cursors = s.few_cursors;
+      last_serial = s.last_serial;
+    }
+
+    -- a call that makes such a step, or is refused
+    pub call_sound : {X : Type 0} (result : Result X Refusal) (search : SearchTree K) (tree : Tree K) → OnOk result (search ≡ with_tree old.search tree) → OnErr result (search ≡ old.search)
+        → OnOk result (IsDone is_cover old.search.tree tree old.search.fan old.search.least old.search.limit) → IsSoundWorld is_cover (record old { search = search })
+    call_sound (Ok x) search tree made same d = subst (λ t. IsSoundWorld is_cover (record old { search = t })) (sym made) (moved_sound tree d)
+    call_sound (Err why) search tree made same d = subst (λ t. IsSoundWorld is_cover (record old { search = t })) (sym same) s
+
+    -- a commit whose row goes to a leaf
+    pub placed_sound : (p : ℕ) → p < length old.search.tree.pages → (key : K) (tag : ℕ) → length old.commits < old.limit
+        → IsSearchTree is_cover (after_rows old.search.tree p ((page_at old.search.tree p).rows ++ (record { key = key; row = length old.commits + 1; tag = tag; died = None }) ∷ [])) old.search.fan old.search.least old.search.limit
+        → IsSoundWorld is_cover (record old {
+          search = record old.search { tree = after_rows old.search.tree p ((page_at old.search.tree p).rows ++ (record { key = key; row = length old.commits + 1; tag = tag; died = None }) ∷ []) };
+          commits = old.commits ++ Insert key tag ∷ [];
+        })
+    placed_sound p l key tag room sound =
+        let rows : List (Entry K) = (page_at old.search.tree p).rows ++ (record { key = key; row = length old.commits + 1; tag = tag; died = None }) ∷ [] in
+        let n : length (old.commits ++ Insert key tag ∷ []) ≡ length old.commits + 1 = length-append old.commits (Insert key tag ∷ []) in
+        record {
+          tree = sound;
+          legal = legal_push old.commits (Insert key tag) s.legal tt;
+          agrees = place_agrees is_cover old.search.tree old.search.fan s.tree.sound old.commits s.legal s.agrees p l key tag;
+          at_work = all_kept (λ k. IsAtWork old.search.tree old.commits k) (λ k. IsAtWork (after_rows old.search.tree p rows) (old.commits ++ Insert key tag ∷ []) k) (λ k h. record { stack = rows_stack old.search.tree p rows k.stack h.stack; from_opening = h.from_opening; within = omega (arith, h.within, n) }) old.cursors s.at_work;
+          serials = s.serials;
+          few_commits = omega (arith, n, room);
+          commit_limit = s.commit_limit;
+          few_cursors = s.few_cursors;
+          last_serial = s.last_serial;
+        }
+
+    pub opened_sound : (k : OpenCursor K A) → k.serial ≡ old.last + 1 → IsAtWork old.search.tree old.commits k → length old.cursors < 256 → old.last < 4294967295
+        → IsSoundWorld is_cover (record old { cursors = old.cursors ++ k ∷ []; last = old.last + 1 })
+    opened_sound k e h few given = record {
+      tree = s.tree;
+      legal = s.legal;
+      agrees = s.agrees;
+      at_work = all_push (λ x. x.serial) (λ k. IsAtWork old.search.tree old.commits k) k old.cursors h s.at_work;
+      serials = subst (λ n. Rise (λ x. x.serial) 0 n (old.cursors ++ k ∷ [])) e (rise_push (λ x. x.serial) 0 old.last old.cursors k (omega (arith, e)) s.serials);
+      few_commits = s.few_commits;
+      commit_limit = s.commit_limit;
+      few_cursors = omega (arith, few, length-append old.cursors (k ∷ []));
+      last_serial = omega (arith, given);
+    }
+
+    pub turned_sound : (k : OpenCursor K A) → IsAtWork old.search.tree old.commits k → IsSoundWorld is_cover (with_cursor old k)
+    turned_sound k h = record {
+      tree = s.tree;
+      legal = s.legal;
+      agrees = s.agrees;
+      at_work = all_put (λ x. x.serial) (λ k. IsAtWork old.search.tree old.commits k) k old.cursors h s.at_work;
+      serials = rise_put (λ x. x.serial) k 0 old.last old.cursors s.serials;
+      few_commits = s.few_commits;
+      commit_limit = s.commit_limit;
+      few_cursors = omega (arith, s.few_cursors, length_put (λ (x : OpenCursor K A). x.serial) k old.cursors);
+      last_serial = s.last_serial;
+    }
+
+    pub closed_sound : (c : ℕ) → IsSoundWorld is_cover (record old { cursors = without (λ x. x.serial) c old.cursors })
+    closed_sound c = record {
+      tree = s.tree;
+      legal = s.legal;
+      agrees = s.agrees;
+      at_work = all_without (λ x. x.serial) (λ k. IsAtWork old.search.tree old.commits k) c old.cursors s.at_work;
+      serials = rise_without (λ x. x.serial) c 0 old.last old.cursors s.serials;
+      few_commits = s.few_commits;
+      commit_limit = s.commit_limit;
+      few_cursors = omega (arith, s.few_cursors, length_without (λ (x : OpenCursor K A). x.serial) c old.cursors);
+      last_serial = s.last_serial;
+    }
+
+-- a new world is sound
+pub new_sound_world : {K A : Type 0} (is_cover : K → K → Bool) (config : Config) → IsWithinLimits config → IsSoundWorld is_cover (new_state {K = K} {A = A} config)
+new_sound_world is_cover config limits = record {
+  tree = new_search_tree is_cover new_tree config.fan config.least config.pages refl limits.fan.below limits.least.above limits.least.below limits.pages.above limits.pages.below;
+  legal = λ place write h. absurd (cc);
+  agrees = new_agrees;
+  at_work = All-nil (λ k. IsAtWork new_tree [] k);
+  serials = omega arith;
+  few_commits = omega arith;
+  commit_limit = limits.commits.below;
+  few_cursors = omega arith;
+  last_serial = omega arith;
+}
+
+-- a cursor at the present commits whose scan begins at the root
+pub fresh_at_work : {K A : Type 0} (is_cover : K → K → Bool) (s : State K A) → IsSoundWorld is_cover s → (k : OpenCursor K A) (opened counter : ℕ) → opened ≡ length s.commits → counter ≡ s.search.tree.counter
+    → k.stack ≡ (record { page = 0; memo = counter }) ∷ [] → k.opened ≡ opened → k.position ≡ opened → IsAtWork s.search.tree s.commits k
+fresh_at_work is_cover s inv k opened counter o c stack e p = record {
+  stack = rw (stack, c) (open_stack is_cover s.search.tree s.search.fan inv.tree.sound);
+  from_opening = omega (arith, e, p);
+  within = omega (arith, p, o);
+}

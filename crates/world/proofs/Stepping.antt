@@ -1,0 +1,456 @@
+-- Every step keeps a world sound, and what a trace needs to know of it.
+use Rattle.std.proofs.Common.{◌≡◌, ◌≢◌, ◌+◌, ◌<◌, ◌≤◌, ℕ, Bool, true, false, List, [], ◌∷◌, ◌++◌, length, Option, Some, None, inl, inr, refl, sym, ap, ◌∙◌, arith, subst, Ok}
+use Rattle.std.specs.Prelude.{option_to_list, nat_eq}
+use Rattle.std.proofs.lemmas.List.{append-nil}
+use Rattle.key_class.specs.declared.pred.Pred.{Pred}
+use Rattle.key_class.specs.declared.refusal.Refusal.{Refusal}
+use Rattle.key_class.specs.declared.refusal.Refusal.TheVariants as refusal
+use Rattle.change_list.specs.declared.item.Item.{Item}
+use Rattle.change_list.specs.Cursors.{Fits}
+use Rattle.page_table.specs.Trees.{Tree}
+use Rattle.scan.proofs.Opening.{open_find}
+use Rattle.split.specs.Tests.{first_failing, place_tests}
+use Rattle.split.proofs.Done.{IsDone as IsMoved}
+use Rattle.split.proofs.EnlargeDone.{enlarge_done}
+use Rattle.split.proofs.SplitDone.{split_done}
+use Rattle.split.proofs.GrowDone.{grow_done}
+use Rattle.split.proofs.PostDone.{post_done}
+use Rattle.cursor.specs.declared.cursor.Turned.{Turned}
+use Rattle.cursor.specs.declared.cursor.Turned.TheVariants as turned
+use Rattle.cursor.specs.OpenCursors.{Words, OpenCursor, shown, wants, tree_work}
+use Rattle.cursor.proofs.WordLaws.{WordLaws}
+use Rattle.cursor.proofs.Turning.{turn_less_work, open_fits, ask_fits, take_fits}
+use Rattle.world.specs.Stamps.{Stamp}
+use Rattle.world.specs.declared.event.Event.{Event}
+use Rattle.world.specs.declared.event.Event.TheVariants as event
+use Rattle.world.specs.declared.reply.Reply.{Reply}
+use Rattle.world.specs.declared.reply.Reply.TheVariants as reply
+use Rattle.world.specs.States.{State, cursor_at, with_pages, with_cursor, IsAtWork, IsSoundWorld}
+use Rattle.world.specs.Steps.{tests, cursor_tests, opened_cursor, Step, IsRefused, IsDone, TurnsAt}
+use Rattle.world.specs.Traces.{written, taken_by, asks}
+use Rattle.page_table.specs.Keeping.{KeepsRows}
+use Rattle.world.specs.Promises.{Serves, ServesAll, LowersWork, FitsAtOpening, KeepsRowsUnder}
+use Rattle.world.proofs.Serials.{member_serial, member_within, put_same, put_other, without_same, without_other, push_same, push_other}
+use Rattle.world.proofs.Effects.{Effect, IsShut, IsFresh, Opening, Closing, Numbering}
+use Rattle.world.proofs.Refusing.{closed_fails, failing_first, passed_first, open_leaves_room, open_from_tests}
+use Rattle.world.proofs.Sounding.{moved_sound, placed_sound, opened_sound, turned_sound, closed_sound, fresh_at_work}
+use Rattle.world.proofs.PageSteps.{placed_tree}
+use Rattle.world.proofs.Placing.{page_exists, place_room}
+use Rattle.world.proofs.Turning.{turn_serial, turn_work}
+use Rattle.world.proofs.Askings.{taken_same}
+use Rattle.world.proofs.Serving.{at_work_of, same_or_not, untouched, served_by_moves, served_by_place, served_by_put, turn_serves}
+
+none_is_some : {X : Type 0} (x : X) → (o : Option X) → o ≡ None → o ≡ Some x → ⊥
+none_is_some x o a b = let c : None ≡ Some x = sym a ∙ b in cc
+
+nat_eq_other : (c d : ℕ) → c ≢ d → nat_eq d c ≡ false
+nat_eq_other c d n = search (arith, n)
+
+module _ {C K A : Type 0} (w : Words K A) where
+  -- a closed cursor refuses what is asked of it, whatever the event
+  asked_tests : (old : State K A) (e : Event C K A) (c : ℕ) → IsShut old c → asks e c → first_failing (tests w old e) ≡ Some refusal.CursorClosed
+  asked_tests old (event.Turn d) c s a = subst (λ n. first_failing (cursor_tests old n) ≡ Some refusal.CursorClosed) (sym a) (closed_fails old c s.positive s.given s.closed)
+  asked_tests old (event.AskMark d) c s a = subst (λ n. first_failing (cursor_tests old n) ≡ Some refusal.CursorClosed) (sym a) (closed_fails old c s.positive s.given s.closed)
+  asked_tests old (event.Close d) c s a = subst (λ n. first_failing (cursor_tests old n) ≡ Some refusal.CursorClosed) (sym a) (closed_fails old c s.positive s.given s.closed)
+  asked_tests old (event.Take d) c s a =
+      subst (λ n. first_failing (tests {C = C} w old (event.Take n)) ≡ Some refusal.CursorClosed) (sym a)
+      (failing_first (cursor_tests old c) ((w.elsewhere, refusal.NotHere) ∷ []) refusal.CursorClosed (closed_fails old c s.positive s.given s.closed))
+  asked_tests old (event.Enlarge page child key) c s a = absurd a
+  asked_tests old (event.Place page key tag) c s a = absurd a
+  asked_tests old (event.Split page sides) c s a = absurd a
+  asked_tests old (event.Post page child) c s a = absurd a
+  asked_tests old (event.Grow sides) c s a = absurd a
+  asked_tests old (event.Open query room) c s a = absurd a
+
+module _ {C O K A E : Type 0} (w : Words K A) (seat : ℕ) (old : State K A) (e : Event C K A) (new : State K A) where
+  silent_refused : (why : Refusal) → IsRefused w old e why new → first_failing (tests w old e) ≡ Some refusal.CursorClosed → ◌≡◌ {A = Reply C O K A E} (reply.Refused why) (reply.Refused refusal.CursorClosed)
+  silent_refused why d t =
+      elim d.cause [
+        | inl h ↦ let s : Some why ≡ Some refusal.CursorClosed = sym h ∙ t in let f : why ≡ refusal.CursorClosed = cc in ap (λ x. reply.Refused x) f
+        | inr p ↦ absurd (none_is_some refusal.CursorClosed (first_failing (tests w old e)) p.0 t)
+      ]
+
+  silent_done : (r : Reply C O K A E) → IsDone w seat old e r new → first_failing (tests w old e) ≡ Some refusal.CursorClosed → r ≡ reply.Refused refusal.CursorClosed
+  silent_done r d t = absurd (none_is_some refusal.CursorClosed (first_failing (tests w old e)) d.passed t)
+
+  silent_step : (r : Reply C O K A E) → Step w seat old e r new → first_failing (tests w old e) ≡ Some refusal.CursorClosed → r ≡ reply.Refused refusal.CursorClosed
+  silent_step (reply.Refused why) d t = silent_refused why d t
+  silent_step reply.Enlarged d t = silent_done reply.Enlarged d t
+  silent_step (reply.Committed stamp) d t = silent_done (reply.Committed stamp) d t
+  silent_step (reply.Split sibling) d t = silent_done (reply.Split sibling) d t
+  silent_step reply.Posted d t = silent_done reply.Posted d t
+  silent_step (reply.Grown first second) d t = silent_done (reply.Grown first second) d t
+  silent_step (reply.Opened c end) d t = silent_done (reply.Opened c end) d t
+  silent_step reply.Offered d t = silent_done reply.Offered d t
+  silent_step (reply.Visited page) d t = silent_done (reply.Visited page) d t
+  silent_step (reply.Passed n) d t = silent_done (reply.Passed n) d t
+  silent_step reply.Asked d t = silent_done reply.Asked d t
+  silent_step (reply.Taken item) d t = silent_done (reply.Taken item) d t
+  silent_step reply.Nothing d t = silent_done reply.Nothing d t
+  silent_step reply.Closed d t = silent_done reply.Closed d t
+
+  pub silent_when_shut : (r : Reply C O K A E) → Step w seat old e r new → (c : ℕ) → IsShut old c → asks e c → r ≡ reply.Refused refusal.CursorClosed
+  silent_when_shut r d c s a = silent_step r d (asked_tests w old e c s a)
+
+module _ {C O K A E : Type 0} (w : Words K A) (old new : State K A) (e : Event C K A) (r : Reply C O K A E) where
+  -- nothing is committed, taken, opened or closed
+  record IsQuiet : Type 0 where
+    pub uncommitted : written (e, r) ≡ None
+    pub untaken : (c : ℕ) → taken_by c (e, r) ≡ None
+    pub opening : Opening w old new e r
+    pub closing : Closing w new e r
+    pub numbering : Numbering w old r
+
+module _ {C O K A E : Type 0} (w : Words K A) where
+  quiet_refused : (old new : State K A) (e : Event C K A) (why : Refusal) → IsQuiet {O = O} {E = E} w old new e (reply.Refused why)
+  quiet_refused old new (event.Enlarge page child key) why = record { uncommitted = refl; untaken = λ c. refl; opening = tt; closing = tt; numbering = tt }
+  quiet_refused old new (event.Place page key tag) why = record { uncommitted = refl; untaken = λ c. refl; opening = tt; closing = tt; numbering = tt }
+  quiet_refused old new (event.Split page sides) why = record { uncommitted = refl; untaken = λ c. refl; opening = tt; closing = tt; numbering = tt }
+  quiet_refused old new (event.Post page child) why = record { uncommitted = refl; untaken = λ c. refl; opening = tt; closing = tt; numbering = tt }
+  quiet_refused old new (event.Grow sides) why = record { uncommitted = refl; untaken = λ c. refl; opening = tt; closing = tt; numbering = tt }
+  quiet_refused old new (event.Open query room) why = record { uncommitted = refl; untaken = λ c. refl; opening = tt; closing = tt; numbering = tt }
+  quiet_refused old new (event.Turn d) why = record { uncommitted = refl; untaken = λ c. refl; opening = tt; closing = tt; numbering = tt }
+  quiet_refused old new (event.AskMark d) why = record { uncommitted = refl; untaken = λ c. refl; opening = tt; closing = tt; numbering = tt }
+  quiet_refused old new (event.Take d) why = record { uncommitted = refl; untaken = λ c. refl; opening = tt; closing = tt; numbering = tt }
+  quiet_refused old new (event.Close d) why = record { uncommitted = refl; untaken = λ c. refl; opening = tt; closing = tt; numbering = tt }
+
+module _ {C O K A E : Type 0} (w : Words K A) (laws : WordLaws w) (seat : ℕ) (old : State K A) (inv : IsSoundWorld w.is_cover old) (e : Event C K A) (r : Reply C O K A E) where
+  -- a sound world and what a trace needs to know of the step to it
+  pub record Leads (new : State K A) : Type 0 where
+    pub sound : IsSoundWorld w.is_cover new
+    pub effect : Effect w old e r new
+
+  given_within : (new : State K A) → IsSoundWorld w.is_cover new → (c : ℕ) (k : OpenCursor K A) → cursor_at new c ≡ Some k → c ≤ new.last
+  given_within new s c k h = (member_within (λ k. k.serial) c 0 new.last new.cursors k s.serials h).1
+
+  -- the world is as it was
+  leads_nowhere : (new : State K A) → new ≡ old → IsQuiet w old new e r → ((c : ℕ) → IsShut old c → asks e c → r ≡ reply.Refused refusal.CursorClosed) → Leads new
+  leads_nowhere new same q silent = record {
+    sound = subst (λ s. IsSoundWorld w.is_cover s) (sym same) inv;
+    effect = record {
+      commits = rw q.uncommitted (ap (λ s. s.commits) same ∙ sym (append-nil old.commits));
+      legal = rw same inv.legal;
+      serves = λ c before after a b.
+          let x : Some before ≡ Some after = sym a ∙ sym (ap (λ s. cursor_at s c) same) ∙ b in
+          let f : before ≡ after = cc in
+          subst (λ k. Serves w old e r new c before k) f (untouched w laws old inv e r new c before (q.untaken c) (λ items h. rw same h));
+      last = omega (arith, ap (λ (s : State K A). s.last) same);
+      within = λ c k h. given_within new (subst (λ s. IsSoundWorld w.is_cover s) (sym same) inv) c k h;
+      shut = λ c l h. ap (λ s. cursor_at s c) same ∙ h;
+      appears = λ c k h g. absurd (none_is_some k (cursor_at new c) (ap (λ s. cursor_at s c) same ∙ h) g);
+      takes = λ c item t. absurd (none_is_some item (taken_by c (e, r)) (q.untaken c) t);
+      opening = q.opening;
+      closing = q.closing;
+      silent = silent;
+      numbering = q.numbering;
+    };
+  }
+
+  -- the tree alone has changed, and keeps the rows
+  leads_by_moves : (tree : Tree K) → IsMoved w.is_cover old.search.tree tree old.search.fan old.search.least old.search.limit → IsQuiet w old (with_pages old tree) e r
+      → ((c : ℕ) → IsShut old c → asks e c → r ≡ reply.Refused refusal.CursorClosed) → Leads (with_pages old tree)
+  leads_by_moves tree d q silent =
+      let s = moved_sound w.is_cover old inv tree d in
+      record {
+        sound = s;
+        effect = record {
+          commits = rw q.uncommitted (sym (append-nil old.commits));
+          legal = inv.legal;
+          serves = λ c before after a b. served_by_moves w laws old inv e r tree d.kept c before after (q.untaken c) a b;
+          last = omega arith;
+          within = given_within (with_pages old tree) s;
+          shut = λ c l h. h;
+          appears = λ c k h g. absurd (none_is_some k (cursor_at old c) h g);
+          takes = λ c item t. absurd (none_is_some item (taken_by c (e, r)) (q.untaken c) t);
+          opening = q.opening;
+          closing = q.closing;
+          silent = silent;
+          numbering = q.numbering;
+        };
+      }
+
+  -- one open cursor d is written back, and nothing else has changed
+  leads_by_put : (d : ℕ) (was later : OpenCursor K A) (new : State K A) → new ≡ with_cursor old later → cursor_at old d ≡ Some was → later.serial ≡ was.serial → IsAtWork old.search.tree old.commits later
+      → written (e, r) ≡ None → ((c : ℕ) → c ≢ d → taken_by c (e, r) ≡ None) → ((item : Item K) → taken_by d (e, r) ≡ Some item → (rest : List (Item K)) × (was.unread ≡ item ∷ rest))
+      → Opening w old new e r → Closing w new e r → Numbering w old r → Serves w old e r new d was later
+      → ((c : ℕ) → IsShut old c → asks e c → r ≡ reply.Refused refusal.CursorClosed) → Leads new
+  leads_by_put d was later new made is_open same work uncommitted others front opening closing numbering here silent =
+      let number : later.serial ≡ d = same ∙ member_serial (λ k. k.serial) d old.cursors was is_open in
+      let put : cursor_at new d ≡ Some later = ap (λ s. cursor_at s d) made ∙ put_same (λ k. k.serial) d later was old.cursors number is_open in
+      let sound : IsSoundWorld w.is_cover new = subst (λ s. IsSoundWorld w.is_cover s) (sym made) (turned_sound w.is_cover old inv later work) in
+      let apart : (c : ℕ) → c ≢ d → cursor_at new c ≡ cursor_at old c = λ c n. ap (λ s. cursor_at s c) made ∙ put_other (λ k. k.serial) c later old.cursors (λ eq. n (eq ∙ number)) in
+      record {
+        sound = sound;
+        effect = record {
+          commits = rw uncommitted (ap (λ s. s.commits) made ∙ sym (append-nil old.commits));
+          legal = rw made inv.legal;
+          serves = served_by_put w laws old inv e r d was later new made is_open same others here;
+          last = omega (arith, ap (λ (s : State K A). s.last) made);
+          within = given_within new sound;
+          shut = λ c l h. elim (same_or_not c d) [
+            | inl eq ↦ absurd (none_is_some was (cursor_at old c) h (ap (λ n. cursor_at old n) eq ∙ is_open))
+            | inr n ↦ apart c n ∙ h
+          ];
+          appears = λ c k h g. elim (same_or_not c d) [
+            | inl eq ↦ absurd (none_is_some was (cursor_at old c) h (ap (λ n. cursor_at old n) eq ∙ is_open))
+            | inr n ↦ absurd (none_is_some k (cursor_at new c) (apart c n ∙ h) g)
+          ];
+          takes = λ c item t. elim (same_or_not c d) [
+            | inl eq ↦
+                let f = front item (subst (λ n. taken_by n (e, r) ≡ Some item) eq t) in
+                record { before = was; after = later; rest = f.0; was_open = ap (λ n. cursor_at old n) eq ∙ is_open; is_open = ap (λ n. cursor_at new n) eq ∙ put; front = f.1 }
+            | inr n ↦ absurd (none_is_some item (taken_by c (e, r)) (others c n) t)
+          ];
+          opening = opening;
+          closing = closing;
+          silent = silent;
+          numbering = numbering;
+        };
+      }
+
+module _ {K A : Type 0} (w : Words K A) (laws : WordLaws w) (old : State K A) (inv : IsSoundWorld w.is_cover old) where
+  -- a cursor at the present commits
+  opened_fits : (query : Pred A) (room : ℕ) (new : State K A) → new ≡ record old { cursors = old.cursors ++ opened_cursor old query room ∷ []; last = old.last + 1 } → IsFresh w old new query (old.last + 1)
+  opened_fits query room new made =
+      let k = opened_cursor old query room in
+      record {
+        serial = omega arith;
+        given = omega (arith, ap (λ (s : State K A). s.last) made);
+        cursor = k;
+        is_open = ap (λ s. cursor_at s (old.last + 1)) made ∙ push_same (λ k. k.serial) (old.last + 1) 0 old.last k old.cursors refl (omega arith) inv.serials;
+        query_is = refl;
+        opened = refl;
+        unread = refl;
+        fits = rw made (open_fits w laws old.search.tree old.commits k refl refl refl (open_find w.is_cover old.search.tree old.search.fan inv.tree.sound old.commits inv.agrees (wants w k)));
+      }
+
+same_keeps : {K : Type 0} (t t' : Tree K) → t' ≡ t → KeepsRows t t'
+same_keeps t t' e = subst (λ x. KeepsRows t x) (sym e) (record { pages = omega arith; counter = omega arith; under = λ q m l h f. refl; whole = λ f. refl })
+
+refused_keeps : {C K A : Type 0} (w : Words K A) (old : State K A) (e : Event C K A) (why : Refusal) (new : State K A) → IsRefused w old e why new → KeepsRows old.search.tree new.search.tree
+refused_keeps w old e why new d = same_keeps old.search.tree new.search.tree (ap (λ s. s.search.tree) d.unchanged)
+
+moved_keeps : {K A : Type 0} (is_cover : K → K → Bool) (old : State K A) (tree : Tree K) (new : State K A) → new ≡ with_pages old tree → IsMoved is_cover old.search.tree tree old.search.fan old.search.least old.search.limit → KeepsRows old.search.tree new.search.tree
+moved_keeps is_cover old tree new e d = rw e d.kept
+
+module _ {K A : Type 0} (w : Words K A) (laws : WordLaws w) (old : State K A) (inv : IsSoundWorld w.is_cover old) where
+  lowered : (c : ℕ) (how : Turned) (new : State K A) → TurnsAt w old c (Ok how) new → (before after : OpenCursor K A) → cursor_at old c ≡ Some before → cursor_at new c ≡ Some after
+      → tree_work w new.search.tree new.commits after < tree_work w old.search.tree old.commits before
+  lowered c how new t before after a b =
+      let h = at_work_of w.is_cover old inv c t.before t.is_open in
+      let number : t.later.serial ≡ c = turn_serial w old.search.tree old.commits t.before t.later (Ok how) t.turn ∙ member_serial (λ k. k.serial) c old.cursors t.before t.is_open in
+      let put : cursor_at new c ≡ Some t.later = ap (λ s. cursor_at s c) t.after ∙ put_same (λ k. k.serial) c t.later t.before old.cursors number t.is_open in
+      let x : Some t.before ≡ Some before = sym t.is_open ∙ a in
+      let y : Some t.later ≡ Some after = sym put ∙ b in
+      let f : t.before ≡ before = cc in
+      let g : t.later ≡ after = cc in
+      rw (t.after, ← f, ← g) (turn_less_work w laws old.search.fan old.search.tree inv.tree.sound old.commits t.before t.later h.stack how t.turn)
+
+module _ {C O K A E : Type 0} (w : Words K A) (laws : WordLaws w) (seat : ℕ) (old : State K A) (inv : IsSoundWorld w.is_cover old) where
+  leads_by_place : (page : ℕ) (key : K) (tag : ℕ) (stamp : Stamp K) (new : State K A) → IsDone {C = C} {O = O} {E = E} w seat old (event.Place page key tag) (reply.Committed stamp) new
+      → Leads {C = C} {O = O} {E = E} w laws seat old inv (event.Place page key tag) (reply.Committed stamp) new
+  leads_by_place page key tag stamp new d =
+      let passed : first_failing (place_tests w.is_cover old.search page key) ≡ None = passed_first (place_tests w.is_cover old.search page key) _ d.passed in
+      let room : length old.commits < old.limit = place_room w old page key tag d.passed in
+      let exists = page_exists w old page key tag passed in
+      let sound : IsSoundWorld w.is_cover new = subst (λ s. IsSoundWorld w.is_cover s) (sym d.change.after) (placed_sound w.is_cover old inv page exists key tag room
+      (placed_tree w.is_cover old.search inv.tree page key passed (record { key = key; row = length old.commits + 1; tag = tag; died = None }) refl)) in
+      let alike : (c : ℕ) → cursor_at new c ≡ cursor_at old c = λ c. ap (λ s. cursor_at s c) d.change.after in
+      record {
+        sound = sound;
+        effect = record {
+          commits = ap (λ s. s.commits) d.change.after;
+          legal = sound.legal;
+          serves = λ c before after a b. served_by_place w laws old inv (event.Place page key tag) (reply.Committed stamp) page exists key tag new d.change.after c before after refl a b;
+          last = omega (arith, ap (λ (s : State K A). s.last) d.change.after);
+          within = λ c k h. (member_within (λ k. k.serial) c 0 new.last new.cursors k sound.serials h).1;
+          shut = λ c l h. alike c ∙ h;
+          appears = λ c k h g. absurd (none_is_some k (cursor_at new c) (alike c ∙ h) g);
+          takes = λ c item t. absurd (cc);
+          opening = tt;
+          closing = tt;
+          silent = λ c s a. absurd a;
+          numbering = ap (λ s. s.number) d.change.stamped;
+        };
+      }
+
+  leads_by_open : (query : Pred A) (room c : ℕ) (end : E) (new : State K A) → IsDone {C = C} {O = O} {E = E} w seat old (event.Open query room) (reply.Opened c end) new
+      → Leads {C = C} {O = O} {E = E} w laws seat old inv (event.Open query room) (reply.Opened c end) new
+  leads_by_open query room c end new d =
+      let left = open_leaves_room old query room d.passed in
+      let k = opened_cursor old query room in
+      let work = fresh_at_work w.is_cover old inv k (length old.commits) old.search.tree.counter refl refl refl refl refl in
+      let sound : IsSoundWorld w.is_cover new = subst (λ s. IsSoundWorld w.is_cover s) (sym d.change.after) (opened_sound w.is_cover old inv k refl work left.0 left.1) in
+      let apart : (x : ℕ) → x ≢ old.last + 1 → cursor_at new x ≡ cursor_at old x = λ x n. ap (λ s. cursor_at s x) d.change.after ∙ push_other (λ k. k.serial) x k old.cursors n in
+      let fresh = opened_fits w laws old inv query room new d.change.after in
+      let put : cursor_at new (old.last + 1) ≡ Some k = ap (λ s. cursor_at s (old.last + 1)) d.change.after ∙ push_same (λ k. k.serial) (old.last + 1) 0 old.last k old.cursors refl (omega arith) inv.serials in
+      let beyond : (x : ℕ) (k : OpenCursor K A) → cursor_at old x ≡ Some k → x ≢ old.last + 1 = λ x k h eq. omega (arith, eq, (member_within (λ k. k.serial) x 0 old.last old.cursors k inv.serials h).1) in
+      record {
+        sound = sound;
+        effect = record {
+          commits = ap (λ s. s.commits) d.change.after ∙ sym (append-nil old.commits);
+          legal = sound.legal;
+          serves = λ x before after a b.
+              let s : Some before ≡ Some after = sym a ∙ sym (apart x (beyond x before a)) ∙ b in
+              let f : before ≡ after = cc in
+              subst (λ k. Serves {C = C} {O = O} {E = E} w old (event.Open query room) (reply.Opened c end) new x before k) f (untouched w laws old inv (event.Open query room) (reply.Opened c end) new x before refl (λ items h. rw d.change.after h));
+          last = omega (arith, ap (λ (s : State K A). s.last) d.change.after);
+          within = λ x k h. (member_within (λ k. k.serial) x 0 new.last new.cursors k sound.serials h).1;
+          shut = λ x l h. apart x (λ eq. omega (arith, l, eq)) ∙ h;
+          appears = λ x y h g. elim (same_or_not x (old.last + 1)) [
+            | inl eq ↦
+                let s : Some y ≡ Some k = sym g ∙ ap (λ n. cursor_at new n) eq ∙ put in
+                let f : y ≡ k = cc in
+                (omega (arith, eq), ap (λ (z : OpenCursor K A). z.unread) f, ap (λ (z : OpenCursor K A). z.asked) f)
+            | inr n ↦ absurd (none_is_some y (cursor_at new x) (apart x n ∙ h) g)
+          ];
+          takes = λ x item t. absurd (cc);
+          opening = subst (λ n. IsFresh w old new query n) (sym d.change.serial) fresh;
+          closing = tt;
+          silent = λ x s a. absurd a;
+          numbering = tt;
+        };
+      }
+
+  leads_by_close : (d : ℕ) (new : State K A) → IsDone {C = C} {O = O} {E = E} w seat old (event.Close d) reply.Closed new → Leads {C = C} {O = O} {E = E} w laws seat old inv (event.Close d) reply.Closed new
+  leads_by_close d new h =
+      let sound : IsSoundWorld w.is_cover new = subst (λ s. IsSoundWorld w.is_cover s) (sym h.change) (closed_sound w.is_cover old inv d) in
+      let gone : cursor_at new d ≡ None = ap (λ s. cursor_at s d) h.change ∙ without_same (λ k. k.serial) d old.cursors in
+      let apart : (c : ℕ) → c ≢ d → cursor_at new c ≡ cursor_at old c = λ c n. ap (λ s. cursor_at s c) h.change ∙ without_other (λ k. k.serial) d c old.cursors n in
+      let o = open_from_tests old d h.passed in
+      record {
+        sound = sound;
+        effect = record {
+          commits = ap (λ s. s.commits) h.change ∙ sym (append-nil old.commits);
+          legal = sound.legal;
+          serves = λ c before after a b. elim (same_or_not c d) [
+            | inl eq ↦ absurd (none_is_some after (cursor_at new c) (ap (λ n. cursor_at new n) eq ∙ gone) b)
+            | inr n ↦
+                let s : Some before ≡ Some after = sym a ∙ sym (apart c n) ∙ b in
+                let f : before ≡ after = cc in
+                subst (λ k. Serves {C = C} {O = O} {E = E} w old (event.Close d) reply.Closed new c before k) f (untouched w laws old inv (event.Close d) reply.Closed new c before refl (λ items g. rw h.change g))
+          ];
+          last = omega (arith, ap (λ (s : State K A). s.last) h.change);
+          within = λ c k g. (member_within (λ k. k.serial) c 0 new.last new.cursors k sound.serials g).1;
+          shut = λ c l g. elim (same_or_not c d) [ inl eq ↦ ap (λ n. cursor_at new n) eq ∙ gone | inr n ↦ apart c n ∙ g ];
+          appears = λ c k g f. elim (same_or_not c d) [
+            | inl eq ↦ absurd (none_is_some k (cursor_at new c) (ap (λ n. cursor_at new n) eq ∙ gone) f)
+            | inr n ↦ absurd (none_is_some k (cursor_at new c) (apart c n ∙ g) f)
+          ];
+          takes = λ c item t. absurd (cc);
+          opening = tt;
+          closing = record { positive = o.positive; given = omega (arith, o.given, ap (λ (s : State K A). s.last) h.change); closed = gone };
+          silent = λ c s a. silent_when_shut w seat old (event.Close d) new reply.Closed h c s a;
+          numbering = tt;
+        };
+      }
+
+  leads_by_turn : (d : ℕ) (how : Turned) (r : Reply C O K A E) (new : State K A) → TurnsAt w old d (Ok how) new → IsQuiet w old new (event.Turn d) r
+      → ((c : ℕ) → IsShut old c → d ≡ c → r ≡ reply.Refused refusal.CursorClosed) → Leads {C = C} {O = O} {E = E} w laws seat old inv (event.Turn d) r new
+  leads_by_turn d how r new t q silent =
+      let h = at_work_of w.is_cover old inv d t.before t.is_open in
+      leads_by_put w laws seat old inv (event.Turn d) r d t.before t.later new t.after t.is_open (turn_serial w old.search.tree old.commits t.before t.later (Ok how) t.turn)
+      (turn_work w laws old.search.tree old.commits old.search.fan inv.tree.sound t.before t.later (Ok how) h t.turn)
+      q.uncommitted (λ c n. q.untaken c) (λ item k. absurd (none_is_some item (taken_by d (event.Turn d, r)) (q.untaken d) k)) q.opening q.closing q.numbering
+      (turn_serves w laws old inv (event.Turn d) r d t.before t.later (Ok how) new (q.untaken d) t.after t.is_open t.turn) silent
+
+  leads_by_ask : (d : ℕ) (new : State K A) → IsDone {C = C} {O = O} {E = E} w seat old (event.AskMark d) reply.Asked new → Leads {C = C} {O = O} {E = E} w laws seat old inv (event.AskMark d) reply.Asked new
+  leads_by_ask d new h =
+      let t = h.change in
+      let k = at_work_of w.is_cover old inv d t.before t.is_open in
+      leads_by_put w laws seat old inv (event.AskMark d) reply.Asked d t.before (record t.before { asked = true }) new t.after t.is_open refl (record { stack = k.stack; from_opening = k.from_opening; within = k.within })
+      refl (λ c n. refl) (λ item e. absurd (cc)) tt tt tt
+      (record {
+        query = refl;
+        opened = refl;
+        sent = [];
+        mailbox = sym (append-nil t.before.unread);
+        one = inr (refl, refl, refl);
+        fits = λ items f. rw (t.after, append-nil items) (ask_fits w old.search.tree old.commits t.before items f);
+      })
+      (λ c s a. silent_when_shut w seat old (event.AskMark d) new reply.Asked h c s a)
+
+  leads_by_take : (d : ℕ) (item : Item K) (new : State K A) → IsDone {C = C} {O = O} {E = E} w seat old (event.Take d) (reply.Taken item) new → Leads {C = C} {O = O} {E = E} w laws seat old inv (event.Take d) (reply.Taken item) new
+  leads_by_take d item new h =
+      let t = h.change in
+      let k = at_work_of w.is_cover old inv d t.before t.is_open in
+      let here : taken_by {C = C} {O = O} {A = A} {E = E} d (event.Take d, reply.Taken item) ≡ Some item = taken_same C O A E d item in
+      leads_by_put w laws seat old inv (event.Take d) (reply.Taken item) d t.before (record t.before { unread = t.rest }) new t.after t.is_open refl (record { stack = k.stack; from_opening = k.from_opening; within = k.within })
+      refl (λ c n. rw (nat_eq_other c d n) refl)
+      (λ x e. let s : Some item ≡ Some x = sym here ∙ e in let f : item ≡ x = cc in (t.rest, t.front ∙ ap (λ y. y ∷ t.rest) f)) tt tt tt
+      (record {
+        query = refl;
+        opened = refl;
+        sent = [];
+        mailbox = ap (λ o. option_to_list o ++ t.rest) here ∙ sym t.front ∙ sym (append-nil t.before.unread);
+        one = inl refl;
+        fits = λ items f. rw (t.after, append-nil items) (take_fits w old.search.tree old.commits t.before t.rest items f);
+      })
+      (λ c s a. silent_when_shut w seat old (event.Take d) new (reply.Taken item) h c s a)
+
+  -- every step leads to a sound world, with the effect that a trace needs
+  pub step_leads : (e : Event C K A) (r : Reply C O K A E) (new : State K A) → Step w seat old e r new → Leads {C = C} {O = O} {E = E} w laws seat old inv e r new
+  step_leads e (reply.Refused why) new d = leads_nowhere w laws seat old inv e (reply.Refused why) new d.unchanged (quiet_refused w old new e why) (λ c s a. silent_when_shut w seat old e new (reply.Refused why) d c s a)
+  step_leads (event.Enlarge page child key) reply.Enlarged new d =
+      subst (λ s. Leads {C = C} {O = O} {E = E} w laws seat old inv (event.Enlarge page child key) reply.Enlarged s) (sym d.change)
+      (leads_by_moves w laws seat old inv (event.Enlarge page child key) reply.Enlarged _ (enlarge_done w.is_cover old.search inv.tree page child key d.passed w.union laws.keys)
+      (record { uncommitted = refl; untaken = λ c. refl; opening = tt; closing = tt; numbering = tt }) (λ c s a. absurd a))
+  step_leads (event.Place page key tag) (reply.Committed stamp) new d = leads_by_place page key tag stamp new d
+  step_leads (event.Split page sides) (reply.Split sibling) new d =
+      subst (λ s. Leads {C = C} {O = O} {E = E} w laws seat old inv (event.Split page sides) (reply.Split sibling) s) (sym d.change.1)
+      (leads_by_moves w laws seat old inv (event.Split page sides) (reply.Split sibling) _ (split_done w.is_cover old.search inv.tree page sides d.passed w.union laws.keys)
+      (record { uncommitted = refl; untaken = λ c. refl; opening = tt; closing = tt; numbering = tt }) (λ c s a. absurd a))
+  step_leads (event.Post page child) reply.Posted new d =
+      subst (λ s. Leads {C = C} {O = O} {E = E} w laws seat old inv (event.Post page child) reply.Posted s) (sym d.change.after)
+      (leads_by_moves w laws seat old inv (event.Post page child) reply.Posted _ (post_done w.is_cover old.search inv.tree page child d.passed d.change.sibling d.change.is_right w.union laws.keys)
+      (record { uncommitted = refl; untaken = λ c. refl; opening = tt; closing = tt; numbering = tt }) (λ c s a. absurd a))
+  step_leads (event.Grow sides) (reply.Grown first second) new d =
+      subst (λ s. Leads {C = C} {O = O} {E = E} w laws seat old inv (event.Grow sides) (reply.Grown first second) s) (sym d.change.2)
+      (leads_by_moves w laws seat old inv (event.Grow sides) (reply.Grown first second) _ (grow_done w.is_cover old.search inv.tree sides d.passed w.union laws.keys)
+      (record { uncommitted = refl; untaken = λ c. refl; opening = tt; closing = tt; numbering = tt }) (λ c s a. absurd a))
+  step_leads (event.Open query room) (reply.Opened c end) new d = leads_by_open query room c end new d
+  step_leads (event.Turn x) reply.Offered new d = leads_by_turn x turned.Offered reply.Offered new d.change (record { uncommitted = refl; untaken = λ c. refl; opening = tt; closing = tt; numbering = tt }) (λ c s a. silent_when_shut w seat old (event.Turn x) new reply.Offered d c s a)
+  step_leads (event.Turn x) (reply.Visited page) new d = leads_by_turn x (turned.Visited page) (reply.Visited page) new d.change (record { uncommitted = refl; untaken = λ c. refl; opening = tt; closing = tt; numbering = tt }) (λ c s a. silent_when_shut w seat old (event.Turn x) new (reply.Visited page) d c s a)
+  step_leads (event.Turn x) (reply.Passed n) new d = leads_by_turn x (turned.Passed n) (reply.Passed n) new d.change (record { uncommitted = refl; untaken = λ c. refl; opening = tt; closing = tt; numbering = tt }) (λ c s a. silent_when_shut w seat old (event.Turn x) new (reply.Passed n) d c s a)
+  step_leads (event.AskMark x) reply.Asked new d = leads_by_ask x new d
+  step_leads (event.Take x) (reply.Taken item) new d = leads_by_take x item new d
+  step_leads (event.Take x) reply.Nothing new d = leads_nowhere w laws seat old inv (event.Take x) reply.Nothing new d.change.unchanged (record { uncommitted = refl; untaken = λ c. refl; opening = tt; closing = tt; numbering = tt }) (λ c s a. silent_when_shut w seat old (event.Take x) new reply.Nothing d c s a)
+  step_leads (event.Close x) reply.Closed new d = leads_by_close x new d
+  step_leads e r new d = absurd d.change
+
+  pub step_serves : (e : Event C K A) (r : Reply C O K A E) (new : State K A) → Step w seat old e r new → ServesAll w old e r new
+  step_serves e r new d = (step_leads e r new d).effect.serves
+
+  -- a turn that isn't refused lowers the work of its cursor
+  pub step_lowers : (e : Event C K A) (r : Reply C O K A E) (new : State K A) → Step w seat old e r new → LowersWork w old e r new
+  step_lowers (event.Turn c) reply.Offered new d = lowered w laws old inv c turned.Offered new d.change
+  step_lowers (event.Turn c) (reply.Visited page) new d = lowered w laws old inv c (turned.Visited page) new d.change
+  step_lowers (event.Turn c) (reply.Passed n) new d = lowered w laws old inv c (turned.Passed n) new d.change
+  step_lowers (event.Turn c) (reply.Refused why) new d = tt
+  step_lowers (event.Turn c) r new d = absurd d.change
+  step_lowers e r new d = tt
+
+  -- nothing given fits a cursor at its opening
+  pub step_opens : (e : Event C K A) (r : Reply C O K A E) (new : State K A) → Step w seat old e r new → FitsAtOpening w r new
+  step_opens (event.Open query room) (reply.Opened c end) new d = λ k h.
+      let o = opened_fits w laws old inv query room new d.change.after in
+      let s : Some o.cursor ≡ Some k = sym o.is_open ∙ ap (λ n. cursor_at new n) (sym d.change.serial) ∙ h in
+      let f : o.cursor ≡ k = cc in
+      subst (λ (k : OpenCursor K A). Fits w.matching new.commits (shown w new.search.tree k) []) f o.fits
+  step_opens e (reply.Opened c end) new d = absurd d.change
+  step_opens e r new d = tt
+
+  pub step_keeps_rows : (e : Event C K A) (r : Reply C O K A E) (new : State K A) → Step w seat old e r new → KeepsRowsUnder old e new
+  step_keeps_rows (event.Enlarge page child key) (reply.Refused why) new d = refused_keeps w old (event.Enlarge page child key) why new d
+  step_keeps_rows (event.Enlarge page child key) reply.Enlarged new d = moved_keeps w.is_cover old _ new d.change (enlarge_done w.is_cover old.search inv.tree page child key d.passed w.union laws.keys)
+  step_keeps_rows (event.Enlarge page child key) r new d = absurd d.change
+  step_keeps_rows (event.Split page sides) (reply.Refused why) new d = refused_keeps w old (event.Split page sides) why new d
+  step_keeps_rows (event.Split page sides) (reply.Split sibling) new d = moved_keeps w.is_cover old _ new d.change.1 (split_done w.is_cover old.search inv.tree page sides d.passed w.union laws.keys)
+  step_keeps_rows (event.Split page sides) r new d = absurd d.change
+  step_keeps_rows (event.Post page child) (reply.Refused why) new d = refused_keeps w old (event.Post page child) why new d
+  step_keeps_rows (event.Post page child) reply.Posted new d = moved_keeps w.is_cover old _ new d.change.after (post_done w.is_cover old.search inv.tree page child d.passed d.change.sibling d.change.is_right w.union laws.keys)
+  step_keeps_rows (event.Post page child) r new d = absurd d.change
+  step_keeps_rows (event.Grow sides) (reply.Refused why) new d = refused_keeps w old (event.Grow sides) why new d
+  step_keeps_rows (event.Grow sides) (reply.Grown first second) new d = moved_keeps w.is_cover old _ new d.change.2 (grow_done w.is_cover old.search inv.tree sides d.passed w.union laws.keys)
+  step_keeps_rows (event.Grow sides) r new d = absurd d.change
+  step_keeps_rows e r new d = tt

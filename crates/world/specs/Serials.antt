@@ -1,0 +1,20 @@
+-- Lists whose members have serials that rise.
+use Rattle.std.specs.Prelude.{ℕ, ◌<◌, ◌≤◌, not, nat_eq, List, [], ◌∷◌, filter, find, Option, if◌then◌else◌}
+
+module _ {X : Type 0} (serial : X → ℕ) where
+  -- the member with a serial
+  abbrev pub member : ℕ → List X → Option X
+  member c xs = find (λ x. nat_eq (serial x) c) xs
+
+  -- x stands where the member with its serial stood
+  abbrev pub put : X → List X → List X
+  put x [] = []
+  put x (y ∷ ys) = if nat_eq (serial y) (serial x) then x ∷ ys else y ∷ put x ys
+
+  abbrev pub without : ℕ → List X → List X
+  without c xs = filter (λ x. not (nat_eq (serial x) c)) xs
+
+  -- the serials rise from above the one number up to the other
+  abbrev pub Rise : ℕ → ℕ → List X → Type 0
+  Rise above last [] = above ≤ last
+  Rise above last (x ∷ xs) = (above < serial x) × Rise (serial x) last xs

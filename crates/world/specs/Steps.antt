@@ -1,0 +1,184 @@
+-- What each event makes of a world, and how it is answered.
+use Rattle.std.specs.Prelude.{◌≡◌, ℕ, suc, ◌+◌, Bool, true, false, ◌||◌, nat_eq, nat_le, nat_lt, List, [], ◌∷◌, ◌++◌, length, Some, None, is_none, Ok, Err, Result, ◌⊎◌}
+use Rattle.key_class.specs.Queries.{query_of, depth_of}
+use Rattle.key_class.specs.declared.pred.Pred.{Pred}
+use Rattle.key_class.specs.declared.refusal.Refusal.{Refusal}
+use Rattle.key_class.specs.declared.refusal.Refusal.TheVariants as refusal
+use Rattle.change_list.specs.declared.write.Write.TheVariants.{Insert}
+use Rattle.change_list.specs.declared.item.Item.{Item}
+use Rattle.page_table.specs.Trees.{page_at, after_rows}
+use Rattle.split.specs.Steps.{after_split, after_post, after_grow, after_enlarge}
+use Rattle.split.specs.Tests.{first_failing, place_tests, enlarge_tests, split_tests, post_tests, grow_tests}
+use Rattle.cursor.specs.declared.cursor.Turned.{Turned}
+use Rattle.cursor.specs.declared.cursor.Turned.TheVariants as turned
+use Rattle.cursor.specs.OpenCursors.{Words, OpenCursor, Turns}
+use Rattle.world.specs.declared.event.Event.{Event}
+use Rattle.world.specs.declared.event.Event.TheVariants as event
+use Rattle.world.specs.declared.reply.Reply.{Reply}
+use Rattle.world.specs.declared.reply.Reply.TheVariants as reply
+use Rattle.world.specs.Serials.{without}
+use Rattle.world.specs.Stamps.{Stamp}
+use Rattle.world.specs.States.{State, cursor_at, with_pages, with_cursor}
+
+module _ {K A : Type 0} where
+  -- the serial was given, and its cursor is open
+  abbrev pub cursor_tests : State K A → ℕ → List (Bool × Refusal)
+  cursor_tests old c =
+      (nat_eq c 0 || nat_lt old.last c, refusal.NoSuchCursor)
+      ∷ (is_none (cursor_at old c), refusal.CursorClosed)
+      ∷ []
+
+  -- the room and the query's depth are in range, and there is a place and a serial for one more cursor
+  abbrev pub open_tests : State K A → Pred A → ℕ → List (Bool × Refusal)
+  open_tests old query room =
+      (nat_eq room 0 || (nat_lt 4096 room || nat_lt 32 (depth_of (query_of query))), refusal.BadConfig)
+      ∷ (nat_le 256 (length old.cursors) || nat_le 4294967295 old.last, refusal.CursorsFull)
+      ∷ []
+
+  -- a cursor at the present commits, whose scan begins at the root
+  abbrev pub opened_cursor : State K A → Pred A → ℕ → OpenCursor K A
+  opened_cursor old query room = record {
+    serial = old.last + 1;
+    query = query_of query;
+    opened = length old.commits;
+    stack = (record { page = 0; memo = old.search.tree.counter }) ∷ [];
+    pending = [];
+    position = length old.commits;
+    asked = false;
+    room = room;
+    unread = [];
+  }
+
+  -- the commit is the next, and a leaf has its row at the end
+  pub record Places (seat : ℕ) (old : State K A) (page : ℕ) (key : K) (tag : ℕ) (stamp : Stamp K) (new : State K A) : Type 0 where
+    pub stamped : stamp ≡ record { number = length old.commits + 1; seat = seat; write = Insert key tag }
+    pub after : new ≡ record old {
+      search = record old.search { tree = after_rows old.search.tree page ((page_at old.search.tree page).rows ++ (record { key = key; row = length old.commits + 1; tag = tag; died = None }) ∷ []) };
+      commits = old.commits ++ Insert key tag ∷ [];
+    }
+
+  pub record Posts (old : State K A) (page child : ℕ) (new : State K A) : Type 0 where
+    pub sibling : ℕ
+    pub is_right : (page_at old.search.tree child).right ≡ Some sibling
+    pub after : new ≡ with_pages old (after_post old.search.tree page child sibling)
+
+  pub record Opens (old : State K A) (query : Pred A) (room c : ℕ) (new : State K A) : Type 0 where
+    pub serial : c ≡ old.last + 1
+    pub after : new ≡ record old { cursors = old.cursors ++ opened_cursor old query room ∷ []; last = old.last + 1 }
+
+  pub record Asks (old : State K A) (c : ℕ) (new : State K A) : Type 0 where
+    pub before : OpenCursor K A
+    pub is_open : cursor_at old c ≡ Some before
+    pub after : new ≡ with_cursor old (record before { asked = true })
+
+  pub record Takes (old : State K A) (c : ℕ) (item : Item K) (new : State K A) : Type 0 where
+    pub before : OpenCursor K A
+    pub is_open : cursor_at old c ≡ Some before
+    pub rest : List (Item K)
+    pub front : before.unread ≡ item ∷ rest
+    pub after : new ≡ with_cursor old (record before { unread = rest })
+
+  pub record FindsNothing (old : State K A) (c : ℕ) (new : State K A) : Type 0 where
+    pub before : OpenCursor K A
+    pub is_open : cursor_at old c ≡ Some before
+    pub empty : before.unread ≡ []
+    pub unchanged : new ≡ old
+
+module _ {K A : Type 0} (w : Words K A) where
+  -- the cursor c turned so
+  pub record TurnsAt (old : State K A) (c : ℕ) (how : Result Turned Refusal) (new : State K A) : Type 0 where
+    pub before : OpenCursor K A
+    pub later : OpenCursor K A
+    pub is_open : cursor_at old c ≡ Some before
+    pub turn : Turns w old.search.tree old.commits before how later
+    pub after : new ≡ with_cursor old later
+
+  pub record RefusesTurn (old : State K A) (c : ℕ) (why : Refusal) : Type 0 where
+    pub cursor : OpenCursor K A
+    pub is_open : cursor_at old c ≡ Some cursor
+    pub turn : Turns w old.search.tree old.commits cursor (Err why) cursor
+
+module _ {C K A : Type 0} where
+  -- an event that asks for the same: the copy of a query has places of its own in memory
+  abbrev pub IsCopy : Event C K A → Event C K A → Type 0
+  IsCopy (event.Open query room) copy = (other : Pred A) × (query_of other ≡ query_of query) × (copy ≡ event.Open other room)
+  IsCopy event copy = copy ≡ event
+
+module _ {C K A : Type 0} (w : Words K A) where
+  -- the tests of an event in their order, each true where it fails
+  abbrev pub tests : State K A → Event C K A → List (Bool × Refusal)
+  tests old (event.Enlarge page child key) = enlarge_tests w.is_cover old.search page child key
+  tests old (event.Place page key tag) = place_tests w.is_cover old.search page key ++ (nat_le old.limit (length old.commits), refusal.CommitsFull) ∷ []
+  tests old (event.Split page sides) = split_tests old.search page sides
+  tests old (event.Post page child) = post_tests old.search page child
+  tests old (event.Grow sides) = grow_tests old.search sides
+  tests old (event.Open query room) = open_tests old query room
+  tests old (event.Turn c) = cursor_tests old c
+  tests old (event.AskMark c) = cursor_tests old c
+  tests old (event.Take c) = cursor_tests old c ++ (w.elsewhere, refusal.NotHere) ∷ []
+  tests old (event.Close c) = cursor_tests old c
+
+  -- Where all tests pass, an event that may grow is refused for want of memory alone, and a turn by its rule. Asking for a
+  -- mark, taking and closing are not refused.
+  abbrev pub RefusesLater : State K A → Event C K A → Refusal → Type 0
+  RefusesLater old (event.Enlarge page child key) why = why ≡ refusal.OutOfMemory
+  RefusesLater old (event.Place page key tag) why = why ≡ refusal.OutOfMemory
+  RefusesLater old (event.Split page sides) why = why ≡ refusal.OutOfMemory
+  RefusesLater old (event.Post page child) why = why ≡ refusal.OutOfMemory
+  RefusesLater old (event.Grow sides) why = why ≡ refusal.OutOfMemory
+  RefusesLater old (event.Open query room) why = why ≡ refusal.OutOfMemory
+  RefusesLater old (event.Turn c) why = RefusesTurn w old c why
+  RefusesLater old (event.AskMark c) why = ⊥
+  RefusesLater old (event.Take c) why = ⊥
+  RefusesLater old (event.Close c) why = ⊥
+
+  -- why an event is refused: by the first test that fails; and that nothing changes then
+  pub record IsRefused (old : State K A) (event : Event C K A) (why : Refusal) (new : State K A) : Type 0 where
+    pub cause : (first_failing (tests old event) ≡ Some why) ⊎ ((first_failing (tests old event) ≡ None) × RefusesLater old event why)
+    pub unchanged : new ≡ old
+
+module _ {C O K A E : Type 0} (w : Words K A) where
+  -- what an event makes of a world, with its reply
+  abbrev pub Changes : ℕ → State K A → Event C K A → Reply C O K A E → State K A → Type 0
+  Changes seat old (event.Enlarge page child key) reply.Enlarged new = new ≡ with_pages old (after_enlarge w.union old.search.tree page child key)
+  Changes seat old (event.Place page key tag) (reply.Committed stamp) new = Places seat old page key tag stamp new
+  Changes seat old (event.Split page sides) (reply.Split sibling) new =
+      (sibling ≡ length old.search.tree.pages) × (new ≡ with_pages old (after_split w.union old.search.tree page sides))
+  Changes seat old (event.Post page child) reply.Posted new = Posts old page child new
+  Changes seat old (event.Grow sides) (reply.Grown first second) new =
+      (first ≡ length old.search.tree.pages) × (second ≡ suc (length old.search.tree.pages)) × (new ≡ with_pages old (after_grow w.union old.search.tree sides))
+  Changes seat old (event.Open query room) (reply.Opened c end) new = Opens old query room c new
+  Changes seat old (event.Turn c) reply.Offered new = TurnsAt w old c (Ok turned.Offered) new
+  Changes seat old (event.Turn c) (reply.Visited page) new = TurnsAt w old c (Ok (turned.Visited page)) new
+  Changes seat old (event.Turn c) (reply.Passed n) new = TurnsAt w old c (Ok (turned.Passed n)) new
+  Changes seat old (event.AskMark c) reply.Asked new = Asks old c new
+  Changes seat old (event.Take c) (reply.Taken item) new = Takes old c item new
+  Changes seat old (event.Take c) reply.Nothing new = FindsNothing old c new
+  Changes seat old (event.Close c) reply.Closed new = new ≡ record old { cursors = without (λ k. k.serial) c old.cursors }
+  Changes seat old event reply new = ⊥
+
+  pub record IsDone (seat : ℕ) (old : State K A) (event : Event C K A) (reply : Reply C O K A E) (new : State K A) : Type 0 where
+    pub passed : first_failing (tests w old event) ≡ None
+    pub change : Changes seat old event reply new
+
+  -- from old, an event for a seat may be answered so, and leads to new
+  abbrev pub Step : ℕ → State K A → Event C K A → Reply C O K A E → State K A → Type 0
+  Step seat old event (reply.Refused why) new = IsRefused w old event why new
+  Step seat old event reply.Enlarged new = IsDone seat old event reply.Enlarged new
+  Step seat old event (reply.Committed stamp) new = IsDone seat old event (reply.Committed stamp) new
+  Step seat old event (reply.Split sibling) new = IsDone seat old event (reply.Split sibling) new
+  Step seat old event reply.Posted new = IsDone seat old event reply.Posted new
+  Step seat old event (reply.Grown first second) new = IsDone seat old event (reply.Grown first second) new
+  Step seat old event (reply.Opened c end) new = IsDone seat old event (reply.Opened c end) new
+  Step seat old event reply.Offered new = IsDone seat old event reply.Offered new
+  Step seat old event (reply.Visited page) new = IsDone seat old event (reply.Visited page) new
+  Step seat old event (reply.Passed n) new = IsDone seat old event (reply.Passed n) new
+  Step seat old event reply.Asked new = IsDone seat old event reply.Asked new
+  Step seat old event (reply.Taken item) new = IsDone seat old event (reply.Taken item) new
+  Step seat old event reply.Nothing new = IsDone seat old event reply.Nothing new
+  Step seat old event reply.Closed new = IsDone seat old event reply.Closed new
+
+  -- from old, the events of a trace are answered so, one step after another, and lead to new
+  abbrev pub Runs : State K A → List (Event C K A × Reply C O K A E) → State K A → Type 0
+  Runs old [] new = new ≡ old
+  Runs old (moment ∷ trace) new = (mid : State K A) × Step 0 old moment.0 moment.1 mid × Runs mid trace new

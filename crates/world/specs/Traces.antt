@@ -1,0 +1,92 @@
+-- A trace: what its events committed, and what each cursor delivered. Nothing here knows a page, a link, a stack or a mailbox.
+use Rattle.std.specs.Prelude.{◌≡◌, ℕ, suc, ◌+◌, ◌<◌, ◌≤◌, Bool, List, length, take, Option, Some, None, slice_get, nat_eq, if◌then◌else◌}
+use Rattle.std.specs.List.{filter_map}
+use Rattle.key_class.specs.Queries.{query_of, matches_query}
+use Rattle.key_class.specs.declared.pred.Pred.{Pred}
+use Rattle.key_class.specs.declared.refusal.Refusal.TheVariants as refusal
+use Rattle.change_list.specs.declared.write.Write.{Write}
+use Rattle.change_list.specs.declared.write.Write.TheVariants.{Insert}
+use Rattle.change_list.specs.declared.item.Item.{Item}
+use Rattle.change_list.specs.declared.item.Item.TheVariants as item
+use Rattle.change_list.specs.Changes.{IsLegal}
+use Rattle.change_list.specs.Listings.{IsListing, BeginsListing, without_marks}
+use Rattle.world.specs.declared.event.Event.{Event}
+use Rattle.world.specs.declared.event.Event.TheVariants as event
+use Rattle.world.specs.declared.reply.Reply.{Reply}
+use Rattle.world.specs.declared.reply.Reply.TheVariants as reply
+use Rattle.world.specs.Stamps.{Stamp}
+
+module _ {K : Type 0} where
+  abbrev pub mark_number : Item K → Option ℕ
+  mark_number (item.Mark n) = Some n
+  mark_number other = None
+
+  -- the numbers of the marks among some items
+  abbrev pub marks_of : List (Item K) → List ℕ
+  marks_of items = filter_map mark_number items
+
+module _ {C K A : Type 0} where
+  -- the event asks something of cursor c
+  abbrev pub asks : Event C K A → ℕ → Type 0
+  asks (event.Turn d) c = d ≡ c
+  asks (event.AskMark d) c = d ≡ c
+  asks (event.Take d) c = d ≡ c
+  asks (event.Close d) c = d ≡ c
+  asks event c = ⊥
+
+module _ {C O K A E : Type 0} where
+  -- the write of an event that was answered as committed
+  abbrev pub written : Event C K A × Reply C O K A E → Option (Write K)
+  written (event.Place page key tag, reply.Committed stamp) = Some (Insert key tag)
+  written (event, reply) = None
+
+  -- the commits of a trace, in their order
+  abbrev pub commits_of : List (Event C K A × Reply C O K A E) → List (Write K)
+  commits_of trace = filter_map written trace
+
+  abbrev pub taken_by : ℕ → Event C K A × Reply C O K A E → Option (Item K)
+  taken_by c (event.Take d, reply.Taken item) = if nat_eq d c then Some item else None
+  taken_by c (event, reply) = None
+
+  -- what was taken of cursor c, in order
+  abbrev pub taken : ℕ → List (Event C K A × Reply C O K A E) → List (Item K)
+  taken c trace = filter_map (taken_by c) trace
+
+  -- what cursor c has delivered, in order: what was taken, marks left out
+  abbrev pub delivered : ℕ → List (Event C K A × Reply C O K A E) → List (Item K)
+  delivered c trace = without_marks (taken c trace)
+
+  -- at this place of the trace a mark was asked of cursor c, and no more than n commits were made before
+  pub record IsAsking (trace : List (Event C K A × Reply C O K A E)) (c place n : ℕ) : Type 0 where
+    pub asked : slice_get trace place ≡ Some (event.AskMark c, reply.Asked)
+    pub commits : length (commits_of (take place trace)) ≤ n
+
+  -- Each mark taken of cursor c has an asking of its own: before the mark was taken, after the asking of the mark before,
+  -- and the mark's number is at least the number of commits at the asking.
+  pub record HasAskings (trace : List (Event C K A × Reply C O K A E)) (c : ℕ) : Type 0 where
+    pub places : List ℕ
+    pub rising : (j first second : ℕ) → slice_get places j ≡ Some first → slice_get places (suc j) ≡ Some second → first < second
+    pub each : (i n : ℕ) → slice_get trace i ≡ Some (event.Take c, reply.Taken (item.Mark n))
+        → (place : ℕ) × (slice_get places (length (marks_of (taken c (take i trace)))) ≡ Some place) × (place < i) × IsAsking trace c place n
+
+  -- the place of a trace at which a cursor was opened, with its query
+  pub record IsOpening (trace : List (Event C K A × Reply C O K A E)) (i c : ℕ) (query : Pred A) : Type 0 where
+    pub room : ℕ
+    pub end : E
+    pub is : slice_get trace i ≡ Some (event.Open query room, reply.Opened c end)
+
+  -- The headline. The commits are numbered in their order and are a legal list. What a cursor has delivered begins a listing
+  -- for its query from its opening to the last commit. A mark that was taken shows that all of it up to the mark's commit was
+  -- delivered, and was asked for. A closed cursor delivers nothing more.
+  pub record IsFaithful (matching : A → K → Bool) (trace : List (Event C K A × Reply C O K A E)) : Type 0 where
+    pub numbered : (i : ℕ) (e : Event C K A) (stamp : Stamp K) → slice_get trace i ≡ Some (e, reply.Committed stamp)
+        → stamp.number ≡ length (commits_of (take i trace)) + 1
+    pub legal : IsLegal (commits_of trace)
+    pub delivers : (i c : ℕ) (query : Pred A) → IsOpening trace i c query
+        → BeginsListing (matches_query matching (query_of query)) (length (commits_of (take i trace))) (length (commits_of trace)) (commits_of trace) (delivered c trace)
+    pub marks : (i j c n : ℕ) (query : Pred A) → IsOpening trace i c query → slice_get trace j ≡ Some (event.Take c, reply.Taken (item.Mark n))
+        → IsListing (matches_query matching (query_of query)) (length (commits_of (take i trace))) n (commits_of trace) (delivered c (take j trace))
+    pub askings : (c : ℕ) → HasAskings trace c
+    pub closed : (i j c : ℕ) (later : Event C K A) (answer : Reply C O K A E)
+        → slice_get trace i ≡ Some (event.Close c, reply.Closed) → i < j → slice_get trace j ≡ Some (later, answer) → asks later c
+        → answer ≡ reply.Refused refusal.CursorClosed

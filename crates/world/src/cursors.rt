@@ -1,0 +1,100 @@
+//! Events of cursors.
+ghost use Rattle.std.specs.Prelude.{◌≡◌, ℕ};
+ghost use Rattle.cursor.specs.OpenCursors.{words};
+ghost use Rattle.world.specs.declared.event.Event.TheVariants as event;
+ghost use Rattle.split.specs.Tests.{first_failing};
+ghost use Rattle.world.specs.Steps.{Step, open_tests};
+
+use crate::reply::Reply;
+use crate::world::World;
+use cursor::{Cursor, Turned};
+use key_class::{KeyClass, Pred, Refusal};
+use mailbox::{Outlet, Taken};
+
+impl<C: KeyClass, O: Outlet<C::Key>> World<C, O> {
+    /// Why a cursor with the query and the room can't be opened.
+    fn open_refusal(&self, query: &Pred<C::Atom>, room: u64) -> Option<Refusal>
+        ensures { result ≡ first_failing (open_tests self.now query.now room) }
+    {
+        if room == 0 || room > 4096 || !query.is_within_depth(32) {
+            return Some(Refusal::BadConfig);
+        }
+        if self.cursors.len() >= 256 || self.last >= 4_294_967_295 {
+            return Some(Refusal::CursorsFull);
+        }
+        None
+    }
+
+    pub(crate) fn open(&mut self, query: Pred<C::Atom>, room: u64) -> Reply<C, O>
+        ensures { (seat : ℕ) → Step (words C.is_match C.is_consistent C.is_cover C.union_of O.may_take O.may_refuse O.is_emptied_elsewhere) seat self.old (event.Open query room) result self.new }
+    {
+        if let Some(refusal) = self.open_refusal(&query, room) {
+            return Reply::Refused(refusal);
+        }
+        let Ok((outlet, end)) = O::make(self.alloc, room as u32) else {
+            return Reply::Refused(Refusal::OutOfMemory);
+        };
+        let opened = self.changes.len() as u32;
+        let counter = self.search.pages().counter();
+        let serial = self.last + 1;
+        let cursor = Cursor::new(self.alloc, serial, query, opened, counter, outlet);
+        if self.cursors.push(cursor).is_err() {
+            return Reply::Refused(Refusal::OutOfMemory);
+        }
+        self.last = serial;
+        Reply::Opened(serial, end)
+    }
+
+    pub(crate) fn turn(&mut self, c: u64) -> Reply<C, O>
+        ensures { (seat : ℕ) → Step (words C.is_match C.is_consistent C.is_cover C.union_of O.may_take O.may_refuse O.is_emptied_elsewhere) seat self.old (event.Turn c) result self.new }
+    {
+        let at = match self.place_of(c) {
+            Ok(at) => at,
+            Err(refusal) => return Reply::Refused(refusal),
+        };
+        match self.cursors[at].turn(self.alloc, self.search.pages(), &self.changes) {
+            Ok(Turned::Offered) => return Reply::Offered,
+            Ok(Turned::Visited(page)) => return Reply::Visited(page),
+            Ok(Turned::Passed(commit)) => return Reply::Passed(commit),
+            Err(refusal) => return Reply::Refused(refusal),
+        }
+    }
+
+    pub(crate) fn ask_mark(&mut self, c: u64) -> Reply<C, O>
+        ensures { (seat : ℕ) → Step (words C.is_match C.is_consistent C.is_cover C.union_of O.may_take O.may_refuse O.is_emptied_elsewhere) seat self.old (event.AskMark c) result self.new }
+    {
+        match self.place_of(c) {
+            Ok(at) => {
+                self.cursors[at].ask_mark();
+                return Reply::Asked;
+            }
+            Err(refusal) => return Reply::Refused(refusal),
+        }
+    }
+
+    pub(crate) fn take(&mut self, c: u64) -> Reply<C, O>
+        ensures { (seat : ℕ) → Step (words C.is_match C.is_consistent C.is_cover C.union_of O.may_take O.may_refuse O.is_emptied_elsewhere) seat self.old (event.Take c) result self.new }
+    {
+        let at = match self.place_of(c) {
+            Ok(at) => at,
+            Err(refusal) => return Reply::Refused(refusal),
+        };
+        match self.cursors[at].take() {
+            Taken::Item(item) => return Reply::Taken(item),
+            Taken::Nothing => return Reply::Nothing,
+            Taken::Elsewhere => return Reply::Refused(Refusal::NotHere),
+        }
+    }
+
+    pub(crate) fn close(&mut self, c: u64) -> Reply<C, O>
+        ensures { (seat : ℕ) → Step (words C.is_match C.is_consistent C.is_cover C.union_of O.may_take O.may_refuse O.is_emptied_elsewhere) seat self.old (event.Close c) result self.new }
+    {
+        match self.place_of(c) {
+            Ok(at) => {
+                self.cursors.remove(at);
+                return Reply::Closed;
+            }
+            Err(refusal) => return Reply::Refused(refusal),
+        }
+    }
+}

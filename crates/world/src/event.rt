@@ -1,0 +1,52 @@
+//! What is asked of a world in one step.
+ghost use Rattle.std.specs.Prelude.{IfOk};
+ghost use Rattle.world.specs.Steps.{IsCopy};
+
+use key_class::{KeyClass, Pred, Sides};
+use std::alloc::{AllocError, Global};
+
+/// What is asked of a world in one step. Pages, rows, cursors are named by their numbers; a name that fits nothing is
+/// refused.
+#[derive(Drop)]
+pub enum Event<C: KeyClass> {
+    /// Has the branch of an inner page to a child, and the child's cover, take in a key: parent, child, key.
+    Enlarge(u64, u64, C::Key),
+    /// Adds a row to a leaf: page, key, tag.
+    Place(u64, C::Key, u64),
+    /// Splits a full page by sides: page, sides.
+    Split(u64, Sides),
+    /// Hangs the right sibling of a page that was split: parent, child.
+    Post(u64, u64),
+    /// Grows a full root by sides.
+    Grow(Sides),
+    /// Opens a cursor at the present commits: query, room of its mailbox in items (1 to 4,096).
+    Open(Pred<C::Atom>, u64),
+    /// Lets a cursor do one piece of its work.
+    Turn(u64),
+    /// Asks a cursor for a mark.
+    AskMark(u64),
+    /// Takes the front of a cursor's mailbox.
+    Take(u64),
+    /// Closes a cursor.
+    Close(u64),
+}
+
+impl<C: KeyClass> Event<C> {
+    /// An event that asks for the same.
+    pub fn copy(&self, alloc: Global) -> Result<Event<C>, AllocError>
+        ensures { IfOk result (λ copy. IsCopy self.now copy) }
+    {
+        Ok(match self {
+            Event::Enlarge(parent, child, key) => Event::Enlarge(*parent, *child, *key),
+            Event::Place(page, key, tag) => Event::Place(*page, *key, *tag),
+            Event::Split(page, sides) => Event::Split(*page, sides.copy(alloc)?),
+            Event::Post(parent, child) => Event::Post(*parent, *child),
+            Event::Grow(sides) => Event::Grow(sides.copy(alloc)?),
+            Event::Open(query, room) => Event::Open(query.copy(alloc)?, *room),
+            Event::Turn(cursor) => Event::Turn(*cursor),
+            Event::AskMark(cursor) => Event::AskMark(*cursor),
+            Event::Take(cursor) => Event::Take(*cursor),
+            Event::Close(cursor) => Event::Close(*cursor),
+        })
+    }
+}

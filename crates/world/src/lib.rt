@@ -1,0 +1,14 @@
+//! The state machine of a tree with cursors: one event, one atomic step.
+#![tactic(auto)]
+
+mod cursors;
+mod event;
+mod nodes;
+mod reply;
+mod trace;
+mod world;
+
+pub use event::Event;
+pub use reply::{Reply, Stamped};
+pub use trace::{Trace, run};
+pub use world::World;

@@ -1,0 +1,82 @@
+//! Events that change pages.
+ghost use Rattle.std.specs.Prelude.{◌≡◌, ℕ};
+ghost use Rattle.cursor.specs.OpenCursors.{words};
+ghost use Rattle.world.specs.declared.event.Event.TheVariants as event;
+ghost use Rattle.world.specs.Steps.{Step};
+
+use crate::reply::{Reply, Stamped};
+use crate::world::World;
+use change_list::{ChangeList, Write};
+use key_class::{KeyClass, Refusal, Sides};
+use mailbox::Outlet;
+use row_version::Entry;
+use std::mem;
+
+impl<C: KeyClass, O: Outlet<C::Key>> World<C, O> {
+    pub(crate) fn enlarge(&mut self, parent: u64, child: u64, key: C::Key) -> Reply<C, O>
+        ensures { (seat : ℕ) → Step (words C.is_match C.is_consistent C.is_cover C.union_of O.may_take O.may_refuse O.is_emptied_elsewhere) seat self.old (event.Enlarge parent child key) result self.new }
+    {
+        match self.search.enlarge(parent, child, key) {
+            Ok(()) => return Reply::Enlarged,
+            Err(refusal) => return Reply::Refused(refusal),
+        }
+    }
+
+    pub(crate) fn split(&mut self, page: u64, sides: &Sides) -> Reply<C, O>
+        ensures { (seat : ℕ) → Step (words C.is_match C.is_consistent C.is_cover C.union_of O.may_take O.may_refuse O.is_emptied_elsewhere) seat self.old (event.Split page sides.now) result self.new }
+    {
+        match self.search.split(page, sides) {
+            Ok(sibling) => return Reply::Split(sibling),
+            Err(refusal) => return Reply::Refused(refusal),
+        }
+    }
+
+    pub(crate) fn post(&mut self, parent: u64, child: u64) -> Reply<C, O>
+        ensures { (seat : ℕ) → Step (words C.is_match C.is_consistent C.is_cover C.union_of O.may_take O.may_refuse O.is_emptied_elsewhere) seat self.old (event.Post parent child) result self.new }
+    {
+        match self.search.post(parent, child) {
+            Ok(()) => return Reply::Posted,
+            Err(refusal) => return Reply::Refused(refusal),
+        }
+    }
+
+    pub(crate) fn grow(&mut self, sides: &Sides) -> Reply<C, O>
+        ensures { (seat : ℕ) → Step (words C.is_match C.is_consistent C.is_cover C.union_of O.may_take O.may_refuse O.is_emptied_elsewhere) seat self.old (event.Grow sides.now) result self.new }
+    {
+        match self.search.grow(sides) {
+            Ok((first, second)) => return Reply::Grown(first, second),
+            Err(refusal) => return Reply::Refused(refusal),
+        }
+    }
+
+    pub(crate) fn place(&mut self, seat: u32, page: u64, key: C::Key, tag: u64) -> Reply<C, O>
+        ensures { Step (words C.is_match C.is_consistent C.is_cover C.union_of O.may_take O.may_refuse O.is_emptied_elsewhere) seat self.old (event.Place page key tag) result self.new }
+    {
+        if let Some(refusal) = self.search.place_refusal(page, key) {
+            return Reply::Refused(refusal);
+        }
+        let count = self.changes.len() as u64;
+        if count >= self.limit {
+            return Reply::Refused(Refusal::CommitsFull);
+        }
+        let number = count + 1;
+        let write = Write::Insert(key, tag);
+        let changes = mem::replace(&mut self.changes, ChangeList::new(self.alloc));
+        match changes.reserve() {
+            Err(changes) => {
+                self.changes = changes;
+                return Reply::Refused(Refusal::OutOfMemory);
+            }
+            Ok(changes) => match self.search.place(page, Entry::new(key, number as u32, tag)) {
+                Err(refusal) => {
+                    self.changes = changes.into_list();
+                    return Reply::Refused(refusal);
+                }
+                Ok(()) => {
+                    self.changes = changes.push(write);
+                    return Reply::Committed(Stamped::new(number, seat, write));
+                }
+            },
+        }
+    }
+}

@@ -1,0 +1,185 @@
+ghost use Rattle.std.specs.Prelude.{◌≡◌, ◌≢◌, ◌↔◌, ◌⊎◌, ◌<◌, ◌≤◌, ℕ, suc, None, Some, length, IfOk, OnOk, IfErr, IfSome, is_some, nat_lt};
+ghost use Rattle.change_list.specs.Configs.{IsWithinLimits};
+ghost use Rattle.change_list.specs.Changes.{commit_at, IsLegal};
+ghost use Rattle.page_table.specs.Trees.{page_at};
+ghost use Rattle.split.specs.Tests.{first_failing};
+ghost use Rattle.cursor.specs.OpenCursors.{words};
+ghost use Rattle.world.specs.States.{new_state, IsSoundWorld, IsAt};
+ghost use Rattle.world.specs.Steps.{Step, cursor_tests};
+ghost use Rattle.world.specs.Promises.{ServesAll, FitsAtOpening, LowersWork, KeepsRowsUnder};
+
+use crate::event::Event;
+use crate::reply::Reply;
+use change_list::{ChangeList, Config, Write};
+use cursor::Cursor;
+use key_class::{KeyClass, Refusal};
+use mailbox::Outlet;
+use node::Page;
+use split::SearchTree;
+use std::alloc::Global;
+use std::marker::Model;
+
+/// A tree of pages, its commits and its open cursors. Each event is one atomic step.
+#[derive(Drop)]
+pub struct World<C: KeyClass, O: Outlet<C::Key>> {
+    pub(crate) alloc: Global,
+    pub(crate) search: SearchTree<C>,
+    pub(crate) limit: u64,
+    pub(crate) changes: ChangeList<C::Key>,
+    pub(crate) cursors: Vec<Cursor<C, O>>,
+    pub(crate) last: u64,
+}
+
+impl<C: KeyClass, O: Outlet<C::Key>> Model for World<C, O> {
+    ghost use Rattle.key_class.specs.QueryCodes.{query_code};
+    ghost use Rattle.std.specs.Coded.{codes};
+    ghost use Rattle.world.specs.States.{State, IsSoundWorld};
+
+    ghost Value = { State C.Key C.Atom };
+
+    ghost coded = { Prim.hlevel (codes, query_code) };
+
+    ghost view = { λ w. record { search = w.search; limit = w.limit; commits = w.changes; cursors = w.cursors.items; last = w.last } };
+
+    ghost invariant = { λ w. IsSoundWorld C.is_cover (record { search = w.search; limit = w.limit; commits = w.changes; cursors = w.cursors.items; last = w.last }) };
+}
+
+impl<C: KeyClass, O: Outlet<C::Key>> World<C, O> {
+    /// A world with one empty leaf.
+    ///
+    /// # Errors
+    /// `BadConfig` where a limit of the configuration is out of its range, else want of memory.
+    pub fn new(alloc: Global, config: Config) -> Result<World<C, O>, Refusal>
+        ensures made { IfOk result (λ world. world ≡ new_state config) }
+        ensures within { OnOk result (IsWithinLimits config) }
+        ensures bad { (result ≡ Err Refusal.BadConfig) ↔ (¬ IsWithinLimits config) }
+        ensures refusals { IfErr result (λ why. (why ≡ Refusal.BadConfig) ⊎ (why ≡ Refusal.OutOfMemory)) }
+    {
+        if !config.is_within_limits() {
+            return Err(Refusal::BadConfig);
+        }
+        let search = SearchTree::new(
+            alloc,
+            u64::from(config.fan),
+            u64::from(config.least),
+            u64::from(config.pages),
+        )?;
+        Ok(World {
+            alloc,
+            search,
+            limit: u64::from(config.commits),
+            changes: ChangeList::new(alloc),
+            cursors: Vec::new(alloc),
+            last: 0,
+        })
+    }
+
+    /// How many commits there are.
+    pub fn commits(&self) -> u64
+        ensures number { result ≡ length self.now.commits }
+        ensures legal { IsLegal self.now.commits }
+    {
+        self.changes.len() as u64
+    }
+
+    /// The commit with a number. The first has number 1.
+    pub fn commit(&self, number: u64) -> Option<Write<C::Key>>
+        ensures { result ≡ commit_at self.now.commits number }
+    {
+        self.changes.commit(number)
+    }
+
+    /// How many pages there are.
+    pub fn pages(&self) -> u64
+        ensures number { result ≡ length self.now.search.tree.pages }
+        ensures sound { IsSoundWorld C.is_cover self.now }
+    {
+        self.search.pages().len() as u64
+    }
+
+    /// The page with a number. The root has number 0.
+    pub fn page(&self, number: u64) -> Option<&Page<C::Key>>
+        ensures exists { is_some result ≡ nat_lt number (length self.now.search.tree.pages) }
+        ensures page { IfSome result (λ page. page.now ≡ page_at self.now.search.tree number) }
+    {
+        let table = self.search.pages();
+        let number = u32::try_from(number).ok()?;
+        if (number as usize) < table.len() {
+            Some(table.page(number))
+        } else {
+            None
+        }
+    }
+
+    /// The place of an open cursor, or why there is none.
+    pub(crate) fn place_of(&self, c: u64) -> Result<usize, Refusal>
+        ensures found { IfOk result (λ at. IsAt self.now c at) }
+        ensures refused { IfErr result (λ why. first_failing (cursor_tests self.now c) ≡ Some why) }
+    {
+        if c == 0 || self.last < c {
+            return Err(Refusal::NoSuchCursor);
+        }
+        let mut low = 0;
+        let mut high = self.cursors.len();
+        while low < high {
+            let middle = low + (high - low) / 2;
+            let serial = self.cursors[middle].serial();
+            if serial == c {
+                return Ok(middle);
+            }
+            if serial < c {
+                low = middle + 1;
+            } else {
+                high = middle;
+            }
+        }
+        Err(Refusal::CursorClosed)
+    }
+
+    /// One event, in one atomic step.
+    pub fn step(&mut self, event: Event<C>) -> Reply<C, O>
+        ensures step { Step (words C.is_match C.is_consistent C.is_cover C.union_of O.may_take O.may_refuse O.is_emptied_elsewhere) 0 self.old event result self.new }
+        ensures serves { ServesAll (words C.is_match C.is_consistent C.is_cover C.union_of O.may_take O.may_refuse O.is_emptied_elsewhere) self.old event result self.new }
+        ensures opening { FitsAtOpening (words C.is_match C.is_consistent C.is_cover C.union_of O.may_take O.may_refuse O.is_emptied_elsewhere) result self.new }
+        ensures less_work { LowersWork (words C.is_match C.is_consistent C.is_cover C.union_of O.may_take O.may_refuse O.is_emptied_elsewhere) self.old event result self.new }
+        ensures rows { KeepsRowsUnder self.old event self.new }
+    {
+        self.step_as(0, event)
+    }
+
+    /// One event, in one atomic step, for a seat. A commit's reply holds the seat's number.
+    pub fn step_as(&mut self, seat: u32, event: Event<C>) -> Reply<C, O>
+        ensures step { Step (words C.is_match C.is_consistent C.is_cover C.union_of O.may_take O.may_refuse O.is_emptied_elsewhere) seat self.old event result self.new }
+        ensures serves { ServesAll (words C.is_match C.is_consistent C.is_cover C.union_of O.may_take O.may_refuse O.is_emptied_elsewhere) self.old event result self.new }
+        ensures opening { FitsAtOpening (words C.is_match C.is_consistent C.is_cover C.union_of O.may_take O.may_refuse O.is_emptied_elsewhere) result self.new }
+        ensures less_work { LowersWork (words C.is_match C.is_consistent C.is_cover C.union_of O.may_take O.may_refuse O.is_emptied_elsewhere) self.old event result self.new }
+        ensures rows { KeepsRowsUnder self.old event self.new }
+    {
+        self.is_sound();
+        self.answer(seat, event)
+    }
+
+    /// Nothing is done. The clause states what holds of every world.
+    fn is_sound(&self)
+        ensures { IsSoundWorld C.is_cover self.now }
+    {
+        let _limit = self.limit;
+    }
+
+    fn answer(&mut self, seat: u32, event: Event<C>) -> Reply<C, O>
+        ensures { Step (words C.is_match C.is_consistent C.is_cover C.union_of O.may_take O.may_refuse O.is_emptied_elsewhere) seat self.old event result self.new }
+    {
+        match event {
+            Event::Enlarge(parent, child, key) => return self.enlarge(parent, child, key),
+            Event::Place(page, key, tag) => return self.place(seat, page, key, tag),
+            Event::Split(page, sides) => return self.split(page, &sides),
+            Event::Post(parent, child) => return self.post(parent, child),
+            Event::Grow(sides) => return self.grow(&sides),
+            Event::Open(query, room) => return self.open(query, room),
+            Event::Turn(cursor) => return self.turn(cursor),
+            Event::AskMark(cursor) => return self.ask_mark(cursor),
+            Event::Take(cursor) => return self.take(cursor),
+            Event::Close(cursor) => return self.close(cursor),
+        }
+    }
+}
