@@ -30,6 +30,10 @@ use Rattle.scan.specs.Agreement.{Agrees, IsEntryOf, is_row}
 use Rattle.scan.specs.Finding.{FindsHere, IsFinder, SeeksFurther}
 use Rattle.scan.specs.Scanning.{GoesOn}
 
+-- a finder has something left to visit
+pub finder_open : {K : Type 0} (row : ℕ) (t : Tree K) → IsFinder row t [] → ⊥
+finder_open row t find = let e = find.there in omega (arith, e)
+
 module _ {K : Type 0} (row : ℕ) (t : Tree K) (stack : List StackItem) where
   -- a step that moves entries
   pub keeps_finder : (t' : Tree K) → KeepsRows t t' → IsFinder row t stack → IsFinder row t' stack

@@ -44,6 +44,7 @@ pub fn scans_survive_steps<C: KeyClass>()
 
 /// Nothing is done. The clauses tell how a finder of a live row begins, and which steps leave it one.
 pub fn finders_survive_steps<C: KeyClass>()
+    ensures unfinished { (t : Tree C.Key) (row : ℕ) → ¬ IsFinder row t [] }
     ensures begun { (t : Tree C.Key) (fan row : ℕ) (commits : List (Write C.Key)) → IsSound C.is_cover fan t → Agrees t commits → status_of commits row ≡ Live → IsFinder row t (record { page = 0; memo = t.counter } ∷ []) }
     ensures moved { (t t' : Tree C.Key) (row : ℕ) (stack : List StackItem) → KeepsRows t t' → IsFinder row t stack → IsFinder row t' stack }
     ensures placed { (t : Tree C.Key) (fan p row : ℕ) (stack : List StackItem) (entry : Entry C.Key) → IsSound C.is_cover fan t → p < length t.pages → ¬ (entry.row ≡ row) → IsFinder row t stack → IsFinder row (after_place t p entry) stack }

@@ -3,6 +3,7 @@
 #![tactic(auto)]
 
 mod branch_test;
+mod key_test;
 mod laws;
 mod rows;
 mod stack;

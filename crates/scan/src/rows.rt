@@ -3,6 +3,7 @@ ghost use Rattle.key_class.specs.Queries.{query_of, matches_query};
 ghost use Rattle.scan.specs.Finding.{holds};
 ghost use Rattle.scan.specs.Scanning.{seen, row_of};
 
+use crate::key_test::{KeyTest, OneAtom};
 use change_list::Row;
 use key_class::{KeyClass, Pred};
 use row_version::Entry;
@@ -19,9 +20,26 @@ pub fn seen_rows<C: KeyClass>(
 ) -> Result<VecDeque<Row<C::Key>>, AllocError>
     ensures { IfOk result (λ rows. rows.items ≡ seen (matches_query C.is_match (query_of query.now)) commit entries.now) }
 {
+    match query {
+        Pred::Atom(atom) => {
+            accepted_rows::<C, OneAtom<C::Atom>>(alloc, entries, &OneAtom { atom: *atom }, commit)
+        }
+        _ => accepted_rows::<C, Pred<C::Atom>>(alloc, entries, query, commit),
+    }
+}
+
+/// The rows that are there after the first `commit` commits and pass the test.
+fn accepted_rows<C: KeyClass, T: KeyTest<C>>(
+    alloc: Global,
+    entries: &[Entry<C::Key>],
+    test: &T,
+    commit: u32,
+) -> Result<VecDeque<Row<C::Key>>, AllocError>
+    ensures { IfOk result (λ rows. rows.items ≡ seen (T.accepts test.now) commit entries.now) }
+{
     let mut rows = VecDeque::new(alloc);
     for entry in entries {
-        if entry.visible_at(commit) && query.matches::<C>(entry.key()) {
+        if entry.visible_at(commit) && test.is_accepted(entry.key()) {
             rows.push_back(row_of(entry))?;
         }
     }

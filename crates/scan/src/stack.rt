@@ -6,6 +6,7 @@ ghost use Rattle.scan.specs.Finding.{Seeks, SeeksLess, KeepsFinder};
 ghost use Rattle.scan.specs.Scanning.{IsNext, GoesOn, Visits, LosesNothing, LowersWork, child_items};
 
 use crate::branch_test::{BranchTest, Covering};
+use crate::key_test::OneAtom;
 use crate::rows::{holds_row, seen_rows};
 use change_list::Row;
 use key_class::{KeyClass, Pred};
@@ -106,7 +107,7 @@ impl Stack {
             return Ok(None);
         };
         let rows = seen_rows::<C>(alloc, table.page(item.page).rows(), query, opened)?;
-        self.go_on::<C, Pred<C::Atom>>(table, item, query)?;
+        self.go_on_by_query::<C>(table, item, query)?;
         Ok(Some(Visited {
             page: item.page,
             rows,
@@ -149,6 +150,26 @@ impl Stack {
             return None;
         }
         Some(self.items.as_slice()[count - 1])
+    }
+
+    /// Goes on to the children whose bounds are consistent with the query.
+    fn go_on_by_query<C: KeyClass>(
+        &mut self,
+        table: &PageTable<C::Key>,
+        item: StackItem,
+        query: &Pred<C::Atom>,
+    ) -> Result<(), AllocError>
+        requires next { IsNext self.old item }
+        requires exists { item.page < length table.now.pages }
+        ensures ok { OnOk result (GoesOn (consistent_with_query C.is_consistent (query_of query.now)) table.now self.old item self.new) }
+        ensures refused { OnErr result (self.new ≡ self.old) }
+    {
+        match query {
+            Pred::Atom(atom) => {
+                self.go_on::<C, OneAtom<C::Atom>>(table, item, &OneAtom { atom: *atom })
+            }
+            _ => self.go_on::<C, Pred<C::Atom>>(table, item, query),
+        }
     }
 
     /// Puts what follows a page in the place of its item, the last.

@@ -6,4 +6,6 @@ mod calls;
 #[cfg(test)]
 mod faults;
 #[cfg(test)]
+mod memory;
+#[cfg(test)]
 mod rows;

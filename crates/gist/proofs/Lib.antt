@@ -1,0 +1,7 @@
+mod Giving
+mod Naming
+mod Numbers
+mod Reading
+mod Serving
+mod Taking
+mod Values

@@ -1,0 +1,146 @@
+-- Words without a fault name `serve` first, and its options are the words behind it.
+use Rattle.std.proofs.Common.{◌≡◌, ◌∙◌, ◌||◌, Bool, true, false, cond, refl, sym, ap, subst, List, [], ◌∷◌, ◌++◌, map, drop, inl, inr, ◌⊎◌, Option, Some, None, codes, true≢false}
+use Rattle.std.specs.Option.{is_some, option_map, option_map_or}
+use Rattle.std.specs.List.{fold}
+use Rattle.std.specs.Str.{bytes_eq}
+use Rattle.std.specs.Prelude.{◌==◌}
+use Rattle.std.proofs.lemmas.List.{append_assoc, append-nil}
+use Rattle.std.proofs.lemmas.Slice.Eq.{bytes_eq-Decides}
+use Rattle.clap.specs.Words.{App, Kinds, Row, Rule, Shape, Text, fault_of, subcommand_of}
+use Rattle.clap.specs.Kinds.{or_else}
+use Rattle.clap.specs.Lexer.{long_of, short_of}
+use Rattle.clap.specs.Faults.{bundle_fault, entered_fault, flag_word_fault, other_fault, level_fault, long_fault, settle_fault, step_fault, walk_fault}
+use Rattle.clap.specs.Simple.{built, entered, names_of}
+use Rattle.clap.specs.Walk.{Held, Names, Outcome, Walk, after_flag, after_step, arg_by_long, finished, idle, long_or_other, nothing_held, short_or_plain, short_word, subcommand_or_other, trailing, walk, walk_from, walked, has_row, with_default}
+use Rattle.clap.specs.declared.error.ErrorKind.TheVariants as kind
+use Rattle.gist.specs.CommandLine.{ClassNames, gist_line, number_of_32_bits}
+use Rattle.gist.specs.Spelling.{SpellsOptions}
+use Rattle.gist.proofs.Serving.{checked, last_checks, serve_shape}
+use Rattle.gist.proofs.Reading.{H, Taken, at, behind_mark, bundled, dashes, earlier, faulty, help, help_is_asked, help_or_none, later, option_row, reads, rows_at_end, rules, value_rule}
+
+abbrev pub no_rows : Held
+no_rows = H [] None
+
+abbrev pub stopped_at : Text → List Text → Walk
+stopped_at name words = record { held = no_rows; waiting = idle; position = 1; is_trailing = false; stopped = Some (name, words) }
+
+pub stops : (c : List Rule) (subcommands : Names) (words : List Text) (name : Text) (passed : List Text) → (fold (walked c subcommands) (stopped_at name passed) words).stopped ≡ Some (name, passed ++ words)
+unfolding walked
+stops c subcommands [] name passed = ap (λ (ws : List Text). Some (name, ws)) (sym (append-nil passed))
+stops c subcommands (w ∷ words) name passed =
+    stops c subcommands words name (passed ++ w ∷ []) ∙ ap (λ (ws : List Text). Some (name, ws)) (append_assoc passed (w ∷ []) words)
+
+module _ (names : ClassNames) where
+  abbrev pub line : App
+  line = built (gist_line names)
+
+  abbrev pub top : Shape
+  top = line.top
+
+  abbrev pub commands : Names
+  commands = names_of line
+
+  abbrev IsHelpRule : Option Rule → Type 0
+  IsHelpRule o = (o ≡ None) ⊎ (o ≡ Some help)
+
+  long_is_faulty : (o : Option Rule) → IsHelpRule o → (x : Option Text) → long_fault top.rules false o x no_rows ≡ [] → ⊥
+  long_is_faulty o (inl none) x f = faulty kind.UnknownArgument [] (subst (λ (r : Option Rule). long_fault top.rules false r x no_rows ≡ []) none f)
+  long_is_faulty o (inr is) (Some y) f = faulty kind.TooManyValues [] (subst (λ (r : Option Rule). long_fault top.rules false r (Some y) no_rows ≡ []) is f)
+  long_is_faulty o (inr is) None f = help_is_asked top.rules [] None (subst (λ (r : Option Rule). long_fault top.rules false r None no_rows ≡ []) is f)
+
+  not_plain : (word : Text) (rest : Kinds) (o : Option Text)
+      → or_else (or_else (option_map_or (λ flags. bundle_fault top.rules false flags no_rows) o []) (step_fault top 1 (short_or_plain top.rules idle word o no_rows).0 (short_or_plain top.rules idle word o no_rows).1)) rest ≡ [] → ⊥
+  not_plain word rest None f = faulty kind.UnknownArgument (kind.InvalidSubcommand ∷ []) f
+  not_plain word rest (Some flags) f =
+      let bundling = bundle_fault top.rules false flags no_rows in
+      let step = step_fault top 1 (short_word top.rules idle word flags no_rows).0 (short_word top.rules idle word flags no_rows).1 in
+      let turn = earlier (or_else bundling step) rest f in
+      let none = earlier bundling step turn in
+      let value_step = subst (λ (q : Held × Outcome). step_fault top 1 (after_flag top.rules idle word q.0 q.1).0 (after_flag top.rules idle word q.0 q.1).1 ≡ [])
+      (bundled top.rules (λ x. help_or_none (104 == x)) flags [] None none) (later bundling step turn) in
+      faulty kind.UnknownArgument (kind.InvalidSubcommand ∷ []) value_step
+
+  marked_stops : (words : List Text) → walk_fault top commands (behind_mark no_rows idle) words ≡ [] → (fold (walked top.rules commands) (behind_mark no_rows idle) words).stopped ≡ None
+  unfolding walk_fault
+  marked_stops [] f = refl
+  marked_stops (w ∷ words) f = absurd (faulty kind.UnknownArgument (kind.InvalidSubcommand ∷ []) f)
+
+  -- no other word comes before `serve`
+  other_word : (word : Text) (words : List Text) (b : Bool) (l : Option (Text × Option Text))
+      → or_else (or_else (cond b [] (flag_word_fault top.rules false l word no_rows)) (step_fault top 1 (cond b (no_rows, trailing 1) (long_or_other top.rules idle word l no_rows)).0 (cond b (no_rows, trailing 1) (long_or_other top.rules idle word l no_rows)).1))
+      (walk_fault top commands (after_step top.rules word (at no_rows idle) (cond b (no_rows, trailing 1) (long_or_other top.rules idle word l no_rows)).0 (cond b (no_rows, trailing 1) (long_or_other top.rules idle word l no_rows)).1) words) ≡ []
+      → (fold (walked top.rules commands) (after_step top.rules word (at no_rows idle) (cond b (no_rows, trailing 1) (long_or_other top.rules idle word l no_rows)).0 (cond b (no_rows, trailing 1) (long_or_other top.rules idle word l no_rows)).1) words).stopped ≡ None
+  other_word word words true l f = marked_stops words f
+  other_word word words false (Some q) f =
+      let long = long_fault top.rules false (arg_by_long top.rules q.0) q.1 no_rows in
+      let step = step_fault top 1 (long_or_other top.rules idle word (Some q) no_rows).0 (long_or_other top.rules idle word (Some q) no_rows).1 in
+      absurd (long_is_faulty (arg_by_long top.rules q.0) (help_or_none (bytes_eq (codes "help") q.0)) q.1 (earlier long step (earlier (or_else long step) _ f)))
+  other_word word words false None f = absurd (not_plain word _ (short_of word) f)
+
+  -- the words stop at `serve`
+  abbrev Stops : List Text → Option (Text × List Text) → Type 0
+  Stops words stop = (rest : List Text) × (words ≡ codes "serve" ∷ rest) × (stop ≡ Some (codes "serve", rest))
+
+  stops_at_serve : (words : List Text) → walk_fault top commands (at no_rows idle) words ≡ [] → is_some (entered line (fold (walked top.rules commands) (at no_rows idle) words).stopped) ≡ true
+      → Stops words (fold (walked top.rules commands) (at no_rows idle) words).stopped
+  unfolding walked walk_fault
+  stops_at_serve [] f some = absurd (true≢false (sym some))
+  stops_at_serve (word ∷ words) f some = go (bytes_eq (codes "serve") word) refl f some
+    where
+      go : (b : Bool) → bytes_eq (codes "serve") word ≡ b
+          → (let o = option_map (λ (x : Text × List Text). x.0) (cond (b || false) (Some (codes "serve", [])) None) in
+          let met = subcommand_or_other top.rules o idle 1 word no_rows in
+          or_else (or_else (other_fault top o word no_rows) (step_fault top 1 met.0 met.1)) (walk_fault top commands (after_step top.rules word (at no_rows idle) met.0 met.1) words) ≡ [])
+          → (let o = option_map (λ (x : Text × List Text). x.0) (cond (b || false) (Some (codes "serve", [])) None) in
+          let met = subcommand_or_other top.rules o idle 1 word no_rows in
+          is_some (entered line (fold (walked top.rules commands) (after_step top.rules word (at no_rows idle) met.0 met.1) words).stopped) ≡ true)
+          → (let o = option_map (λ (x : Text × List Text). x.0) (cond (b || false) (Some (codes "serve", [])) None) in
+          let met = subcommand_or_other top.rules o idle 1 word no_rows in
+          Stops (word ∷ words) (fold (walked top.rules commands) (after_step top.rules word (at no_rows idle) met.0 met.1) words).stopped)
+      go true is g t = (words, ap (λ (w : Text). w ∷ words) (sym ((bytes_eq-Decides (codes "serve") word).0 is)), stops top.rules commands words (codes "serve") [])
+      go false is g t =
+          let none = other_word word words (bytes_eq word dashes) (long_of word) g in
+          absurd (true≢false (sym (subst (λ (o : Option (Text × List Text)). is_some (entered line o) ≡ true) none t)))
+
+  kept_rows : (b : Bool) (rows : List Row) → cond b rows rows ≡ rows
+  kept_rows true rows = refl
+  kept_rows false rows = refl
+
+  -- no option has a default
+  no_default : (rows : List Row) → fold with_default rows (rules names) ≡ rows
+  no_default rows =
+      ap (λ (rs : List Row). with_default (with_default (with_default rs (value_rule (codes "fan") number_of_32_bits)) (value_rule (codes "least") number_of_32_bits)) help) (kept_rows (has_row (codes "class") rows) rows)
+      ∙ ap (λ (rs : List Row). with_default (with_default rs (value_rule (codes "least") number_of_32_bits)) help) (kept_rows (has_row (codes "fan") rows) rows)
+      ∙ ap (λ (rs : List Row). with_default rs help) (kept_rows (has_row (codes "least") rows) rows) ∙ kept_rows (has_row (codes "help") rows) rows
+
+  -- Words without a fault are `serve` and options; what was found behind `serve` are those options.
+  pub spelled : (words : List Text) → fault_of (gist_line names) words ≡ []
+      → (rest : List Text) × (given : List (Text × Text)) × (drop 1 words ≡ codes "serve" ∷ rest) × SpellsOptions rest given × (subcommand_of (gist_line names) words ≡ Some (codes "serve", map (option_row names) given)) × Taken names [] given
+  spelled words none =
+      let given_words = drop 1 words in
+      let stop = (walk top.rules commands nothing_held given_words).stopped in
+      let below = entered_fault line stop in
+      let walking = walk_fault top commands (walk_from nothing_held) given_words in
+      let some = checked top (finished top.rules (walk top.rules commands nothing_held given_words).held) (is_some (entered line stop)) refl refl
+      (last_checks top commands nothing_held given_words (is_some (entered line stop)) below none) in
+      let at_serve = stops_at_serve given_words (earlier walking _ none) some in
+      spelled_behind given_words stop at_serve (earlier below _ (later walking _ none))
+    where
+      spelled_behind : (given_words : List Text) (stop : Option (Text × List Text)) → Stops given_words stop → entered_fault line stop ≡ []
+          → (rest : List Text) × (given : List (Text × Text)) × (given_words ≡ codes "serve" ∷ rest) × SpellsOptions rest given × (entered line stop ≡ Some (codes "serve", map (option_row names) given)) × Taken names [] given
+      spelled_behind given_words stop at_serve faults =
+          let rest = at_serve.0 in
+          let shape = serve_shape names in
+          let walking = walk_fault shape [] (walk_from nothing_held) rest in
+          let level : level_fault shape [] nothing_held rest false [] ≡ [] = subst (λ (o : Option (Text × List Text)). entered_fault line o ≡ []) at_serve.2 faults in
+          let end = (walk shape.rules [] nothing_held rest).held in
+          let settling = settle_fault shape.rules shape.args_override_self end in
+          let found = (reads names rest).0 [] None (earlier walking _ level) (earlier settling _ (later walking _ level)) in
+          let rows = no_default (rows_at_end names (at no_rows idle) rest) ∙ found.3 in (
+            rest,
+            found.0,
+            at_serve.1,
+            found.1,
+            ap (entered line) at_serve.2 ∙ ap (λ (rs : List Row). Some (codes "serve", rs)) rows,
+            found.4,
+          )

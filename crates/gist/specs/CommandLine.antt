@@ -1,0 +1,85 @@
+-- The program's command line in clap's words, and what the words on it give.
+use Rattle.std.specs.Prelude.{◌≡◌, ℕ, ◌<◌, ◌^◌, List, [], ◌∷◌, map, drop, Option, Some, None, codes, if◌then◌else◌, true, pos}
+use Rattle.std.specs.Borrow.{Bor}
+use Rattle.std.specs.Str.{bytes_eq}
+use Rattle.std.specs.Str.Parse.{IsNumeral, digits_value, without_leading_plus}
+use Rattle.clap.specs.Words.{App, Row, Rule, Text, first_of, one_of, new_app, new_rule, with_rule, with_subcommand, fault_of, IsAmong}
+use Rattle.clap.specs.declared.builder.ValueParser.{ValueParser}
+use Rattle.clap.specs.declared.builder.ValueParser.TheVariants as parser
+use Rattle.clap.specs.declared.error.ErrorKind.{ErrorKind}
+use Rattle.gist.specs.Spelling.{AreOptions, SpellsNumber, SpellsOptions, SpellsPlainly, value_of}
+use Rattle.gist.specs.declared.options.Class.{Class}
+use Rattle.gist.specs.declared.options.Class.TheVariants as classes
+use Rattle.gist.specs.declared.options.StoreOptions.{StoreOptions}
+use Rattle.gist.specs.declared.options.Settings.{Settings}
+use Rattle.gist.specs.declared.options.Settings.TheVariants as settings
+
+-- an option with one value, which its parser takes
+abbrev pub option_rule : Text → ValueParser → Rule
+option_rule name takes = record (new_rule name) { long = Some name; value_names = 1; parser = Some takes }
+
+abbrev pub number_of_32_bits : ValueParser
+number_of_32_bits = parser.Signed (pos 0) (pos 4294967295)
+
+abbrev pub ClassNames : Type 0
+ClassNames = Bor (List (Bor Text))
+
+-- a command with the options that say how rows are kept
+abbrev pub with_store_rules : ClassNames → App → App
+with_store_rules names command =
+    with_rule (with_rule (with_rule command (option_rule (codes "class") (parser.Names names)))
+    (option_rule (codes "fan") number_of_32_bits)) (option_rule (codes "least") number_of_32_bits)
+
+abbrev pub AreClassNames : ClassNames → Type 0
+AreClassNames names = map (λ name. name.now) names.now ≡ codes "interval" ∷ codes "box" ∷ codes "set" ∷ []
+
+abbrev pub program : App
+program = record (new_app (codes "gist")) { top = record (new_app (codes "gist")).top { subcommand_required = true; disable_help_subcommand = true } }
+
+-- `gist`, which wants the command `serve`, which takes each option of a store once at most
+abbrev pub gist_line : ClassNames → App
+gist_line names = with_subcommand program (with_store_rules names (new_app (codes "serve"))).top
+
+abbrev pub IsGistLine : App → Type 0
+IsGistLine line = (names : ClassNames) × AreClassNames names × (line ≡ gist_line names)
+
+-- the class that a text names; intervals where there is none
+abbrev pub class_named : Option Text → Class
+class_named None = classes.Interval
+class_named (Some text) = if bytes_eq text (codes "box") then classes.Box else (if bytes_eq text (codes "set") then classes.Set else classes.Interval)
+
+-- the number is the one of 32 bits that clap read in a text; the usual one where there is no text
+abbrev pub NumberRead : Option Text → ℕ → ℕ → Type 0
+NumberRead None usual number = number ≡ usual
+NumberRead (Some text) usual number = IsNumeral 10 (without_leading_plus text) → digits_value 10 (without_leading_plus text) < 2 ^ 32 → number ≡ digits_value 10 (without_leading_plus text)
+
+-- each option has the value that clap found for it, else its default
+pub record OptionsRead (rows : List Row) (options : StoreOptions) : Type 0 where
+  pub class : options.class ≡ class_named (first_of (codes "class") rows)
+  pub fan : NumberRead (one_of (codes "fan") rows) 8 options.fan
+  pub least : NumberRead (one_of (codes "least") rows) 3 options.least
+
+-- the number that a text spells; the usual one where there is no text
+abbrev pub NumberGiven : Option Text → ℕ → ℕ → Type 0
+NumberGiven None usual number = number ≡ usual
+NumberGiven (Some text) usual number = SpellsNumber text number
+
+-- each option has the value that the words give it, else its default
+pub record OptionsGiven (given : List (Text × Text)) (options : StoreOptions) : Type 0 where
+  pub class : options.class ≡ class_named (value_of (codes "class") given)
+  pub fan : NumberGiven (value_of (codes "fan") given) 8 options.fan
+  pub least : NumberGiven (value_of (codes "least") given) 3 options.least
+
+-- behind the program's name the words are `serve` and its options, each once at most, which give these values
+abbrev pub Gives : List Text → Settings → Type 0
+Gives words (settings.Serve options) =
+    (rest : List Text) × (given : List (Text × Text)) × (drop 1 words ≡ codes "serve" ∷ rest) × SpellsOptions rest given × AreOptions [] given × OptionsGiven given options
+
+-- behind the program's name the words are `serve` and its options, each once at most, and a value that is a word of its
+-- own begins with no hyphen
+abbrev pub AreWellFormed : List Text → Type 0
+AreWellFormed words = (name : Text) × (rest : List Text) × (given : List (Text × Text)) × (words ≡ name ∷ codes "serve" ∷ rest) × SpellsPlainly rest given × AreOptions [] given
+
+-- the words are refused, or ask for help, with an error of this kind
+abbrev pub Refuses : List Text → ErrorKind → Type 0
+Refuses words kind = (line : App) × IsGistLine line × IsAmong kind (fault_of line words)

@@ -1,0 +1,24 @@
+/// The class of a store's keys.
+#[derive(Clone, Copy, Debug, PartialEq, Eq)]
+pub enum Class {
+    Interval,
+    Box,
+    Set,
+}
+
+/// What a command that keeps rows is told of them.
+#[derive(Clone, Copy, Debug, PartialEq, Eq)]
+pub struct StoreOptions {
+    pub class: Class,
+    /// How many entries a page may have.
+    pub fan: u32,
+    /// How many entries each side of a split has at least.
+    pub least: u32,
+}
+
+/// What the program's words ask it to do.
+#[derive(Clone, Copy, Debug, PartialEq, Eq)]
+pub enum Settings {
+    /// Answer the lines of a session.
+    Serve(StoreOptions),
+}

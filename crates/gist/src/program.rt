@@ -1,0 +1,149 @@
+ghost use Rattle.std.specs.Prelude.{◌≡◌, ◌≢◌, ◌↔◌, ◌⊎◌, ◌<◌, ℕ, List, map, Ok, Err, IfErr};
+ghost use Rattle.std.specs.Io.KnownBytes.{IsAtEnd};
+ghost use Rattle.store.specs.States.{State};
+ghost use Rattle.change_list.specs.Configs.{IsWithinLimits};
+ghost use Rattle.front.specs.Sessions.{AnsweredAll};
+ghost use Rattle.clap.specs.Words.{kind_of};
+ghost use Rattle.clap.specs.declared.error.ErrorKind.{ErrorKind};
+ghost use Rattle.gist.specs.declared.options.Settings.{Settings};
+ghost use Rattle.gist.specs.CommandLine.{AreWellFormed, Gives, Refuses};
+ghost use Rattle.gist.specs.Served.{limits_of, Serves, Does, AreOutOfLimits};
+
+use crate::options::{Class, Settings, StoreOptions};
+use crate::words::settings;
+use box_class::Boxes;
+use change_list::Config;
+use clap::Error;
+use clap::error::ErrorKind;
+use front::session;
+use interval_class::Intervals;
+use key_class::{Fault, Refusal};
+use query_text::ClassText;
+use set_class::Sets;
+use std::alloc::Global;
+use std::io::{Read, Write};
+use store::Store;
+
+/// The limits of a store with these options: as many pages and commits as there may be.
+fn config_of(options: StoreOptions) -> Config
+    ensures { result ≡ limits_of options }
+{
+    Config {
+        fan: options.fan,
+        least: options.least,
+        pages: 65_536,
+        commits: 16_777_216,
+    }
+}
+
+/// Serves a new store until the reader's bytes end.
+///
+/// # Errors
+/// `Refused` with `BadConfig` where a limit is out of its range; nothing was read then. Else as `session`.
+fn serve_store<C: ClassText, R: Read, W: Write>(
+    alloc: Global,
+    config: Config,
+    reader: &mut R,
+    writer: &mut W,
+) -> Result<(), Fault>
+    ensures ok { result ≡ Ok tt → (pages : ℕ) × (store : State C.Key C.Atom) × IsAtEnd (R.remaining reader.new) × AnsweredAll C.key_at C.atom_of C.is_match pages C.key_text (R.remaining reader.old) (R.remaining reader.new) (W.contents writer.old) (W.contents writer.new) config.commits store }
+    ensures within { result ≡ Ok tt → IsWithinLimits config }
+    ensures bad { (result ≡ Err (Fault.Refused Refusal.BadConfig)) ↔ (¬ IsWithinLimits config) }
+    ensures unread { ¬ IsWithinLimits config → (reader.new ≡ reader.old) × (writer.new ≡ writer.old) }
+{
+    let mut store = match Store::<C>::new(alloc, config) {
+        Ok(store) => store,
+        Err(Refusal::OutOfMemory) => return Err(Fault::OutOfMemory),
+        Err(why) => return Err(Fault::Refused(why)),
+    };
+    session(alloc, reader, writer, &mut store)
+}
+
+/// Serves a new store of the class of the options.
+fn serve<R: Read, W: Write>(
+    alloc: Global,
+    options: StoreOptions,
+    reader: &mut R,
+    writer: &mut W,
+) -> Result<(), Fault>
+    ensures ok { result ≡ Ok tt → Serves (R.remaining reader.old) (R.remaining reader.new) (W.contents writer.old) (W.contents writer.new) options }
+    ensures bad { (result ≡ Err (Fault.Refused Refusal.BadConfig)) ↔ (¬ IsWithinLimits (limits_of options)) }
+    ensures unread { ¬ IsWithinLimits (limits_of options) → (reader.new ≡ reader.old) × (writer.new ≡ writer.old) }
+{
+    let config = config_of(options);
+    match options.class {
+        Class::Interval => serve_store::<Intervals, R, W>(alloc, config, reader, writer),
+        Class::Box => serve_store::<Boxes, R, W>(alloc, config, reader, writer),
+        Class::Set => serve_store::<Sets, R, W>(alloc, config, reader, writer),
+    }
+}
+
+/// Does what the settings say.
+fn run<R: Read, W: Write>(
+    alloc: Global,
+    settings: Settings,
+    reader: &mut R,
+    writer: &mut W,
+) -> Result<(), Fault>
+    ensures ok { result ≡ Ok tt → Does (R.remaining reader.old) (R.remaining reader.new) (W.contents writer.old) (W.contents writer.new) settings }
+    ensures bad { (result ≡ Err (Fault.Refused Refusal.BadConfig)) ↔ AreOutOfLimits settings }
+    ensures unread { AreOutOfLimits settings → (reader.new ≡ reader.old) × (writer.new ≡ writer.old) }
+{
+    match settings {
+        Settings::Serve(options) => serve(alloc, options, reader, writer),
+    }
+}
+
+/// Shows why there are no settings, and gives the status.
+fn show<W: Write, E: Write>(error: &Error, writer: &mut W, errors: &mut E) -> u8
+    ensures well { result ≡ 0 → (kind_of error.now ≡ ErrorKind.DisplayHelp) × (errors.new ≡ errors.old) }
+    ensures wrong { (result ≡ 2) ↔ ((kind_of error.now ≢ ErrorKind.DisplayHelp) × (kind_of error.now ≢ ErrorKind.OutOfMemory)) }
+    ensures quiet { kind_of error.now ≢ ErrorKind.DisplayHelp → writer.new ≡ writer.old }
+    ensures status { result < 3 }
+{
+    match error.kind() {
+        ErrorKind::DisplayHelp => match write!(writer, "{error}") {
+            Ok(()) => 0,
+            Err(_) => fail(Fault::Write, errors),
+        },
+        ErrorKind::OutOfMemory => fail(Fault::OutOfMemory, errors),
+        _ => {
+            let _ = write!(errors, "{error}");
+            2
+        }
+    }
+}
+
+/// Tells a fault on a line, and gives the status.
+fn fail<E: Write>(fault: Fault, errors: &mut E) -> u8
+    ensures { result ≡ 1 }
+{
+    let _ = writeln!(errors, "gist: {fault}");
+    1
+}
+
+/// Does what the words ask and gives the program's status: 0 where all went well, 1 for a fault, which is told on a line
+/// of `errors`, and 2 where the words are refused.
+pub fn command<R: Read, W: Write, E: Write>(
+    alloc: Global,
+    words: &[&str],
+    reader: &mut R,
+    writer: &mut W,
+    errors: &mut E,
+) -> u8
+    ensures served { result ≡ 0 → (Refuses (map (λ word. word.now) words.now) ErrorKind.DisplayHelp × (reader.new ≡ reader.old)) ⊎ ((settings : Settings) × Gives (map (λ word. word.now) words.now) settings × Does (R.remaining reader.old) (R.remaining reader.new) (W.contents writer.old) (W.contents writer.new) settings) }
+    ensures taken { AreWellFormed (map (λ word. word.now) words.now) → result ≢ 2 }
+    ensures quiet { result ≡ 0 → errors.new ≡ errors.old }
+    ensures wrong_words { result ≡ 2 → (kind : ErrorKind) × Refuses (map (λ word. word.now) words.now) kind × (kind ≢ ErrorKind.DisplayHelp) }
+    ensures unread { result ≡ 2 → (reader.new ≡ reader.old) × (writer.new ≡ writer.old) }
+    ensures status { result < 3 }
+{
+    let settings = match settings(alloc, words) {
+        Ok(settings) => settings,
+        Err(error) => return show(&error, writer, errors),
+    };
+    match run(alloc, settings, reader, writer) {
+        Ok(()) => 0,
+        Err(fault) => fail(fault, errors),
+    }
+}

@@ -1,0 +1,119 @@
+ghost use Rattle.std.specs.Prelude.{◌≡◌, ◌≢◌, ℕ, List, Option, Some, None, map, codes, IfOk, IfErr, false};
+ghost use Rattle.clap.specs.Words.{app_of, found_of, first_value, rule_of, rows_of, kind_of};
+ghost use Rattle.clap.specs.declared.builder.ValueParser.TheVariants.{Names};
+ghost use Rattle.clap.specs.declared.error.ErrorKind.{ErrorKind};
+ghost use Rattle.gist.specs.CommandLine.{ClassNames, AreClassNames, IsGistLine, OptionsRead, option_rule, number_of_32_bits, class_named, AreWellFormed, Gives, Refuses};
+
+use crate::help::{ABOUT, FAN_HELP, FIRST_SESSION, LEAST_HELP, SERVE_ABOUT, SERVE_GUIDE};
+use crate::options::{Class, Settings, StoreOptions};
+use clap::{Arg, ArgMatches, Command, Error, value_parser};
+use std::alloc::{AllocError, Global};
+
+/// The words that name the classes.
+static CLASSES: [&str; 3] = ["interval", "box", "set"];
+
+const DEFAULT_FAN: u32 = 8;
+
+const DEFAULT_LEAST: u32 = 3;
+
+/// The options that say how rows are kept.
+struct StoreArgs<'a> {
+    class: Arg<'a>,
+    fan: Arg<'a>,
+    least: Arg<'a>,
+}
+
+/// An option that takes a number of 32 bits.
+fn number_arg<'a>(alloc: Global, name: &'a str, value: &'a str, help: &'a str) -> Arg<'a>
+    ensures rule { rule_of result ≡ option_rule name.entry.now number_of_32_bits }
+    ensures local { result.global ≡ false }
+{
+    Arg::new(alloc, name)
+        .long(name)
+        .value_name(value)
+        .value_parser(value_parser!(u32))
+        .help(help)
+}
+
+/// The option that names a class.
+fn class_arg<'a>(alloc: Global) -> Arg<'a>
+    ensures rule { (names : ClassNames) × AreClassNames names × (rule_of result ≡ option_rule (codes "class") (Names names)) }
+    ensures local { result.global ≡ false }
+{
+    Arg::new(alloc, "class")
+        .long("class")
+        .value_name("CLASS")
+        .value_parser(CLASSES.as_slice())
+        .help("What keys are [default: interval]")
+}
+
+fn store_args<'a>(alloc: Global) -> StoreArgs<'a>
+    ensures class { (names : ClassNames) × AreClassNames names × (rule_of result.class ≡ option_rule (codes "class") (Names names)) }
+    ensures fan { rule_of result.fan ≡ option_rule (codes "fan") number_of_32_bits }
+    ensures least { rule_of result.least ≡ option_rule (codes "least") number_of_32_bits }
+    ensures local { (result.class.global ≡ false) × (result.fan.global ≡ false) × (result.least.global ≡ false) }
+{
+    StoreArgs {
+        class: class_arg(alloc),
+        fan: number_arg(alloc, "fan", "M", FAN_HELP),
+        least: number_arg(alloc, "least", "m", LEAST_HELP),
+    }
+}
+
+/// The program's command line.
+fn command_line<'a>(alloc: Global) -> Result<Command<'a>, AllocError>
+    ensures { IfOk result (λ c. IsGistLine (app_of c)) }
+{
+    let StoreArgs { class, fan, least } = store_args(alloc);
+    let serve = Command::new(alloc, "serve")
+        .about(SERVE_ABOUT)
+        .after_help(SERVE_GUIDE)
+        .arg(class)?
+        .arg(fan)?
+        .arg(least)?;
+    Command::new(alloc, "gist")
+        .about(ABOUT)
+        .after_help(FIRST_SESSION)
+        .subcommand_required(true)
+        .disable_help_subcommand(true)
+        .subcommand(serve)
+}
+
+/// The class that the words give, else intervals.
+fn class_of(options: &ArgMatches<'_>) -> Class
+    ensures { result ≡ class_named (first_value (found_of options.now) (codes "class")) }
+{
+    match options.get_str("class") {
+        Some("box") => Class::Box,
+        Some("set") => Class::Set,
+        _ => Class::Interval,
+    }
+}
+
+/// What the words give of a store, and else its defaults.
+fn store_options(options: &ArgMatches<'_>) -> StoreOptions
+    ensures { OptionsRead (rows_of (found_of options.now)) result }
+{
+    StoreOptions {
+        class: class_of(options),
+        fan: options.get_one::<u32>("fan").unwrap_or(DEFAULT_FAN),
+        least: options.get_one::<u32>("least").unwrap_or(DEFAULT_LEAST),
+    }
+}
+
+/// What the program's words ask for. The first word is the program's name.
+///
+/// # Errors
+/// `DisplayHelp` where the words ask for help, `OutOfMemory`, and else why the words are refused; its `Display` is the
+/// text for the user.
+pub fn settings<'a>(alloc: Global, words: &'a [&'a str]) -> Result<Settings, Error>
+    ensures given { IfOk result (Gives (map (λ word. word.now) words.now)) }
+    ensures taken { AreWellFormed (map (λ word. word.now) words.now) → IfErr result (λ e. kind_of e ≡ ErrorKind.OutOfMemory) }
+    ensures refused { IfErr result (λ e. kind_of e ≢ ErrorKind.OutOfMemory → Refuses (map (λ word. word.now) words.now) (kind_of e)) }
+{
+    let matches = command_line(alloc)?.try_get_matches_from(words)?;
+    match matches.subcommand() {
+        Some((_, options)) => Ok(Settings::Serve(store_options(options))),
+        None => unreachable!(),
+    }
+}

@@ -1,0 +1,195 @@
+use super::listings::{Extent, extent_of, may_follow};
+use super::steps::{Answer, Ask, Ends, Query, Step};
+use change_list::{Item, Write};
+use interval_class::Interval;
+use key_class::Refusal;
+use std::alloc::{AllocError, Global};
+
+/// What makes a trace unfaithful.
+#[derive(Clone, Copy, Debug, PartialEq, Eq)]
+pub enum Flaw {
+    /// A commit hasn't the next number, isn't its event's, or may not follow.
+    Commit,
+    /// A cursor's serial was given before.
+    Serial,
+    /// What was taken of a cursor doesn't begin its listing.
+    Delivery,
+    /// Something up to a mark's commit wasn't taken before it.
+    Mark,
+    /// A mark has no asking of its own, or tells of fewer commits than there were at its asking.
+    Asking,
+    /// A closed cursor isn't refused as closed.
+    Closed,
+    /// A cursor that was never opened isn't refused.
+    Unknown,
+}
+
+/// A cursor, as its answers tell.
+#[derive(Drop)]
+struct Follower {
+    serial: u64,
+    query: Query,
+    /// How many commits there were at its opening.
+    opened: u64,
+    /// What was taken, without marks.
+    delivered: Vec<Item<Interval>>,
+    /// How many commits there were at each asking for a mark.
+    askings: Vec<u64>,
+    /// How many askings belong to marks that were taken.
+    used_askings: usize,
+    is_closed: bool,
+}
+
+impl Follower {
+    fn take_in(
+        &mut self,
+        alloc: Global,
+        commits: &[Write<Interval>],
+        (ask, answer): Step,
+    ) -> Result<Option<Flaw>, AllocError> {
+        if self.is_closed {
+            return Ok(match answer {
+                Answer::Refused(Refusal::CursorClosed) => None,
+                _ => Some(Flaw::Closed),
+            });
+        }
+        match (ask, answer) {
+            (Ask::AskMark(_), Answer::Asked) => {
+                self.askings.push(commits.len() as u64)?;
+                Ok(None)
+            }
+            (Ask::Close(_), Answer::Closed) => {
+                self.is_closed = true;
+                Ok(None)
+            }
+            (_, Answer::Taken(Item::Mark(last))) => self.mark(alloc, commits, last),
+            (_, Answer::Taken(item)) => self.deliver(alloc, commits, item),
+            _ => Ok(None),
+        }
+    }
+
+    fn deliver(
+        &mut self,
+        alloc: Global,
+        commits: &[Write<Interval>],
+        item: Item<Interval>,
+    ) -> Result<Option<Flaw>, AllocError> {
+        self.delivered.push(item)?;
+        let bounds = (self.opened, commits.len() as u64);
+        let extent = extent_of(alloc, commits, self.query, bounds, &self.delivered)?;
+        Ok((extent == Extent::Other).then_some(Flaw::Delivery))
+    }
+
+    /// The earliest asking that is left is the mark's, since the commits only grow from one asking to the next.
+    fn mark(
+        &mut self,
+        alloc: Global,
+        commits: &[Write<Interval>],
+        last: u64,
+    ) -> Result<Option<Flaw>, AllocError> {
+        let count = commits.len() as u64;
+        let bounds = (self.opened, last);
+        let extent = extent_of(alloc, commits, self.query, bounds, &self.delivered)?;
+        if last < self.opened || count < last || extent != Extent::Whole {
+            return Ok(Some(Flaw::Mark));
+        }
+        let asking = self.askings.get(self.used_askings).copied();
+        self.used_askings = self.used_askings.saturating_add(1);
+        Ok(match asking {
+            Some(count) if count <= last => None,
+            _ => Some(Flaw::Asking),
+        })
+    }
+}
+
+/// The commits and the cursors, as the answers tell. It knows no page, link, stack and mailbox.
+#[derive(Drop)]
+struct Checker {
+    alloc: Global,
+    commits: Vec<Write<Interval>>,
+    followers: Vec<Follower>,
+}
+
+impl Checker {
+    fn new(alloc: Global) -> Checker {
+        Checker {
+            alloc,
+            commits: Vec::new(alloc),
+            followers: Vec::new(alloc),
+        }
+    }
+
+    fn take_in(&mut self, step: Step) -> Result<Option<Flaw>, AllocError> {
+        if let Some(serial) = step.0.cursor() {
+            return self.follow(serial, step);
+        }
+        match step {
+            (Ask::Place(_, ends, tag), Answer::Committed(number, write)) => {
+                self.commit(ends, tag, number, write)
+            }
+            (_, Answer::Committed(_, _)) => Ok(Some(Flaw::Commit)),
+            (Ask::Open(query, _), Answer::Opened(serial)) => self.open(query, serial),
+            _ => Ok(None),
+        }
+    }
+
+    fn commit(
+        &mut self,
+        (lo, hi): Ends,
+        tag: u64,
+        number: u64,
+        write: Write<Interval>,
+    ) -> Result<Option<Flaw>, AllocError> {
+        let is_of_event = match write {
+            Write::Insert(key, written) => (key.lo, key.hi, written) == (lo, hi, tag),
+            Write::Delete(_) => false,
+        };
+        let is_next = number.checked_sub(1) == Some(self.commits.len() as u64);
+        if !is_of_event || !is_next || !may_follow(&self.commits, write) {
+            return Ok(Some(Flaw::Commit));
+        }
+        self.commits.push(write)?;
+        Ok(None)
+    }
+
+    fn open(&mut self, query: Query, serial: u64) -> Result<Option<Flaw>, AllocError> {
+        for follower in &self.followers {
+            if follower.serial == serial {
+                return Ok(Some(Flaw::Serial));
+            }
+        }
+        self.followers.push(Follower {
+            serial,
+            query,
+            opened: self.commits.len() as u64,
+            delivered: Vec::new(self.alloc),
+            askings: Vec::new(self.alloc),
+            used_askings: 0,
+            is_closed: false,
+        })?;
+        Ok(None)
+    }
+
+    fn follow(&mut self, serial: u64, step: Step) -> Result<Option<Flaw>, AllocError> {
+        for follower in &mut self.followers {
+            if follower.serial == serial {
+                return follower.take_in(self.alloc, &self.commits, step);
+            }
+        }
+        Ok(match step.1 {
+            Answer::Refused(Refusal::NoSuchCursor) => None,
+            _ => Some(Flaw::Unknown),
+        })
+    }
+}
+
+/// The first flaw of a trace, with its place.
+pub fn first_flaw(alloc: Global, trace: &[Step]) -> Result<Option<(usize, Flaw)>, AllocError> {
+    let mut checker = Checker::new(alloc);
+    for (place, step) in trace.iter().enumerate() {
+        if let Some(flaw) = checker.take_in(*step)? {
+            return Ok(Some((place, flaw)));
+        }
+    }
+    Ok(None)
+}

@@ -1,0 +1,18 @@
+//! Trials of worlds over memory: lists of events with their answers, and random lists against a slow checker that knows
+//! events and answers alone.
+#![tactic(auto)]
+
+#[cfg(test)]
+mod calls;
+#[cfg(test)]
+mod checker;
+#[cfg(test)]
+mod edits;
+#[cfg(test)]
+mod listings;
+#[cfg(test)]
+mod random_lists;
+#[cfg(test)]
+mod rows;
+#[cfg(test)]
+mod steps;

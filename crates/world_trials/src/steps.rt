@@ -1,0 +1,218 @@
+use change_list::{Config, Item, Write};
+use interval_class::{Atom, Interval, Intervals};
+use key_class::{Pred, Refusal, Rel, Side, Sides};
+use mailbox::Tray;
+use std::alloc::Global;
+use std::test::Fail;
+use world::{Event, Reply, World, run};
+
+pub type Trial = World<Intervals, Tray<Interval>>;
+
+/// The two ends of an interval.
+pub type Ends = (i64, i64);
+
+/// A query, with the ends of its operand.
+#[derive(Clone, Copy, Debug)]
+pub enum Query {
+    Overlaps(i64, i64),
+    Within(i64, i64),
+    /// The key doesn't overlap.
+    Misses(i64, i64),
+}
+
+impl Query {
+    /// Whether a key matches, told by the ends.
+    pub fn asks_for(self, key: Interval) -> bool {
+        match self {
+            Query::Overlaps(lo, hi) => key.lo <= hi && lo <= key.hi,
+            Query::Within(lo, hi) => lo <= key.lo && key.hi <= hi,
+            Query::Misses(lo, hi) => hi < key.lo || key.hi < lo,
+        }
+    }
+
+    fn pred(self, alloc: Global) -> Result<Pred<Atom>, Fail> {
+        match self {
+            Query::Overlaps(lo, hi) => atom(Rel::Overlaps, lo, hi),
+            Query::Within(lo, hi) => atom(Rel::Within, lo, hi),
+            Query::Misses(lo, hi) => {
+                Ok(Pred::Not(Box::new(alloc, atom(Rel::Overlaps, lo, hi)?)?))
+            }
+        }
+    }
+}
+
+fn atom(rel: Rel, lo: i64, hi: i64) -> Result<Pred<Atom>, Fail> {
+    let operand = Interval::new(lo, hi)?;
+    Ok(Pred::Atom(Atom { rel, operand }))
+}
+
+/// An event, told by plain values. A key is told by its ends, and sides by their letters.
+#[derive(Clone, Copy, Debug)]
+pub enum Ask {
+    Enlarge(u64, u64, Ends),
+    Place(u64, Ends, u64),
+    Split(u64, &'static str),
+    Post(u64, u64),
+    Grow(&'static str),
+    Open(Query, u64),
+    Turn(u64),
+    AskMark(u64),
+    Take(u64),
+    Close(u64),
+}
+
+impl Ask {
+    pub fn event(self, alloc: Global) -> Result<Event<Intervals>, Fail> {
+        match self {
+            Ask::Enlarge(parent, child, (lo, hi)) => {
+                Ok(Event::Enlarge(parent, child, Interval::new(lo, hi)?))
+            }
+            Ask::Place(page, (lo, hi), tag) => Ok(Event::Place(page, Interval::new(lo, hi)?, tag)),
+            Ask::Split(page, letters) => Ok(Event::Split(page, sides(alloc, letters)?)),
+            Ask::Post(parent, child) => Ok(Event::Post(parent, child)),
+            Ask::Grow(letters) => Ok(Event::Grow(sides(alloc, letters)?)),
+            Ask::Open(query, room) => Ok(Event::Open(query.pred(alloc)?, room)),
+            Ask::Turn(cursor) => Ok(Event::Turn(cursor)),
+            Ask::AskMark(cursor) => Ok(Event::AskMark(cursor)),
+            Ask::Take(cursor) => Ok(Event::Take(cursor)),
+            Ask::Close(cursor) => Ok(Event::Close(cursor)),
+        }
+    }
+
+    /// The cursor that is asked.
+    pub fn cursor(self) -> Option<u64> {
+        match self {
+            Ask::Turn(cursor) | Ask::AskMark(cursor) | Ask::Take(cursor) | Ask::Close(cursor) => {
+                Some(cursor)
+            }
+            _ => None,
+        }
+    }
+}
+
+/// The sides of a word of the letters `l` and `r`.
+fn sides(alloc: Global, letters: &str) -> Result<Sides, Fail> {
+    let mut sides = Sides::new(alloc);
+    for letter in letters.as_bytes() {
+        sides.push(if *letter == b'l' {
+            Side::Left
+        } else {
+            Side::Right
+        })?;
+    }
+    Ok(sides)
+}
+
+/// A reply, told by plain values.
+#[derive(Clone, Copy, Debug)]
+pub enum Answer {
+    Enlarged,
+    Committed(u64, Write<Interval>),
+    Split(u32),
+    Posted,
+    Grown(u32, u32),
+    Opened(u64),
+    Offered,
+    Visited(u32),
+    Passed(u64),
+    Asked,
+    Taken(Item<Interval>),
+    Nothing,
+    Closed,
+    Refused(Refusal),
+}
+
+impl Answer {
+    fn of(reply: Reply<Intervals, Tray<Interval>>) -> Answer {
+        match reply {
+            Reply::Enlarged => Answer::Enlarged,
+            Reply::Committed(stamp) => Answer::Committed(stamp.number(), stamp.write()),
+            Reply::Split(sibling) => Answer::Split(sibling),
+            Reply::Posted => Answer::Posted,
+            Reply::Grown(first, second) => Answer::Grown(first, second),
+            Reply::Opened(serial, ()) => Answer::Opened(serial),
+            Reply::Offered => Answer::Offered,
+            Reply::Visited(page) => Answer::Visited(page),
+            Reply::Passed(commit) => Answer::Passed(commit),
+            Reply::Asked => Answer::Asked,
+            Reply::Taken(item) => Answer::Taken(item),
+            Reply::Nothing => Answer::Nothing,
+            Reply::Closed => Answer::Closed,
+            Reply::Refused(refusal) => Answer::Refused(refusal),
+        }
+    }
+
+    /// The word that begins its text. A refusal is told by its name.
+    pub fn word(self) -> &'static str {
+        match self {
+            Answer::Enlarged => "enlarged",
+            Answer::Committed(_, _) => "committed",
+            Answer::Split(_) => "split",
+            Answer::Posted => "posted",
+            Answer::Grown(_, _) => "grown",
+            Answer::Opened(_) => "opened",
+            Answer::Offered => "offered",
+            Answer::Visited(_) => "visited",
+            Answer::Passed(_) => "passed",
+            Answer::Asked => "asked",
+            Answer::Taken(Item::Row(_)) => "row",
+            Answer::Taken(Item::Inserted(_)) => "inserted",
+            Answer::Taken(Item::Deleted(_, _)) => "deleted",
+            Answer::Taken(Item::Mark(_)) => "mark",
+            Answer::Nothing => "nothing",
+            Answer::Closed => "closed",
+            Answer::Refused(refusal) => refusal.name(),
+        }
+    }
+
+    /// Its text, as `row 1 (5 5) 0`.
+    pub fn text(self, alloc: Global) -> Result<String, Fail> {
+        let word = self.word();
+        let text = match self {
+            Answer::Committed(number, _) => format!(in alloc; "{word} {number}")?,
+            Answer::Split(page) | Answer::Visited(page) => format!(in alloc; "{word} {page}")?,
+            Answer::Grown(first, second) => format!(in alloc; "{word} {first} {second}")?,
+            Answer::Opened(number) | Answer::Passed(number) => {
+                format!(in alloc; "{word} {number}")?
+            }
+            Answer::Taken(item) => item_text(alloc, word, item)?,
+            Answer::Refused(refusal) => format!(in alloc; "refused {refusal}")?,
+            _ => format!(in alloc; "{word}")?,
+        };
+        Ok(text)
+    }
+}
+
+fn item_text(alloc: Global, word: &str, item: Item<Interval>) -> Result<String, Fail> {
+    let text = match item {
+        Item::Row(row) | Item::Inserted(row) => {
+            let Interval { lo, hi } = row.key;
+            format!(in alloc; "{word} {} ({lo} {hi}) {}", row.row, row.tag)?
+        }
+        Item::Deleted(commit, row) => format!(in alloc; "{word} {commit} {row}")?,
+        Item::Mark(commit) => format!(in alloc; "{word} {commit}")?,
+    };
+    Ok(text)
+}
+
+/// What was asked, and what was answered.
+pub type Step = (Ask, Answer);
+
+/// The answer of a world to what is asked.
+pub fn answer_of(alloc: Global, world: &mut Trial, ask: Ask) -> Result<Answer, Fail> {
+    Ok(Answer::of(world.step(ask.event(alloc)?)))
+}
+
+/// What a new world answers to a list of events.
+pub fn trace_of(alloc: Global, config: Config, asks: &[Ask]) -> Result<Vec<Step>, Fail> {
+    let mut events = Vec::new(alloc);
+    for ask in asks {
+        events.push(ask.event(alloc)?)?;
+    }
+    let trace = run::<Intervals>(alloc, config, &events)?;
+    let mut steps = Vec::new(alloc);
+    for (ask, reply) in asks.iter().zip(trace.replies) {
+        steps.push((*ask, Answer::of(reply)))?;
+    }
+    Ok(steps)
+}
