@@ -15,6 +15,10 @@ const CONFIG: Config = Config {
     commits: 400,
 };
 
+/// How many lists there are, each from a seed of its own.
+const SEEDS: u64 = 64;
+
+/// How many events a list has.
 const EVENTS: usize = 2_000;
 
 /// What a page is named for.
@@ -247,7 +251,7 @@ fn count_word(steps: &[Step], word: &str) -> usize {
 fn random_lists_have_no_flaw(rt: HostRuntime) -> Result<(), Fail> {
     let alloc = rt.alloc();
     let mut all = Vec::new(alloc);
-    for seed in 1..=8 {
+    for seed in 1..=SEEDS {
         let steps = random_trace(alloc, seed)?;
         assert_eq!(rt; first_flaw(alloc, &steps)?, None, "seed {seed}");
         for step in &steps {
