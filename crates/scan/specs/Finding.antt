@@ -1,5 +1,5 @@
 -- What a finder looks for, and one visit of it.
-use Rattle.std.specs.Prelude.{◌≡◌, ℕ, ◌≤◌, Bool, List, ◌∷◌, [], ◌++◌, Some, nat_eq}
+use Rattle.std.specs.Prelude.{◌≡◌, ℕ, ◌≤◌, Bool, false, List, ◌∷◌, [], ◌++◌, Some, nat_eq}
 use Rattle.std.specs.List.{list_any}
 use Rattle.row_version.specs.Entries.{Entry}
 use Rattle.change_list.specs.Changes.{commit_at}
@@ -10,7 +10,7 @@ use Rattle.page_table.specs.Stacks.{StackItem, IsStack, rows_left}
 use Rattle.page_table.specs.Trees.{Tree, page_at}
 use Rattle.page_table.specs.Weights.{weigh}
 use Rattle.scan.specs.Agreement.{Agrees, is_row}
-use Rattle.scan.specs.Scanning.{GoesOn, LowersWork}
+use Rattle.scan.specs.Scanning.{GoesOn, IsNext, LowersWork}
 use Rattle.scan.specs.declared.stack.Sought.{Sought}
 use Rattle.scan.specs.declared.stack.Sought.TheVariants.{Here, Further}
 
@@ -42,6 +42,10 @@ module _ {K : Type 0} where
   abbrev pub Seeks : (K → Bool) → ℕ → Tree K → List StackItem → Sought → List StackItem → Type 0
   Seeks covering row t old (Here page) new = FindsHere row t old page new
   Seeks covering row t old (Further page) new = SeeksFurther covering row t old page new
+
+  -- the page that is visited next lacks the row
+  abbrev pub LacksNext : ℕ → Tree K → List StackItem → Type 0
+  LacksNext row t stack = (item : StackItem) → IsNext stack item → holds row (page_at t item.page).rows ≡ false
 
   -- in a sound tree that agrees with the commits, the finder of a row with that key is one still
   abbrev pub KeepsFinder : (K → K → Bool) → K → ℕ → Tree K → List StackItem → List StackItem → Type 0

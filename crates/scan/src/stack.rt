@@ -2,7 +2,7 @@ ghost use Rattle.std.specs.Prelude.{◌≡◌, ◌<◌, ◌↔◌, ℕ, ◌+◌,
 ghost use Rattle.smallvec.specs.SmallVec.{HasRoomFor};
 ghost use Rattle.key_class.specs.Queries.{query_of, consistent_with_query, matches_query};
 ghost use Rattle.page_table.specs.Stacks.{IsStack};
-ghost use Rattle.scan.specs.Finding.{Seeks, SeeksLess, KeepsFinder};
+ghost use Rattle.scan.specs.Finding.{Seeks, SeeksLess, KeepsFinder, LacksNext};
 ghost use Rattle.scan.specs.Scanning.{IsNext, GoesOn, Visits, LosesNothing, LowersWork, child_items};
 
 use crate::branch_test::{BranchTest, Covering};
@@ -118,7 +118,7 @@ impl Stack {
     /// hold it, goes on to its right link and its children whose bounds cover the key.
     ///
     /// # Errors
-    /// Memory was wanting; the stack is as it was.
+    /// Memory was wanting, and the page lacks the row; the stack is as it was.
     pub fn seek<C: KeyClass>(
         &mut self,
         table: &PageTable<C::Key>,
@@ -130,6 +130,7 @@ impl Stack {
         ensures lost_nothing { IfOk result (λ r. MatchOption r (Unit {0}) (λ met. KeepsFinder C.is_cover key row table.now self.old self.new)) }
         ensures less_work { IfOk result (λ r. MatchOption r (Unit {0}) (λ met. SeeksLess C.is_cover table.now self.old met self.new)) }
         ensures refused { OnErr result (self.new ≡ self.old) }
+        ensures refused_further { OnErr result (LacksNext row table.now self.old) }
     {
         let Some(item) = self.last() else {
             return Ok(None);

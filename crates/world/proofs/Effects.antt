@@ -1,18 +1,21 @@
 -- What a trace needs to know of a step.
-use Rattle.std.proofs.Common.{◌≡◌, ◌+◌, ◌<◌, ◌≤◌, ℕ, false, List, [], ◌∷◌, ◌++◌, length, Some, None}
+use Rattle.std.proofs.Common.{◌≡◌, ◌+◌, ◌<◌, ◌≤◌, ℕ, false, List, [], ◌∷◌, ◌++◌, length, Some, None, ◌⊎◌}
 use Rattle.std.specs.Prelude.{option_to_list}
 use Rattle.key_class.specs.Queries.{query_of}
 use Rattle.key_class.specs.declared.pred.Pred.{Pred}
 use Rattle.key_class.specs.declared.refusal.Refusal.TheVariants as refusal
+use Rattle.change_list.specs.declared.write.Write.{Write}
+use Rattle.change_list.specs.declared.write.Write.TheVariants.{Insert, Delete}
 use Rattle.change_list.specs.declared.item.Item.{Item}
 use Rattle.change_list.specs.Changes.{IsLegal}
 use Rattle.change_list.specs.Cursors.{Fits}
 use Rattle.cursor.specs.OpenCursors.{Words, OpenCursor, shown}
+use Rattle.descent.specs.Finders.{OpenFinder}
 use Rattle.world.specs.declared.event.Event.{Event}
 use Rattle.world.specs.declared.event.Event.TheVariants as event
 use Rattle.world.specs.declared.reply.Reply.{Reply}
 use Rattle.world.specs.declared.reply.Reply.TheVariants as reply
-use Rattle.world.specs.States.{State, cursor_at}
+use Rattle.world.specs.States.{State, cursor_at, finder_at}
 use Rattle.world.specs.Traces.{written, taken_by, asks}
 use Rattle.world.specs.Promises.{ServesAll}
 
@@ -44,6 +47,13 @@ module _ {K A : Type 0} (w : Words K A) where
     pub unread : cursor.unread ≡ []
     pub fits : Fits w.matching new.commits (shown w new.search.tree cursor) []
 
+module _ {C K A : Type 0} where
+  -- a commit is the insert that was asked for, or the delete of the row that the finder looks for
+  abbrev pub WritesAs : State K A → Event C K A → Write K → Type 0
+  WritesAs old (event.Place page key tag) write = write ≡ Insert key tag
+  WritesAs old (event.Seek f) write = (k : OpenFinder K) × (finder_at old f ≡ Some k) × (write ≡ Delete k.row)
+  WritesAs old e write = ⊥
+
 module _ {C O K A E : Type 0} (w : Words K A) where
   abbrev pub Opening : State K A → State K A → Event C K A → Reply C O K A E → Type 0
   Opening old new (event.Open query room) (reply.Opened c end) = IsFresh w old new query c
@@ -56,6 +66,25 @@ module _ {C O K A E : Type 0} (w : Words K A) where
   abbrev pub Numbering : State K A → Reply C O K A E → Type 0
   Numbering old (reply.Committed stamp) = stamp.number ≡ length old.commits + 1
   Numbering old r = Unit {0}
+
+  -- a new finder has a serial above the last
+  abbrev pub Finding : State K A → State K A → Event C K A → Reply C O K A E → Type 0
+  Finding old new (event.Find row) (reply.Finder f) = (old.last_finder < f) × (f ≤ new.last_finder)
+  Finding old new e r = Unit {0}
+
+  abbrev pub Writing : State K A → Event C K A → Reply C O K A E → Type 0
+  Writing old e (reply.Committed stamp) = WritesAs old e stamp.write
+  Writing old e r = Unit {0}
+
+  -- an open finder looks for the row for which it was open before, or was opened for
+  abbrev pub WasAsked : State K A → Event C K A → Reply C O K A E → ℕ → ℕ → Type 0
+  WasAsked old e r f row = ((k : OpenFinder K) × (finder_at old f ≡ Some k) × (k.row ≡ row)) ⊎ (◌≡◌ {A = Event C K A × Reply C O K A E} (e, r) (event.Find row, reply.Finder f))
+
+  pub record FinderEffect (old : State K A) (e : Event C K A) (r : Reply C O K A E) (new : State K A) : Type 0 where
+    pub last : old.last_finder ≤ new.last_finder
+    pub asked : (f : ℕ) (k : OpenFinder K) → finder_at new f ≡ Some k → WasAsked old e r f k.row
+    pub finding : Finding old new e r
+    pub writing : Writing old e r
 
   pub record Effect (old : State K A) (e : Event C K A) (r : Reply C O K A E) (new : State K A) : Type 0 where
     pub commits : new.commits ≡ old.commits ++ option_to_list (written (e, r))
@@ -72,3 +101,4 @@ module _ {C O K A E : Type 0} (w : Words K A) where
     pub closing : Closing new e r
     pub silent : (c : ℕ) → IsShut old c → asks e c → r ≡ reply.Refused refusal.CursorClosed
     pub numbering : Numbering old r
+    pub finders : FinderEffect old e r new

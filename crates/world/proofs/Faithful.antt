@@ -23,6 +23,7 @@ use Rattle.world.specs.declared.reply.Reply.TheVariants as reply
 use Rattle.world.specs.Stamps.{Stamp}
 use Rattle.world.specs.States.{State, cursor_at}
 use Rattle.world.specs.Traces.{written, commits_of, taken_by, taken, delivered, asks, marks_of, HasAskings, IsOpening, IsFaithful}
+use Rattle.world.proofs.Founds.{Founds, founds_push}
 use Rattle.world.proofs.Effects.{Effect, IsFresh, IsShut, Opening, Closing, Numbering}
 use Rattle.world.proofs.Askings.{commits_push, take_push, take_end, has_push, FullAskings, taken_push, taken_same, given_push, serve_askings}
 
@@ -102,6 +103,7 @@ module _ {C O K A E : Type 0} (w : Words K A) where
     pub silent : (i j c : ℕ) (later : Event C K A) (answer : Reply C O K A E) → slice_get trace i ≡ Some (event.Close c, reply.Closed) → i < j
         → slice_get trace j ≡ Some (later, answer) → asks later c → answer ≡ reply.Refused refusal.CursorClosed
     pub numbered : (i : ℕ) (e : Event C K A) (stamp : Stamp K) → slice_get trace i ≡ Some (e, reply.Committed stamp) → stamp.number ≡ length (commits_of (take i trace)) + 1
+    pub finders : Founds trace s
 
   module _ (trace : List (Event C K A × Reply C O K A E)) (old new : State K A) (e : Event C K A) (r : Reply C O K A E) (I : Inv trace old) (E' : Effect w old e r new) where
     longer : List (Event C K A × Reply C O K A E)
@@ -286,11 +288,14 @@ module _ {C O K A E : Type 0} (w : Words K A) where
       closed = closed_push;
       silent = silent_push;
       numbered = numbered_push;
+      finders = founds_push w trace old new e r I.finders E'.finders;
     }
 
   pub faithful : (trace : List (Event C K A × Reply C O K A E)) (s : State K A) → Inv trace s → IsFaithful w.matching trace
   faithful trace s I = record {
     numbered = I.numbered;
+    writes = I.finders.writes;
+    finders = I.finders.once;
     legal = subst (λ t. IsLegal t) I.commits I.legal;
     delivers = λ i c query o.
         subst (λ t. BeginsListing (matches_query w.matching (query_of query)) (length (commits_of (take i trace))) (length t) t (delivered c trace)) I.commits

@@ -20,36 +20,36 @@ use Rattle.world.proofs.Serials.{member_all, member_within, put_at, without_at}
 use Rattle.world.proofs.Refusing.{open_passes, failing_later, fails_at, passes_at}
 use Rattle.world.proofs.Sounding.{turned_sound, closed_sound}
 
-set_same : {X : Type 0} (xs : List X) (i : ℕ) (d : X) → i < length xs → set xs i (get_or xs i d) ≡ xs
+pub set_same : {X : Type 0} (xs : List X) (i : ℕ) (d : X) → i < length xs → set xs i (get_or xs i d) ≡ xs
 set_same [] i d l = absurd (omega (arith, l))
 set_same (x ∷ xs) zero d l = refl
 set_same (x ∷ xs) (suc i) d l = ap (λ r. x ∷ r) (set_same xs i d (omega (arith, l)))
 
 module _ {K A : Type 0} (is_cover : K → K → Bool) (old : State K A) (inv : IsSoundWorld is_cover old) (c at : ℕ) (a : IsAt old c at) where
   pub at_within : at < length old.cursors
-  at_within = slice_get_within old.cursors at a.cursor a.is
+  at_within = slice_get_within old.cursors at a.value a.is
 
   pub at_passes : first_failing (cursor_tests old c) ≡ None
   at_passes =
-      let w = member_within (λ k. k.serial) c 0 old.last old.cursors a.cursor inv.serials a.is_open in
-      open_passes old c a.cursor a.is_open w.0 w.1
+      let w = member_within (λ k. k.serial) c 0 old.last old.cursors a.value inv.serials a.found in
+      open_passes old c a.value a.found w.0 w.1
 
   pub closed_as : record old { cursors = take at old.cursors ++ drop (suc at) old.cursors } ≡ record old { cursors = without (λ k. k.serial) c old.cursors }
-  closed_as = ap (λ ks. record old { cursors = ks }) (sym (without_at (λ k. k.serial) c 0 old.last at old.cursors a.cursor inv.serials a.is a.number))
+  closed_as = ap (λ ks. record old { cursors = ks }) (sym (without_at (λ k. k.serial) c 0 old.last at old.cursors a.value inv.serials a.is a.number))
 
   module _ (before : OpenCursor K A) (is : before ≡ get_or old.cursors at before) where
-    at_is : a.cursor ≡ before
-    at_is = sym (get_or_from_slice_get old.cursors at a.cursor before a.is) ∙ sym is
+    at_is : a.value ≡ before
+    at_is = sym (get_or_from_slice_get old.cursors at a.value before a.is) ∙ sym is
 
     pub at_open : cursor_at old c ≡ Some before
-    at_open = a.is_open ∙ ap Some at_is
+    at_open = a.found ∙ ap Some at_is
 
     pub at_work : IsAtWork old.search.tree old.commits before
     at_work = member_all (λ k. k.serial) (λ k. IsAtWork old.search.tree old.commits k) c old.cursors before at_open inv.at_work
 
     module _ (later : OpenCursor K A) (same : later.serial ≡ before.serial) where
       pub put_as : record old { cursors = set old.cursors at later } ≡ with_cursor old later
-      put_as = ap (λ ks. record old { cursors = ks }) (sym (put_at (λ k. k.serial) c 0 old.last at old.cursors a.cursor later inv.serials a.is a.number (same ∙ ap (λ (k : OpenCursor K A). k.serial) (sym at_is) ∙ a.number)))
+      put_as = ap (λ ks. record old { cursors = ks }) (sym (put_at (λ k. k.serial) c 0 old.last at old.cursors a.value later inv.serials a.is a.number (same ∙ ap (λ (k : OpenCursor K A). k.serial) (sym at_is) ∙ a.number)))
 
       pub put_sound : IsAtWork old.search.tree old.commits later → IsSoundWorld is_cover (record old { cursors = set old.cursors at later })
       put_sound h = subst (λ s. IsSoundWorld is_cover s) (sym put_as) (turned_sound is_cover old inv later h)

@@ -1,7 +1,11 @@
 pub mod Askings
 pub mod Effects
 pub mod Faithful
+pub mod FinderLists
+pub mod FinderSteps
+pub mod Founds
 pub mod Handling
+pub mod Meeting
 pub mod PageSteps
 pub mod Placing
 pub mod Refusing

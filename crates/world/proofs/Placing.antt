@@ -56,11 +56,11 @@ module _ {K A : Type 0} (w : Words K A) (old : State K A) (page : ℕ) (key : K)
   module _ (search' : SearchTree K) (commits : List (Write K)) (entry : Entry K) (is : entry ≡ record { key = key; row = length old.commits + 1; tag = tag; died = None })
       (placed : search' ≡ with_tree old.search (after_rows old.search.tree page ((page_at old.search.tree page).rows ++ entry ∷ []))) (pushed : commits ≡ old.commits ++ Insert key tag ∷ [])
       (room : length old.commits < old.limit) where
-    pub place_sound : IsSoundWorld w.is_cover old → IsSoundWorld w.is_cover (record { search = search'; limit = old.limit; commits = commits; cursors = old.cursors; last = old.last })
+    pub place_sound : IsSoundWorld w.is_cover old → IsSoundWorld w.is_cover (record { search = search'; limit = old.limit; commits = commits; cursors = old.cursors; last = old.last; finders = old.finders; last_finder = old.last_finder })
     place_sound s = rw (placed, pushed, is) (placed_sound w.is_cover old s page page_exists key tag room (placed_tree w.is_cover old.search s.tree page key passed _ refl))
 
     pub place_done : (C O E : Type 0) (seat : ℕ) (stamp : Stamp K) → stamp ≡ record { number = length old.commits + 1; seat = seat; write = Insert key tag }
-        → IsDone {C = C} {O = O} {E = E} w seat old (event.Place page key tag) (reply.Committed stamp) (record { search = search'; limit = old.limit; commits = commits; cursors = old.cursors; last = old.last })
+        → IsDone {C = C} {O = O} {E = E} w seat old (event.Place page key tag) (reply.Committed stamp) (record { search = search'; limit = old.limit; commits = commits; cursors = old.cursors; last = old.last; finders = old.finders; last_finder = old.last_finder })
     place_done C O E seat stamp stamped = record {
       passed = place_passed C w old page key tag passed room;
       change = record { stamped = stamped; after = rw (placed, pushed, is) refl };

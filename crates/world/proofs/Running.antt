@@ -36,6 +36,12 @@ module _ {C O K A E : Type 0} (w : Words K A) where
     closed = λ i c h. absurd (cc);
     silent = λ i j c later answer h l k a. absurd (cc);
     numbered = λ i e stamp h. absurd (cc);
+    finders = record {
+      found = λ f k h. absurd (cc);
+      given = λ i f row h. absurd (cc);
+      once = λ i j f row other h g. absurd (cc);
+      writes = λ i e stamp h. absurd (cc);
+    };
   }
 
   inv_runs : WordLaws w → (done todo : List (Event C K A × Reply C O K A E)) (old new : State K A) → IsSoundWorld w.is_cover old → Inv w done old → Runs w old todo new → Inv w (done ++ todo) new

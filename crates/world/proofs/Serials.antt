@@ -50,6 +50,15 @@ module _ {X : Type 0} (serial : X → ℕ) where
       go true e s f = let i : serial y ≡ c = search (arith, e) in (omega (arith, r.0, i), omega (arith, i, rise_within (serial y) last xs r.1))
       go false e s f = (omega (arith, r.0, (s f).0), (s f).1)
 
+  -- it has a place
+  pub member_place : (c : ℕ) (xs : List X) (x : X) → member serial c xs ≡ Some x → (i : ℕ) × (slice_get xs i ≡ Some x)
+  member_place c [] x h = absurd (cc)
+  member_place c (y ∷ xs) x h = go (nat_eq (serial y) c) (λ f. member_place c xs x f) h
+    where
+      go : (b : Bool) → (member serial c xs ≡ Some x → (i : ℕ) × (slice_get xs i ≡ Some x)) → (if b then Some y else member serial c xs) ≡ Some x → (i : ℕ) × (slice_get (y ∷ xs) i ≡ Some x)
+      go true s f = (0, f)
+      go false s f = (suc (s f).0, (s f).1)
+
   pub member_all : (P : X → Type 0) (c : ℕ) (xs : List X) (x : X) → member serial c xs ≡ Some x → All P xs → P x
   member_all P c [] x h a = absurd (cc)
   member_all P c (y ∷ xs) x h a = go (nat_eq (serial y) c) (λ f. member_all P c xs x f (All-tail P y xs a)) h

@@ -3,25 +3,31 @@ use Rattle.std.proofs.Common.{◌≡◌, ◌≢◌, ◌+◌, ◌<◌, ◌≤◌,
 use Rattle.std.specs.Prelude.{option_to_list}
 use Rattle.std.proofs.lemmas.List.{append-nil}
 use Rattle.key_class.specs.declared.refusal.Refusal.{Refusal}
-use Rattle.change_list.specs.declared.write.Write.TheVariants.{Insert}
+use Rattle.change_list.specs.declared.write.Write.TheVariants.{Insert, Delete}
+use Rattle.change_list.specs.declared.write.Status.TheVariants.{Live}
+use Rattle.change_list.specs.Changes.{status_of}
 use Rattle.change_list.specs.declared.item.Item.{Item}
 use Rattle.change_list.specs.declared.item.Item.TheVariants as item
 use Rattle.change_list.specs.Cursors.{Fits}
 use Rattle.page_table.specs.Trees.{Tree, page_at, after_rows}
 use Rattle.page_table.specs.Keeping.{KeepsRows}
-use Rattle.scan.proofs.Scans.{keeps_find, place_find}
+use Rattle.scan.proofs.Scans.{keeps_find, place_find, bury_find, sweep_find}
+use Rattle.scan.specs.LeafChanges.{after_bury, after_sweep}
 use Rattle.cursor.specs.declared.cursor.Turned.{Turned}
 use Rattle.cursor.specs.OpenCursors.{Words, OpenCursor, Turns, shown, wants}
 use Rattle.cursor.specs.Sending.{SendsItems}
 use Rattle.cursor.proofs.WordLaws.{WordLaws}
 use Rattle.cursor.proofs.Turning.{turn_fits, same_fits, commit_fits}
 use Rattle.cursor.proofs.Sending.{turn_sends}
+use Rattle.collector.specs.Horizons.{IsHorizon}
+use Rattle.collector.proofs.Horizons.{horizon_below}
+use Rattle.world.specs.Serials.{member}
 use Rattle.world.specs.declared.event.Event.{Event}
 use Rattle.world.specs.declared.reply.Reply.{Reply}
 use Rattle.world.specs.States.{State, cursor_at, with_pages, with_cursor, IsAtWork, IsSoundWorld}
 use Rattle.world.specs.Traces.{taken_by}
 use Rattle.world.specs.Promises.{Serves, Sends}
-use Rattle.world.proofs.Serials.{member_all, member_serial, put_same, put_other}
+use Rattle.world.proofs.Serials.{member_all, member_place, member_serial, put_same, put_other}
 
 pub same_or_not : (c d : ℕ) → (c ≡ d) ⊎ (c ≢ d)
 same_or_not zero zero = inl refl
@@ -71,6 +77,34 @@ module _ {C O K A E : Type 0} (w : Words K A) (laws : WordLaws w) (old : State K
       rw made (commit_fits w tree old.commits (Insert key tag) before items
       (same_fits w laws old.search.tree tree old.commits before items
       (place_find (wants w before) before.opened old.search.tree before.stack h.stack w.is_cover old.search.fan inv.tree.sound p l (record { key = key; row = length old.commits + 1; tag = tag; died = None }) (omega (arith, h.from_opening, h.within))) f))))
+
+  -- a commit that deletes a row where it stands
+  pub served_by_bury : (e : Event C K A) (r : Reply C O K A E) (p : ℕ) → p < length old.search.tree.pages → (row : ℕ) → status_of old.commits row ≡ Live → (new : State K A)
+      → new.search.tree ≡ after_bury old.search.tree p row (length old.commits + 1) → new.commits ≡ old.commits ++ Delete row ∷ [] → new.cursors ≡ old.cursors
+      → (c : ℕ) (before after : OpenCursor K A) → taken_by c (e, r) ≡ None → cursor_at old c ≡ Some before → cursor_at new c ≡ Some after → Serves w old e r new c before after
+  served_by_bury e r p l row live new tree commits cursors c before after none a b =
+      let there : cursor_at new c ≡ cursor_at old c = ap (λ ks. member (λ k. k.serial) c ks) cursors in
+      let same : before ≡ after = let s : Some before ≡ Some after = sym a ∙ sym there ∙ b in cc in
+      let h = at_work_of w.is_cover old inv c before a in
+      subst (λ k. Serves w old e r new c before k) same
+      (untouched e r new c before none (λ items f.
+      rw (tree, commits) (commit_fits w (after_bury old.search.tree p row (length old.commits + 1)) old.commits (Delete row) before items
+      (same_fits w laws old.search.tree (after_bury old.search.tree p row (length old.commits + 1)) old.commits before items
+      (bury_find (wants w before) before.opened old.search.tree before.stack h.stack w.is_cover old.search.fan inv.tree.sound p l old.commits inv.agrees row (length old.commits + 1) (omega (arith, h.from_opening, h.within)) live) f))))
+
+  -- a sweep of what no cursor has still to find
+  pub served_by_sweep : (e : Event C K A) (r : Reply C O K A E) (p : ℕ) → p < length old.search.tree.pages → (horizon : ℕ) → IsHorizon (length old.commits) old.cursors horizon → (new : State K A)
+      → new ≡ with_pages old (after_sweep old.search.tree p horizon)
+      → (c : ℕ) (before after : OpenCursor K A) → taken_by c (e, r) ≡ None → cursor_at old c ≡ Some before → cursor_at new c ≡ Some after → Serves w old e r new c before after
+  served_by_sweep e r p l horizon is new made c before after none a b =
+      let there : cursor_at new c ≡ cursor_at old c = ap (λ s. cursor_at s c) made in
+      let same : before ≡ after = let s : Some before ≡ Some after = sym a ∙ sym there ∙ b in cc in
+      let h = at_work_of w.is_cover old inv c before a in
+      let at = member_place (λ k. k.serial) c old.cursors before a in
+      subst (λ k. Serves w old e r new c before k) same
+      (untouched e r new c before none (λ items f.
+      rw made (same_fits w laws old.search.tree (after_sweep old.search.tree p horizon) old.commits before items
+      (sweep_find (wants w before) before.opened old.search.tree before.stack h.stack w.is_cover old.search.fan inv.tree.sound p l horizon (horizon_below (length old.commits) old.cursors horizon at.0 before is at.1)) f)))
 
   -- a step that writes back one cursor d
   pub served_by_put : (e : Event C K A) (r : Reply C O K A E) (d : ℕ) (was later : OpenCursor K A) (new : State K A) → new ≡ with_cursor old later → cursor_at old d ≡ Some was → later.serial ≡ was.serial

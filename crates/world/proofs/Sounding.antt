@@ -1,12 +1,15 @@
 -- Every change of an event keeps a world sound.
-use Rattle.std.proofs.Common.{◌≡◌, ◌+◌, ◌<◌, ℕ, Bool, List, [], ◌∷◌, ◌++◌, length, None, refl, sym, arith, subst, All, length-append}
+use Rattle.std.proofs.Common.{◌≡◌, ◌+◌, ◌<◌, ◌≤◌, ℕ, Bool, true, false, map, filter, List, [], ◌∷◌, ◌++◌, length, Some, None, refl, sym, arith, subst, All, length-append}
 use Rattle.std.proofs.lemmas.List.Elements.{All-nil}
 use Rattle.change_list.specs.declared.config.Config.{Config}
 use Rattle.change_list.specs.Configs.{IsWithinLimits}
-use Rattle.change_list.specs.declared.write.Write.TheVariants.{Insert}
+use Rattle.change_list.specs.declared.write.Write.TheVariants.{Insert, Delete}
+use Rattle.change_list.specs.declared.write.Status.TheVariants.{Live}
+use Rattle.change_list.specs.Changes.{status_of}
 use Rattle.change_list.proofs.Tracking.{legal_push}
-use Rattle.row_version.specs.Entries.{Entry}
+use Rattle.row_version.specs.Entries.{Entry, marked, is_needed}
 use Rattle.page_table.specs.Trees.{Tree, page_at, after_rows, new_tree}
+use Rattle.page_table.specs.Weights.{weigh}
 use Rattle.split.specs.SearchTrees.{SearchTree}
 use Rattle.split.specs.SearchTrees.{IsSearchTree, with_tree}
 use Rattle.split.proofs.Done.{IsDone}
@@ -14,12 +17,17 @@ use Rattle.std.proofs.Common.{Result, Ok, Err}
 use Rattle.std.specs.Prelude.{OnOk, OnErr}
 use Rattle.key_class.specs.declared.refusal.Refusal.{Refusal}
 use Rattle.split.proofs.NewSearchTree.{new_search_tree}
-use Rattle.scan.proofs.Agreement.{new_agrees, keeps_agrees, place_agrees}
+use Rattle.scan.proofs.Agreement.{new_agrees, keeps_agrees, place_agrees, bury_agrees, sweep_agrees}
+use Rattle.scan.specs.Agreement.{is_row}
+use Rattle.scan.specs.LeafChanges.{after_bury, after_sweep}
 use Rattle.scan.proofs.Scans.{keeps_stack, rows_stack}
 use Rattle.scan.proofs.Opening.{open_stack}
 use Rattle.cursor.specs.OpenCursors.{OpenCursor}
+use Rattle.descent.specs.Finders.{OpenFinder, IsSeeking}
+use Rattle.descent.proofs.Seeking.{seeking_moved, seeking_placed, seeking_buried, seeking_swept}
 use Rattle.world.specs.Serials.{without, Rise}
-use Rattle.world.specs.States.{State, new_state, with_pages, with_cursor, IsAtWork, IsSoundWorld}
+use Rattle.world.specs.States.{State, new_state, with_pages, with_cursor, with_finder, IsAtWork, HasFinders, IsSoundWorld}
+use Rattle.world.proofs.FinderLists.{finders_kept, finders_push, finders_put, finders_without}
 use Rattle.world.proofs.Serials.{rise_push, rise_put, rise_without, all_put, all_push, all_without, length_put, length_without}
 
 module _ {K A : Type 0} (is_cover : K → K → Bool) where
@@ -39,6 +47,7 @@ module _ {K A : Type 0} (is_cover : K → K → Bool) where
       commit_limit = s.commit_limit;
       few_cursors = s.few_cursors;
       last_serial = s.last_serial;
+      finders = finders_kept old.search.tree old.commits old.finders old.last_finder s.finders tree old.commits (λ k h. seeking_moved old.search.tree old.commits k tree d.kept h);
     }
 
     -- a call that makes such a step, or is refused
@@ -67,7 +76,69 @@ module _ {K A : Type 0} (is_cover : K → K → Bool) where
           commit_limit = s.commit_limit;
           few_cursors = s.few_cursors;
           last_serial = s.last_serial;
+          finders = finders_kept old.search.tree old.commits old.finders old.last_finder s.finders (after_rows old.search.tree p rows) (old.commits ++ Insert key tag ∷ [])
+              (λ k h. seeking_placed is_cover old.search.fan old.search.tree s.tree.sound old.commits k h p l key tag);
         }
+
+    -- a commit that deletes a row where it stands
+    pub buried_sound : (p : ℕ) → p < length old.search.tree.pages → (row : ℕ) → status_of old.commits row ≡ Live → 1 ≤ weigh (is_row row) (page_at old.search.tree p).rows → length old.commits < old.limit
+        → IsSearchTree is_cover (after_bury old.search.tree p row (length old.commits + 1)) old.search.fan old.search.least old.search.limit
+        → (f : ℕ) → IsSoundWorld is_cover (record old {
+          search = record old.search { tree = after_bury old.search.tree p row (length old.commits + 1) };
+          commits = old.commits ++ Delete row ∷ [];
+          finders = without (λ k. k.serial) f old.finders;
+        })
+    buried_sound p l row live there room sound f =
+        let rows : List (Entry K) = map (marked row (length old.commits + 1)) (page_at old.search.tree p).rows in
+        let n : length (old.commits ++ Delete row ∷ []) ≡ length old.commits + 1 = length-append old.commits (Delete row ∷ []) in
+        let kept = finders_kept old.search.tree old.commits old.finders old.last_finder s.finders (after_rows old.search.tree p rows) (old.commits ++ Delete row ∷ [])
+            (λ k h. seeking_buried is_cover old.search.fan old.search.tree s.tree.sound old.commits k h p l row) in
+        record {
+          tree = sound;
+          legal = legal_push old.commits (Delete row) s.legal live;
+          agrees = bury_agrees is_cover old.search.tree old.search.fan s.tree.sound old.commits s.legal s.agrees p l row live there;
+          at_work = all_kept (λ k. IsAtWork old.search.tree old.commits k) (λ k. IsAtWork (after_rows old.search.tree p rows) (old.commits ++ Delete row ∷ []) k) (λ k h. record { stack = rows_stack old.search.tree p rows k.stack h.stack; from_opening = h.from_opening; within = omega (arith, h.within, n) }) old.cursors s.at_work;
+          serials = s.serials;
+          few_commits = omega (arith, n, room);
+          commit_limit = s.commit_limit;
+          few_cursors = s.few_cursors;
+          last_serial = s.last_serial;
+          finders = finders_without (after_rows old.search.tree p rows) (old.commits ++ Delete row ∷ []) old.finders old.last_finder kept f;
+        }
+
+    -- a leaf without the dead that nobody needs
+    pub swept_sound : (p : ℕ) → p < length old.search.tree.pages → (horizon : ℕ) → IsSearchTree is_cover (after_sweep old.search.tree p horizon) old.search.fan old.search.least old.search.limit
+        → IsSoundWorld is_cover (with_pages old (after_sweep old.search.tree p horizon))
+    swept_sound p l horizon sound =
+        let rows : List (Entry K) = filter (is_needed horizon) (page_at old.search.tree p).rows in
+        record {
+          tree = sound;
+          legal = s.legal;
+          agrees = sweep_agrees is_cover old.search.tree old.search.fan s.tree.sound old.commits s.agrees p l horizon;
+          at_work = all_kept (λ k. IsAtWork old.search.tree old.commits k) (λ k. IsAtWork (after_rows old.search.tree p rows) old.commits k) (λ k h. record { stack = rows_stack old.search.tree p rows k.stack h.stack; from_opening = h.from_opening; within = h.within }) old.cursors s.at_work;
+          serials = s.serials;
+          few_commits = s.few_commits;
+          commit_limit = s.commit_limit;
+          few_cursors = s.few_cursors;
+          last_serial = s.last_serial;
+          finders = finders_kept old.search.tree old.commits old.finders old.last_finder s.finders (after_rows old.search.tree p rows) old.commits
+              (λ k h. seeking_swept is_cover old.search.fan old.search.tree s.tree.sound old.commits k h p l s.agrees horizon);
+        }
+
+    -- other finders
+    pub sought_sound : (ks : List (OpenFinder K)) (last : ℕ) → HasFinders old.search.tree old.commits ks last → IsSoundWorld is_cover (record old { finders = ks; last_finder = last })
+    sought_sound ks last h = record {
+      tree = s.tree;
+      legal = s.legal;
+      agrees = s.agrees;
+      at_work = s.at_work;
+      serials = s.serials;
+      few_commits = s.few_commits;
+      commit_limit = s.commit_limit;
+      few_cursors = s.few_cursors;
+      last_serial = s.last_serial;
+      finders = h;
+    }
 
     pub opened_sound : (k : OpenCursor K A) → k.serial ≡ old.last + 1 → IsAtWork old.search.tree old.commits k → length old.cursors < 256 → old.last < 4294967295
         → IsSoundWorld is_cover (record old { cursors = old.cursors ++ k ∷ []; last = old.last + 1 })
@@ -81,6 +152,7 @@ module _ {K A : Type 0} (is_cover : K → K → Bool) where
       commit_limit = s.commit_limit;
       few_cursors = omega (arith, few, length-append old.cursors (k ∷ []));
       last_serial = omega (arith, given);
+      finders = s.finders;
     }
 
     pub turned_sound : (k : OpenCursor K A) → IsAtWork old.search.tree old.commits k → IsSoundWorld is_cover (with_cursor old k)
@@ -94,6 +166,7 @@ module _ {K A : Type 0} (is_cover : K → K → Bool) where
       commit_limit = s.commit_limit;
       few_cursors = omega (arith, s.few_cursors, length_put (λ (x : OpenCursor K A). x.serial) k old.cursors);
       last_serial = s.last_serial;
+      finders = s.finders;
     }
 
     pub closed_sound : (c : ℕ) → IsSoundWorld is_cover (record old { cursors = without (λ x. x.serial) c old.cursors })
@@ -107,6 +180,7 @@ module _ {K A : Type 0} (is_cover : K → K → Bool) where
       commit_limit = s.commit_limit;
       few_cursors = omega (arith, s.few_cursors, length_without (λ (x : OpenCursor K A). x.serial) c old.cursors);
       last_serial = s.last_serial;
+      finders = s.finders;
     }
 
 -- a new world is sound
@@ -121,6 +195,7 @@ new_sound_world is_cover config limits = record {
   commit_limit = limits.commits.below;
   few_cursors = omega arith;
   last_serial = omega arith;
+  finders = record { seeking = All-nil (λ k. IsSeeking new_tree [] k); serials = omega arith; few = omega arith; last_serial = omega arith };
 }
 
 -- a cursor at the present commits whose scan begins at the root

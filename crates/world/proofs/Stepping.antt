@@ -5,6 +5,7 @@ use Rattle.std.proofs.lemmas.List.{append-nil}
 use Rattle.key_class.specs.declared.pred.Pred.{Pred}
 use Rattle.key_class.specs.declared.refusal.Refusal.{Refusal}
 use Rattle.key_class.specs.declared.refusal.Refusal.TheVariants as refusal
+use Rattle.change_list.specs.declared.write.Write.TheVariants.{Insert, Delete}
 use Rattle.change_list.specs.declared.item.Item.{Item}
 use Rattle.change_list.specs.Cursors.{Fits}
 use Rattle.page_table.specs.Trees.{Tree}
@@ -25,20 +26,23 @@ use Rattle.world.specs.declared.event.Event.{Event}
 use Rattle.world.specs.declared.event.Event.TheVariants as event
 use Rattle.world.specs.declared.reply.Reply.{Reply}
 use Rattle.world.specs.declared.reply.Reply.TheVariants as reply
-use Rattle.world.specs.States.{State, cursor_at, with_pages, with_cursor, IsAtWork, IsSoundWorld}
+use Rattle.world.specs.Serials.{member, without}
+use Rattle.world.specs.States.{State, cursor_at, finder_at, with_pages, with_cursor, IsAtWork, IsSoundWorld}
 use Rattle.world.specs.Steps.{tests, cursor_tests, opened_cursor, Step, IsRefused, IsDone, TurnsAt}
 use Rattle.world.specs.Traces.{written, taken_by, asks}
 use Rattle.page_table.specs.Keeping.{KeepsRows}
 use Rattle.world.specs.Promises.{Serves, ServesAll, LowersWork, FitsAtOpening, KeepsRowsUnder}
 use Rattle.world.proofs.Serials.{member_serial, member_within, put_same, put_other, without_same, without_other, push_same, push_other}
-use Rattle.world.proofs.Effects.{Effect, IsShut, IsFresh, Opening, Closing, Numbering}
+use Rattle.world.proofs.Effects.{Effect, FinderEffect, IsShut, IsFresh, Opening, Closing, Numbering, Finding, Writing, WasAsked}
+use Rattle.descent.specs.Finders.{OpenFinder}
 use Rattle.world.proofs.Refusing.{closed_fails, failing_first, passed_first, open_leaves_room, open_from_tests}
 use Rattle.world.proofs.Sounding.{moved_sound, placed_sound, opened_sound, turned_sound, closed_sound, fresh_at_work}
 use Rattle.world.proofs.PageSteps.{placed_tree}
+use Rattle.world.proofs.FinderSteps.{finds_sound, unfound_sound, may_seek, meets_on, row_lives, buries_sound, seeks_on_sound, swept_page, sweeps_sound}
 use Rattle.world.proofs.Placing.{page_exists, place_room}
 use Rattle.world.proofs.Turning.{turn_serial, turn_work}
 use Rattle.world.proofs.Askings.{taken_same}
-use Rattle.world.proofs.Serving.{at_work_of, same_or_not, untouched, served_by_moves, served_by_place, served_by_put, turn_serves}
+use Rattle.world.proofs.Serving.{at_work_of, same_or_not, untouched, served_by_moves, served_by_place, served_by_bury, served_by_sweep, served_by_put, turn_serves}
 
 none_is_some : {X : Type 0} (x : X) → (o : Option X) → o ≡ None → o ≡ Some x → ⊥
 none_is_some x o a b = let c : None ≡ Some x = sym a ∙ b in cc
@@ -60,6 +64,10 @@ module _ {C K A : Type 0} (w : Words K A) where
   asked_tests old (event.Split page sides) c s a = absurd a
   asked_tests old (event.Post page child) c s a = absurd a
   asked_tests old (event.Grow sides) c s a = absurd a
+  asked_tests old (event.Find row) c s a = absurd a
+  asked_tests old (event.Seek f) c s a = absurd a
+  asked_tests old (event.Unfind f) c s a = absurd a
+  asked_tests old (event.Sweep page) c s a = absurd a
   asked_tests old (event.Open query room) c s a = absurd a
 
 module _ {C O K A E : Type 0} (w : Words K A) (seat : ℕ) (old : State K A) (e : Event C K A) (new : State K A) where
@@ -80,6 +88,10 @@ module _ {C O K A E : Type 0} (w : Words K A) (seat : ℕ) (old : State K A) (e 
   silent_step (reply.Split sibling) d t = silent_done (reply.Split sibling) d t
   silent_step reply.Posted d t = silent_done reply.Posted d t
   silent_step (reply.Grown first second) d t = silent_done (reply.Grown first second) d t
+  silent_step (reply.Finder f) d t = silent_done (reply.Finder f) d t
+  silent_step reply.Seeking d t = silent_done reply.Seeking d t
+  silent_step reply.Unfound d t = silent_done reply.Unfound d t
+  silent_step (reply.Swept count) d t = silent_done (reply.Swept count) d t
   silent_step (reply.Opened c end) d t = silent_done (reply.Opened c end) d t
   silent_step reply.Offered d t = silent_done reply.Offered d t
   silent_step (reply.Visited page) d t = silent_done (reply.Visited page) d t
@@ -100,19 +112,35 @@ module _ {C O K A E : Type 0} (w : Words K A) (old new : State K A) (e : Event C
     pub opening : Opening w old new e r
     pub closing : Closing w new e r
     pub numbering : Numbering w old r
+    pub finding : Finding w old new e r
+    pub writing : Writing w old e r
 
 module _ {C O K A E : Type 0} (w : Words K A) where
   quiet_refused : (old new : State K A) (e : Event C K A) (why : Refusal) → IsQuiet {O = O} {E = E} w old new e (reply.Refused why)
-  quiet_refused old new (event.Enlarge page child key) why = record { uncommitted = refl; untaken = λ c. refl; opening = tt; closing = tt; numbering = tt }
-  quiet_refused old new (event.Place page key tag) why = record { uncommitted = refl; untaken = λ c. refl; opening = tt; closing = tt; numbering = tt }
-  quiet_refused old new (event.Split page sides) why = record { uncommitted = refl; untaken = λ c. refl; opening = tt; closing = tt; numbering = tt }
-  quiet_refused old new (event.Post page child) why = record { uncommitted = refl; untaken = λ c. refl; opening = tt; closing = tt; numbering = tt }
-  quiet_refused old new (event.Grow sides) why = record { uncommitted = refl; untaken = λ c. refl; opening = tt; closing = tt; numbering = tt }
-  quiet_refused old new (event.Open query room) why = record { uncommitted = refl; untaken = λ c. refl; opening = tt; closing = tt; numbering = tt }
-  quiet_refused old new (event.Turn d) why = record { uncommitted = refl; untaken = λ c. refl; opening = tt; closing = tt; numbering = tt }
-  quiet_refused old new (event.AskMark d) why = record { uncommitted = refl; untaken = λ c. refl; opening = tt; closing = tt; numbering = tt }
-  quiet_refused old new (event.Take d) why = record { uncommitted = refl; untaken = λ c. refl; opening = tt; closing = tt; numbering = tt }
-  quiet_refused old new (event.Close d) why = record { uncommitted = refl; untaken = λ c. refl; opening = tt; closing = tt; numbering = tt }
+  quiet_refused old new (event.Enlarge page child key) why = record { uncommitted = refl; untaken = λ c. refl; opening = tt; closing = tt; numbering = tt; finding = tt; writing = tt }
+  quiet_refused old new (event.Place page key tag) why = record { uncommitted = refl; untaken = λ c. refl; opening = tt; closing = tt; numbering = tt; finding = tt; writing = tt }
+  quiet_refused old new (event.Split page sides) why = record { uncommitted = refl; untaken = λ c. refl; opening = tt; closing = tt; numbering = tt; finding = tt; writing = tt }
+  quiet_refused old new (event.Post page child) why = record { uncommitted = refl; untaken = λ c. refl; opening = tt; closing = tt; numbering = tt; finding = tt; writing = tt }
+  quiet_refused old new (event.Grow sides) why = record { uncommitted = refl; untaken = λ c. refl; opening = tt; closing = tt; numbering = tt; finding = tt; writing = tt }
+  quiet_refused old new (event.Find row) why = record { uncommitted = refl; untaken = λ c. refl; opening = tt; closing = tt; numbering = tt; finding = tt; writing = tt }
+  quiet_refused old new (event.Seek f) why = record { uncommitted = refl; untaken = λ c. refl; opening = tt; closing = tt; numbering = tt; finding = tt; writing = tt }
+  quiet_refused old new (event.Unfind f) why = record { uncommitted = refl; untaken = λ c. refl; opening = tt; closing = tt; numbering = tt; finding = tt; writing = tt }
+  quiet_refused old new (event.Sweep page) why = record { uncommitted = refl; untaken = λ c. refl; opening = tt; closing = tt; numbering = tt; finding = tt; writing = tt }
+  quiet_refused old new (event.Open query room) why = record { uncommitted = refl; untaken = λ c. refl; opening = tt; closing = tt; numbering = tt; finding = tt; writing = tt }
+  quiet_refused old new (event.Turn d) why = record { uncommitted = refl; untaken = λ c. refl; opening = tt; closing = tt; numbering = tt; finding = tt; writing = tt }
+  quiet_refused old new (event.AskMark d) why = record { uncommitted = refl; untaken = λ c. refl; opening = tt; closing = tt; numbering = tt; finding = tt; writing = tt }
+  quiet_refused old new (event.Take d) why = record { uncommitted = refl; untaken = λ c. refl; opening = tt; closing = tt; numbering = tt; finding = tt; writing = tt }
+  quiet_refused old new (event.Close d) why = record { uncommitted = refl; untaken = λ c. refl; opening = tt; closing = tt; numbering = tt; finding = tt; writing = tt }
+
+-- the finders are those that were there
+finders_stay : {C O K A E : Type 0} (w : Words K A) (old : State K A) (e : Event C K A) (r : Reply C O K A E) (new : State K A) → new.finders ≡ old.finders → new.last_finder ≡ old.last_finder → Finding w old new e r → Writing w old e r
+    → FinderEffect w old e r new
+finders_stay w old e r new same last finding writing = record {
+  last = omega (arith, last);
+  asked = λ f k h. inl (k, ap (λ ks. member (λ x. x.serial) f ks) (sym same) ∙ h, refl);
+  finding = finding;
+  writing = writing;
+}
 
 module _ {C O K A E : Type 0} (w : Words K A) (laws : WordLaws w) (seat : ℕ) (old : State K A) (inv : IsSoundWorld w.is_cover old) (e : Event C K A) (r : Reply C O K A E) where
   -- a sound world and what a trace needs to know of the step to it
@@ -143,6 +171,7 @@ module _ {C O K A E : Type 0} (w : Words K A) (laws : WordLaws w) (seat : ℕ) (
       closing = q.closing;
       silent = silent;
       numbering = q.numbering;
+      finders = finders_stay w old e r new (ap (λ s. s.finders) same) (ap (λ s. s.last_finder) same) q.finding q.writing;
     };
   }
 
@@ -166,15 +195,16 @@ module _ {C O K A E : Type 0} (w : Words K A) (laws : WordLaws w) (seat : ℕ) (
           closing = q.closing;
           silent = silent;
           numbering = q.numbering;
+          finders = finders_stay w old e r (with_pages old tree) refl refl q.finding q.writing;
         };
       }
 
   -- one open cursor d is written back, and nothing else has changed
   leads_by_put : (d : ℕ) (was later : OpenCursor K A) (new : State K A) → new ≡ with_cursor old later → cursor_at old d ≡ Some was → later.serial ≡ was.serial → IsAtWork old.search.tree old.commits later
       → written (e, r) ≡ None → ((c : ℕ) → c ≢ d → taken_by c (e, r) ≡ None) → ((item : Item K) → taken_by d (e, r) ≡ Some item → (rest : List (Item K)) × (was.unread ≡ item ∷ rest))
-      → Opening w old new e r → Closing w new e r → Numbering w old r → Serves w old e r new d was later
+      → Opening w old new e r → Closing w new e r → Numbering w old r → Finding w old new e r → Writing w old e r → Serves w old e r new d was later
       → ((c : ℕ) → IsShut old c → asks e c → r ≡ reply.Refused refusal.CursorClosed) → Leads new
-  leads_by_put d was later new made is_open same work uncommitted others front opening closing numbering here silent =
+  leads_by_put d was later new made is_open same work uncommitted others front opening closing numbering finding writing here silent =
       let number : later.serial ≡ d = same ∙ member_serial (λ k. k.serial) d old.cursors was is_open in
       let put : cursor_at new d ≡ Some later = ap (λ s. cursor_at s d) made ∙ put_same (λ k. k.serial) d later was old.cursors number is_open in
       let sound : IsSoundWorld w.is_cover new = subst (λ s. IsSoundWorld w.is_cover s) (sym made) (turned_sound w.is_cover old inv later work) in
@@ -205,6 +235,7 @@ module _ {C O K A E : Type 0} (w : Words K A) (laws : WordLaws w) (seat : ℕ) (
           closing = closing;
           silent = silent;
           numbering = numbering;
+          finders = finders_stay w old e r new (ap (λ s. s.finders) made) (ap (λ s. s.last_finder) made) finding writing;
         };
       }
 
@@ -246,7 +277,51 @@ module _ {K A : Type 0} (w : Words K A) (laws : WordLaws w) (old : State K A) (i
       let g : t.later ≡ after = cc in
       rw (t.after, ← f, ← g) (turn_less_work w laws old.search.fan old.search.tree inv.tree.sound old.commits t.before t.later h.stack how t.turn)
 
+module _ {K A : Type 0} (old : State K A) where
+  abbrev fresh : ℕ → K → OpenFinder K
+  fresh row key = record { serial = old.last_finder + 1; row = row; key = key; stack = (record { page = 0; memo = old.search.tree.counter }) ∷ [] }
+
+  -- what is left where one finder went was there
+  left : (f : ℕ) (new : State K A) → new.finders ≡ without (λ k. k.serial) f old.finders → (x : ℕ) (k : OpenFinder K) → finder_at new x ≡ Some k → finder_at old x ≡ Some k
+  left f new made x k h = elim (same_or_not x f) [
+    | inl eq ↦ absurd (none_is_some k (finder_at new x) (ap (λ n. finder_at new n) eq ∙ ap (λ ks. member (λ k. k.serial) f ks) made ∙ without_same (λ k. k.serial) f old.finders) h)
+    | inr n ↦ sym (ap (λ ks. member (λ k. k.serial) x ks) made ∙ without_other (λ k. k.serial) f x old.finders n) ∙ h
+  ]
+
 module _ {C O K A E : Type 0} (w : Words K A) (laws : WordLaws w) (seat : ℕ) (old : State K A) (inv : IsSoundWorld w.is_cover old) where
+  -- a cursor as it was in a tree as it was
+  kept_by : (e : Event C K A) (r : Reply C O K A E) (new : State K A) → new.search.tree ≡ old.search.tree → new.commits ≡ old.commits → (c : ℕ) (k : OpenCursor K A) → taken_by c (e, r) ≡ None → Serves w old e r new c k k
+  kept_by e r new tree commits c k none = untouched w laws old inv e r new c k none (λ items h. rw (tree, commits) h)
+
+  -- nothing is committed, taken, opened or closed, and the cursors are those that were there
+  leads_alike : (e : Event C K A) (r : Reply C O K A E) (new : State K A) → written (e, r) ≡ None → ((c : ℕ) → taken_by c (e, r) ≡ None) → Opening w old new e r → Closing w new e r → Numbering w old r
+      → IsSoundWorld w.is_cover new → new.commits ≡ old.commits → new.cursors ≡ old.cursors → new.last ≡ old.last
+      → ((c : ℕ) (k : OpenCursor K A) → cursor_at old c ≡ Some k → cursor_at new c ≡ Some k → Serves w old e r new c k k) → FinderEffect w old e r new
+      → ((c : ℕ) → IsShut old c → asks e c → r ≡ reply.Refused refusal.CursorClosed) → Leads {C = C} {O = O} {E = E} w laws seat old inv e r new
+  leads_alike e r new uncommitted untaken opening closing numbering sound commits cursors last serves finders silent =
+      let alike : (c : ℕ) → cursor_at new c ≡ cursor_at old c = λ c. ap (λ ks. member (λ k. k.serial) c ks) cursors in
+      record {
+        sound = sound;
+        effect = record {
+          commits = rw uncommitted (commits ∙ sym (append-nil old.commits));
+          legal = sound.legal;
+          serves = λ c before after a b.
+              let x : Some before ≡ Some after = sym a ∙ sym (alike c) ∙ b in
+              let f : before ≡ after = cc in
+              subst (λ k. Serves w old e r new c before k) f (serves c before a (alike c ∙ a));
+          last = omega (arith, last);
+          within = λ c k h. (member_within (λ k. k.serial) c 0 new.last new.cursors k sound.serials h).1;
+          shut = λ c l h. alike c ∙ h;
+          appears = λ c k h g. absurd (none_is_some k (cursor_at new c) (alike c ∙ h) g);
+          takes = λ c item t. absurd (none_is_some item (taken_by c (e, r)) (untaken c) t);
+          opening = opening;
+          closing = closing;
+          silent = silent;
+          numbering = numbering;
+          finders = finders;
+        };
+      }
+
   leads_by_place : (page : ℕ) (key : K) (tag : ℕ) (stamp : Stamp K) (new : State K A) → IsDone {C = C} {O = O} {E = E} w seat old (event.Place page key tag) (reply.Committed stamp) new
       → Leads {C = C} {O = O} {E = E} w laws seat old inv (event.Place page key tag) (reply.Committed stamp) new
   leads_by_place page key tag stamp new d =
@@ -259,7 +334,7 @@ module _ {C O K A E : Type 0} (w : Words K A) (laws : WordLaws w) (seat : ℕ) (
       record {
         sound = sound;
         effect = record {
-          commits = ap (λ s. s.commits) d.change.after;
+          commits = ap (λ s. s.commits) d.change.after ∙ ap (λ x. old.commits ++ x ∷ []) (sym (ap (λ s. s.write) d.change.stamped));
           legal = sound.legal;
           serves = λ c before after a b. served_by_place w laws old inv (event.Place page key tag) (reply.Committed stamp) page exists key tag new d.change.after c before after refl a b;
           last = omega (arith, ap (λ (s : State K A). s.last) d.change.after);
@@ -271,6 +346,7 @@ module _ {C O K A E : Type 0} (w : Words K A) (laws : WordLaws w) (seat : ℕ) (
           closing = tt;
           silent = λ c s a. absurd a;
           numbering = ap (λ s. s.number) d.change.stamped;
+          finders = finders_stay w old (event.Place page key tag) (reply.Committed stamp) new (ap (λ s. s.finders) d.change.after) (ap (λ s. s.last_finder) d.change.after) tt (ap (λ s. s.write) d.change.stamped);
         };
       }
 
@@ -309,6 +385,7 @@ module _ {C O K A E : Type 0} (w : Words K A) (laws : WordLaws w) (seat : ℕ) (
           closing = tt;
           silent = λ x s a. absurd a;
           numbering = tt;
+          finders = finders_stay w old (event.Open query room) (reply.Opened c end) new (ap (λ s. s.finders) d.change.after) (ap (λ s. s.last_finder) d.change.after) tt tt;
         };
       }
 
@@ -342,6 +419,7 @@ module _ {C O K A E : Type 0} (w : Words K A) (laws : WordLaws w) (seat : ℕ) (
           closing = record { positive = o.positive; given = omega (arith, o.given, ap (λ (s : State K A). s.last) h.change); closed = gone };
           silent = λ c s a. silent_when_shut w seat old (event.Close d) new reply.Closed h c s a;
           numbering = tt;
+          finders = finders_stay w old (event.Close d) reply.Closed new (ap (λ s. s.finders) h.change) (ap (λ s. s.last_finder) h.change) tt tt;
         };
       }
 
@@ -351,7 +429,7 @@ module _ {C O K A E : Type 0} (w : Words K A) (laws : WordLaws w) (seat : ℕ) (
       let h = at_work_of w.is_cover old inv d t.before t.is_open in
       leads_by_put w laws seat old inv (event.Turn d) r d t.before t.later new t.after t.is_open (turn_serial w old.search.tree old.commits t.before t.later (Ok how) t.turn)
       (turn_work w laws old.search.tree old.commits old.search.fan inv.tree.sound t.before t.later (Ok how) h t.turn)
-      q.uncommitted (λ c n. q.untaken c) (λ item k. absurd (none_is_some item (taken_by d (event.Turn d, r)) (q.untaken d) k)) q.opening q.closing q.numbering
+      q.uncommitted (λ c n. q.untaken c) (λ item k. absurd (none_is_some item (taken_by d (event.Turn d, r)) (q.untaken d) k)) q.opening q.closing q.numbering q.finding q.writing
       (turn_serves w laws old inv (event.Turn d) r d t.before t.later (Ok how) new (q.untaken d) t.after t.is_open t.turn) silent
 
   leads_by_ask : (d : ℕ) (new : State K A) → IsDone {C = C} {O = O} {E = E} w seat old (event.AskMark d) reply.Asked new → Leads {C = C} {O = O} {E = E} w laws seat old inv (event.AskMark d) reply.Asked new
@@ -359,7 +437,7 @@ module _ {C O K A E : Type 0} (w : Words K A) (laws : WordLaws w) (seat : ℕ) (
       let t = h.change in
       let k = at_work_of w.is_cover old inv d t.before t.is_open in
       leads_by_put w laws seat old inv (event.AskMark d) reply.Asked d t.before (record t.before { asked = true }) new t.after t.is_open refl (record { stack = k.stack; from_opening = k.from_opening; within = k.within })
-      refl (λ c n. refl) (λ item e. absurd (cc)) tt tt tt
+      refl (λ c n. refl) (λ item e. absurd (cc)) tt tt tt tt tt
       (record {
         query = refl;
         opened = refl;
@@ -377,7 +455,7 @@ module _ {C O K A E : Type 0} (w : Words K A) (laws : WordLaws w) (seat : ℕ) (
       let here : taken_by {C = C} {O = O} {A = A} {E = E} d (event.Take d, reply.Taken item) ≡ Some item = taken_same C O A E d item in
       leads_by_put w laws seat old inv (event.Take d) (reply.Taken item) d t.before (record t.before { unread = t.rest }) new t.after t.is_open refl (record { stack = k.stack; from_opening = k.from_opening; within = k.within })
       refl (λ c n. rw (nat_eq_other c d n) refl)
-      (λ x e. let s : Some item ≡ Some x = sym here ∙ e in let f : item ≡ x = cc in (t.rest, t.front ∙ ap (λ y. y ∷ t.rest) f)) tt tt tt
+      (λ x e. let s : Some item ≡ Some x = sym here ∙ e in let f : item ≡ x = cc in (t.rest, t.front ∙ ap (λ y. y ∷ t.rest) f)) tt tt tt tt tt
       (record {
         query = refl;
         opened = refl;
@@ -388,33 +466,132 @@ module _ {C O K A E : Type 0} (w : Words K A) (laws : WordLaws w) (seat : ℕ) (
       })
       (λ c s a. silent_when_shut w seat old (event.Take d) new (reply.Taken item) h c s a)
 
+  leads_by_find : (row f : ℕ) (new : State K A) → IsDone {C = C} {O = O} {E = E} w seat old (event.Find row) (reply.Finder f) new → Leads {C = C} {O = O} {E = E} w laws seat old inv (event.Find row) (reply.Finder f) new
+  leads_by_find row f new d = leads_alike (event.Find row) (reply.Finder f) new refl (λ c. refl) tt tt tt (finds_sound w.is_cover old inv row f new d.passed d.change)
+      (ap (λ s. s.commits) d.change.after) (ap (λ s. s.cursors) d.change.after) (ap (λ s. s.last) d.change.after)
+      (λ c k a b. kept_by (event.Find row) (reply.Finder f) new (ap (λ s. s.search.tree) d.change.after) (ap (λ s. s.commits) d.change.after) c k refl)
+      (record {
+        last = omega (arith, ap (λ (s : State K A). s.last_finder) d.change.after);
+        asked = λ x k h. elim (same_or_not x (old.last_finder + 1)) [
+          | inl eq ↦
+              let put : finder_at new (old.last_finder + 1) ≡ Some (fresh old row d.change.key) = ap (λ s. finder_at s (old.last_finder + 1)) d.change.after ∙ push_same (λ k. k.serial) (old.last_finder + 1) 0 old.last_finder (fresh old row d.change.key) old.finders refl (omega arith) inv.finders.serials in
+              let s : Some (fresh old row d.change.key) ≡ Some k = sym put ∙ ap (λ n. finder_at new n) (sym eq) ∙ h in
+              let same : fresh old row d.change.key ≡ k = cc in
+              inr (rw (eq, ← same, d.change.serial) refl)
+          | inr n ↦ inl (k, sym (ap (λ s. finder_at s x) d.change.after ∙ push_other (λ k. k.serial) x (fresh old row d.change.key) old.finders n) ∙ h, refl)
+        ];
+        finding = (omega (arith, d.change.serial), omega (arith, d.change.serial, ap (λ (s : State K A). s.last_finder) d.change.after));
+        writing = tt;
+      })
+      (λ c s a. absurd a)
+
+  leads_by_seek : (f : ℕ) (new : State K A) → IsDone {C = C} {O = O} {E = E} w seat old (event.Seek f) reply.Seeking new → Leads {C = C} {O = O} {E = E} w laws seat old inv (event.Seek f) reply.Seeking new
+  leads_by_seek f new d =
+      let t = d.change in
+      let row : t.later.row ≡ t.before.row = ap (λ k. k.row) t.further.after in
+      let number : t.later.serial ≡ f = ap (λ k. k.serial) t.further.after ∙ member_serial (λ k. k.serial) f old.finders t.before t.is_open in
+      leads_alike (event.Seek f) reply.Seeking new refl (λ c. refl) tt tt tt (seeks_on_sound w laws old inv f new t)
+      (ap (λ s. s.commits) t.after) (ap (λ s. s.cursors) t.after) (ap (λ s. s.last) t.after)
+      (λ c k a b. kept_by (event.Seek f) reply.Seeking new (ap (λ s. s.search.tree) t.after) (ap (λ s. s.commits) t.after) c k refl)
+      (record {
+        last = omega (arith, ap (λ (s : State K A). s.last_finder) t.after);
+        asked = λ x k h. elim (same_or_not x f) [
+          | inl eq ↦
+              let put : finder_at new f ≡ Some t.later = ap (λ s. finder_at s f) t.after ∙ put_same (λ k. k.serial) f t.later t.before old.finders number t.is_open in
+              let s : Some t.later ≡ Some k = sym put ∙ ap (λ n. finder_at new n) (sym eq) ∙ h in
+              let same : t.later ≡ k = cc in
+              inl (t.before, ap (λ n. finder_at old n) eq ∙ t.is_open, sym row ∙ ap (λ k. k.row) same)
+          | inr n ↦ inl (k, sym (ap (λ s. finder_at s x) t.after ∙ put_other (λ k. k.serial) x t.later old.finders (λ eq. n (eq ∙ number))) ∙ h, refl)
+        ];
+        finding = tt;
+        writing = tt;
+      })
+      (λ c s a. absurd a)
+
+  leads_by_unfind : (f : ℕ) (new : State K A) → IsDone {C = C} {O = O} {E = E} w seat old (event.Unfind f) reply.Unfound new → Leads {C = C} {O = O} {E = E} w laws seat old inv (event.Unfind f) reply.Unfound new
+  leads_by_unfind f new d = leads_alike (event.Unfind f) reply.Unfound new refl (λ c. refl) tt tt tt (unfound_sound w.is_cover old inv f new d.change)
+      (ap (λ s. s.commits) d.change) (ap (λ s. s.cursors) d.change) (ap (λ s. s.last) d.change)
+      (λ c k a b. kept_by (event.Unfind f) reply.Unfound new (ap (λ s. s.search.tree) d.change) (ap (λ s. s.commits) d.change) c k refl)
+      (record {
+        last = omega (arith, ap (λ (s : State K A). s.last_finder) d.change);
+        asked = λ x k h. inl (k, left old f new (ap (λ s. s.finders) d.change) x k h, refl);
+        finding = tt;
+        writing = tt;
+      })
+      (λ c s a. absurd a)
+
+  leads_by_bury : (f : ℕ) (stamp : Stamp K) (new : State K A) → IsDone {C = C} {O = O} {E = E} w seat old (event.Seek f) (reply.Committed stamp) new → Leads {C = C} {O = O} {E = E} w laws seat old inv (event.Seek f) (reply.Committed stamp) new
+  leads_by_bury f stamp new d =
+      let t = d.change in
+      let may = may_seek w.is_cover old inv f t.finder t.is_open d.passed in
+      let on = meets_on w.is_cover old inv f t.finder t.page t.is_open t.finds in
+      let live = row_lives w.is_cover old inv f t.finder t.is_open may.alive in
+      let write : stamp.write ≡ Delete t.finder.row = ap (λ s. s.write) t.stamped in
+      record {
+        sound = buries_sound w.is_cover old inv seat f stamp new d.passed t;
+        effect = record {
+          commits = ap (λ s. s.commits) t.after ∙ ap (λ x. old.commits ++ x ∷ []) (sym write);
+          legal = (buries_sound w.is_cover old inv seat f stamp new d.passed t).legal;
+          serves = λ c before after a b. served_by_bury w laws old inv (event.Seek f) (reply.Committed stamp) t.page on.exists t.finder.row live new (ap (λ s. s.search.tree) t.after) (ap (λ s. s.commits) t.after) (ap (λ s. s.cursors) t.after) c before after refl a b;
+          last = omega (arith, ap (λ (s : State K A). s.last) t.after);
+          within = λ c k h. (member_within (λ k. k.serial) c 0 new.last new.cursors k (buries_sound w.is_cover old inv seat f stamp new d.passed t).serials h).1;
+          shut = λ c l h. ap (λ s. cursor_at s c) t.after ∙ h;
+          appears = λ c k h g. absurd (none_is_some k (cursor_at new c) (ap (λ s. cursor_at s c) t.after ∙ h) g);
+          takes = λ c item g. absurd (cc);
+          opening = tt;
+          closing = tt;
+          silent = λ c s a. absurd a;
+          numbering = ap (λ s. s.number) t.stamped;
+          finders = record {
+            last = omega (arith, ap (λ (s : State K A). s.last_finder) t.after);
+            asked = λ x k h. inl (k, left old f new (ap (λ s. s.finders) t.after) x k h, refl);
+            finding = tt;
+            writing = (t.finder, t.is_open, write);
+          };
+        };
+      }
+
+  leads_by_sweep : (page count : ℕ) (new : State K A) → IsDone {C = C} {O = O} {E = E} w seat old (event.Sweep page) (reply.Swept count) new → Leads {C = C} {O = O} {E = E} w laws seat old inv (event.Sweep page) (reply.Swept count) new
+  leads_by_sweep page count new d =
+      let t = d.change in
+      leads_alike (event.Sweep page) (reply.Swept count) new refl (λ c. refl) tt tt tt (sweeps_sound w.is_cover old inv page count new d.passed t)
+      (ap (λ s. s.commits) t.after) (ap (λ s. s.cursors) t.after) (ap (λ s. s.last) t.after)
+      (λ c k a b. served_by_sweep w laws old inv (event.Sweep page) (reply.Swept count) page (swept_page w.is_cover old inv page d.passed) t.horizon t.is new t.after c k k refl a b)
+      (finders_stay w old (event.Sweep page) (reply.Swept count) new (ap (λ s. s.finders) t.after) (ap (λ s. s.last_finder) t.after) tt tt)
+      (λ c s a. absurd a)
+
   -- every step leads to a sound world, with the effect that a trace needs
   pub step_leads : (e : Event C K A) (r : Reply C O K A E) (new : State K A) → Step w seat old e r new → Leads {C = C} {O = O} {E = E} w laws seat old inv e r new
   step_leads e (reply.Refused why) new d = leads_nowhere w laws seat old inv e (reply.Refused why) new d.unchanged (quiet_refused w old new e why) (λ c s a. silent_when_shut w seat old e new (reply.Refused why) d c s a)
   step_leads (event.Enlarge page child key) reply.Enlarged new d =
       subst (λ s. Leads {C = C} {O = O} {E = E} w laws seat old inv (event.Enlarge page child key) reply.Enlarged s) (sym d.change)
       (leads_by_moves w laws seat old inv (event.Enlarge page child key) reply.Enlarged _ (enlarge_done w.is_cover old.search inv.tree page child key d.passed w.union laws.keys)
-      (record { uncommitted = refl; untaken = λ c. refl; opening = tt; closing = tt; numbering = tt }) (λ c s a. absurd a))
+      (record { uncommitted = refl; untaken = λ c. refl; opening = tt; closing = tt; numbering = tt; finding = tt; writing = tt }) (λ c s a. absurd a))
   step_leads (event.Place page key tag) (reply.Committed stamp) new d = leads_by_place page key tag stamp new d
   step_leads (event.Split page sides) (reply.Split sibling) new d =
       subst (λ s. Leads {C = C} {O = O} {E = E} w laws seat old inv (event.Split page sides) (reply.Split sibling) s) (sym d.change.1)
       (leads_by_moves w laws seat old inv (event.Split page sides) (reply.Split sibling) _ (split_done w.is_cover old.search inv.tree page sides d.passed w.union laws.keys)
-      (record { uncommitted = refl; untaken = λ c. refl; opening = tt; closing = tt; numbering = tt }) (λ c s a. absurd a))
+      (record { uncommitted = refl; untaken = λ c. refl; opening = tt; closing = tt; numbering = tt; finding = tt; writing = tt }) (λ c s a. absurd a))
   step_leads (event.Post page child) reply.Posted new d =
       subst (λ s. Leads {C = C} {O = O} {E = E} w laws seat old inv (event.Post page child) reply.Posted s) (sym d.change.after)
       (leads_by_moves w laws seat old inv (event.Post page child) reply.Posted _ (post_done w.is_cover old.search inv.tree page child d.passed d.change.sibling d.change.is_right w.union laws.keys)
-      (record { uncommitted = refl; untaken = λ c. refl; opening = tt; closing = tt; numbering = tt }) (λ c s a. absurd a))
+      (record { uncommitted = refl; untaken = λ c. refl; opening = tt; closing = tt; numbering = tt; finding = tt; writing = tt }) (λ c s a. absurd a))
   step_leads (event.Grow sides) (reply.Grown first second) new d =
       subst (λ s. Leads {C = C} {O = O} {E = E} w laws seat old inv (event.Grow sides) (reply.Grown first second) s) (sym d.change.2)
       (leads_by_moves w laws seat old inv (event.Grow sides) (reply.Grown first second) _ (grow_done w.is_cover old.search inv.tree sides d.passed w.union laws.keys)
-      (record { uncommitted = refl; untaken = λ c. refl; opening = tt; closing = tt; numbering = tt }) (λ c s a. absurd a))
+      (record { uncommitted = refl; untaken = λ c. refl; opening = tt; closing = tt; numbering = tt; finding = tt; writing = tt }) (λ c s a. absurd a))
+  step_leads (event.Find row) (reply.Finder f) new d = leads_by_find row f new d
+  step_leads (event.Seek f) reply.Seeking new d = leads_by_seek f new d
+  step_leads (event.Seek f) (reply.Committed stamp) new d = leads_by_bury f stamp new d
+  step_leads (event.Unfind f) reply.Unfound new d = leads_by_unfind f new d
+  step_leads (event.Sweep page) (reply.Swept count) new d = leads_by_sweep page count new d
   step_leads (event.Open query room) (reply.Opened c end) new d = leads_by_open query room c end new d
-  step_leads (event.Turn x) reply.Offered new d = leads_by_turn x turned.Offered reply.Offered new d.change (record { uncommitted = refl; untaken = λ c. refl; opening = tt; closing = tt; numbering = tt }) (λ c s a. silent_when_shut w seat old (event.Turn x) new reply.Offered d c s a)
-  step_leads (event.Turn x) (reply.Visited page) new d = leads_by_turn x (turned.Visited page) (reply.Visited page) new d.change (record { uncommitted = refl; untaken = λ c. refl; opening = tt; closing = tt; numbering = tt }) (λ c s a. silent_when_shut w seat old (event.Turn x) new (reply.Visited page) d c s a)
-  step_leads (event.Turn x) (reply.Passed n) new d = leads_by_turn x (turned.Passed n) (reply.Passed n) new d.change (record { uncommitted = refl; untaken = λ c. refl; opening = tt; closing = tt; numbering = tt }) (λ c s a. silent_when_shut w seat old (event.Turn x) new (reply.Passed n) d c s a)
+  step_leads (event.Turn x) reply.Offered new d = leads_by_turn x turned.Offered reply.Offered new d.change (record { uncommitted = refl; untaken = λ c. refl; opening = tt; closing = tt; numbering = tt; finding = tt; writing = tt }) (λ c s a. silent_when_shut w seat old (event.Turn x) new reply.Offered d c s a)
+  step_leads (event.Turn x) (reply.Visited page) new d = leads_by_turn x (turned.Visited page) (reply.Visited page) new d.change (record { uncommitted = refl; untaken = λ c. refl; opening = tt; closing = tt; numbering = tt; finding = tt; writing = tt }) (λ c s a. silent_when_shut w seat old (event.Turn x) new (reply.Visited page) d c s a)
+  step_leads (event.Turn x) (reply.Passed n) new d = leads_by_turn x (turned.Passed n) (reply.Passed n) new d.change (record { uncommitted = refl; untaken = λ c. refl; opening = tt; closing = tt; numbering = tt; finding = tt; writing = tt }) (λ c s a. silent_when_shut w seat old (event.Turn x) new (reply.Passed n) d c s a)
   step_leads (event.AskMark x) reply.Asked new d = leads_by_ask x new d
   step_leads (event.Take x) (reply.Taken item) new d = leads_by_take x item new d
-  step_leads (event.Take x) reply.Nothing new d = leads_nowhere w laws seat old inv (event.Take x) reply.Nothing new d.change.unchanged (record { uncommitted = refl; untaken = λ c. refl; opening = tt; closing = tt; numbering = tt }) (λ c s a. silent_when_shut w seat old (event.Take x) new reply.Nothing d c s a)
+  step_leads (event.Take x) reply.Nothing new d = leads_nowhere w laws seat old inv (event.Take x) reply.Nothing new d.change.unchanged (record { uncommitted = refl; untaken = λ c. refl; opening = tt; closing = tt; numbering = tt; finding = tt; writing = tt }) (λ c s a. silent_when_shut w seat old (event.Take x) new reply.Nothing d c s a)
   step_leads (event.Close x) reply.Closed new d = leads_by_close x new d
   step_leads e r new d = absurd d.change
 

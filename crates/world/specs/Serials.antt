@@ -1,5 +1,5 @@
 -- Lists whose members have serials that rise.
-use Rattle.std.specs.Prelude.{ℕ, ◌<◌, ◌≤◌, not, nat_eq, List, [], ◌∷◌, filter, find, Option, if◌then◌else◌}
+use Rattle.std.specs.Prelude.{◌≡◌, ℕ, ◌<◌, ◌≤◌, not, nat_eq, List, [], ◌∷◌, filter, find, Option, Some, slice_get, if◌then◌else◌}
 
 module _ {X : Type 0} (serial : X → ℕ) where
   -- the member with a serial
@@ -18,3 +18,10 @@ module _ {X : Type 0} (serial : X → ℕ) where
   abbrev pub Rise : ℕ → ℕ → List X → Type 0
   Rise above last [] = above ≤ last
   Rise above last (x ∷ xs) = (above < serial x) × Rise (serial x) last xs
+
+  -- the member with a serial, by its place
+  pub record IsMember (xs : List X) (c at : ℕ) : Type 0 where
+    pub value : X
+    pub is : slice_get xs at ≡ Some value
+    pub number : serial value ≡ c
+    pub found : member c xs ≡ Some value

@@ -1,14 +1,15 @@
 -- What contracts see of a world.
-use Rattle.std.specs.Prelude.{◌≡◌, ℕ, ◌≤◌, Bool, List, [], length, Option, Some, All, slice_get}
+use Rattle.std.specs.Prelude.{◌≡◌, ℕ, ◌≤◌, Bool, List, [], length, false, Option, All}
 use Rattle.change_list.specs.declared.config.Config.{Config}
 use Rattle.change_list.specs.declared.write.Write.{Write}
-use Rattle.change_list.specs.Changes.{IsLegal}
+use Rattle.change_list.specs.Changes.{IsLegal, is_deleted}
 use Rattle.page_table.specs.Trees.{Tree, new_tree}
 use Rattle.page_table.specs.Stacks.{IsStack}
 use Rattle.split.specs.SearchTrees.{SearchTree, IsSearchTree, with_tree}
 use Rattle.scan.specs.Agreement.{Agrees}
 use Rattle.cursor.specs.OpenCursors.{OpenCursor}
-use Rattle.world.specs.Serials.{member, put, Rise}
+use Rattle.descent.specs.Finders.{OpenFinder, FindsRow, IsSeeking}
+use Rattle.world.specs.Serials.{member, put, Rise, IsMember}
 
 pub record State (K A : Type 0) : Type 0 where
   -- the pages with their limits
@@ -18,8 +19,12 @@ pub record State (K A : Type 0) : Type 0 where
   pub commits : List (Write K)
   -- the open cursors, by rising serial
   pub cursors : List (OpenCursor K A)
-  -- the last serial that was given
+  -- the last serial that was given to a cursor
   pub last : ℕ
+  -- the open finders, by rising serial
+  pub finders : List (OpenFinder K)
+  -- the last serial that was given to a finder
+  pub last_finder : ℕ
 
 -- a world with one empty leaf
 abbrev pub new_state : {K A : Type 0} → Config → State K A
@@ -29,12 +34,27 @@ new_state config = record {
   commits = [];
   cursors = [];
   last = 0;
+  finders = [];
+  last_finder = 0;
 }
+
+module _ {K : Type 0} where
+  -- Each open finder looks for a row that was inserted, and while the row lives, it stands once under what the finder has
+  -- still to visit.
+  pub record HasFinders (tree : Tree K) (commits : List (Write K)) (finders : List (OpenFinder K)) (last : ℕ) : Type 0 where
+    pub seeking : All (λ k. IsSeeking tree commits k) finders
+    pub serials : Rise (λ k. k.serial) 0 last finders
+    pub few : length finders ≤ 64
+    pub last_serial : last ≤ 4294967295
 
 module _ {K A : Type 0} where
   -- the open cursor with a serial
   abbrev pub cursor_at : State K A → ℕ → Option (OpenCursor K A)
   cursor_at s c = member (λ k. k.serial) c s.cursors
+
+  -- the open finder with a serial
+  abbrev pub finder_at : State K A → ℕ → Option (OpenFinder K)
+  finder_at s f = member (λ k. k.serial) f s.finders
 
   abbrev pub with_pages : State K A → Tree K → State K A
   with_pages s tree = record s { search = with_tree s.search tree }
@@ -42,13 +62,16 @@ module _ {K A : Type 0} where
   abbrev pub with_cursor : State K A → OpenCursor K A → State K A
   with_cursor s k = record s { cursors = put (λ x. x.serial) k s.cursors }
 
+  abbrev pub with_finder : State K A → OpenFinder K → State K A
+  with_finder s k = record s { finders = put (λ x. x.serial) k s.finders }
+
   -- what a cursor has still to visit exists, and its position is one of the commits
   pub record IsAtWork (tree : Tree K) (commits : List (Write K)) (k : OpenCursor K A) : Type 0 where
     pub stack : IsStack tree k.stack
     pub from_opening : k.opened ≤ k.position
     pub within : k.position ≤ length commits
 
-  -- a sound world: the tree is sound, its entries agree with a legal list of commits, and so do the open cursors
+  -- a sound world: the tree is sound, its entries agree with a legal list of commits, and so do open cursors and finders
   pub record IsSoundWorld (is_cover : K → K → Bool) (s : State K A) : Type 0 where
     pub tree : IsSearchTree is_cover s.search.tree s.search.fan s.search.least s.search.limit
     pub legal : IsLegal s.commits
@@ -59,10 +82,18 @@ module _ {K A : Type 0} where
     pub commit_limit : s.limit ≤ 16777216
     pub few_cursors : length s.cursors ≤ 256
     pub last_serial : s.last ≤ 4294967295
+    pub finders : HasFinders s.search.tree s.commits s.finders s.last_finder
 
   -- an open cursor by its place
-  pub record IsAt (s : State K A) (c at : ℕ) : Type 0 where
-    pub cursor : OpenCursor K A
-    pub is : slice_get s.cursors at ≡ Some cursor
-    pub number : cursor.serial ≡ c
-    pub is_open : cursor_at s c ≡ Some cursor
+  abbrev pub IsAt : State K A → ℕ → ℕ → Type 0
+  IsAt s c at = IsMember (λ k. k.serial) s.cursors c at
+
+  -- an open finder by its place
+  abbrev pub IsFinderAt : State K A → ℕ → ℕ → Type 0
+  IsFinderAt s f at = IsMember (λ k. k.serial) s.finders f at
+
+  -- a finder of a live row, and the page that it visits next holds the row
+  pub record Meets (s : State K A) (f at page : ℕ) : Type 0 where
+    pub here : IsFinderAt s f at
+    pub alive : is_deleted s.commits here.value.row ≡ false
+    pub finds : FindsRow s.search.tree here.value page

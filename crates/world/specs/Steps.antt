@@ -1,24 +1,36 @@
 -- What each event makes of a world, and how it is answered.
-use Rattle.std.specs.Prelude.{◌≡◌, ℕ, suc, ◌+◌, Bool, true, false, ◌||◌, nat_eq, nat_le, nat_lt, List, [], ◌∷◌, ◌++◌, length, Some, None, is_none, Ok, Err, Result, ◌⊎◌}
+use Rattle.std.specs.Prelude.{◌≡◌, ℕ, suc, ◌+◌, Bool, true, false, not, ◌||◌, ◌&&◌, nat_eq, nat_le, nat_lt, List, [], ◌∷◌, ◌++◌, length, filter, Option, Some, None, is_none, Ok, Err, Result, ◌⊎◌}
 use Rattle.key_class.specs.Queries.{query_of, depth_of}
 use Rattle.key_class.specs.declared.pred.Pred.{Pred}
 use Rattle.key_class.specs.declared.refusal.Refusal.{Refusal}
 use Rattle.key_class.specs.declared.refusal.Refusal.TheVariants as refusal
-use Rattle.change_list.specs.declared.write.Write.TheVariants.{Insert}
+use Rattle.change_list.specs.Changes.{commit_at, is_deleted}
+use Rattle.change_list.specs.declared.write.Write.{Write}
+use Rattle.change_list.specs.declared.write.Write.TheVariants.{Insert, Delete}
 use Rattle.change_list.specs.declared.item.Item.{Item}
+use Rattle.row_version.specs.Entries.{is_needed}
 use Rattle.page_table.specs.Trees.{page_at, after_rows}
 use Rattle.split.specs.Steps.{after_split, after_post, after_grow, after_enlarge}
-use Rattle.split.specs.Tests.{first_failing, place_tests, enlarge_tests, split_tests, post_tests, grow_tests}
+use Rattle.split.specs.Tests.{first_failing, place_tests, enlarge_tests, split_tests, post_tests, grow_tests, sweep_tests}
+use Rattle.scan.specs.LeafChanges.{after_bury, after_sweep}
 use Rattle.cursor.specs.declared.cursor.Turned.{Turned}
 use Rattle.cursor.specs.declared.cursor.Turned.TheVariants as turned
 use Rattle.cursor.specs.OpenCursors.{Words, OpenCursor, Turns}
+use Rattle.descent.specs.Finders.{OpenFinder, is_at_row, FindsRow, GoesFurther}
+use Rattle.collector.specs.Horizons.{IsHorizon}
 use Rattle.world.specs.declared.event.Event.{Event}
 use Rattle.world.specs.declared.event.Event.TheVariants as event
 use Rattle.world.specs.declared.reply.Reply.{Reply}
 use Rattle.world.specs.declared.reply.Reply.TheVariants as reply
 use Rattle.world.specs.Serials.{without}
 use Rattle.world.specs.Stamps.{Stamp}
-use Rattle.world.specs.States.{State, cursor_at, with_pages, with_cursor}
+use Rattle.world.specs.States.{State, cursor_at, finder_at, with_pages, with_cursor, with_finder}
+
+module _ {K : Type 0} where
+  abbrev pub is_insert : Option (Write K) → Bool
+  is_insert (Some (Insert key tag)) = true
+  is_insert (Some (Delete row)) = false
+  is_insert None = false
 
 module _ {K A : Type 0} where
   -- the serial was given, and its cursor is open
@@ -34,6 +46,26 @@ module _ {K A : Type 0} where
       (nat_eq room 0 || (nat_lt 4096 room || nat_lt 32 (depth_of (query_of query))), refusal.BadConfig)
       ∷ (nat_le 256 (length old.cursors) || nat_le 4294967295 old.last, refusal.CursorsFull)
       ∷ []
+
+  -- the row was inserted and is not deleted, and there is a place and a serial for one more finder
+  abbrev pub find_tests : State K A → ℕ → List (Bool × Refusal)
+  find_tests old row =
+      (not (is_insert (commit_at old.commits row)), refusal.NoSuchRow)
+      ∷ (is_deleted old.commits row, refusal.AlreadyDeleted)
+      ∷ (nat_le 64 (length old.finders) || nat_le 4294967295 old.last_finder, refusal.FindersFull)
+      ∷ []
+
+  -- the finder is open
+  abbrev pub finder_tests : State K A → ℕ → List (Bool × Refusal)
+  finder_tests old f = (is_none (finder_at old f), refusal.NoSuchFinder) ∷ []
+
+  -- its row is not deleted, and there is a place for one more commit where the page that it visits next holds the row
+  abbrev pub row_tests : State K A → Option (OpenFinder K) → List (Bool × Refusal)
+  row_tests old (Some k) =
+      (is_deleted old.commits k.row, refusal.AlreadyDeleted)
+      ∷ (is_at_row old.search.tree k && nat_le old.limit (length old.commits), refusal.CommitsFull)
+      ∷ []
+  row_tests old None = []
 
   -- a cursor at the present commits, whose scan begins at the root
   abbrev pub opened_cursor : State K A → Pred A → ℕ → OpenCursor K A
@@ -61,6 +93,37 @@ module _ {K A : Type 0} where
     pub sibling : ℕ
     pub is_right : (page_at old.search.tree child).right ≡ Some sibling
     pub after : new ≡ with_pages old (after_post old.search.tree page child sibling)
+
+  -- a finder of the row begins at the root
+  pub record Finds (old : State K A) (row f : ℕ) (new : State K A) : Type 0 where
+    pub key : K
+    pub tag : ℕ
+    pub inserted : commit_at old.commits row ≡ Some (Insert key tag)
+    pub serial : f ≡ old.last_finder + 1
+    pub after : new ≡ record old {
+      finders = old.finders ++ (record { serial = old.last_finder + 1; row = row; key = key; stack = (record { page = 0; memo = old.search.tree.counter }) ∷ [] }) ∷ [];
+      last_finder = old.last_finder + 1;
+    }
+
+  -- the page that the finder visits holds its row: the next commit deletes the row, and the finder ends
+  pub record Buries (seat : ℕ) (old : State K A) (f : ℕ) (stamp : Stamp K) (new : State K A) : Type 0 where
+    pub finder : OpenFinder K
+    pub is_open : finder_at old f ≡ Some finder
+    pub page : ℕ
+    pub finds : FindsRow old.search.tree finder page
+    pub stamped : stamp ≡ record { number = length old.commits + 1; seat = seat; write = Delete finder.row }
+    pub after : new ≡ record old {
+      search = record old.search { tree = after_bury old.search.tree page finder.row (length old.commits + 1) };
+      commits = old.commits ++ Delete finder.row ∷ [];
+      finders = without (λ k. k.serial) f old.finders;
+    }
+
+  -- the dead that nobody needs go, and their number is told
+  pub record Sweeps (old : State K A) (page count : ℕ) (new : State K A) : Type 0 where
+    pub horizon : ℕ
+    pub is : IsHorizon (length old.commits) old.cursors horizon
+    pub counted : count + length (filter (is_needed horizon) (page_at old.search.tree page).rows) ≡ length (page_at old.search.tree page).rows
+    pub after : new ≡ with_pages old (after_sweep old.search.tree page horizon)
 
   pub record Opens (old : State K A) (query : Pred A) (room c : ℕ) (new : State K A) : Type 0 where
     pub serial : c ≡ old.last + 1
@@ -93,6 +156,15 @@ module _ {K A : Type 0} (w : Words K A) where
     pub turn : Turns w old.search.tree old.commits before how later
     pub after : new ≡ with_cursor old later
 
+  -- the page that the finder visits lacks its row, and the finder goes on
+  pub record SeeksOn (old : State K A) (f : ℕ) (new : State K A) : Type 0 where
+    pub before : OpenFinder K
+    pub later : OpenFinder K
+    pub is_open : finder_at old f ≡ Some before
+    pub page : ℕ
+    pub further : GoesFurther w.is_cover old.search.tree before page later
+    pub after : new ≡ with_finder old later
+
   pub record RefusesTurn (old : State K A) (c : ℕ) (why : Refusal) : Type 0 where
     pub cursor : OpenCursor K A
     pub is_open : cursor_at old c ≡ Some cursor
@@ -112,20 +184,28 @@ module _ {C K A : Type 0} (w : Words K A) where
   tests old (event.Split page sides) = split_tests old.search page sides
   tests old (event.Post page child) = post_tests old.search page child
   tests old (event.Grow sides) = grow_tests old.search sides
+  tests old (event.Find row) = find_tests old row
+  tests old (event.Seek f) = finder_tests old f ++ row_tests old (finder_at old f)
+  tests old (event.Unfind f) = finder_tests old f
+  tests old (event.Sweep page) = sweep_tests old.search page
   tests old (event.Open query room) = open_tests old query room
   tests old (event.Turn c) = cursor_tests old c
   tests old (event.AskMark c) = cursor_tests old c
   tests old (event.Take c) = cursor_tests old c ++ (w.elsewhere, refusal.NotHere) ∷ []
   tests old (event.Close c) = cursor_tests old c
 
-  -- Where all tests pass, an event that may grow is refused for want of memory alone, and a turn by its rule. Asking for a
-  -- mark, taking and closing are not refused.
+  -- Where all tests pass, an event that may grow is refused for want of memory alone, and a turn by its rule. Ending
+  -- a finder, asking for a mark, taking and closing are not refused.
   abbrev pub RefusesLater : State K A → Event C K A → Refusal → Type 0
   RefusesLater old (event.Enlarge page child key) why = why ≡ refusal.OutOfMemory
   RefusesLater old (event.Place page key tag) why = why ≡ refusal.OutOfMemory
   RefusesLater old (event.Split page sides) why = why ≡ refusal.OutOfMemory
   RefusesLater old (event.Post page child) why = why ≡ refusal.OutOfMemory
   RefusesLater old (event.Grow sides) why = why ≡ refusal.OutOfMemory
+  RefusesLater old (event.Find row) why = why ≡ refusal.OutOfMemory
+  RefusesLater old (event.Seek f) why = why ≡ refusal.OutOfMemory
+  RefusesLater old (event.Unfind f) why = ⊥
+  RefusesLater old (event.Sweep page) why = why ≡ refusal.OutOfMemory
   RefusesLater old (event.Open query room) why = why ≡ refusal.OutOfMemory
   RefusesLater old (event.Turn c) why = RefusesTurn w old c why
   RefusesLater old (event.AskMark c) why = ⊥
@@ -147,6 +227,11 @@ module _ {C O K A E : Type 0} (w : Words K A) where
   Changes seat old (event.Post page child) reply.Posted new = Posts old page child new
   Changes seat old (event.Grow sides) (reply.Grown first second) new =
       (first ≡ length old.search.tree.pages) × (second ≡ suc (length old.search.tree.pages)) × (new ≡ with_pages old (after_grow w.union old.search.tree sides))
+  Changes seat old (event.Find row) (reply.Finder f) new = Finds old row f new
+  Changes seat old (event.Seek f) (reply.Committed stamp) new = Buries seat old f stamp new
+  Changes seat old (event.Seek f) reply.Seeking new = SeeksOn w old f new
+  Changes seat old (event.Unfind f) reply.Unfound new = new ≡ record old { finders = without (λ k. k.serial) f old.finders }
+  Changes seat old (event.Sweep page) (reply.Swept count) new = Sweeps old page count new
   Changes seat old (event.Open query room) (reply.Opened c end) new = Opens old query room c new
   Changes seat old (event.Turn c) reply.Offered new = TurnsAt w old c (Ok turned.Offered) new
   Changes seat old (event.Turn c) (reply.Visited page) new = TurnsAt w old c (Ok (turned.Visited page)) new
@@ -169,6 +254,10 @@ module _ {C O K A E : Type 0} (w : Words K A) where
   Step seat old event (reply.Split sibling) new = IsDone seat old event (reply.Split sibling) new
   Step seat old event reply.Posted new = IsDone seat old event reply.Posted new
   Step seat old event (reply.Grown first second) new = IsDone seat old event (reply.Grown first second) new
+  Step seat old event (reply.Finder f) new = IsDone seat old event (reply.Finder f) new
+  Step seat old event reply.Seeking new = IsDone seat old event reply.Seeking new
+  Step seat old event reply.Unfound new = IsDone seat old event reply.Unfound new
+  Step seat old event (reply.Swept count) new = IsDone seat old event (reply.Swept count) new
   Step seat old event (reply.Opened c end) new = IsDone seat old event (reply.Opened c end) new
   Step seat old event reply.Offered new = IsDone seat old event reply.Offered new
   Step seat old event (reply.Visited page) new = IsDone seat old event (reply.Visited page) new

@@ -5,7 +5,7 @@ use Rattle.key_class.specs.Queries.{query_of, matches_query}
 use Rattle.key_class.specs.declared.pred.Pred.{Pred}
 use Rattle.key_class.specs.declared.refusal.Refusal.TheVariants as refusal
 use Rattle.change_list.specs.declared.write.Write.{Write}
-use Rattle.change_list.specs.declared.write.Write.TheVariants.{Insert}
+use Rattle.change_list.specs.declared.write.Write.TheVariants.{Insert, Delete}
 use Rattle.change_list.specs.declared.item.Item.{Item}
 use Rattle.change_list.specs.declared.item.Item.TheVariants as item
 use Rattle.change_list.specs.Changes.{IsLegal}
@@ -35,9 +35,9 @@ module _ {C K A : Type 0} where
   asks event c = ⊥
 
 module _ {C O K A E : Type 0} where
-  -- the write of an event that was answered as committed
+  -- the write of an answer that tells a commit
   abbrev pub written : Event C K A × Reply C O K A E → Option (Write K)
-  written (event.Place page key tag, reply.Committed stamp) = Some (Insert key tag)
+  written (event, reply.Committed stamp) = Some stamp.write
   written (event, reply) = None
 
   -- the commits of a trace, in their order
@@ -75,12 +75,26 @@ module _ {C O K A E : Type 0} where
     pub end : E
     pub is : slice_get trace i ≡ Some (event.Open query room, reply.Opened c end)
 
-  -- The headline. The commits are numbered in their order and are a legal list. What a cursor has delivered begins a listing
-  -- for its query from its opening to the last commit. A mark that was taken shows that all of it up to the mark's commit was
-  -- delivered, and was asked for. A closed cursor delivers nothing more.
+  -- a finder of the row was answered with that serial
+  pub record IsFound (trace : List (Event C K A × Reply C O K A E)) (f row : ℕ) : Type 0 where
+    pub place : ℕ
+    pub is : slice_get trace place ≡ Some (event.Find row, reply.Finder f)
+
+  -- what an event writes: a place inserts its row, and a seek deletes the row that its finder was asked to find
+  abbrev pub IsWriteOf : List (Event C K A × Reply C O K A E) → Event C K A → Write K → Type 0
+  IsWriteOf before (event.Place page key tag) write = write ≡ Insert key tag
+  IsWriteOf before (event.Seek f) write = (row : ℕ) × IsFound before f row × (write ≡ Delete row)
+  IsWriteOf before event write = ⊥
+
+  -- The headline. The commits are numbered in their order, each is the write of its event, and they are a legal list. What a
+  -- cursor has delivered begins a listing for its query from its opening to the last commit. A mark that was taken shows that
+  -- all of it up to the mark's commit was delivered, and was asked for. A closed cursor delivers nothing more.
   pub record IsFaithful (matching : A → K → Bool) (trace : List (Event C K A × Reply C O K A E)) : Type 0 where
     pub numbered : (i : ℕ) (e : Event C K A) (stamp : Stamp K) → slice_get trace i ≡ Some (e, reply.Committed stamp)
         → stamp.number ≡ length (commits_of (take i trace)) + 1
+    pub writes : (i : ℕ) (e : Event C K A) (stamp : Stamp K) → slice_get trace i ≡ Some (e, reply.Committed stamp) → IsWriteOf (take i trace) e stamp.write
+    -- no serial is given to two finders
+    pub finders : (i j f row other : ℕ) → slice_get trace i ≡ Some (event.Find row, reply.Finder f) → slice_get trace j ≡ Some (event.Find other, reply.Finder f) → i ≡ j
     pub legal : IsLegal (commits_of trace)
     pub delivers : (i c : ℕ) (query : Pred A) → IsOpening trace i c query
         → BeginsListing (matches_query matching (query_of query)) (length (commits_of (take i trace))) (length (commits_of trace)) (commits_of trace) (delivered c trace)

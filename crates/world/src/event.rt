@@ -19,6 +19,14 @@ pub enum Event<C: KeyClass> {
     Post(u64, u64),
     /// Grows a full root by sides.
     Grow(Sides),
+    /// Begins to look for the leaf that holds a live row: row.
+    Find(u64),
+    /// Lets a finder visit one page. Where that page holds its row, the row is deleted and the finder ends.
+    Seek(u64),
+    /// Ends a finder.
+    Unfind(u64),
+    /// Takes the dead rows out of a leaf that no scan needs.
+    Sweep(u64),
     /// Opens a cursor at the present commits: query, room of its mailbox in items (1 to 4,096).
     Open(Pred<C::Atom>, u64),
     /// Lets a cursor do one piece of its work.
@@ -42,6 +50,10 @@ impl<C: KeyClass> Event<C> {
             Event::Split(page, sides) => Event::Split(*page, sides.copy(alloc)?),
             Event::Post(parent, child) => Event::Post(*parent, *child),
             Event::Grow(sides) => Event::Grow(sides.copy(alloc)?),
+            Event::Find(row) => Event::Find(*row),
+            Event::Seek(finder) => Event::Seek(*finder),
+            Event::Unfind(finder) => Event::Unfind(*finder),
+            Event::Sweep(page) => Event::Sweep(*page),
             Event::Open(query, room) => Event::Open(query.copy(alloc)?, *room),
             Event::Turn(cursor) => Event::Turn(*cursor),
             Event::AskMark(cursor) => Event::AskMark(*cursor),

@@ -3,7 +3,9 @@
 
 mod cursors;
 mod event;
+mod finders;
 mod nodes;
+mod places;
 mod reply;
 mod trace;
 mod world;

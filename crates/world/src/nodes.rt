@@ -7,6 +7,7 @@ ghost use Rattle.world.specs.Steps.{Step};
 use crate::reply::{Reply, Stamped};
 use crate::world::World;
 use change_list::{ChangeList, Write};
+use collector::horizon;
 use key_class::{KeyClass, Refusal, Sides};
 use mailbox::Outlet;
 use row_version::Entry;
@@ -77,6 +78,16 @@ impl<C: KeyClass, O: Outlet<C::Key>> World<C, O> {
                     return Reply::Committed(Stamped::new(number, seat, write));
                 }
             },
+        }
+    }
+
+    pub(crate) fn sweep(&mut self, page: u64) -> Reply<C, O>
+        ensures { (seat : ℕ) → Step (words C.is_match C.is_consistent C.is_cover C.union_of O.may_take O.may_refuse O.is_emptied_elsewhere) seat self.old (event.Sweep page) result self.new }
+    {
+        let horizon = horizon(self.cursors.as_slice(), self.changes.len() as u32);
+        match self.search.sweep(page, horizon) {
+            Ok(count) => return Reply::Swept(count as u64),
+            Err(refusal) => return Reply::Refused(refusal),
         }
     }
 }

@@ -68,6 +68,13 @@ pub enum Reply<C: KeyClass, O: Outlet<C::Key>> {
     Posted,
     /// The numbers of the two pages that took the root's entries.
     Grown(u32, u32),
+    /// The finder's serial.
+    Finder(u64),
+    /// The page that the finder visited lacks its row.
+    Seeking,
+    Unfound,
+    /// How many dead rows went.
+    Swept(u64),
     /// The cursor's serial, and the other end of its mailbox.
     Opened(u64, O::End),
     /// An item went to the mailbox.

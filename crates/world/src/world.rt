@@ -10,8 +10,10 @@ ghost use Rattle.world.specs.Promises.{ServesAll, FitsAtOpening, LowersWork, Kee
 
 use crate::event::Event;
 use crate::reply::Reply;
+use crate::places::place_of;
 use change_list::{ChangeList, Config, Write};
 use cursor::Cursor;
+use descent::Finder;
 use key_class::{KeyClass, Refusal};
 use mailbox::Outlet;
 use node::Page;
@@ -19,7 +21,7 @@ use split::SearchTree;
 use std::alloc::Global;
 use std::marker::Model;
 
-/// A tree of pages, its commits and its open cursors. Each event is one atomic step.
+/// A tree of pages, its commits, its open cursors and finders. Each event is one atomic step.
 #[derive(Drop)]
 pub struct World<C: KeyClass, O: Outlet<C::Key>> {
     pub(crate) alloc: Global,
@@ -28,6 +30,8 @@ pub struct World<C: KeyClass, O: Outlet<C::Key>> {
     pub(crate) changes: ChangeList<C::Key>,
     pub(crate) cursors: Vec<Cursor<C, O>>,
     pub(crate) last: u64,
+    pub(crate) finders: Vec<Finder<C>>,
+    pub(crate) last_finder: u64,
 }
 
 impl<C: KeyClass, O: Outlet<C::Key>> Model for World<C, O> {
@@ -39,9 +43,9 @@ impl<C: KeyClass, O: Outlet<C::Key>> Model for World<C, O> {
 
     ghost coded = { Prim.hlevel (codes, query_code) };
 
-    ghost view = { λ w. record { search = w.search; limit = w.limit; commits = w.changes; cursors = w.cursors.items; last = w.last } };
+    ghost view = { λ w. record { search = w.search; limit = w.limit; commits = w.changes; cursors = w.cursors.items; last = w.last; finders = w.finders.items; last_finder = w.last_finder } };
 
-    ghost invariant = { λ w. IsSoundWorld C.is_cover (record { search = w.search; limit = w.limit; commits = w.changes; cursors = w.cursors.items; last = w.last }) };
+    ghost invariant = { λ w. IsSoundWorld C.is_cover (record { search = w.search; limit = w.limit; commits = w.changes; cursors = w.cursors.items; last = w.last; finders = w.finders.items; last_finder = w.last_finder }) };
 }
 
 impl<C: KeyClass, O: Outlet<C::Key>> World<C, O> {
@@ -71,6 +75,8 @@ impl<C: KeyClass, O: Outlet<C::Key>> World<C, O> {
             changes: ChangeList::new(alloc),
             cursors: Vec::new(alloc),
             last: 0,
+            finders: Vec::new(alloc),
+            last_finder: 0,
         })
     }
 
@@ -119,21 +125,7 @@ impl<C: KeyClass, O: Outlet<C::Key>> World<C, O> {
         if c == 0 || self.last < c {
             return Err(Refusal::NoSuchCursor);
         }
-        let mut low = 0;
-        let mut high = self.cursors.len();
-        while low < high {
-            let middle = low + (high - low) / 2;
-            let serial = self.cursors[middle].serial();
-            if serial == c {
-                return Ok(middle);
-            }
-            if serial < c {
-                low = middle + 1;
-            } else {
-                high = middle;
-            }
-        }
-        Err(Refusal::CursorClosed)
+        place_of(self.cursors.as_slice(), c).ok_or(Refusal::CursorClosed)
     }
 
     /// One event, in one atomic step.
@@ -175,6 +167,10 @@ impl<C: KeyClass, O: Outlet<C::Key>> World<C, O> {
             Event::Split(page, sides) => return self.split(page, &sides),
             Event::Post(parent, child) => return self.post(parent, child),
             Event::Grow(sides) => return self.grow(&sides),
+            Event::Find(row) => return self.find(row),
+            Event::Seek(finder) => return self.seek(seat, finder),
+            Event::Unfind(finder) => return self.unfind(finder),
+            Event::Sweep(page) => return self.sweep(page),
             Event::Open(query, room) => return self.open(query, room),
             Event::Turn(cursor) => return self.turn(cursor),
             Event::AskMark(cursor) => return self.ask_mark(cursor),

@@ -10,5 +10,5 @@ invariant_of-self g c =
 pub returns-in-Err : goal.returns-in-Err
 returns-in-Err g c = λ seat. rw (← c.self.view_is) (record {
   cause = c.in-Err.ensures.refused;
-  unchanged = ap (λ search. record { search = search; limit = c.self.inside.limit; commits = c.self.inside.changes; cursors = c.self.inside.cursors.items; last = c.self.inside.last }) c.in-Err.ensures.unchanged;
+  unchanged = ap (λ search. record { search = search; limit = c.self.inside.limit; commits = c.self.inside.changes; cursors = c.self.inside.cursors.items; last = c.self.inside.last; finders = c.self.inside.finders.items; last_finder = c.self.inside.last_finder }) c.in-Err.ensures.unchanged;
 })

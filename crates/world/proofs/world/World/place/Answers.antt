@@ -18,7 +18,7 @@ pub returns-in-Err : goal.returns-in-Err
 returns-in-Err g c =
     rw (← c.self.view_is)
     (place_wanting _ _ c.args.page c.args.key c.args.tag _ _
-    (ap (λ commits. record { search = c.self.inside.search; limit = c.self.inside.limit; commits = commits; cursors = c.self.inside.cursors.items; last = c.self.inside.last }) (c.in-Err.ensures.err ∙ c.replace-changes.ensures.value))
+    (ap (λ commits. record { search = c.self.inside.search; limit = c.self.inside.limit; commits = commits; cursors = c.self.inside.cursors.items; last = c.self.inside.last; finders = c.self.inside.finders.items; last_finder = c.self.inside.last_finder }) (c.in-Err.ensures.err ∙ c.replace-changes.ensures.value))
     (sym c.place_refusal.ensures ∙ c.in_default.is) (omega (arith, c.if-count-self.false, c.len-count.ensures.len)) refl)
 
 pub returns-in-Err-place : goal.returns-in-Err-place
@@ -27,8 +27,8 @@ returns-in-Err-place g c =
     let kept : c.into_list.result ≡ c.self.inside.changes = c.into_list.ensures ∙ c.in-Ok.ensures.ok ∙ c.replace-changes.ensures.value in
     rw (← c.self.view_is)
     (place_wanting _ _ c.args.page c.args.key c.args.tag _ c.in-Err-place.refusal
-    (ap (λ search. record { search = search; limit = c.self.inside.limit; commits = c.into_list.result; cursors = c.self.inside.cursors.items; last = c.self.inside.last }) c.in-Err-place.ensures.unchanged
-    ∙ ap (λ commits. record { search = c.self.inside.search; limit = c.self.inside.limit; commits = commits; cursors = c.self.inside.cursors.items; last = c.self.inside.last }) kept)
+    (ap (λ search. record { search = search; limit = c.self.inside.limit; commits = c.into_list.result; cursors = c.self.inside.cursors.items; last = c.self.inside.last; finders = c.self.inside.finders.items; last_finder = c.self.inside.last_finder }) c.in-Err-place.ensures.unchanged
+    ∙ ap (λ commits. record { search = c.self.inside.search; limit = c.self.inside.limit; commits = commits; cursors = c.self.inside.cursors.items; last = c.self.inside.last; finders = c.self.inside.finders.items; last_finder = c.self.inside.last_finder }) kept)
     passed (omega (arith, c.if-count-self.false, c.len-count.ensures.len)) (only_memory (place_tests g.C.KeyClass.is_cover c.self.inside.search c.args.page c.args.key) c.in-Err-place.refusal passed (rw c.new-in-Ok.ensures at c.in-Err-place.ensures.refused)))
 
 pub invariant_of-self-in-Ok-place : goal.invariant_of-self-in-Ok-place

@@ -1,0 +1,57 @@
+-- Finders: what each looks for, one visit of it, and what it keeps through every step.
+use Rattle.std.specs.Prelude.{◌≡◌, ℕ, Bool, false, true, List, Option, Some, None, slice_get, reverse}
+use Rattle.change_list.specs.Changes.{commit_at, status_of}
+use Rattle.change_list.specs.declared.write.Status.TheVariants.{Live}
+use Rattle.change_list.specs.declared.write.Write.{Write}
+use Rattle.change_list.specs.declared.write.Write.TheVariants.{Insert}
+use Rattle.page_table.specs.Stacks.{StackItem, IsStack}
+use Rattle.page_table.specs.Trees.{Tree, page_at}
+use Rattle.scan.specs.Finding.{IsFinder, SeeksFurther, holds}
+use Rattle.scan.specs.Scanning.{IsNext}
+use Rattle.scan.specs.declared.stack.Sought.{Sought}
+use Rattle.scan.specs.declared.stack.Sought.TheVariants.{Here, Further}
+
+-- an open finder: it looks for the leaf that holds a row
+pub record OpenFinder (K : Type 0) : Type 0 where
+  pub serial : ℕ
+  pub row : ℕ
+  -- the row's key
+  pub key : K
+  -- what it has still to visit, the next item last
+  pub stack : List StackItem
+
+module _ {K : Type 0} where
+  -- the page of the item holds the row
+  abbrev pub holds_at : Tree K → ℕ → Option StackItem → Bool
+  holds_at t row (Some item) = holds row (page_at t item.page).rows
+  holds_at t row None = false
+
+  -- the page that the finder visits next holds its row
+  abbrev pub is_at_row : Tree K → OpenFinder K → Bool
+  is_at_row t k = holds_at t k.row (slice_get (reverse k.stack) 0)
+
+  -- the page that it visits next is this one, and holds its row
+  pub record FindsRow (t : Tree K) (k : OpenFinder K) (page : ℕ) : Type 0 where
+    pub memo : ℕ
+    pub next : IsNext k.stack (record { page = page; memo = memo })
+    pub there : holds k.row (page_at t page).rows ≡ true
+
+  -- the page that it visits next is this one and lacks its row, and it goes on to what may hold it
+  pub record GoesFurther (is_cover : K → K → Bool) (t : Tree K) (old : OpenFinder K) (page : ℕ) (new : OpenFinder K) : Type 0 where
+    pub stack : List StackItem
+    pub further : SeeksFurther (λ bound. is_cover bound old.key) old.row t old.stack page stack
+    pub lacks : holds old.row (page_at t page).rows ≡ false
+    pub after : new ≡ record old { stack = stack }
+
+  -- one visit, by what it met
+  abbrev pub SeeksRow : (K → K → Bool) → Tree K → OpenFinder K → Sought → OpenFinder K → Type 0
+  SeeksRow is_cover t old (Here page) new = FindsRow t old page × (new ≡ old)
+  SeeksRow is_cover t old (Further page) new = GoesFurther is_cover t old page new
+
+  -- What it has still to visit exists, its row was inserted with its key, and while the row lives, it stands once under what
+  -- is still to be visited.
+  pub record IsSeeking (t : Tree K) (commits : List (Write K)) (k : OpenFinder K) : Type 0 where
+    pub stack : IsStack t k.stack
+    pub tag : ℕ
+    pub inserted : commit_at commits k.row ≡ Some (Insert k.key tag)
+    pub there : status_of commits k.row ≡ Live → IsFinder k.row t k.stack

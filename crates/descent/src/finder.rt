@@ -1,0 +1,86 @@
+ghost use Rattle.std.specs.Prelude.{◌≡◌, ◌↔◌, ℕ, false, [], ◌∷◌, List, IfOk, OnErr, IsTrue};
+ghost use Rattle.change_list.specs.declared.write.Write.{Write};
+ghost use Rattle.page_table.specs.Soundness.{IsSound};
+ghost use Rattle.page_table.specs.Stacks.{IsStack};
+ghost use Rattle.scan.specs.Agreement.{Agrees};
+ghost use Rattle.scan.specs.Finding.{SeeksLess};
+ghost use Rattle.descent.specs.Finders.{SeeksRow, IsSeeking, is_at_row};
+
+use key_class::KeyClass;
+use page_table::PageTable;
+use scan::{Sought, Stack};
+use std::alloc::{AllocError, Global};
+use std::marker::Model;
+
+/// An open finder, on its way to the leaf that holds a row.
+#[derive(Drop)]
+pub struct Finder<C: KeyClass> {
+    serial: u64,
+    row: u32,
+    key: C::Key,
+    stack: Stack,
+}
+
+impl<C: KeyClass> Model for Finder<C> {
+    ghost use Rattle.descent.specs.Finders.{OpenFinder};
+
+    ghost Value = { OpenFinder C.Key };
+
+    ghost view = { λ f. record { serial = f.serial; row = f.row; key = f.key; stack = f.stack } };
+}
+
+impl<C: KeyClass> Finder<C> {
+    /// A finder of the row with that number and key, at a tree's root when the number of its latest posting was
+    /// `counter`. It takes no memory.
+    pub fn new(alloc: Global, serial: u64, row: u32, key: C::Key, counter: u32) -> Self
+        ensures { result ≡ record { serial = serial; row = row; key = key; stack = (record { page = 0; memo = counter }) ∷ [] } }
+    {
+        Finder {
+            serial,
+            row,
+            key,
+            stack: Stack::at_root(alloc, counter),
+        }
+    }
+
+    pub fn serial(&self) -> u64
+        ensures { result ≡ self.now.serial }
+    {
+        self.serial
+    }
+
+    /// The number of the row that it looks for.
+    pub fn row(&self) -> u32
+        ensures { result ≡ self.now.row }
+    {
+        self.row
+    }
+
+    /// Whether nothing is left to be visited.
+    pub fn is_over(&self) -> bool
+        ensures { IsTrue result ↔ (self.now.stack ≡ []) }
+    {
+        self.stack.is_empty()
+    }
+
+    /// Visits the next page: where that holds the row, nothing changes; else goes on to the page's right link and to its
+    /// children whose bounds cover the row's key.
+    ///
+    /// # Errors
+    /// Memory was wanting, and the page lacks the row; the finder is as it was.
+    pub fn seek(&mut self, table: &PageTable<C::Key>) -> Result<Sought, AllocError>
+        requires stack { IsStack table.now self.old.stack }
+        requires unfinished { ¬ (self.old.stack ≡ []) }
+        ensures sought { IfOk result (λ met. SeeksRow C.is_cover table.now self.old met self.new) }
+        ensures refused { OnErr result (self.new ≡ self.old) }
+        ensures refused_further { OnErr result (is_at_row table.now self.old ≡ false) }
+        ensures seeking { (fan : ℕ) (commits : List (Write C.Key)) → IsSound C.is_cover fan table.now → Agrees table.now commits → IsSeeking table.now commits self.old → IsSeeking table.now commits self.new }
+        ensures stack { (fan : ℕ) → IsSound C.is_cover fan table.now → IsStack table.now self.new.stack }
+        ensures less_work { IfOk result (λ met. SeeksLess C.is_cover table.now self.old.stack met self.new.stack) }
+    {
+        let Some(sought) = self.stack.seek::<C>(table, self.key, self.row)? else {
+            unreachable!()
+        };
+        Ok(sought)
+    }
+}

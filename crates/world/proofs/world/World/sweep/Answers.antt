@@ -1,0 +1,26 @@
+use Rattle.std.proofs.Common.{ap, length}
+use Rattle.collector.specs.Horizons.{IsHorizon}
+use Rattle.world.proofs.FinderSteps.{sweeps_call_sound}
+use Rattle.world.proofs.world.World.sweep.Goals as goal
+
+pub invariant_of-self : goal.invariant_of-self
+invariant_of-self g c = sweeps_call_sound g.C.KeyClass.is_cover _ c.self.invariant c.args.page c.sweep.result c.sweep.new.self c.horizon-horizon.result c.sweep.ensures.passed c.sweep.ensures.swept c.sweep.ensures.unchanged
+
+pub returns-in-Ok : goal.returns-in-Ok
+returns-in-Ok g c = λ seat.
+    let is : IsHorizon (length c.self.inside.changes) c.self.inside.cursors.items c.horizon-horizon.result = rw (c.as_slice.ensures.value, c.len.ensures.len) at c.horizon-horizon.ensures in
+    rw (← c.self.view_is) (record {
+      passed = c.in-Ok.ensures.passed;
+      change = record {
+        horizon = c.horizon-horizon.result;
+        is = is;
+        counted = c.in-Ok.ensures.count;
+        after = ap (λ search. record { search = search; limit = c.self.inside.limit; commits = c.self.inside.changes; cursors = c.self.inside.cursors.items; last = c.self.inside.last; finders = c.self.inside.finders.items; last_finder = c.self.inside.last_finder }) c.in-Ok.ensures.swept;
+      };
+    })
+
+pub returns-in-Err : goal.returns-in-Err
+returns-in-Err g c = λ seat. rw (← c.self.view_is) (record {
+  cause = c.in-Err.ensures.refused;
+  unchanged = ap (λ search. record { search = search; limit = c.self.inside.limit; commits = c.self.inside.changes; cursors = c.self.inside.cursors.items; last = c.self.inside.last; finders = c.self.inside.finders.items; last_finder = c.self.inside.last_finder }) c.in-Err.ensures.unchanged;
+})

@@ -1,0 +1,116 @@
+//! Events of finders.
+ghost use Rattle.std.specs.Prelude.{◌≡◌, ℕ, None, Some, IfOk, IfErr};
+ghost use Rattle.change_list.specs.Changes.{commit_at};
+ghost use Rattle.change_list.specs.declared.write.Write.TheVariants.{Insert};
+ghost use Rattle.cursor.specs.OpenCursors.{words};
+ghost use Rattle.split.specs.Tests.{first_failing};
+ghost use Rattle.world.specs.declared.event.Event.TheVariants as event;
+ghost use Rattle.world.specs.States.{Meets};
+ghost use Rattle.world.specs.Steps.{Step, find_tests};
+
+use crate::reply::{Reply, Stamped};
+use crate::places::place_of;
+use crate::world::World;
+use change_list::{ChangeList, Status, Write};
+use descent::Finder;
+use key_class::{KeyClass, Refusal};
+use mailbox::Outlet;
+use scan::Sought;
+use std::mem;
+
+impl<C: KeyClass, O: Outlet<C::Key>> World<C, O> {
+    /// The key of a row that a further finder may look for, or why none may.
+    fn key_to_find(&self, row: u64) -> Result<C::Key, Refusal>
+        ensures passed { IfOk result (λ key. first_failing (find_tests self.now row) ≡ None) }
+        ensures inserted { IfOk result (λ key. (tag : ℕ) × (commit_at self.now.commits row ≡ Some (Insert key tag))) }
+        ensures refused { IfErr result (λ why. first_failing (find_tests self.now row) ≡ Some why) }
+    {
+        let Some(Write::Insert(key, _)) = self.changes.commit(row) else {
+            return Err(Refusal::NoSuchRow);
+        };
+        if let Status::Dead = self.changes.status(row) {
+            return Err(Refusal::AlreadyDeleted);
+        }
+        if self.finders.len() >= 64 || self.last_finder >= 4_294_967_295 {
+            return Err(Refusal::FindersFull);
+        }
+        Ok(key)
+    }
+
+    pub(crate) fn find(&mut self, row: u64) -> Reply<C, O>
+        ensures { (seat : ℕ) → Step (words C.is_match C.is_consistent C.is_cover C.union_of O.may_take O.may_refuse O.is_emptied_elsewhere) seat self.old (event.Find row) result self.new }
+    {
+        let key = match self.key_to_find(row) {
+            Ok(key) => key,
+            Err(refusal) => return Reply::Refused(refusal),
+        };
+        let counter = self.search.pages().counter();
+        let serial = self.last_finder + 1;
+        let finder = Finder::new(self.alloc, serial, row as u32, key, counter);
+        if self.finders.push(finder).is_err() {
+            return Reply::Refused(Refusal::OutOfMemory);
+        }
+        self.last_finder = serial;
+        Reply::Finder(serial)
+    }
+
+    pub(crate) fn seek(&mut self, seat: u32, f: u64) -> Reply<C, O>
+        ensures { Step (words C.is_match C.is_consistent C.is_cover C.union_of O.may_take O.may_refuse O.is_emptied_elsewhere) seat self.old (event.Seek f) result self.new }
+    {
+        let Some(at) = place_of(self.finders.as_slice(), f) else {
+            return Reply::Refused(Refusal::NoSuchFinder);
+        };
+        if let Status::Dead = self.changes.status(u64::from(self.finders[at].row())) {
+            return Reply::Refused(Refusal::AlreadyDeleted);
+        }
+        match self.finders[at].seek(self.search.pages()) {
+            Ok(Sought::Here(page)) => self.bury(seat, f, at, page),
+            Ok(Sought::Further(_)) => Reply::Seeking,
+            Err(_) => Reply::Refused(Refusal::OutOfMemory),
+        }
+    }
+
+    /// Deletes the row of a finder that has met it on a page.
+    fn bury(&mut self, seat: u32, f: u64, at: usize, page: u32) -> Reply<C, O>
+        requires { Meets self.old f at page }
+        ensures { Step (words C.is_match C.is_consistent C.is_cover C.union_of O.may_take O.may_refuse O.is_emptied_elsewhere) seat self.old (event.Seek f) result self.new }
+    {
+        let count = self.changes.len() as u64;
+        if count >= self.limit {
+            return Reply::Refused(Refusal::CommitsFull);
+        }
+        let row = self.finders[at].row();
+        let number = count + 1;
+        let write = Write::Delete(u64::from(row));
+        let changes = mem::replace(&mut self.changes, ChangeList::new(self.alloc));
+        match changes.reserve() {
+            Err(changes) => {
+                self.changes = changes;
+                return Reply::Refused(Refusal::OutOfMemory);
+            }
+            Ok(changes) => match self.search.bury(page, row, number as u32) {
+                Err(refusal) => {
+                    self.changes = changes.into_list();
+                    return Reply::Refused(refusal);
+                }
+                Ok(()) => {
+                    self.finders.remove(at);
+                    self.changes = changes.push(write);
+                    return Reply::Committed(Stamped::new(number, seat, write));
+                }
+            },
+        }
+    }
+
+    pub(crate) fn unfind(&mut self, f: u64) -> Reply<C, O>
+        ensures { (seat : ℕ) → Step (words C.is_match C.is_consistent C.is_cover C.union_of O.may_take O.may_refuse O.is_emptied_elsewhere) seat self.old (event.Unfind f) result self.new }
+    {
+        match place_of(self.finders.as_slice(), f) {
+            Some(at) => {
+                self.finders.remove(at);
+                return Reply::Unfound;
+            }
+            None => return Reply::Refused(Refusal::NoSuchFinder),
+        }
+    }
+}

@@ -1,0 +1,54 @@
+//! Lists whose members have serials that rise.
+ghost use Rattle.std.specs.Prelude.{◌≡◌, ℕ, None, MatchOption};
+ghost use Rattle.world.specs.Serials.{member, Rise, IsMember};
+
+use cursor::Cursor;
+use descent::Finder;
+use key_class::KeyClass;
+use mailbox::Outlet;
+
+/// Something that was given a serial.
+pub(crate) trait Numbered {
+    ghost serial_of: { Self → ℕ };
+
+    fn serial(&self) -> u64
+        ensures { result ≡ serial_of self.now };
+}
+
+impl<C: KeyClass, O: Outlet<C::Key>> Numbered for Cursor<C, O> {
+    ghost serial_of = { λ k. k.serial };
+
+    fn serial(&self) -> u64 {
+        Cursor::serial(self)
+    }
+}
+
+impl<C: KeyClass> Numbered for Finder<C> {
+    ghost serial_of = { λ k. k.serial };
+
+    fn serial(&self) -> u64 {
+        Finder::serial(self)
+    }
+}
+
+/// The place of the member with a serial, by halving.
+pub(crate) fn place_of<T: Numbered>(members: &[T], serial: u64) -> Option<usize>
+    requires { (last : ℕ) × Rise T.serial_of 0 last members.now }
+    ensures { MatchOption result (member T.serial_of serial members.now ≡ None) (λ at. IsMember T.serial_of members.now serial at) }
+{
+    let mut low = 0;
+    let mut high = members.len();
+    while low < high {
+        let middle = low + (high - low) / 2;
+        let found = members[middle].serial();
+        if found == serial {
+            return Some(middle);
+        }
+        if found < serial {
+            low = middle + 1;
+        } else {
+            high = middle;
+        }
+    }
+    None
+}
