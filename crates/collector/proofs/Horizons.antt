@@ -1,5 +1,5 @@
 -- The horizon of one cursor more, and of each cursor.
-use Rattle.std.proofs.Common.{◌≡◌, ◌+◌, ◌<◌, ◌≤◌, ℕ, zero, suc, Bool, true, false, List, [], ◌∷◌, ◌++◌, length, take, get_or, Some, ◌⊎◌, inl, inr, refl, sym, ap, ◌∙◌, arith, subst}
+use Rattle.std.proofs.Common.{◌≡◌, ◌+◌, ◌<◌, ◌≤◌, ℕ, Bool, true, false, List, [], ◌∷◌, ◌++◌, length, take, get_or, Some, ◌⊎◌, inl, inr, refl, sym, ap, ◌∙◌, arith}
 use Rattle.std.specs.Prelude.{if◌then◌else◌, min, slice_get}
 use Rattle.std.proofs.Math.Nat.{min-eq_left, min-eq_right}
 use Rattle.std.proofs.lemmas.Bool.{both_ways}
@@ -17,10 +17,6 @@ either_first : (a b : ℕ) → (a ≤ b) ⊎ (b < a)
 either_first a b = search arith
 
 module _ {K A : Type 0} (commits : ℕ) where
-  -- of no cursors
-  pub horizon_of_none : IsHorizon {K = K} {A = A} commits [] commits
-  horizon_of_none = record { within = omega arith; least = λ opened scan. absurd (let e = scan.is in cc); reached = inl refl }
-
   module _ (cursors : List (OpenCursor K A)) where
     -- a cursor in its place
     pub horizon_below : (horizon at : ℕ) (k : OpenCursor K A) → IsHorizon commits cursors horizon → slice_get cursors at ≡ Some k → (k.stack ≡ []) ⊎ (horizon ≤ k.opened)
@@ -53,7 +49,7 @@ module _ {K A : Type 0} (commits : ℕ) where
           | inl old ↦ is.least opened old
           | inr last ↦ omega (arith, above last.0, last.1)
         ];
-        reached = elim is.reached [ | inl all ↦ inl all | inr scan ↦ inr (later horizon scan) ];
+        reached = elim is.reached [ inl all ↦ inl all | inr scan ↦ inr (later horizon scan) ];
       }
 
       lowered : (horizon : ℕ) → IsHorizon commits cursors horizon → is_scanning k.stack ≡ true → k.opened < horizon → IsHorizon commits (cursors ++ k ∷ []) k.opened

@@ -1,7 +1,12 @@
-//! Trials of the tree over a class of keys: a worked trace of steps with its answers, and each call once.
+//! Trials of the tree over a class of keys: a worked trace of steps with its answers, ways of finders, the horizon of
+//! cursors, and each call once.
 #![tactic(auto)]
 
 #[cfg(test)]
 mod calls;
+#[cfg(test)]
+mod finders;
+#[cfg(test)]
+mod horizons;
 #[cfg(test)]
 mod trace;

@@ -17,7 +17,7 @@ enum Step {
 }
 
 /// Two entries to the left and two to the right.
-fn halves(alloc: Global) -> Result<Sides, Fail> {
+pub fn halves(alloc: Global) -> Result<Sides, Fail> {
     let mut sides = Sides::new(alloc);
     for side in [Side::Left, Side::Left, Side::Right, Side::Right] {
         sides.push(side)?;

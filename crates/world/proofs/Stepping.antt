@@ -595,6 +595,9 @@ module _ {C O K A E : Type 0} (w : Words K A) (laws : WordLaws w) (seat : ℕ) (
   step_leads (event.Close x) reply.Closed new d = leads_by_close x new d
   step_leads e r new d = absurd d.change
 
+  pub step_sound : (e : Event C K A) (r : Reply C O K A E) (new : State K A) → Step w seat old e r new → IsSoundWorld w.is_cover new
+  step_sound e r new d = (step_leads e r new d).sound
+
   pub step_serves : (e : Event C K A) (r : Reply C O K A E) (new : State K A) → Step w seat old e r new → ServesAll w old e r new
   step_serves e r new d = (step_leads e r new d).effect.serves
 

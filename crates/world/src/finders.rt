@@ -106,8 +106,8 @@ impl<C: KeyClass, O: Outlet<C::Key>> World<C, O> {
         ensures { (seat : ℕ) → Step (words C.is_match C.is_consistent C.is_cover C.union_of O.may_take O.may_refuse O.is_emptied_elsewhere) seat self.old (event.Unfind f) result self.new }
     {
         match place_of(self.finders.as_slice(), f) {
-            Some(at) => {
-                self.finders.remove(at);
+            Some(place) => {
+                self.finders.remove(place);
                 return Reply::Unfound;
             }
             None => return Reply::Refused(Refusal::NoSuchFinder),

@@ -131,6 +131,7 @@ impl<C: KeyClass, O: Outlet<C::Key>> World<C, O> {
     /// One event, in one atomic step.
     pub fn step(&mut self, event: Event<C>) -> Reply<C, O>
         ensures step { Step (words C.is_match C.is_consistent C.is_cover C.union_of O.may_take O.may_refuse O.is_emptied_elsewhere) 0 self.old event result self.new }
+        ensures sound { IsSoundWorld C.is_cover self.new }
         ensures serves { ServesAll (words C.is_match C.is_consistent C.is_cover C.union_of O.may_take O.may_refuse O.is_emptied_elsewhere) self.old event result self.new }
         ensures opening { FitsAtOpening (words C.is_match C.is_consistent C.is_cover C.union_of O.may_take O.may_refuse O.is_emptied_elsewhere) result self.new }
         ensures less_work { LowersWork (words C.is_match C.is_consistent C.is_cover C.union_of O.may_take O.may_refuse O.is_emptied_elsewhere) self.old event result self.new }
@@ -142,6 +143,7 @@ impl<C: KeyClass, O: Outlet<C::Key>> World<C, O> {
     /// One event, in one atomic step, for a seat. A commit's reply holds the seat's number.
     pub fn step_as(&mut self, seat: u32, event: Event<C>) -> Reply<C, O>
         ensures step { Step (words C.is_match C.is_consistent C.is_cover C.union_of O.may_take O.may_refuse O.is_emptied_elsewhere) seat self.old event result self.new }
+        ensures sound { IsSoundWorld C.is_cover self.new }
         ensures serves { ServesAll (words C.is_match C.is_consistent C.is_cover C.union_of O.may_take O.may_refuse O.is_emptied_elsewhere) self.old event result self.new }
         ensures opening { FitsAtOpening (words C.is_match C.is_consistent C.is_cover C.union_of O.may_take O.may_refuse O.is_emptied_elsewhere) result self.new }
         ensures less_work { LowersWork (words C.is_match C.is_consistent C.is_cover C.union_of O.may_take O.may_refuse O.is_emptied_elsewhere) self.old event result self.new }
