@@ -53,3 +53,6 @@ impl<K: Copy> RoomyList<K> {
         }
     }
 }
+
+#[cfg(test)]
+mod tests;

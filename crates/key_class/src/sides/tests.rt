@@ -14,3 +14,14 @@ fn gathers_sides(rt: HostRuntime) -> Result<(), Fail> {
     assert_eq!(rt; sides.side(2), Side::Left);
     Ok(())
 }
+
+#[test]
+fn copies_sides(rt: HostRuntime) -> Result<(), Fail> {
+    let mut sides = Sides::new(rt.alloc());
+    sides.push(Side::Right)?;
+    sides.push(Side::Left)?;
+    let copy = sides.copy(rt.alloc())?;
+    assert_eq!(rt; (sides.len(), copy.len()), (2, 2));
+    assert_eq!(rt; (copy.side(0), copy.side(1)), (Side::Right, Side::Left));
+    Ok(())
+}
