@@ -1,4 +1,5 @@
 pub mod Bytes
+pub mod Conversing
 pub mod Filling
 pub mod Opening
 pub mod Progress

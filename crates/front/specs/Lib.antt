@@ -1,6 +1,10 @@
 pub mod AsTold
+pub mod Conversations
+pub mod EventLines
+pub mod EventReplies
 pub mod Held
 pub mod Lines
+pub mod Replays
 pub mod Replies
 pub mod Requests
 pub mod Sessions

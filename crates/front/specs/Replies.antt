@@ -3,6 +3,7 @@ use Rattle.std.specs.Prelude.{ℕ, List, [], ◌++◌, length, codes}
 use Rattle.std.specs.List.{flat_map}
 use Rattle.std.specs.Fmt.{decimal}
 use Rattle.key_class.specs.Refusals as refusals
+use Rattle.key_class.specs.declared.refusal.Refusal.{Refusal}
 use Rattle.change_list.specs.declared.item.Row.{Row}
 use Rattle.change_list.specs.declared.item.Item.{Item}
 use Rattle.change_list.specs.declared.item.Item.TheVariants as item
@@ -13,6 +14,9 @@ use Rattle.front.specs.declared.reply.Reply.TheVariants as reply
 abbrev pub listed : {K : Type 0} → Reply K → List (Row K)
 listed (reply.Found rows) = rows.items
 listed _ = []
+
+abbrev pub refusal_line : Refusal → List ℕ
+refusal_line why = codes "refused " ++ (refusals.text_of why ++ codes "\n")
 
 module _ {K : Type 0} (key_text : K → List ℕ) where
   -- a row's number, its key and its tag
@@ -38,7 +42,7 @@ module _ {K : Type 0} (key_text : K → List ℕ) where
   first_line (reply.Found rows) = codes "found " ++ (decimal (length rows.items) ++ codes "\n")
   first_line (reply.Swept n) = codes "swept " ++ (decimal n ++ codes "\n")
   first_line reply.Closed = codes "closed\n"
-  first_line (reply.Refused why) = codes "refused " ++ (refusals.text_of why ++ codes "\n")
+  first_line (reply.Refused why) = refusal_line why
 
   -- the lines of a reply: those of the rows found stand behind the first
   abbrev pub text_of : Reply K → List ℕ

@@ -44,11 +44,11 @@ abbrev pub alone : {A : Type 0} → A → List Placed → Result A ℕ
 alone asked [] = Ok asked
 alone asked (t ∷ ts) = Err t.place
 
--- a command of one number
-abbrev pub one_number : {K : Type 0} → (ℕ → Command K) → ℕ → List Placed → Result (Command K) ℕ
-one_number command len ts = do
+-- what is asked with one number
+abbrev pub one_number : {A : Type 0} → (ℕ → A) → ℕ → List Placed → Result A ℕ
+one_number asked len ts = do
   number ← natural_at len ts
-  alone (command number.0) number.1
+  alone (asked number.0) number.1
 
 abbrev pub key_and_tag : {K : Type 0} → (ℕ → List Placed → Reading K) → ℕ → List Placed → Result (Command K) ℕ
 key_and_tag key_at len ts = do

@@ -107,3 +107,12 @@ module _ {K A : Type 0} (key_at : ℕ → List Placed → Reading K) (atom_of : 
         pub parted : lines ++ rest ∷ [] ≡ first ++ others
         pub answers : Answers (nothing_told limit) first text told
         pub as_told : IsAsTold matching store told
+
+module _ {K A : Type 0} (key_at : ℕ → List Placed → Reading K) (atom_of : Rel → K → A) (matching : A → K → Bool) (key_text : K → List ℕ) where
+  -- The text answers the tokens of a line with so many bytes: it is one that may, whatever was told that the store is
+  -- as, and then the store is as is told.
+  pub record AnswersTokens (len : ℕ) (old : State K A) (ts : List Placed) (text : List ℕ) (new : State K A) : Type 0 where
+    pub said : Option (Reply K)
+    pub is_text : text ≡ text_of_answer key_text said
+    pub pages : new.pages_left ≤ old.pages_left
+    pub replies : (told : Told K A) → IsAsTold matching old told → (after : Told K A) × RepliesTokens key_at atom_of matching new.pages_left len told ts said after × IsAsTold matching new after

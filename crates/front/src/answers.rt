@@ -1,7 +1,7 @@
 ghost use Rattle.std.specs.Prelude.{◌≡◌, ℕ, ◌+◌, ◌<◌, ◌≤◌, List, [], ◌++◌, length, codes, OnOk, IfErr, OnErr};
 ghost use Rattle.std.specs.List.{flat_map};
 ghost use Rattle.std.specs.Fmt.{decimal};
-ghost use Rattle.front.specs.Replies.{row_text, row_line, item_line, first_line, listed, text_of};
+ghost use Rattle.front.specs.Replies.{row_text, row_line, item_line, refusal_line, first_line, listed, text_of};
 ghost use Rattle.std.specs.Io.KnownBytes.{Appends};
 ghost use Rattle.front.specs.Written.{Writes};
 
@@ -36,7 +36,7 @@ pub fn send<W: Write>(writer: &mut W, gathered: &mut Vec<u8>) -> Result<(), Faul
 }
 
 /// Writes what was gathered, once it is enough.
-fn send_enough<W: Write>(writer: &mut W, gathered: &mut Vec<u8>) -> Result<(), Fault>
+pub fn send_enough<W: Write>(writer: &mut W, gathered: &mut Vec<u8>) -> Result<(), Fault>
     ensures ok { OnOk result (Writes (W.contents writer.old) gathered.old.items (W.contents writer.new) gathered.new.items []) }
     ensures err { IfErr result (λ e. e ≡ Fault.Write) }
 {
@@ -57,7 +57,8 @@ fn write_row<C: ClassText, W: Write>(row: &Row<C::Key>, writer: &mut W) -> io::R
     write!(writer, " {tag}")
 }
 
-fn write_item<C: ClassText, W: Write>(item: &Item<C::Key>, writer: &mut W) -> io::Result<()>
+/// Writes the line of an item.
+pub fn write_item<C: ClassText, W: Write>(item: &Item<C::Key>, writer: &mut W) -> io::Result<()>
     ensures { OnOk result (Appends (W.contents writer.old) (W.contents writer.new) (item_line C.key_text item.now)) }
 {
     match item {
@@ -102,6 +103,31 @@ fn write_rows<C: ClassText, W: Write>(
     Ok(())
 }
 
+/// Writes the line of a refusal.
+pub fn write_refusal<W: Write>(why: Refusal, writer: &mut W) -> io::Result<()>
+    ensures { OnOk result (Appends (W.contents writer.old) (W.contents writer.new) (refusal_line why)) }
+{
+    writeln!(writer, "refused {why}")
+}
+
+/// Writes a refusal, behind the answers that are gathered.
+///
+/// # Errors
+/// `Write` where the writer failed, or the gathered answers found no memory; the writer may hold the beginning.
+pub fn gather_refusal<W: Write>(
+    why: Refusal,
+    writer: &mut W,
+    gathered: &mut Vec<u8>,
+) -> Result<(), Fault>
+    ensures ok { OnOk result (Writes (W.contents writer.old) gathered.old.items (W.contents writer.new) gathered.new.items (refusal_line why)) }
+    ensures err { IfErr result (λ e. e ≡ Fault.Write) }
+{
+    match write_refusal(why, gathered) {
+        Ok(()) => send_enough(writer, gathered),
+        Err(_) => Err(Fault::Write),
+    }
+}
+
 /// Writes a reply of one line.
 fn write_line<C: ClassText, W: Write>(reply: &Reply<C::Key>, writer: &mut W) -> io::Result<()>
     ensures { OnOk result (Appends (W.contents writer.old) (W.contents writer.new) (first_line C.key_text reply.now)) }
@@ -118,7 +144,7 @@ fn write_line<C: ClassText, W: Write>(reply: &Reply<C::Key>, writer: &mut W) -> 
         }
         Reply::Swept(number) => writeln!(writer, "swept {number}"),
         Reply::Closed => writer.write_all(b"closed\n"),
-        Reply::Refused(why) => writeln!(writer, "refused {why}"),
+        Reply::Refused(why) => write_refusal(*why, writer),
     }
 }
 

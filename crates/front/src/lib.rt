@@ -1,13 +1,19 @@
-//! Sessions: lines of commands in, lines of answers out, over a store.
+//! Lines in, lines of answers out: sessions of commands over a store, replays of events over a world.
 #![tactic(auto)]
 
 mod answers;
 mod commands;
+mod conversation;
+mod event_answers;
+mod event_request;
+mod events;
 mod line_buffer;
 mod reply;
 mod request;
 mod serve;
+mod tokens;
 
+pub use events::replay;
 pub use line_buffer::MAX_LINE;
 pub use reply::Reply;
 pub use serve::session;

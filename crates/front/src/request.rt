@@ -1,8 +1,8 @@
-ghost use Rattle.std.specs.Prelude.{◌≡◌, ◌<◌, length, MatchResult, MatchOption, codes};
+ghost use Rattle.std.specs.Prelude.{◌≡◌, length};
 ghost use Rattle.query_text.specs.Tokens.{token_in, placed};
-ghost use Rattle.query_text.specs.Keys.{Gives};
-ghost use Rattle.front.specs.Requests.{verb_of, verb_of_word, natural_at, alone, asked_by, key_and_tag, one_number, room_and_query, command_of, IsAsked, delete_row, next_item, ask_mark, close_cursor};
+ghost use Rattle.front.specs.Requests.{verb_of, verb_of_word, asked_by, key_and_tag, room_and_query, IsAsked};
 
+use crate::tokens::{end, lone_number, natural};
 use query_text::{ClassText, Kind, Lexeme};
 
 /// The word that a command begins with.
@@ -67,39 +67,6 @@ pub fn read_verb(text: &[u8], lexeme: Lexeme) -> Verb
     }
 }
 
-/// A number from 0 to 2^64 - 1 at the front, and the lexemes behind it.
-///
-/// # Errors
-/// The place of the fault, which is the text's length at its end.
-fn natural<'a>(text: &[u8], lexemes: &'a [Lexeme]) -> Result<(u64, &'a [Lexeme]), usize>
-    ensures { Gives text.now result (natural_at (length text.now) (placed text.now lexemes.now)) }
-{
-    match lexemes {
-        [] => Err(text.len()),
-        [first, rest @ ..] => match first.unsigned(text) {
-            Some(number) => Ok((number, rest)),
-            None => Err(first.place),
-        },
-    }
-}
-
-/// A request with nothing behind it.
-///
-/// # Errors
-/// The place of what stands behind it.
-fn only<'a, K: Copy>(
-    text: &[u8],
-    request: Request<'a, K>,
-    rest: &[Lexeme],
-) -> Result<Request<'a, K>, usize>
-    ensures { IsAsked text.now result (alone (command_of text.now request.entry) (placed text.now rest.now)) }
-{
-    match rest {
-        [] => Ok(request),
-        [first, ..] => Err(first.place),
-    }
-}
-
 fn insert<'a, C: ClassText>(
     text: &[u8],
     lexemes: &'a [Lexeme],
@@ -108,35 +75,8 @@ fn insert<'a, C: ClassText>(
 {
     let key = C::read_key(text, lexemes)?;
     let tag = natural(text, key.1)?;
-    only(text, Request::Insert(key.0, tag.0), tag.1)
-}
-
-fn delete<'a, K: Copy>(text: &[u8], lexemes: &'a [Lexeme]) -> Result<Request<'a, K>, usize>
-    ensures { IsAsked text.now result (one_number delete_row (length text.now) (placed text.now lexemes.now)) }
-{
-    let row = natural(text, lexemes)?;
-    only(text, Request::Delete(row.0), row.1)
-}
-
-fn next<'a, K: Copy>(text: &[u8], lexemes: &'a [Lexeme]) -> Result<Request<'a, K>, usize>
-    ensures { IsAsked text.now result (one_number next_item (length text.now) (placed text.now lexemes.now)) }
-{
-    let cursor = natural(text, lexemes)?;
-    only(text, Request::Next(cursor.0), cursor.1)
-}
-
-fn mark<'a, K: Copy>(text: &[u8], lexemes: &'a [Lexeme]) -> Result<Request<'a, K>, usize>
-    ensures { IsAsked text.now result (one_number ask_mark (length text.now) (placed text.now lexemes.now)) }
-{
-    let cursor = natural(text, lexemes)?;
-    only(text, Request::Mark(cursor.0), cursor.1)
-}
-
-fn close<'a, K: Copy>(text: &[u8], lexemes: &'a [Lexeme]) -> Result<Request<'a, K>, usize>
-    ensures { IsAsked text.now result (one_number close_cursor (length text.now) (placed text.now lexemes.now)) }
-{
-    let cursor = natural(text, lexemes)?;
-    only(text, Request::Close(cursor.0), cursor.1)
+    end(tag.1)?;
+    Ok(Request::Insert(key.0, tag.0))
 }
 
 fn open<'a, K: Copy>(text: &[u8], lexemes: &'a [Lexeme]) -> Result<Request<'a, K>, usize>
@@ -159,13 +99,16 @@ pub fn read_request<'a, C: ClassText>(
 {
     match read_verb(text, first) {
         Verb::Insert => insert::<C>(text, rest),
-        Verb::Delete => delete(text, rest),
+        Verb::Delete => Ok(Request::Delete(lone_number(text, rest)?)),
         Verb::Open => open(text, rest),
-        Verb::Next => next(text, rest),
-        Verb::Mark => mark(text, rest),
+        Verb::Next => Ok(Request::Next(lone_number(text, rest)?)),
+        Verb::Mark => Ok(Request::Mark(lone_number(text, rest)?)),
         Verb::Find => Ok(Request::Find(rest)),
-        Verb::Sweep => only(text, Request::Sweep, rest),
-        Verb::Close => close(text, rest),
+        Verb::Sweep => {
+            end(rest)?;
+            Ok(Request::Sweep)
+        }
+        Verb::Close => Ok(Request::Close(lone_number(text, rest)?)),
         Verb::Other => Err(first.place),
     }
 }

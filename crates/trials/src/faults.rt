@@ -1,10 +1,7 @@
-use super::rows::CONFIG;
-use front::session;
-use interval_class::Intervals;
+use super::runs::{Kind, run};
 use key_class::Fault;
 use std::io::{self, ErrorKind, Read, Write};
 use std::test::Fail;
-use store::Store;
 
 /// A reader that gives some bytes at a time, and fails at its last call.
 #[derive(Drop)]
@@ -54,42 +51,65 @@ impl Write for Stopping {
     }
 }
 
-const INPUT: &[u8] = b"insert (5 5) 0\nfind overlaps(5 5)\ninsert (6 6) 1\n";
+/// Three lines, with two commits in all.
+#[derive(Clone, Copy)]
+struct Lines {
+    kind: Kind,
+    input: &'static [u8],
+    /// The answers to as many first lines.
+    answers: [&'static str; 4],
+}
 
-/// The answers of as many first lines of the input.
-const ANSWERS: [&str; 4] = [
-    "",
-    "committed 1\n",
-    "committed 1\nfound 1\nrow 1 (5 5) 0\n",
-    "committed 1\nfound 1\nrow 1 (5 5) 0\ncommitted 2\n",
-];
+const COMMANDS: Lines = Lines {
+    kind: Kind::Session,
+    input: b"insert (5 5) 0\nfind overlaps(5 5)\ninsert (6 6) 1\n",
+    answers: [
+        "",
+        "committed 1\n",
+        "committed 1\nfound 1\nrow 1 (5 5) 0\n",
+        "committed 1\nfound 1\nrow 1 (5 5) 0\ncommitted 2\n",
+    ],
+};
+
+const EVENTS: Lines = Lines {
+    kind: Kind::Replay,
+    input: b"place 0 (5 5) 0\nopen 4 overlaps(5 5)\nplace 0 (6 6) 1\n",
+    answers: [
+        "",
+        "committed 1\n",
+        "committed 1\nopened 1\n",
+        "committed 1\nopened 1\ncommitted 2\n",
+    ],
+};
 
 #[test]
 fn reader_that_fails(rt: HostRuntime) -> Result<(), Fail> {
-    for at_once in [1, 7, 20, 100] {
-        for calls in 0..50 {
-            let mut store = Store::<Intervals>::new(rt.alloc(), CONFIG)?;
-            let mut reader = Breaking {
-                rest: INPUT,
-                at_once,
-                calls,
-            };
-            let mut writer = Vec::new(rt.alloc());
-            let result = session(rt.alloc(), &mut reader, &mut writer, &mut store);
-            let whole = INPUT
-                .iter()
-                .take(at_once.saturating_mul(calls))
-                .filter(|byte| **byte == b'\n')
-                .count();
-            if at_once.saturating_mul(calls.saturating_sub(1)) < INPUT.len() {
-                assert!(rt; matches!(result, Err(Fault::Read)));
-            } else {
-                assert!(rt; result.is_ok());
+    for lines in [COMMANDS, EVENTS] {
+        for at_once in [1, 7, 20, 100] {
+            for calls in 0..55 {
+                let mut reader = Breaking {
+                    rest: lines.input,
+                    at_once,
+                    calls,
+                };
+                let mut writer = Vec::new(rt.alloc());
+                let ending = run(rt, lines.kind, &mut reader, &mut writer)?;
+                let whole = lines
+                    .input
+                    .iter()
+                    .take(at_once.saturating_mul(calls))
+                    .filter(|byte| **byte == b'\n')
+                    .count();
+                if at_once.saturating_mul(calls.saturating_sub(1)) < lines.input.len() {
+                    assert!(rt; matches!(ending.result, Err(Fault::Read)));
+                } else {
+                    assert!(rt; ending.result.is_ok());
+                }
+                assert_eq!(rt;
+                    Some(writer.as_slice()),
+                    lines.answers.get(whole).map(|text| text.as_bytes())
+                );
             }
-            assert_eq!(rt;
-                Some(writer.as_slice()),
-                ANSWERS.get(whole).map(|text| text.as_bytes())
-            );
         }
     }
     Ok(())
@@ -97,25 +117,26 @@ fn reader_that_fails(rt: HostRuntime) -> Result<(), Fail> {
 
 #[test]
 fn writer_that_fails(rt: HostRuntime) -> Result<(), Fail> {
-    let all = ANSWERS[3].as_bytes();
-    for at_once in [1, 7, 20, 100] {
-        for calls in 0..50 {
-            let mut store = Store::<Intervals>::new(rt.alloc(), CONFIG)?;
-            let mut reader = INPUT;
-            let mut writer = Stopping {
-                kept: Vec::new(rt.alloc()),
-                at_once,
-                calls,
-            };
-            let result = session(rt.alloc(), &mut reader, &mut writer, &mut store);
-            let kept = all.len().min(at_once.saturating_mul(calls));
-            if kept < all.len() {
-                assert!(rt; matches!(result, Err(Fault::Write)));
-            } else {
-                assert!(rt; result.is_ok());
+    for lines in [COMMANDS, EVENTS] {
+        let all = lines.answers[3].as_bytes();
+        for at_once in [1, 7, 20, 100] {
+            for calls in 0..55 {
+                let mut reader = lines.input;
+                let mut writer = Stopping {
+                    kept: Vec::new(rt.alloc()),
+                    at_once,
+                    calls,
+                };
+                let ending = run(rt, lines.kind, &mut reader, &mut writer)?;
+                let kept = all.len().min(at_once.saturating_mul(calls));
+                if kept < all.len() {
+                    assert!(rt; matches!(ending.result, Err(Fault::Write)));
+                } else {
+                    assert!(rt; ending.result.is_ok());
+                }
+                assert_eq!(rt; writer.kept.as_slice(), &all[..kept]);
+                assert_eq!(rt; ending.commits, 2);
             }
-            assert_eq!(rt; writer.kept.as_slice(), &all[..kept]);
-            assert_eq!(rt; store.commits(), 2);
         }
     }
     Ok(())

@@ -1,4 +1,4 @@
-//! Trials over memory: calls of a store, sessions of lines with their answers, readers and writers that fail.
+//! Trials over memory: calls of a store, sessions and replays of lines with their answers, readers and writers that fail.
 #![tactic(auto)]
 
 #[cfg(test)]
@@ -8,4 +8,8 @@ mod faults;
 #[cfg(test)]
 mod memory;
 #[cfg(test)]
+mod replays;
+#[cfg(test)]
 mod rows;
+#[cfg(test)]
+mod runs;

@@ -1,74 +1,14 @@
-use Rattle.std.proofs.Common.{arith, ◌+◌, ℕ, Bool, List, length, drop, subst}
-use Rattle.std.specs.Result.{OnOk}
-use Rattle.front.specs.Written.{Writes}
-use Rattle.front.specs.Held.{Fills}
-use Rattle.front.proofs.Progress.{begin, new_as_told, stands_now, sent, filled, cut_short, answered, stands_after, ended_all, stands_last, no_feed_at_end, keeps_itself}
+use Rattle.front.proofs.Progress.{told_all, told_whole, told_first, if_well}
 use Rattle.front.proofs.serve.session.Goals as goal
 
-pub reading-init : goal.reading-init
-reading-init g c = record {
-  capacity = omega (arith, c.in-Ok-with_capacity.ensures.capacity);
-  no_feed = rw c.in-Ok.ensures tt;
-  progress = rw (c.in-Ok.ensures, c.in-Ok-with_capacity-2.ensures.items) (begin g.C.ClassText.key_at g.C.ClassText.atom_of g.C.KeyClass.is_match g.C.ClassText.key_text c.args.store.now.limit (g.R.Read.remaining c.args.reader.now) (g.W.Write.contents c.args.writer.now) c.args.store.now (new_as_told g.C.KeyClass.is_match c.args.store.now c.requires));
-}
-
-pub returns-in_err-send-clause-write : goal.returns-in_err-send-clause-write
-returns-in_err-send-clause-write g c =
-    λ _. stands_now g.C.ClassText.key_at g.C.ClassText.atom_of g.C.KeyClass.is_match g.C.ClassText.key_text c.args.store.now.limit (g.R.Read.remaining c.args.reader.now) (g.W.Write.contents c.args.writer.now) (g.R.Read.remaining c.reading.reader) (g.W.Write.contents c.reading.writer) c.reading.gathered.items c.reading.store c.reading.lines c.reading.invariant.progress
-
-pub returns-in_err-fill-clause-read : goal.returns-in_err-fill-clause-read
-returns-in_err-fill-clause-read g c =
-    let p = sent g.C.ClassText.key_at g.C.ClassText.atom_of g.C.KeyClass.is_match g.C.ClassText.key_text c.args.store.now.limit (g.R.Read.remaining c.args.reader.now) (g.W.Write.contents c.args.writer.now) (g.R.Read.remaining c.reading.reader) (g.W.Write.contents c.reading.writer) c.reading.gathered.items c.reading.store c.reading.lines c.reading.invariant.progress (g.W.Write.contents c.send.new.writer) c.send.new.gathered.items c.in_ok-send.ensures.ok in
-    λ _. cut_short g.C.ClassText.key_at g.C.ClassText.atom_of g.C.KeyClass.is_match g.C.ClassText.key_text c.args.store.now.limit (g.R.Read.remaining c.args.reader.now) (g.W.Write.contents c.args.writer.now) (g.R.Read.remaining c.reading.reader) (g.W.Write.contents c.send.new.writer) c.send.new.gathered.items c.reading.store c.reading.lines p (g.R.Read.remaining c.fill.new.reader) c.reading.invariant.no_feed c.in_err-fill.ensures.err.1 c.in_ok-send.ensures.empty
-
-pub returns-in_err-answer-clause-write : goal.returns-in_err-answer-clause-write
-returns-in_err-answer-clause-write g c =
-    let p = filled g.C.ClassText.key_at g.C.ClassText.atom_of g.C.KeyClass.is_match g.C.ClassText.key_text c.args.store.now.limit (g.R.Read.remaining c.args.reader.now) (g.W.Write.contents c.args.writer.now) (g.R.Read.remaining c.reading.reader) (g.W.Write.contents c.send.new.writer) c.send.new.gathered.items c.reading.store c.reading.lines (sent g.C.ClassText.key_at g.C.ClassText.atom_of g.C.KeyClass.is_match g.C.ClassText.key_text c.args.store.now.limit (g.R.Read.remaining c.args.reader.now) (g.W.Write.contents c.args.writer.now) (g.R.Read.remaining c.reading.reader) (g.W.Write.contents c.reading.writer) c.reading.gathered.items c.reading.store c.reading.lines c.reading.invariant.progress (g.W.Write.contents c.send.new.writer) c.send.new.gathered.items c.in_ok-send.ensures.ok) (g.R.Read.remaining c.fill.new.reader) c.in_ok-fill.field-0 c.fill.new.self c.reading.invariant.no_feed c.in_ok-fill.ensures.ok in
-    let n = no_feed_at_end (g.R.Read.remaining c.reading.reader) (g.R.Read.remaining c.fill.new.reader) c.reading.lines c.fill.new.self c.reading.invariant.no_feed (subst (λ (b : Bool). Fills (g.R.Read.remaining c.reading.reader) (g.R.Read.remaining c.fill.new.reader) c.reading.lines b c.fill.new.self) c.if-not-branch.true c.in_ok-fill.ensures.ok) in
-    let f = rw (c.rest.ensures, c.is_overlong.ensures) at c.answer.ensures.answers in
-    λ _. stands_last g.C.ClassText.key_at g.C.ClassText.atom_of g.C.KeyClass.is_match g.C.ClassText.key_text c.args.store.now.limit (g.R.Read.remaining c.args.reader.now) (g.W.Write.contents c.args.writer.now) (g.R.Read.remaining c.fill.new.reader) (g.W.Write.contents c.send.new.writer) c.send.new.gathered.items c.reading.store c.fill.new.self p n c.answer.new.store c.answer.ensures.pages (λ (text : List ℕ). OnOk c.answer.result (Writes (g.W.Write.contents c.send.new.writer) c.send.new.gathered.items (g.W.Write.contents c.answer.new.writer) c.answer.new.gathered.items text)) f
-
-pub returns-then-not-branch-clause-ok : goal.returns-then-not-branch-clause-ok
-returns-then-not-branch-clause-ok g c =
-    let p = filled g.C.ClassText.key_at g.C.ClassText.atom_of g.C.KeyClass.is_match g.C.ClassText.key_text c.args.store.now.limit (g.R.Read.remaining c.args.reader.now) (g.W.Write.contents c.args.writer.now) (g.R.Read.remaining c.reading.reader) (g.W.Write.contents c.send.new.writer) c.send.new.gathered.items c.reading.store c.reading.lines (sent g.C.ClassText.key_at g.C.ClassText.atom_of g.C.KeyClass.is_match g.C.ClassText.key_text c.args.store.now.limit (g.R.Read.remaining c.args.reader.now) (g.W.Write.contents c.args.writer.now) (g.R.Read.remaining c.reading.reader) (g.W.Write.contents c.reading.writer) c.reading.gathered.items c.reading.store c.reading.lines c.reading.invariant.progress (g.W.Write.contents c.send.new.writer) c.send.new.gathered.items c.in_ok-send.ensures.ok) (g.R.Read.remaining c.fill.new.reader) c.in_ok-fill.field-0 c.fill.new.self c.reading.invariant.no_feed c.in_ok-fill.ensures.ok in
-    let n = no_feed_at_end (g.R.Read.remaining c.reading.reader) (g.R.Read.remaining c.fill.new.reader) c.reading.lines c.fill.new.self c.reading.invariant.no_feed (subst (λ (b : Bool). Fills (g.R.Read.remaining c.reading.reader) (g.R.Read.remaining c.fill.new.reader) c.reading.lines b c.fill.new.self) c.if-not-branch.true c.in_ok-fill.ensures.ok) in
-    let f = rw (c.rest.ensures, c.is_overlong.ensures) at c.in_ok-answer.ensures.answers in
-    let s = c.in_ok-send-2.ensures in (
-      (c.in_ok-fill.ensures.ok.none_at_end c.if-not-branch.true).1,
-      ended_all g.C.ClassText.key_at g.C.ClassText.atom_of g.C.KeyClass.is_match g.C.ClassText.key_text c.args.store.now.limit (g.R.Read.remaining c.args.reader.now) (g.W.Write.contents c.args.writer.now) (g.R.Read.remaining c.fill.new.reader) (g.W.Write.contents c.send.new.writer) c.send.new.gathered.items c.reading.store c.fill.new.self p n c.answer.new.store c.answer.ensures.pages (g.W.Write.contents c.answer.new.writer) (g.W.Write.contents c.send-then-not-branch.new.writer) c.answer.new.gathered.items c.send-then-not-branch.new.gathered.items f s.ok s.empty,
-    )
-
-pub returns-in_err-send-2-clause-write : goal.returns-in_err-send-2-clause-write
-returns-in_err-send-2-clause-write g c =
-    let p = filled g.C.ClassText.key_at g.C.ClassText.atom_of g.C.KeyClass.is_match g.C.ClassText.key_text c.args.store.now.limit (g.R.Read.remaining c.args.reader.now) (g.W.Write.contents c.args.writer.now) (g.R.Read.remaining c.reading.reader) (g.W.Write.contents c.send.new.writer) c.send.new.gathered.items c.reading.store c.reading.lines (sent g.C.ClassText.key_at g.C.ClassText.atom_of g.C.KeyClass.is_match g.C.ClassText.key_text c.args.store.now.limit (g.R.Read.remaining c.args.reader.now) (g.W.Write.contents c.args.writer.now) (g.R.Read.remaining c.reading.reader) (g.W.Write.contents c.reading.writer) c.reading.gathered.items c.reading.store c.reading.lines c.reading.invariant.progress (g.W.Write.contents c.send.new.writer) c.send.new.gathered.items c.in_ok-send.ensures.ok) (g.R.Read.remaining c.fill.new.reader) c.in_ok-fill.field-0 c.fill.new.self c.reading.invariant.no_feed c.in_ok-fill.ensures.ok in
-    let n = no_feed_at_end (g.R.Read.remaining c.reading.reader) (g.R.Read.remaining c.fill.new.reader) c.reading.lines c.fill.new.self c.reading.invariant.no_feed (subst (λ (b : Bool). Fills (g.R.Read.remaining c.reading.reader) (g.R.Read.remaining c.fill.new.reader) c.reading.lines b c.fill.new.self) c.if-not-branch.true c.in_ok-fill.ensures.ok) in
-    let f = rw (c.rest.ensures, c.is_overlong.ensures) at c.in_ok-answer.ensures.answers in
-    λ _. stands_last g.C.ClassText.key_at g.C.ClassText.atom_of g.C.KeyClass.is_match g.C.ClassText.key_text c.args.store.now.limit (g.R.Read.remaining c.args.reader.now) (g.W.Write.contents c.args.writer.now) (g.R.Read.remaining c.fill.new.reader) (g.W.Write.contents c.send.new.writer) c.send.new.gathered.items c.reading.store c.fill.new.self p n c.answer.new.store c.answer.ensures.pages (λ (text : List ℕ). Writes (g.W.Write.contents c.send.new.writer) c.send.new.gathered.items (g.W.Write.contents c.answer.new.writer) c.answer.new.gathered.items text) f
-
-pub answering-init : goal.answering-init
-answering-init g c = record {
-  capacity = c.reading.invariant.capacity;
-  progress = filled g.C.ClassText.key_at g.C.ClassText.atom_of g.C.KeyClass.is_match g.C.ClassText.key_text c.args.store.now.limit (g.R.Read.remaining c.args.reader.now) (g.W.Write.contents c.args.writer.now) (g.R.Read.remaining c.reading.reader) (g.W.Write.contents c.send.new.writer) c.send.new.gathered.items c.reading.store c.reading.lines (sent g.C.ClassText.key_at g.C.ClassText.atom_of g.C.KeyClass.is_match g.C.ClassText.key_text c.args.store.now.limit (g.R.Read.remaining c.args.reader.now) (g.W.Write.contents c.args.writer.now) (g.R.Read.remaining c.reading.reader) (g.W.Write.contents c.reading.writer) c.reading.gathered.items c.reading.store c.reading.lines c.reading.invariant.progress (g.W.Write.contents c.send.new.writer) c.send.new.gathered.items c.in_ok-send.ensures.ok) (g.R.Read.remaining c.fill.new.reader) c.in_ok-fill.field-0 c.fill.new.self c.reading.invariant.no_feed c.in_ok-fill.ensures.ok;
-}
-
-pub returns-in_err-answer-2-clause-write : goal.returns-in_err-answer-2-clause-write
-returns-in_err-answer-2-clause-write g c =
-    let f = rw c.is_overlong-in-Some.ensures at c.answer-in-Some.ensures.answers in
-    λ _. stands_after g.C.ClassText.key_at g.C.ClassText.atom_of g.C.KeyClass.is_match g.C.ClassText.key_text c.args.store.now.limit (g.R.Read.remaining c.args.reader.now) (g.W.Write.contents c.args.writer.now) (g.R.Read.remaining c.fill.new.reader) (g.W.Write.contents c.answering.writer) c.answering.gathered.items c.answering.store c.answering.lines c.answering.invariant.progress c.in-Some.line.now (drop (length c.in-Some.line.now + 1) c.answering.lines.rest) c.in-Some.ensures.line.1 c.in-Some.ensures.line.0 c.answer-in-Some.new.store c.answer-in-Some.ensures.pages (λ (text : List ℕ). OnOk c.answer-in-Some.result (Writes (g.W.Write.contents c.answering.writer) c.answering.gathered.items (g.W.Write.contents c.answer-in-Some.new.writer) c.answer-in-Some.new.gathered.items text)) f
-
-pub answering-preserved : goal.answering-preserved
-answering-preserved g c =
-    let f = rw c.is_overlong-in-Some.ensures at c.in_ok-answer-2.ensures.answers in
-    record {
-      capacity = c.answer-in-Some.ensures.capacity;
-      progress = rw c.pass.ensures (answered g.C.ClassText.key_at g.C.ClassText.atom_of g.C.KeyClass.is_match g.C.ClassText.key_text c.args.store.now.limit (g.R.Read.remaining c.args.reader.now) (g.W.Write.contents c.args.writer.now) (g.R.Read.remaining c.fill.new.reader) (g.W.Write.contents c.answering.writer) c.answering.gathered.items c.answering.store c.answering.lines c.answering.invariant.progress c.in-Some.line.now (drop (length c.in-Some.line.now + 1) c.answering.lines.rest) c.in-Some.ensures.line.1 c.in-Some.ensures.line.0 c.answer-in-Some.new.store c.answer-in-Some.ensures.pages (g.W.Write.contents c.answer-in-Some.new.writer) c.answer-in-Some.new.gathered.items f);
-    }
-
-pub returns-in_err-send-3-clause-write : goal.returns-in_err-send-3-clause-write
-returns-in_err-send-3-clause-write g c =
-    λ _. stands_now g.C.ClassText.key_at g.C.ClassText.atom_of g.C.KeyClass.is_match g.C.ClassText.key_text c.args.store.now.limit (g.R.Read.remaining c.args.reader.now) (g.W.Write.contents c.args.writer.now) (g.R.Read.remaining c.reading.reader) (g.W.Write.contents c.reading.writer) c.reading.gathered.items c.reading.store c.reading.lines c.reading.invariant.progress
+pub returns-clause-ok : goal.returns-clause-ok
+returns-clause-ok g c =
+    if_well c.converse.result (λ h. (h.0, told_all g.C.ClassText.key_at g.C.ClassText.atom_of g.C.KeyClass.is_match g.C.ClassText.key_text c.args.store.now c.converse.new.responder (g.R.Read.remaining c.args.reader.now) (g.R.Read.remaining c.converse.new.reader) (g.W.Write.contents c.args.writer.now) (g.W.Write.contents c.converse.new.writer) c.requires h.1)) c.converse.ensures.ok
 
 pub returns-clause-read : goal.returns-clause-read
 returns-clause-read g c =
-    let p = sent g.C.ClassText.key_at g.C.ClassText.atom_of g.C.KeyClass.is_match g.C.ClassText.key_text c.args.store.now.limit (g.R.Read.remaining c.args.reader.now) (g.W.Write.contents c.args.writer.now) (g.R.Read.remaining c.reading.reader) (g.W.Write.contents c.reading.writer) c.reading.gathered.items c.reading.store c.reading.lines c.reading.invariant.progress (g.W.Write.contents c.send-2.new.writer) c.send-2.new.gathered.items c.in_ok-send-3.ensures.ok in
-    λ _. cut_short g.C.ClassText.key_at g.C.ClassText.atom_of g.C.KeyClass.is_match g.C.ClassText.key_text c.args.store.now.limit (g.R.Read.remaining c.args.reader.now) (g.W.Write.contents c.args.writer.now) (g.R.Read.remaining c.reading.reader) (g.W.Write.contents c.send-2.new.writer) c.send-2.new.gathered.items c.reading.store c.reading.lines p (g.R.Read.remaining c.reading.reader) c.reading.invariant.no_feed (keeps_itself (g.R.Read.remaining c.reading.reader)) c.in_ok-send-3.ensures.empty
+    λ e. told_whole g.C.ClassText.key_at g.C.ClassText.atom_of g.C.KeyClass.is_match g.C.ClassText.key_text c.args.store.now c.converse.new.responder (g.R.Read.remaining c.args.reader.now) (g.R.Read.remaining c.converse.new.reader) (g.W.Write.contents c.args.writer.now) (g.W.Write.contents c.converse.new.writer) c.requires (c.converse.ensures.read e)
+
+pub returns-clause-write : goal.returns-clause-write
+returns-clause-write g c =
+    λ e. told_first g.C.ClassText.key_at g.C.ClassText.atom_of g.C.KeyClass.is_match g.C.ClassText.key_text c.args.store.now c.converse.new.responder (g.R.Read.remaining c.args.reader.now) (g.R.Read.remaining c.converse.new.reader) (g.W.Write.contents c.args.writer.now) (g.W.Write.contents c.converse.new.writer) c.requires (c.converse.ensures.write e)

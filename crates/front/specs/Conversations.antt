@@ -1,0 +1,57 @@
+-- Lines that are answered one after the other, and what a whole conversation reads and writes.
+use Rattle.std.specs.Prelude.{◌≡◌, ℕ, ◌<◌, ◌≤◌, false, List, [], ◌∷◌, ◌++◌, length, Option, ◌⊎◌}
+use Rattle.std.specs.Io.KnownBytes.{Consumes, Appends}
+use Rattle.key_class.specs.declared.refusal.Refusal.TheVariants as refusal
+use Rattle.query_text.specs.Tokens.{Placed, Cuts}
+use Rattle.front.specs.declared.line_buffer.TheConstants.{MAX_LINE}
+use Rattle.front.specs.Lines.{AreLines}
+use Rattle.front.specs.Replies.{refusal_line}
+
+-- answers: which text may answer the tokens of a line with so many bytes, in one state, and which state comes of it
+module _ {S : Type 0} (answers : ℕ → S → List Placed → List ℕ → S → Type 0) where
+  -- a line that is too long is refused at the first byte too many
+  abbrev pub AnswersLine : S → List ℕ → List ℕ → S → Type 0
+  AnswersLine old line text new =
+      ((MAX_LINE < length line) × (text ≡ refusal_line (refusal.Line MAX_LINE)) × (new ≡ old))
+      ⊎ ((length line ≤ MAX_LINE) × (ts : List Placed) × Cuts false 0 line ts × answers (length line) old ts text new)
+
+  -- the text may answer the lines, one after the other
+  abbrev pub AnswersLines : S → List (List ℕ) → List ℕ → S → Type 0
+  AnswersLines old [] text new = (text ≡ []) × (new ≡ old)
+  AnswersLines old (line ∷ lines) text new =
+      (first : List ℕ) × (mid : S) × (rest : List ℕ) × AnswersLine old line first mid × AnswersLines mid lines rest new × (text ≡ first ++ rest)
+
+  -- The bytes that were read are lines and a last one without a line feed; what was written answers them all.
+  pub record AnsweredAll (before after : Option (List ℕ)) (held written : Option (List ℕ)) (old new : S) : Type 0 where
+    pub bytes : List ℕ
+    pub lines : List (List ℕ)
+    pub rest : List ℕ
+    pub text : List ℕ
+    pub read : Consumes before after bytes
+    pub are_lines : AreLines bytes lines rest
+    pub answers_lines : AnswersLines old (lines ++ rest ∷ []) text new
+    pub wrote : Appends held written text
+
+  -- The bytes that were read are lines and the beginning of another; what was written answers the lines.
+  pub record AnsweredWhole (before after : Option (List ℕ)) (held written : Option (List ℕ)) (old new : S) : Type 0 where
+    pub bytes : List ℕ
+    pub lines : List (List ℕ)
+    pub rest : List ℕ
+    pub text : List ℕ
+    pub read : Consumes before after bytes
+    pub are_lines : AreLines bytes lines rest
+    pub answers_lines : AnswersLines old lines text new
+    pub wrote : Appends held written text
+
+  -- Some first lines of what was read are answered, whatever of the answers was written.
+  pub record AnsweredFirst (before after : Option (List ℕ)) (old new : S) : Type 0 where
+    pub bytes : List ℕ
+    pub lines : List (List ℕ)
+    pub rest : List ℕ
+    pub first : List (List ℕ)
+    pub others : List (List ℕ)
+    pub text : List ℕ
+    pub read : Consumes before after bytes
+    pub are_lines : AreLines bytes lines rest
+    pub parted : lines ++ rest ∷ [] ≡ first ++ others
+    pub answers_lines : AnswersLines old first text new

@@ -1,0 +1,160 @@
+-- What an event line asks of a world.
+use Rattle.std.specs.Prelude.{◌≡◌, ℕ, ◌||◌, ◌==◌, Bool, List, [], ◌∷◌, Option, Some, None, Result, Ok, Err, MatchResult, ◌⊎◌, map, if◌then◌else◌, codes}
+use Rattle.std.specs.List.{list_all}
+use Rattle.std.specs.Str.{bytes_eq}
+use Rattle.key_class.specs.Queries.{query_of}
+use Rattle.key_class.specs.declared.pred.Pred.{Pred}
+use Rattle.key_class.specs.declared.refusal.Refusal.{Refusal}
+use Rattle.key_class.specs.declared.refusal.Refusal.TheVariants as refusal
+use Rattle.key_class.specs.declared.sides.Rel.{Rel}
+use Rattle.key_class.specs.declared.sides.Side.{Side}
+use Rattle.key_class.specs.declared.sides.Side.TheVariants.{Left, Right}
+use Rattle.query_text.specs.Tokens.{Token, word, Placed, placed}
+use Rattle.query_text.specs.Keys.{Reading, ◌>>=◌, or_fault_at}
+use Rattle.query_text.specs.Grammar.{SpellsQuery, RefusesTokens}
+use Rattle.world.specs.declared.event.Event.{Event}
+use Rattle.world.specs.declared.event.Event.TheVariants as event
+use Rattle.front.specs.declared.event_request.EventVerb.{EventVerb}
+use Rattle.front.specs.declared.event_request.EventVerb.TheVariants as verb
+use Rattle.front.specs.declared.event_request.EventRequest.{EventRequest}
+use Rattle.front.specs.declared.event_request.EventRequest.TheVariants as request
+use Rattle.front.specs.Requests.{natural_at, alone, one_number}
+
+-- what a word is at the front of an event line
+abbrev pub verb_of_word : List ℕ → EventVerb
+verb_of_word w =
+    if bytes_eq w (codes "enlarge") then verb.Enlarge
+    else (if bytes_eq w (codes "place") then verb.Place
+    else (if bytes_eq w (codes "split") then verb.Split
+    else (if bytes_eq w (codes "post") then verb.Post
+    else (if bytes_eq w (codes "grow") then verb.Grow
+    else (if bytes_eq w (codes "find") then verb.Find
+    else (if bytes_eq w (codes "seek") then verb.Seek
+    else (if bytes_eq w (codes "unfind") then verb.Unfind
+    else (if bytes_eq w (codes "sweep") then verb.Sweep
+    else (if bytes_eq w (codes "open") then verb.Open
+    else (if bytes_eq w (codes "turn") then verb.Turn
+    else (if bytes_eq w (codes "askmark") then verb.AskMark
+    else (if bytes_eq w (codes "take") then verb.Take
+    else (if bytes_eq w (codes "close") then verb.Close
+    else verb.Other)))))))))))))
+
+abbrev pub verb_of : Token → EventVerb
+verb_of (word w) = verb_of_word w
+verb_of _ = verb.Other
+
+-- What is asked: an event, or a cursor with that room on the query of these tokens, which are those up to the line's end.
+pub data Asked (C K A : Type 0) : Type 0 where
+  one_event : Event C K A → Asked C K A
+  cursor_on : ℕ → List Placed → Asked C K A
+
+-- the letters of sides are l and r
+abbrev pub is_side : ℕ → Bool
+is_side letter = (letter == 108) || (letter == 114)
+
+abbrev pub side_of : ℕ → Side
+side_of letter = if letter == 108 then Left else Right
+
+-- a side for each letter of a word that has no others
+abbrev pub sides_of : Token → Option (List Side)
+sides_of (word w) = if list_all is_side w then Some (map side_of w) else None
+sides_of _ = None
+
+abbrev pub sides_at : ℕ → List Placed → Reading (List Side)
+sides_at len [] = Err len
+sides_at len (t ∷ ts) = or_fault_at t.place ts (sides_of t.token)
+
+-- the event has sides, which are collected with memory
+abbrev pub HasSides : {C K A : Type 0} → Event C K A → Type 0
+HasSides (event.Split page sides) = Unit
+HasSides (event.Grow sides) = Unit
+HasSides _ = ⊥
+
+module _ {C K A : Type 0} (key_at : ℕ → List Placed → Reading K) (atom_of : Rel → K → A) where
+  -- of a line with so many bytes this is the event
+  abbrev pub IsEvent : ℕ → Asked C K A → Event C K A → Type 0
+  IsEvent len (one_event asked) e = e ≡ asked
+  IsEvent len (cursor_on room ts) e = (query : Pred A) × SpellsQuery key_at atom_of len ts (query_of query) × (e ≡ event.Open query room)
+
+  -- there is no event: the query's tokens are refused at a place, or memory was wanting for sides or a query
+  abbrev pub IsNoEvent : ℕ → Asked C K A → Refusal → Type 0
+  IsNoEvent len (one_event asked) why = HasSides asked × (why ≡ refusal.OutOfMemory)
+  IsNoEvent len (cursor_on room ts) why =
+      ((place : ℕ) × RefusesTokens key_at atom_of len ts place × (why ≡ refusal.QueryText place))
+      ⊎ (why ≡ refusal.OutOfMemory)
+
+module _ {C K A : Type 0} (key_at : ℕ → List Placed → Reading K) where
+  abbrev pub two_pages_and_key : ℕ → List Placed → Result (Asked C K A) ℕ
+  two_pages_and_key len ts = do
+    parent ← natural_at len ts
+    child ← natural_at len parent.1
+    key ← key_at len child.1
+    alone (one_event (event.Enlarge parent.0 child.0 key.0)) key.1
+
+  abbrev pub page_key_and_tag : ℕ → List Placed → Result (Asked C K A) ℕ
+  page_key_and_tag len ts = do
+    page ← natural_at len ts
+    key ← key_at len page.1
+    tag ← natural_at len key.1
+    alone (one_event (event.Place page.0 key.0 tag.0)) tag.1
+
+abbrev pub page_and_sides : {C K A : Type 0} → ℕ → List Placed → Result (Asked C K A) ℕ
+page_and_sides len ts = do
+  page ← natural_at len ts
+  sides ← sides_at len page.1
+  alone (one_event (event.Split page.0 sides.0)) sides.1
+
+abbrev pub two_pages : {C K A : Type 0} → ℕ → List Placed → Result (Asked C K A) ℕ
+two_pages len ts = do
+  parent ← natural_at len ts
+  child ← natural_at len parent.1
+  alone (one_event (event.Post parent.0 child.0)) child.1
+
+abbrev pub only_sides : {C K A : Type 0} → ℕ → List Placed → Result (Asked C K A) ℕ
+only_sides len ts = do
+  sides ← sides_at len ts
+  alone (one_event (event.Grow sides.0)) sides.1
+
+abbrev pub room_and_query : {C K A : Type 0} → ℕ → List Placed → Result (Asked C K A) ℕ
+room_and_query len ts = do
+  room ← natural_at len ts
+  Ok (cursor_on room.0 room.1)
+
+-- what the tokens behind a verb ask, or the place of the first fault; any other first token is one
+abbrev pub asked_by : {C K A : Type 0} → (ℕ → List Placed → Reading K) → ℕ → ℕ → EventVerb → List Placed → Result (Asked C K A) ℕ
+asked_by key_at len place verb.Enlarge ts = two_pages_and_key key_at len ts
+asked_by key_at len place verb.Place ts = page_key_and_tag key_at len ts
+asked_by key_at len place verb.Split ts = page_and_sides len ts
+asked_by key_at len place verb.Post ts = two_pages len ts
+asked_by key_at len place verb.Grow ts = only_sides len ts
+asked_by key_at len place verb.Find ts = one_number (λ row. one_event (event.Find row)) len ts
+asked_by key_at len place verb.Seek ts = one_number (λ f. one_event (event.Seek f)) len ts
+asked_by key_at len place verb.Unfind ts = one_number (λ f. one_event (event.Unfind f)) len ts
+asked_by key_at len place verb.Sweep ts = one_number (λ page. one_event (event.Sweep page)) len ts
+asked_by key_at len place verb.Open ts = room_and_query len ts
+asked_by key_at len place verb.Turn ts = one_number (λ c. one_event (event.Turn c)) len ts
+asked_by key_at len place verb.AskMark ts = one_number (λ c. one_event (event.AskMark c)) len ts
+asked_by key_at len place verb.Take ts = one_number (λ c. one_event (event.Take c)) len ts
+asked_by key_at len place verb.Close ts = one_number (λ c. one_event (event.Close c)) len ts
+asked_by key_at len place verb.Other ts = Err place
+
+-- what a request with lexemes of a text asks
+abbrev pub asked_of : {C K A : Type 0} → List ℕ → EventRequest K → Asked C K A
+asked_of text (request.Enlarge parent child key) = one_event (event.Enlarge parent child key)
+asked_of text (request.Place page key tag) = one_event (event.Place page key tag)
+asked_of text (request.Split page letters) = one_event (event.Split page (map side_of letters.now))
+asked_of text (request.Post parent child) = one_event (event.Post parent child)
+asked_of text (request.Grow letters) = one_event (event.Grow (map side_of letters.now))
+asked_of text (request.Find row) = one_event (event.Find row)
+asked_of text (request.Seek f) = one_event (event.Seek f)
+asked_of text (request.Unfind f) = one_event (event.Unfind f)
+asked_of text (request.Sweep page) = one_event (event.Sweep page)
+asked_of text (request.Open room lexemes) = cursor_on room (placed text lexemes.now)
+asked_of text (request.Turn c) = one_event (event.Turn c)
+asked_of text (request.AskMark c) = one_event (event.AskMark c)
+asked_of text (request.Take c) = one_event (event.Take c)
+asked_of text (request.Close c) = one_event (event.Close c)
+
+-- what was returned is what reading gives
+abbrev pub IsAsked : {C K A : Type 0} → List ℕ → Result (EventRequest K) ℕ → Result (Asked C K A) ℕ → Type 0
+IsAsked text returned read = MatchResult returned (λ r. read ≡ Ok (asked_of text r)) (λ place. read ≡ Err place)

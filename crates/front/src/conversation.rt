@@ -1,0 +1,121 @@
+//! Lines in, answers out, over what answers them.
+ghost use Rattle.std.specs.Prelude.{◌≡◌, ℕ, ◌≤◌, List, length, ◌⊎◌, OnOk, IfErr, vec_capacity, Err};
+ghost use Rattle.std.specs.Io.KnownBytes.{IsAtEnd};
+ghost use Rattle.query_text.specs.Tokens.{Placed, placed};
+ghost use Rattle.front.specs.Conversations.{AnswersLine, AnsweredAll, AnsweredWhole, AnsweredFirst};
+ghost use Rattle.front.specs.Held.{IsRestOf};
+ghost use Rattle.front.specs.Written.{Writes};
+
+use crate::answers::{ANSWERS, gather_refusal, send};
+use crate::line_buffer::{LineBuffer, MAX_LINE};
+use key_class::{Fault, Refusal};
+use query_text::{Lexeme, scan};
+use std::alloc::Global;
+use std::io::{Read, Write};
+
+/// What answers lines by their tokens, and is changed by them.
+pub trait Responder {
+    /// Whether a text may answer the tokens of a line with so many bytes, and what becomes of the responder.
+    ghost answers: { ℕ → Self → List Placed → List ℕ → Self → Type 0 };
+
+    /// Answers the lexemes of a line, behind the answers that are gathered.
+    ///
+    /// # Errors
+    /// `Write` where the writer failed, or the gathered answers found no memory. The line is carried out all the same.
+    fn answer<W: Write>(
+        &mut self,
+        alloc: Global,
+        text: &[u8],
+        lexemes: &[Lexeme],
+        writer: &mut W,
+        gathered: &mut Vec<u8>,
+    ) -> Result<(), Fault>
+        ensures answers { (said : List ℕ) × answers (length text.now) self.old (placed text.now lexemes.now) said self.new × OnOk result (Writes (W.contents writer.old) gathered.old.items (W.contents writer.new) gathered.new.items said) }
+        ensures err { IfErr result (λ e. e ≡ Fault.Write) };
+}
+
+/// Answers a line. Where its first bytes were let go, `line` is the rest of it.
+fn answer_line<S: Responder, W: Write>(
+    alloc: Global,
+    responder: &mut S,
+    line: &[u8],
+    overlong: bool,
+    lexemes: &mut Vec<Lexeme>,
+    writer: &mut W,
+    gathered: &mut Vec<u8>,
+) -> Result<(), Fault>
+    requires { MAX_LINE ≤ vec_capacity lexemes.old }
+    ensures answers { (whole : List ℕ) → IsRestOf overlong whole line.now
+        → (said : List ℕ) × AnswersLine S.answers responder.old whole said responder.new × OnOk result (Writes (W.contents writer.old) gathered.old.items (W.contents writer.new) gathered.new.items said) }
+    ensures capacity { MAX_LINE ≤ vec_capacity lexemes.new }
+    ensures err { IfErr result (λ e. e ≡ Fault.Write) }
+{
+    if overlong || line.len() > MAX_LINE {
+        return gather_refusal(Refusal::Line(MAX_LINE as u64), writer, gathered);
+    }
+    match scan(line, lexemes) {
+        Ok(()) => responder.answer(alloc, line, lexemes.as_slice(), writer, gathered),
+        Err(_) => unreachable!(),
+    }
+}
+
+/// Answers the lines of a reader until its bytes end.
+///
+/// Answers are gathered, and written when there are enough of them and before the reader is asked for more.
+///
+/// # Errors
+/// `OutOfMemory` where a buffer found no memory at the start; nothing was read then. `Read` where the reader failed: the
+/// whole lines before that were answered. `Write` where the writer failed: some first lines were carried out.
+pub fn converse<S: Responder, R: Read, W: Write>(
+    alloc: Global,
+    reader: &mut R,
+    writer: &mut W,
+    responder: &mut S,
+) -> Result<(), Fault>
+    ensures ok { OnOk result (IsAtEnd (R.remaining reader.new) × AnsweredAll S.answers (R.remaining reader.old) (R.remaining reader.new) (W.contents writer.old) (W.contents writer.new) responder.old responder.new) }
+    ensures read { result ≡ Err Fault.Read → AnsweredWhole S.answers (R.remaining reader.old) (R.remaining reader.new) (W.contents writer.old) (W.contents writer.new) responder.old responder.new }
+    ensures write { result ≡ Err Fault.Write → AnsweredFirst S.answers (R.remaining reader.old) (R.remaining reader.new) responder.old responder.new }
+    ensures memory { result ≡ Err Fault.OutOfMemory → (reader.new ≡ reader.old) × (writer.new ≡ writer.old) × (responder.new ≡ responder.old) }
+    ensures faults { IfErr result (λ e. (e ≡ Fault.OutOfMemory) ⊎ (e ≡ Fault.Read) ⊎ (e ≡ Fault.Write)) }
+{
+    let Ok(mut lines) = LineBuffer::new(alloc) else {
+        return Err(Fault::OutOfMemory);
+    };
+    let Ok(mut lexemes) = Vec::with_capacity(alloc, MAX_LINE) else {
+        return Err(Fault::OutOfMemory);
+    };
+    let Ok(mut gathered) = Vec::with_capacity(alloc, ANSWERS) else {
+        return Err(Fault::OutOfMemory);
+    };
+    'reading: for _ in 0..u64::MAX {
+        send(writer, &mut gathered)?;
+        if !lines.fill(reader)? {
+            answer_line(
+                alloc,
+                responder,
+                lines.rest(),
+                lines.is_overlong(),
+                &mut lexemes,
+                writer,
+                &mut gathered,
+            )?;
+            send(writer, &mut gathered)?;
+            return Ok(());
+        }
+        'answering: while let Some(line) = lines.line() {
+            let passed = line.len() + 1;
+            answer_line(
+                alloc,
+                responder,
+                line,
+                lines.is_overlong(),
+                &mut lexemes,
+                writer,
+                &mut gathered,
+            )?;
+            lines.pass(passed);
+        }
+    }
+    send(writer, &mut gathered)?;
+    Err(Fault::Read)
+}

@@ -1,0 +1,225 @@
+//! What an event line asks.
+ghost use Rattle.std.specs.Prelude.{◌≡◌, length, map, MatchResult, Ok, Err};
+ghost use Rattle.std.specs.List.{list_all};
+ghost use Rattle.query_text.specs.Tokens.{token_in, placed};
+ghost use Rattle.front.specs.EventLines.{verb_of, verb_of_word, is_side, side_of, sides_at, two_pages_and_key, page_key_and_tag, page_and_sides, two_pages, only_sides, room_and_query, asked_by, IsAsked};
+
+use crate::tokens::{end, lone_number, natural};
+use query_text::{ClassText, Kind, Lexeme};
+
+/// The word that an event line begins with.
+#[derive(Clone, Copy, Debug)]
+pub enum EventVerb {
+    Enlarge,
+    Place,
+    Split,
+    Post,
+    Grow,
+    Find,
+    Seek,
+    Unfind,
+    Sweep,
+    Open,
+    Turn,
+    AskMark,
+    Take,
+    Close,
+    /// Any other token.
+    Other,
+}
+
+/// What an event line asks. Sides are the letters of their word; the lexemes of a query aren't read yet.
+#[derive(Clone, Copy, Debug)]
+pub enum EventRequest<'a, K> {
+    Enlarge(u64, u64, K),
+    Place(u64, K, u64),
+    Split(u64, &'a [u8]),
+    Post(u64, u64),
+    Grow(&'a [u8]),
+    Find(u64),
+    Seek(u64),
+    Unfind(u64),
+    Sweep(u64),
+    Open(u64, &'a [Lexeme]),
+    Turn(u64),
+    AskMark(u64),
+    Take(u64),
+    Close(u64),
+}
+
+fn verb_of_word(word: &[u8]) -> EventVerb
+    ensures { result ≡ verb_of_word word.now }
+{
+    if word == b"enlarge".as_slice() {
+        EventVerb::Enlarge
+    } else if word == b"place".as_slice() {
+        EventVerb::Place
+    } else if word == b"split".as_slice() {
+        EventVerb::Split
+    } else if word == b"post".as_slice() {
+        EventVerb::Post
+    } else if word == b"grow".as_slice() {
+        EventVerb::Grow
+    } else if word == b"find".as_slice() {
+        EventVerb::Find
+    } else if word == b"seek".as_slice() {
+        EventVerb::Seek
+    } else if word == b"unfind".as_slice() {
+        EventVerb::Unfind
+    } else if word == b"sweep".as_slice() {
+        EventVerb::Sweep
+    } else if word == b"open".as_slice() {
+        EventVerb::Open
+    } else if word == b"turn".as_slice() {
+        EventVerb::Turn
+    } else if word == b"askmark".as_slice() {
+        EventVerb::AskMark
+    } else if word == b"take".as_slice() {
+        EventVerb::Take
+    } else if word == b"close".as_slice() {
+        EventVerb::Close
+    } else {
+        EventVerb::Other
+    }
+}
+
+/// What a lexeme is at the front of an event line.
+fn read_verb(text: &[u8], lexeme: Lexeme) -> EventVerb
+    ensures { result ≡ verb_of (token_in text.now lexeme) }
+{
+    match lexeme.kind {
+        Kind::Word => verb_of_word(lexeme.bytes(text)),
+        _ => EventVerb::Other,
+    }
+}
+
+/// Whether a word has no letters but those of sides.
+fn are_sides(word: &[u8]) -> bool
+    ensures { result ≡ list_all is_side word.now }
+{
+    word.iter().all(|letter| *letter == b'l' || *letter == b'r')
+}
+
+/// The letters of sides at the front, and the lexemes behind them.
+///
+/// # Errors
+/// The place of the fault, which is the text's length at its end.
+fn sides<'a>(text: &'a [u8], lexemes: &'a [Lexeme]) -> Result<(&'a [u8], &'a [Lexeme]), usize>
+    ensures { MatchResult result (λ r. sides_at (length text.now) (placed text.now lexemes.now) ≡ Ok (map side_of r.0.now, placed text.now r.1.now)) (λ place. sides_at (length text.now) (placed text.now lexemes.now) ≡ Err place) }
+{
+    match lexemes {
+        [] => Err(text.len()),
+        [first, rest @ ..] => match first.kind {
+            Kind::Word => {
+                let letters = first.bytes(text);
+                if are_sides(letters) {
+                    Ok((letters, rest))
+                } else {
+                    Err(first.place)
+                }
+            }
+            _ => Err(first.place),
+        },
+    }
+}
+
+fn enlarge<'a, C: ClassText>(
+    text: &'a [u8],
+    lexemes: &'a [Lexeme],
+) -> Result<EventRequest<'a, C::Key>, usize>
+    ensures { IsAsked {C = C} {A = C.Atom} text.now result (two_pages_and_key C.key_at (length text.now) (placed text.now lexemes.now)) }
+{
+    let parent = natural(text, lexemes)?;
+    let child = natural(text, parent.1)?;
+    let key = C::read_key(text, child.1)?;
+    end(key.1)?;
+    Ok(EventRequest::Enlarge(parent.0, child.0, key.0))
+}
+
+fn place<'a, C: ClassText>(
+    text: &'a [u8],
+    lexemes: &'a [Lexeme],
+) -> Result<EventRequest<'a, C::Key>, usize>
+    ensures { IsAsked {C = C} {A = C.Atom} text.now result (page_key_and_tag C.key_at (length text.now) (placed text.now lexemes.now)) }
+{
+    let page = natural(text, lexemes)?;
+    let key = C::read_key(text, page.1)?;
+    let tag = natural(text, key.1)?;
+    end(tag.1)?;
+    Ok(EventRequest::Place(page.0, key.0, tag.0))
+}
+
+fn split<'a, C: ClassText>(
+    text: &'a [u8],
+    lexemes: &'a [Lexeme],
+) -> Result<EventRequest<'a, C::Key>, usize>
+    ensures { IsAsked {C = C} {A = C.Atom} text.now result (page_and_sides (length text.now) (placed text.now lexemes.now)) }
+{
+    let page = natural(text, lexemes)?;
+    let letters = sides(text, page.1)?;
+    end(letters.1)?;
+    Ok(EventRequest::Split(page.0, letters.0))
+}
+
+fn post<'a, C: ClassText>(
+    text: &'a [u8],
+    lexemes: &'a [Lexeme],
+) -> Result<EventRequest<'a, C::Key>, usize>
+    ensures { IsAsked {C = C} {A = C.Atom} text.now result (two_pages (length text.now) (placed text.now lexemes.now)) }
+{
+    let parent = natural(text, lexemes)?;
+    let child = natural(text, parent.1)?;
+    end(child.1)?;
+    Ok(EventRequest::Post(parent.0, child.0))
+}
+
+fn grow<'a, C: ClassText>(
+    text: &'a [u8],
+    lexemes: &'a [Lexeme],
+) -> Result<EventRequest<'a, C::Key>, usize>
+    ensures { IsAsked {C = C} {A = C.Atom} text.now result (only_sides (length text.now) (placed text.now lexemes.now)) }
+{
+    let letters = sides(text, lexemes)?;
+    end(letters.1)?;
+    Ok(EventRequest::Grow(letters.0))
+}
+
+fn open<'a, C: ClassText>(
+    text: &'a [u8],
+    lexemes: &'a [Lexeme],
+) -> Result<EventRequest<'a, C::Key>, usize>
+    ensures { IsAsked {C = C} {A = C.Atom} text.now result (room_and_query (length text.now) (placed text.now lexemes.now)) }
+{
+    let room = natural(text, lexemes)?;
+    Ok(EventRequest::Open(room.0, room.1))
+}
+
+/// What the lexemes behind a verb ask.
+///
+/// # Errors
+/// The place of the first fault.
+pub fn read_event<'a, C: ClassText>(
+    text: &'a [u8],
+    first: Lexeme,
+    rest: &'a [Lexeme],
+) -> Result<EventRequest<'a, C::Key>, usize>
+    ensures { IsAsked {C = C} {A = C.Atom} text.now result (asked_by C.key_at (length text.now) first.place (verb_of (token_in text.now first)) (placed text.now rest.now)) }
+{
+    match read_verb(text, first) {
+        EventVerb::Enlarge => enlarge::<C>(text, rest),
+        EventVerb::Place => place::<C>(text, rest),
+        EventVerb::Split => split::<C>(text, rest),
+        EventVerb::Post => post::<C>(text, rest),
+        EventVerb::Grow => grow::<C>(text, rest),
+        EventVerb::Find => Ok(EventRequest::Find(lone_number(text, rest)?)),
+        EventVerb::Seek => Ok(EventRequest::Seek(lone_number(text, rest)?)),
+        EventVerb::Unfind => Ok(EventRequest::Unfind(lone_number(text, rest)?)),
+        EventVerb::Sweep => Ok(EventRequest::Sweep(lone_number(text, rest)?)),
+        EventVerb::Open => open::<C>(text, rest),
+        EventVerb::Turn => Ok(EventRequest::Turn(lone_number(text, rest)?)),
+        EventVerb::AskMark => Ok(EventRequest::AskMark(lone_number(text, rest)?)),
+        EventVerb::Take => Ok(EventRequest::Take(lone_number(text, rest)?)),
+        EventVerb::Close => Ok(EventRequest::Close(lone_number(text, rest)?)),
+        EventVerb::Other => Err(first.place),
+    }
+}

@@ -1,0 +1,139 @@
+//! Events of a world from lines.
+ghost use Rattle.std.specs.Prelude.{◌≡◌, length, map, IfOk, IfErr, OnOk, Err, ◌⊎◌};
+ghost use Rattle.std.specs.Io.KnownBytes.{IsAtEnd};
+ghost use Rattle.front.specs.EventLines.{side_of, asked_of, IsEvent, IsNoEvent};
+ghost use Rattle.front.specs.Replays.{tray_words, RepliesTo, AnswersTokens};
+ghost use Rattle.front.specs.Conversations.{AnsweredAll, AnsweredWhole, AnsweredFirst};
+
+use crate::answers::gather_refusal;
+use crate::conversation::{Responder, converse};
+use crate::event_answers::write_event_reply;
+use crate::event_request::{EventRequest, read_event};
+use crate::tokens::first_of;
+use key_class::{Fault, Refusal, Side, Sides};
+use mailbox::Tray;
+use query_text::{ClassText, Lexeme, parse_tokens};
+use std::alloc::Global;
+use std::io::{Read, Write};
+use world::{Event, Reply, World};
+
+/// The side that a letter stands for.
+fn side(letter: u8) -> Side
+    ensures { result ≡ side_of letter }
+{
+    if letter == b'l' {
+        Side::Left
+    } else {
+        Side::Right
+    }
+}
+
+/// The sides that letters stand for.
+fn collect_sides(alloc: Global, letters: &[u8]) -> Result<Sides, Refusal>
+    ensures ok { IfOk result (λ sides. sides ≡ map side_of letters.now) }
+    ensures err { IfErr result (λ why. why ≡ Refusal.OutOfMemory) }
+{
+    let mut sides = Sides::new(alloc);
+    for letter in letters {
+        sides.push(side(*letter))?;
+    }
+    Ok(sides)
+}
+
+/// The event that is asked.
+///
+/// # Errors
+/// `QueryText` where the lexemes of a query are refused, else want of memory for sides or a query.
+fn event_of<C: ClassText>(
+    alloc: Global,
+    text: &[u8],
+    request: EventRequest<'_, C::Key>,
+) -> Result<Event<C>, Refusal>
+    ensures event { IfOk result (λ event. IsEvent C.key_at C.atom_of (length text.now) (asked_of text.now request.entry) event) }
+    ensures refused { IfErr result (λ why. IsNoEvent {C = C} C.key_at C.atom_of (length text.now) (asked_of text.now request.entry) why) }
+{
+    match request {
+        EventRequest::Enlarge(parent, child, key) => Ok(Event::Enlarge(parent, child, key)),
+        EventRequest::Place(page, key, tag) => Ok(Event::Place(page, key, tag)),
+        EventRequest::Split(page, letters) => Ok(Event::Split(
+            page,
+            collect_sides(alloc, letters)?,
+        )),
+        EventRequest::Post(parent, child) => Ok(Event::Post(parent, child)),
+        EventRequest::Grow(letters) => Ok(Event::Grow(collect_sides(alloc, letters)?)),
+        EventRequest::Find(row) => Ok(Event::Find(row)),
+        EventRequest::Seek(finder) => Ok(Event::Seek(finder)),
+        EventRequest::Unfind(finder) => Ok(Event::Unfind(finder)),
+        EventRequest::Sweep(page) => Ok(Event::Sweep(page)),
+        EventRequest::Open(room, lexemes) => {
+            Ok(Event::Open(parse_tokens::<C>(alloc, text, lexemes)?, room))
+        }
+        EventRequest::Turn(cursor) => Ok(Event::Turn(cursor)),
+        EventRequest::AskMark(cursor) => Ok(Event::AskMark(cursor)),
+        EventRequest::Take(cursor) => Ok(Event::Take(cursor)),
+        EventRequest::Close(cursor) => Ok(Event::Close(cursor)),
+    }
+}
+
+/// Gives the world the event that is asked.
+fn carry_out<C: ClassText>(
+    alloc: Global,
+    world: &mut World<C, Tray<C::Key>>,
+    text: &[u8],
+    request: EventRequest<'_, C::Key>,
+) -> Reply<C, Tray<C::Key>>
+    ensures { RepliesTo C C.key_at C.atom_of C.key_text (tray_words C.is_match C.is_consistent C.is_cover C.union_of) (length text.now) world.old (asked_of text.now request.entry) result world.new }
+{
+    match event_of::<C>(alloc, text, request) {
+        Ok(event) => world.step(event),
+        Err(why) => Reply::Refused(why),
+    }
+}
+
+impl<C: ClassText> Responder for World<C, Tray<C::Key>> {
+    ghost answers = { λ len old ts text new. AnswersTokens C C.key_at C.atom_of C.key_text (tray_words C.is_match C.is_consistent C.is_cover C.union_of) len old ts text new };
+
+    fn answer<W: Write>(
+        &mut self,
+        alloc: Global,
+        text: &[u8],
+        lexemes: &[Lexeme],
+        writer: &mut W,
+        gathered: &mut Vec<u8>,
+    ) -> Result<(), Fault> {
+        let Some((first, rest)) = first_of(lexemes) else {
+            return Ok(());
+        };
+        match read_event::<C>(text, first, rest) {
+            Ok(request) => {
+                let reply = carry_out(alloc, self, text, request);
+                write_event_reply::<C, Tray<C::Key>, W>(writer, gathered, &reply)
+            }
+            Err(place) => gather_refusal(Refusal::Line(place as u64), writer, gathered),
+        }
+    }
+}
+
+/// Gives a world the events of a reader's lines until its bytes end, and answers each.
+///
+/// A line asks an event by its words and numbers, and is answered by the line of the event's reply. A line that asks
+/// none is refused at the place of its first fault and changes nothing; a line without a token has no answer. Answers
+/// are gathered, and written when there are enough of them and before the reader is asked for more.
+///
+/// # Errors
+/// `OutOfMemory` where a buffer found no memory at the start; nothing was read then. `Read` where the reader failed: the
+/// whole lines before that were answered. `Write` where the writer failed: the events of some first lines stand.
+pub fn replay<C: ClassText, R: Read, W: Write>(
+    alloc: Global,
+    reader: &mut R,
+    writer: &mut W,
+    world: &mut World<C, Tray<C::Key>>,
+) -> Result<(), Fault>
+    ensures ok { OnOk result (IsAtEnd (R.remaining reader.new) × AnsweredAll (AnswersTokens C C.key_at C.atom_of C.key_text (tray_words C.is_match C.is_consistent C.is_cover C.union_of)) (R.remaining reader.old) (R.remaining reader.new) (W.contents writer.old) (W.contents writer.new) world.old world.new) }
+    ensures read { result ≡ Err Fault.Read → AnsweredWhole (AnswersTokens C C.key_at C.atom_of C.key_text (tray_words C.is_match C.is_consistent C.is_cover C.union_of)) (R.remaining reader.old) (R.remaining reader.new) (W.contents writer.old) (W.contents writer.new) world.old world.new }
+    ensures write { result ≡ Err Fault.Write → AnsweredFirst (AnswersTokens C C.key_at C.atom_of C.key_text (tray_words C.is_match C.is_consistent C.is_cover C.union_of)) (R.remaining reader.old) (R.remaining reader.new) world.old world.new }
+    ensures memory { result ≡ Err Fault.OutOfMemory → (reader.new ≡ reader.old) × (writer.new ≡ writer.old) × (world.new ≡ world.old) }
+    ensures faults { IfErr result (λ e. (e ≡ Fault.OutOfMemory) ⊎ (e ≡ Fault.Read) ⊎ (e ≡ Fault.Write)) }
+{
+    converse(alloc, reader, writer, world)
+}
