@@ -1,7 +1,7 @@
--- Words without a fault name `serve` first, and its options are the words behind it.
+-- Words without a fault name a command first, and its options are the words behind it.
 use Rattle.std.proofs.Common.{◌≡◌, ◌∙◌, ◌||◌, Bool, true, false, cond, refl, sym, ap, subst, List, [], ◌∷◌, ◌++◌, map, drop, inl, inr, ◌⊎◌, Option, Some, None, codes, true≢false}
 use Rattle.std.specs.Option.{is_some, option_map, option_map_or}
-use Rattle.std.specs.List.{fold}
+use Rattle.std.specs.List.{find, fold}
 use Rattle.std.specs.Str.{bytes_eq}
 use Rattle.std.specs.Prelude.{◌==◌}
 use Rattle.std.proofs.lemmas.List.{append_assoc, append-nil}
@@ -9,13 +9,13 @@ use Rattle.std.proofs.lemmas.Slice.Eq.{bytes_eq-Decides}
 use Rattle.clap.specs.Words.{App, Kinds, Row, Rule, Shape, Text, fault_of, subcommand_of}
 use Rattle.clap.specs.Kinds.{or_else}
 use Rattle.clap.specs.Lexer.{long_of, short_of}
-use Rattle.clap.specs.Faults.{bundle_fault, entered_fault, flag_word_fault, other_fault, level_fault, long_fault, settle_fault, step_fault, walk_fault}
-use Rattle.clap.specs.Simple.{built, entered, names_of}
-use Rattle.clap.specs.Walk.{Held, Names, Outcome, Walk, after_flag, after_step, arg_by_long, finished, idle, long_or_other, nothing_held, short_or_plain, short_word, subcommand_or_other, trailing, walk, walk_from, walked, has_row, with_default}
+use Rattle.clap.specs.Faults.{bundle_fault, entered_fault, flag_word_fault, other_fault, level_fault, long_fault, settle_fault, step_fault, turn_fault, walk_fault}
+use Rattle.clap.specs.Simple.{built, entered, label_of, names_of, rows_at}
+use Rattle.clap.specs.Walk.{Held, Names, Outcome, Walk, after_flag, after_step, answers_to, arg_by_long, finished, idle, long_or_other, nothing_held, short_or_plain, short_word, subcommand_met, subcommand_or_other, trailing, walk, walk_from, walked, has_row, with_default}
 use Rattle.clap.specs.declared.error.ErrorKind.TheVariants as kind
 use Rattle.gist.specs.CommandLine.{ClassNames, gist_line, number_of_32_bits}
-use Rattle.gist.specs.Spelling.{SpellsOptions}
-use Rattle.gist.proofs.Serving.{checked, last_checks, serve_shape}
+use Rattle.gist.specs.Spelling.{IsStoreCommand, SpellsOptions}
+use Rattle.gist.proofs.Serving.{checked, last_checks, store_shape}
 use Rattle.gist.proofs.Reading.{H, Taken, at, behind_mark, bundled, dashes, earlier, faulty, help, help_is_asked, help_or_none, later, option_row, reads, rows_at_end, rules, value_rule}
 
 abbrev pub no_rows : Held
@@ -65,7 +65,7 @@ module _ (names : ClassNames) where
   marked_stops [] f = refl
   marked_stops (w ∷ words) f = absurd (faulty kind.UnknownArgument (kind.InvalidSubcommand ∷ []) f)
 
-  -- no other word comes before `serve`
+  -- no other word comes before the name of a command
   other_word : (word : Text) (words : List Text) (b : Bool) (l : Option (Text × Option Text))
       → or_else (or_else (cond b [] (flag_word_fault top.rules false l word no_rows)) (step_fault top 1 (cond b (no_rows, trailing 1) (long_or_other top.rules idle word l no_rows)).0 (cond b (no_rows, trailing 1) (long_or_other top.rules idle word l no_rows)).1))
       (walk_fault top commands (after_step top.rules word (at no_rows idle) (cond b (no_rows, trailing 1) (long_or_other top.rules idle word l no_rows)).0 (cond b (no_rows, trailing 1) (long_or_other top.rules idle word l no_rows)).1) words) ≡ []
@@ -77,28 +77,53 @@ module _ (names : ClassNames) where
       absurd (long_is_faulty (arg_by_long top.rules q.0) (help_or_none (bytes_eq (codes "help") q.0)) q.1 (earlier long step (earlier (or_else long step) _ f)))
   other_word word words false None f = absurd (not_plain word _ (short_of word) f)
 
-  -- the words stop at `serve`
-  abbrev Stops : List Text → Option (Text × List Text) → Type 0
-  Stops words stop = (rest : List Text) × (words ≡ codes "serve" ∷ rest) × (stop ≡ Some (codes "serve", rest))
+  -- the word names no command, or is the name of one
+  abbrev IsMet : Text → Option Text → Type 0
+  IsMet word met = (met ≡ None) ⊎ ((met ≡ Some word) × IsStoreCommand word)
 
-  stops_at_serve : (words : List Text) → walk_fault top commands (at no_rows idle) words ≡ [] → is_some (entered line (fold (walked top.rules commands) (at no_rows idle) words).stopped) ≡ true
+  is_met : (word : Text) → IsMet word (subcommand_met commands idle word)
+  is_met word = go (bytes_eq (codes "serve") word) refl (bytes_eq (codes "replay") word) refl
+    where
+      here : (name : Text) → bytes_eq name word ≡ true → IsStoreCommand name → IsMet word (Some name)
+      here name is command = subst (λ (w : Text). IsMet w (Some name)) ((bytes_eq-Decides name word).0 is) (inr (refl, command))
+
+      go : (serves : Bool) → bytes_eq (codes "serve") word ≡ serves → (replays : Bool) → bytes_eq (codes "replay") word ≡ replays
+          → IsMet word (option_map (λ (x : Text × List Text). x.0) (cond (serves || false) (Some (codes "serve", [])) (cond (replays || false) (Some (codes "replay", [])) None)))
+      go true is b f = here (codes "serve") is (inl refl)
+      go false e true is = here (codes "replay") is (inr refl)
+      go false e false f = inl refl
+
+  -- the words stop at a command
+  pub record Stops (words : List Text) (stop : Option (Text × List Text)) : Type 0 where
+    command : Text
+    rest : List Text
+    is_command : IsStoreCommand command
+    words_are : words ≡ command ∷ rest
+    stop_is : stop ≡ Some (command, rest)
+
+  -- what a word comes to, by the command that it names
+  abbrev After : Text → Option Text → Walk
+  After word met = after_step top.rules word (at no_rows idle) (subcommand_or_other top.rules met idle 1 word no_rows).0 (subcommand_or_other top.rules met idle 1 word no_rows).1
+
+  stops_at_command : (words : List Text) → walk_fault top commands (at no_rows idle) words ≡ [] → is_some (entered line (fold (walked top.rules commands) (at no_rows idle) words).stopped) ≡ true
       → Stops words (fold (walked top.rules commands) (at no_rows idle) words).stopped
   unfolding walked walk_fault
-  stops_at_serve [] f some = absurd (true≢false (sym some))
-  stops_at_serve (word ∷ words) f some = go (bytes_eq (codes "serve") word) refl f some
+  stops_at_command [] f some = absurd (true≢false (sym some))
+  stops_at_command (word ∷ words) f some = go (subcommand_met commands idle word) (is_met word) f some
     where
-      go : (b : Bool) → bytes_eq (codes "serve") word ≡ b
-          → (let o = option_map (λ (x : Text × List Text). x.0) (cond (b || false) (Some (codes "serve", [])) None) in
-          let met = subcommand_or_other top.rules o idle 1 word no_rows in
-          or_else (or_else (other_fault top o word no_rows) (step_fault top 1 met.0 met.1)) (walk_fault top commands (after_step top.rules word (at no_rows idle) met.0 met.1) words) ≡ [])
-          → (let o = option_map (λ (x : Text × List Text). x.0) (cond (b || false) (Some (codes "serve", [])) None) in
-          let met = subcommand_or_other top.rules o idle 1 word no_rows in
-          is_some (entered line (fold (walked top.rules commands) (after_step top.rules word (at no_rows idle) met.0 met.1) words).stopped) ≡ true)
-          → (let o = option_map (λ (x : Text × List Text). x.0) (cond (b || false) (Some (codes "serve", [])) None) in
-          let met = subcommand_or_other top.rules o idle 1 word no_rows in
-          Stops (word ∷ words) (fold (walked top.rules commands) (after_step top.rules word (at no_rows idle) met.0 met.1) words).stopped)
-      go true is g t = (words, ap (λ (w : Text). w ∷ words) (sym ((bytes_eq-Decides (codes "serve") word).0 is)), stops top.rules commands words (codes "serve") [])
-      go false is g t =
+      go : (met : Option Text) → IsMet word met
+          → or_else (or_else (other_fault top met word no_rows) (step_fault top 1 (subcommand_or_other top.rules met idle 1 word no_rows).0 (subcommand_or_other top.rules met idle 1 word no_rows).1)) (walk_fault top commands (After word met) words) ≡ []
+          → is_some (entered line (fold (walked top.rules commands) (After word met) words).stopped) ≡ true
+          → Stops (word ∷ words) (fold (walked top.rules commands) (After word met) words).stopped
+      go (Some name) (inl bad) g t = absurd (true≢false (ap is_some bad))
+      go (Some name) (inr is) g t = record {
+        command = word;
+        rest = words;
+        is_command = is.1;
+        words_are = refl;
+        stop_is = stops top.rules commands words name [] ∙ ap (λ (o : Option Text). option_map (λ (n : Text). (n, words)) o) is.0;
+      }
+      go None is g t =
           let none = other_word word words (bytes_eq word dashes) (long_of word) g in
           absurd (true≢false (sym (subst (λ (o : Option (Text × List Text)). is_some (entered line o) ≡ true) none t)))
 
@@ -113,9 +138,61 @@ module _ (names : ClassNames) where
       ∙ ap (λ (rs : List Row). with_default (with_default rs (value_rule (codes "least") number_of_32_bits)) help) (kept_rows (has_row (codes "fan") rows) rows)
       ∙ ap (λ (rs : List Row). with_default rs help) (kept_rows (has_row (codes "least") rows) rows) ∙ kept_rows (has_row (codes "help") rows) rows
 
-  -- Words without a fault are `serve` and options; what was found behind `serve` are those options.
-  pub spelled : (words : List Text) → fault_of (gist_line names) words ≡ []
-      → (rest : List Text) × (given : List (Text × Text)) × (drop 1 words ≡ codes "serve" ∷ rest) × SpellsOptions rest given × (subcommand_of (gist_line names) words ≡ Some (codes "serve", map (option_row names) given)) × Taken names [] given
+  -- how the walk goes over the name of a command
+  pub record Enters (command : Text) : Type 0 where
+    pub turn : turn_fault top commands (walk_from nothing_held) command ≡ []
+    pub walk : walked top.rules commands (walk_from nothing_held) command ≡ stopped_at command []
+    pub shape : find (λ (s : Shape). answers_to command (label_of s)) line.subs ≡ Some (store_shape names command)
+
+  enters_serve : Enters (codes "serve")
+  unfolding walked
+  enters_serve = record { turn = refl; walk = refl; shape = refl }
+
+  enters_replay : Enters (codes "replay")
+  unfolding walked
+  enters_replay = record { turn = refl; walk = refl; shape = refl }
+
+  pub enters : (command : Text) → IsStoreCommand command → Enters command
+  enters command (inl is) = subst Enters (sym is) enters_serve
+  enters command (inr is) = subst Enters (sym is) enters_replay
+
+  -- the words are a command and options; what was found behind the command are those options
+  pub record Spelled (words : List Text) : Type 0 where
+    pub command : Text
+    pub rest : List Text
+    pub given : List (Text × Text)
+    pub is_command : IsStoreCommand command
+    pub words_are : drop 1 words ≡ command ∷ rest
+    pub options : SpellsOptions rest given
+    pub found : subcommand_of (gist_line names) words ≡ Some (command, map (option_row names) given)
+    pub taken : Taken names [] given
+
+  spelled_behind : (words : List Text) (stop : Option (Text × List Text)) → Stops words stop → entered_fault line stop ≡ []
+      → (command : Text) × (rest : List Text) × (given : List (Text × Text)) × IsStoreCommand command × (words ≡ command ∷ rest) × SpellsOptions rest given × (entered line stop ≡ Some (command, map (option_row names) given)) × Taken names [] given
+  spelled_behind words stop at_command none =
+      let command = at_command.command in
+      let rest = at_command.rest in
+      let shape = store_shape names command in
+      let enters_it = (enters command at_command.is_command).shape in
+      let walking = walk_fault shape [] (walk_from nothing_held) rest in
+      let level : level_fault shape [] nothing_held rest false [] ≡ [] =
+      subst (λ (o : Option Shape). option_map_or (λ (s : Shape). level_fault s [] nothing_held rest false []) o [] ≡ []) enters_it
+      (subst (λ (o : Option (Text × List Text)). entered_fault line o ≡ []) at_command.stop_is none) in
+      let end = (walk shape.rules [] nothing_held rest).held in
+      let settling = settle_fault shape.rules shape.args_override_self end in
+      let found = (reads names command rest).0 [] None (earlier walking _ level) (earlier settling _ (later walking _ level)) in
+      let rows = no_default (rows_at_end names (at no_rows idle) rest) ∙ found.3 in (
+        command,
+        rest,
+        found.0,
+        at_command.is_command,
+        at_command.words_are,
+        found.1,
+        ap (entered line) at_command.stop_is ∙ ap (option_map (λ (s : Shape). rows_at s rest)) enters_it ∙ ap (λ (rs : List Row). Some (command, rs)) rows,
+        found.4,
+      )
+
+  pub spelled : (words : List Text) → fault_of (gist_line names) words ≡ [] → Spelled words
   spelled words none =
       let given_words = drop 1 words in
       let stop = (walk top.rules commands nothing_held given_words).stopped in
@@ -123,24 +200,5 @@ module _ (names : ClassNames) where
       let walking = walk_fault top commands (walk_from nothing_held) given_words in
       let some = checked top (finished top.rules (walk top.rules commands nothing_held given_words).held) (is_some (entered line stop)) refl refl
       (last_checks top commands nothing_held given_words (is_some (entered line stop)) below none) in
-      let at_serve = stops_at_serve given_words (earlier walking _ none) some in
-      spelled_behind given_words stop at_serve (earlier below _ (later walking _ none))
-    where
-      spelled_behind : (given_words : List Text) (stop : Option (Text × List Text)) → Stops given_words stop → entered_fault line stop ≡ []
-          → (rest : List Text) × (given : List (Text × Text)) × (given_words ≡ codes "serve" ∷ rest) × SpellsOptions rest given × (entered line stop ≡ Some (codes "serve", map (option_row names) given)) × Taken names [] given
-      spelled_behind given_words stop at_serve faults =
-          let rest = at_serve.0 in
-          let shape = serve_shape names in
-          let walking = walk_fault shape [] (walk_from nothing_held) rest in
-          let level : level_fault shape [] nothing_held rest false [] ≡ [] = subst (λ (o : Option (Text × List Text)). entered_fault line o ≡ []) at_serve.2 faults in
-          let end = (walk shape.rules [] nothing_held rest).held in
-          let settling = settle_fault shape.rules shape.args_override_self end in
-          let found = (reads names rest).0 [] None (earlier walking _ level) (earlier settling _ (later walking _ level)) in
-          let rows = no_default (rows_at_end names (at no_rows idle) rest) ∙ found.3 in (
-            rest,
-            found.0,
-            at_serve.1,
-            found.1,
-            ap (entered line) at_serve.2 ∙ ap (λ (rs : List Row). Some (codes "serve", rs)) rows,
-            found.4,
-          )
+      let s = spelled_behind given_words stop (stops_at_command given_words (earlier walking _ none) some) (earlier below _ (later walking _ none)) in
+      record { command = s.0; rest = s.1; given = s.2; is_command = s.3; words_are = s.4; options = s.5; found = s.6; taken = s.7 }

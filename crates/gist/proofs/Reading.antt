@@ -1,4 +1,4 @@
--- Words behind `serve` that have no fault spell options, and the options found are those.
+-- Words behind a command that have no fault spell options, and the options found are those.
 use Rattle.std.proofs.Common.{◌≡◌, ◌∙◌, ◌&&◌, ◌||◌, ℕ, Bool, true, false, cond, refl, sym, ap, subst, arith, List, [], ◌∷◌, ◌++◌, map, length, inl, inr, ◌⊎◌, Option, Some, None, codes, true≢false}
 use Rattle.std.specs.Option.{option_map_or}
 use Rattle.std.specs.Prelude.{⊤, slice_get, nat_lt, ◌==◌}
@@ -21,7 +21,7 @@ use Rattle.clap.specs.declared.builder.value_parser.Reading.{Reading}
 use Rattle.clap.specs.declared.builder.value_parser.Reading.TheVariants as reading
 use Rattle.clap.specs.declared.parser.matches.ValueSource.TheVariants.{CommandLine}
 use Rattle.gist.specs.CommandLine.{ClassNames, number_of_32_bits, option_rule}
-use Rattle.gist.proofs.Serving.{serve_shape}
+use Rattle.gist.proofs.Serving.{store_shape}
 use Rattle.gist.specs.Spelling.{SpellsOptions, nothing, marked, joined, apart}
 
 abbrev pub value_rule : Text → ValueParser → Rule
@@ -122,9 +122,6 @@ module _ (names : ClassNames) where
       go false e false g false i true = inr (inl refl)
       go false e false g false i false = inl refl
 
-  abbrev pub s : Shape
-  s = serve_shape names
-
   abbrev pub reading_named : Text → Reading
   reading_named name = option_map_or reading_by (arg_by_id rules name) reading.AsWritten
 
@@ -147,14 +144,6 @@ module _ (names : ClassNames) where
   abbrev pub Found : List Text → List Row → Option (Text × List Text) → List Row → Type 0
   Found words rows p end = (given : List (Text × Text)) × SpellsOptions words given × (settle_fault rules false (H rows p) ≡ []) × (end ≡ settled_rows rules p rows ++ map option_row given) × Taken (settled_rows rules p rows) given
 
-  abbrev pub Reads : List Text → Type 0
-  Reads words = (rows : List Row) (p : Option (Text × List Text)) → walk_fault s [] (at (H rows p) idle) words ≡ [] → Ends (at (H rows p) idle) words
-      → Found words rows p (rows_at_end (at (H rows p) idle) words)
-
-  abbrev pub ReadsBehind : List Text → Type 0
-  ReadsBehind [] = ⊤
-  ReadsBehind (v ∷ words) = Reads words
-
   short_rule : (x : ℕ) → IsShortRule (arg_by_short rules x)
   short_rule x = help_or_none (104 == x)
 
@@ -176,12 +165,6 @@ module _ (names : ClassNames) where
   unsettled name takes rows by_id e =
       faulty kind.InvalidValue [] (subst (λ (o : Option Rule). option_map_or (λ a. use_fault false a [] rows) o [] ≡ []) by_id e)
 
-  -- behind the mark no word may follow
-  behind_mark_is_nothing : (h : Held) (waiting : Waiting) (words : List Text) → walk_fault s [] (behind_mark h waiting) words ≡ [] → words ≡ []
-  unfolding walk_fault
-  behind_mark_is_nothing h waiting [] e = refl
-  behind_mark_is_nothing h waiting (w ∷ words) e = absurd (faulty kind.UnknownArgument [] e)
-
   waiting_is_faulty : (name : Text) (takes : ValueParser) (rows : List Row) → arg_by_id rules name ≡ Some (value_rule name takes) → (other : Text) (o : Option Rule) → IsLongRule other o
       → (x : Option Text) → long_fault rules false o x (H rows (Some (name, []))) ≡ [] → ⊥
   waiting_is_faulty name takes rows by_id other o (inl none) x f =
@@ -200,59 +183,6 @@ module _ (names : ClassNames) where
   abbrev pub word_step : Text → Held → Waiting → Bool → Option (Text × Option Text) → Held × Step
   word_step word h waiting b l = cond b (h, trailing 1) (long_or_other rules waiting word l h)
 
-  -- the word behind an option is its value
-  abbrev ValueDone : Text → List Text → List Row → Text → Held × Step → Type 0
-  ValueDone v words rows name met =
-      walk_fault s [] (after_step rules v (at (H rows (Some (name, []))) (option name)) met.0 met.1) words ≡ []
-      → Ends (after_step rules v (at (H rows (Some (name, []))) (option name)) met.0 met.1) words
-      → Found words rows (Some (name, v ∷ [])) (rows_at_end (after_step rules v (at (H rows (Some (name, []))) (option name)) met.0 met.1) words)
-
-  value_kept : (v : Text) (words : List Text) (rows : List Row) (name : Text) (takes : ValueParser) → arg_by_id rules name ≡ Some (value_rule name takes) → bytes_eq name name ≡ true → Reads words
-      → ValueDone v words rows name (plain_word rules (option name) v (H rows (Some (name, []))))
-  value_kept v words rows name takes by_id self read =
-      subst (λ (o : Option Rule). ValueDone v words rows name ((option_word o name v (H rows (Some (name, [])))).0, next (option_word o name v (H rows (Some (name, [])))).1)) (sym by_id)
-      (subst (λ (b : Bool). ValueDone v words rows name (H rows (Some (name, v ∷ [])), next (cond (nat_lt (cond b 1 0) 1) (option name) idle))) (sym self) (read rows (Some (name, v ∷ []))))
-
-  value_read : (v : Text) (words : List Text) (rows : List Row) (name : Text) (takes : ValueParser) → arg_by_id rules name ≡ Some (value_rule name takes) → bytes_eq name name ≡ true → Reads words
-      → walk_fault s [] (at (H rows (Some (name, []))) (option name)) (v ∷ words) ≡ [] → Ends (at (H rows (Some (name, []))) (option name)) (v ∷ words)
-      → Found words rows (Some (name, v ∷ [])) (rows_at_end (at (H rows (Some (name, []))) (option name)) (v ∷ words))
-  unfolding walked walk_fault
-  value_read v words rows name takes by_id self read f e = first (bytes_eq v dashes) (long_of v) f e
-    where
-      second : (o : Option Text) → or_else (or_else (option_map_or (λ flags. bundle_fault rules false flags (H rows (Some (name, [])))) o []) (step_fault s 1 (short_or_plain rules (option name) v o (H rows (Some (name, [])))).0 (short_or_plain rules (option name) v o (H rows (Some (name, [])))).1))
-          (walk_fault s [] (after_step rules v (at (H rows (Some (name, []))) (option name)) (short_or_plain rules (option name) v o (H rows (Some (name, [])))).0 (short_or_plain rules (option name) v o (H rows (Some (name, [])))).1) words) ≡ []
-          → Ends (after_step rules v (at (H rows (Some (name, []))) (option name)) (short_or_plain rules (option name) v o (H rows (Some (name, [])))).0 (short_or_plain rules (option name) v o (H rows (Some (name, [])))).1) words
-          → Found words rows (Some (name, v ∷ [])) (rows_at_end (after_step rules v (at (H rows (Some (name, []))) (option name)) (short_or_plain rules (option name) v o (H rows (Some (name, [])))).0 (short_or_plain rules (option name) v o (H rows (Some (name, [])))).1) words)
-      second None g d = value_kept v words rows name takes by_id self read g d
-      second (Some flags) g d =
-          let bundling = bundle_fault rules false flags (H rows (Some (name, []))) in
-          let step = step_fault s 1 (short_word rules (option name) v flags (H rows (Some (name, [])))).0 (short_word rules (option name) v flags (H rows (Some (name, [])))).1 in
-          let none = earlier bundling step (earlier (or_else bundling step) _ g) in
-          let done : ValueDone v words rows name (short_word rules (option name) v flags (H rows (Some (name, [])))) =
-          subst (λ (q : Held × Outcome). ValueDone v words rows name (after_flag rules (option name) v q.0 q.1)) (sym (bundled rules short_rule flags rows (Some (name, [])) none))
-          (value_kept v words rows name takes by_id self read) in
-          done (later (or_else bundling step) _ g) d
-
-      first : (b : Bool) (l : Option (Text × Option Text))
-          → or_else (or_else (cond b [] (flag_word_fault rules false l v (H rows (Some (name, []))))) (step_fault s 1 (word_step v (H rows (Some (name, []))) (option name) b l).0 (word_step v (H rows (Some (name, []))) (option name) b l).1))
-          (walk_fault s [] (after_step rules v (at (H rows (Some (name, []))) (option name)) (word_step v (H rows (Some (name, []))) (option name) b l).0 (word_step v (H rows (Some (name, []))) (option name) b l).1) words) ≡ []
-          → Ends (after_step rules v (at (H rows (Some (name, []))) (option name)) (word_step v (H rows (Some (name, []))) (option name) b l).0 (word_step v (H rows (Some (name, []))) (option name) b l).1) words
-          → Found words rows (Some (name, v ∷ [])) (rows_at_end (after_step rules v (at (H rows (Some (name, []))) (option name)) (word_step v (H rows (Some (name, []))) (option name) b l).0 (word_step v (H rows (Some (name, []))) (option name) b l).1) words)
-      first true l g d =
-          let none = behind_mark_is_nothing (H rows (Some (name, []))) (option name) words g in
-          absurd (unsettled name takes rows by_id (subst (λ (ws : List Text). Ends (behind_mark (H rows (Some (name, []))) (option name)) ws) none d))
-      first false (Some p) g d =
-          let long = long_fault rules false (arg_by_long rules p.0) p.1 (H rows (Some (name, []))) in
-          let step = step_fault s 1 (word_step v (H rows (Some (name, []))) (option name) false (Some p)).0 (word_step v (H rows (Some (name, []))) (option name) false (Some p)).1 in
-          absurd (waiting_is_faulty name takes rows by_id p.0 (arg_by_long rules p.0) (long_rule p.0) p.1 (earlier long step (earlier (or_else long step) _ g)))
-      first false None g d = second (short_of v) g d
-
-  marked_end : (words : List Text) (rows : List Row) (p : Option (Text × List Text)) → walk_fault s [] (behind_mark (H rows p) idle) words ≡ [] → Ends (behind_mark (H rows p) idle) words
-      → Found (dashes ∷ words) rows p (rows_at_end (behind_mark (H rows p) idle) words)
-  unfolding walk_fault
-  marked_end [] rows p f e = ([], marked, e, sym (append-nil (settled_rows rules p rows)), tt)
-  marked_end (w ∷ words) rows p f e = absurd (faulty kind.UnknownArgument [] f)
-
   -- the rows behind an option and its value
   one_more : (option_given : Text × Text) (given : List (Text × Text)) (rows used_rows end : List Row) → used_rows ≡ rows ++ option_row option_given ∷ [] → end ≡ used_rows ++ map option_row given
       → end ≡ rows ++ map option_row (option_given ∷ given)
@@ -267,90 +197,161 @@ module _ (names : ClassNames) where
   abbrev pub flag_step : Text → Held → Option Rule → Option Text → Held × Step
   flag_step word h o x = after_flag rules idle word (long_met rules o x h).0 (long_met rules o x h).1
 
-  abbrev OptionRead : Text → List Text → List Row → Option (Text × List Text) → Option Rule → Option Text → Type 0
-  OptionRead word words rows p o x =
-      or_else (or_else (long_fault rules false o x (H rows p)) (step_fault s 1 (flag_step word (H rows p) o x).0 (flag_step word (H rows p) o x).1))
-      (walk_fault s [] (after_step rules word (at (H rows p) idle) (flag_step word (H rows p) o x).0 (flag_step word (H rows p) o x).1) words) ≡ []
-      → Ends (after_step rules word (at (H rows p) idle) (flag_step word (H rows p) o x).0 (flag_step word (H rows p) o x).1) words
-      → Found (word ∷ words) rows p (rows_at_end (after_step rules word (at (H rows p) idle) (flag_step word (H rows p) o x).0 (flag_step word (H rows p) o x).1) words)
+  module _ (command : Text) where
+    abbrev pub s : Shape
+    s = store_shape names command
 
-  value_option : (word name : Text) (x : Option Text) → long_of word ≡ Some (name, x) → (takes : ValueParser) → arg_by_id rules name ≡ Some (value_rule name takes) → bytes_eq name name ≡ true
-      → (words : List Text) (rows : List Row) (p : Option (Text × List Text)) → Reads words → ReadsBehind words → OptionRead word words rows p (Some (value_rule name takes)) x
-  value_option word name (Some v) is takes by_id self words rows p read behind f e =
-      let before = settled_rows rules p rows in
-      let after = used (value_rule name takes) (v ∷ []) before in
-      let using_it = react_fault rules false (value_rule name takes) (v ∷ []) (H rows p) in
-      let react = earlier using_it [] (earlier (or_else using_it []) _ f) in
-      let got = read after None (later (or_else using_it []) _ f) e in (
-        (name, v) ∷ got.0,
-        joined is got.1,
-        earlier (settle_fault rules false (H rows p)) (use_fault false (value_rule name takes) (v ∷ []) before) react,
-        one_more (name, v) got.0 before after _ (used_row name takes v before by_id (later (settle_fault rules false (H rows p)) (use_fault false (value_rule name takes) (v ∷ []) before) react)) got.3,
-        (
-          takes,
-          by_id,
-          later (settle_fault rules false (H rows p)) (use_fault false (value_rule name takes) (v ∷ []) before) react,
-          subst (λ (rs : List Row). Taken rs got.0) (used_row name takes v before by_id (later (settle_fault rules false (H rows p)) (use_fault false (value_rule name takes) (v ∷ []) before) react)) got.4,
-        ),
-      )
-  value_option word name None is takes by_id self [] rows p read behind f e = absurd (unsettled name takes (settled_rows rules p rows) by_id e)
-  value_option word name None is takes by_id self (v ∷ words) rows p read behind f e =
-      let before = settled_rows rules p rows in
-      let settling = settle_fault rules false (H rows p) in
-      let got = value_read v words before name takes by_id self behind (later (or_else settling []) _ f) e in (
-        (name, v) ∷ got.0,
-        apart is got.1,
-        earlier settling [] (earlier (or_else settling []) _ f),
-        one_more (name, v) got.0 before (settled_rows rules (Some (name, v ∷ [])) before) _ (settles name takes v before by_id got.2) got.3,
-        (
-          takes,
-          by_id,
-          subst (λ (o : Option Rule). option_map_or (λ a. use_fault false a (v ∷ []) before) o [] ≡ []) by_id got.2,
-          subst (λ (rs : List Row). Taken rs got.0) (settles name takes v before by_id got.2) got.4,
-        ),
-      )
+    abbrev pub Reads : List Text → Type 0
+    Reads words = (rows : List Row) (p : Option (Text × List Text)) → walk_fault s [] (at (H rows p) idle) words ≡ [] → Ends (at (H rows p) idle) words
+        → Found words rows p (rows_at_end (at (H rows p) idle) words)
 
-  option_read : (word name : Text) (x : Option Text) → long_of word ≡ Some (name, x) → (o : Option Rule) → IsLongRule name o
-      → (words : List Text) (rows : List Row) (p : Option (Text × List Text)) → Reads words → ReadsBehind words → OptionRead word words rows p o x
-  option_read word name x is o (inl none) words rows p read behind =
-      subst (λ (r : Option Rule). OptionRead word words rows p r x) (sym none) (λ f e. absurd (faulty kind.UnknownArgument [] f))
-  option_read word name (Some y) is o (inr (inl help_is)) words rows p read behind =
-      subst (λ (r : Option Rule). OptionRead word words rows p r (Some y)) (sym help_is) (λ f e. absurd (faulty kind.TooManyValues [] f))
-  option_read word name None is o (inr (inl help_is)) words rows p read behind =
-      subst (λ (r : Option Rule). OptionRead word words rows p r None) (sym help_is)
-      (λ f e. absurd (help_is_asked rules rows p (earlier (react_fault rules false help [] (H rows p)) _ (earlier (or_else (react_fault rules false help [] (H rows p)) []) _ f))))
-  option_read word name x is o (inr (inr r)) words rows p read behind =
-      let rule_is : Some r.0 ≡ Some (value_rule name r.2.0) = ap (λ (a : Rule). Some a) r.2.1 in
-      subst (λ (a : Option Rule). OptionRead word words rows p a x) (sym (r.1 ∙ rule_is)) (value_option word name x is r.2.0 (r.2.2 ∙ rule_is) r.2.3 words rows p read behind)
+    abbrev pub ReadsBehind : List Text → Type 0
+    ReadsBehind [] = ⊤
+    ReadsBehind (v ∷ words) = Reads words
 
-  not_plain : (word : Text) (rest : Kinds) (rows : List Row) (p : Option (Text × List Text)) (o : Option Text)
-      → or_else (or_else (option_map_or (λ flags. bundle_fault rules false flags (H rows p)) o []) (step_fault s 1 (short_or_plain rules idle word o (H rows p)).0 (short_or_plain rules idle word o (H rows p)).1)) rest ≡ [] → ⊥
-  not_plain word rest rows p None f = faulty kind.UnknownArgument [] f
-  not_plain word rest rows p (Some flags) f =
-      let bundling = bundle_fault rules false flags (H rows p) in
-      let step = step_fault s 1 (short_word rules idle word flags (H rows p)).0 (short_word rules idle word flags (H rows p)).1 in
-      let turn = earlier (or_else bundling step) rest f in
-      let none = earlier bundling step turn in
-      let value_step = subst (λ (q : Held × Outcome). step_fault s 1 (after_flag rules idle word q.0 q.1).0 (after_flag rules idle word q.0 q.1).1 ≡ []) (bundled rules short_rule flags rows p none) (later bundling step turn) in
-      faulty kind.UnknownArgument [] value_step
+    -- behind the mark no word may follow
+    behind_mark_is_nothing : (h : Held) (waiting : Waiting) (words : List Text) → walk_fault s [] (behind_mark h waiting) words ≡ [] → words ≡ []
+    unfolding walk_fault
+    behind_mark_is_nothing h waiting [] e = refl
+    behind_mark_is_nothing h waiting (w ∷ words) e = absurd (faulty kind.UnknownArgument [] e)
 
-  turn : (word : Text) (words : List Text) (rows : List Row) (p : Option (Text × List Text)) → Reads words → ReadsBehind words
-      → walk_fault s [] (at (H rows p) idle) (word ∷ words) ≡ [] → Ends (at (H rows p) idle) (word ∷ words) → Found (word ∷ words) rows p (rows_at_end (at (H rows p) idle) (word ∷ words))
-  unfolding walked walk_fault
-  turn word words rows p read behind f e = first (bytes_eq word dashes) refl (long_of word) refl f e
-    where
-      first : (b : Bool) → bytes_eq word dashes ≡ b → (l : Option (Text × Option Text)) → long_of word ≡ l
-          → or_else (or_else (cond b [] (flag_word_fault rules false l word (H rows p))) (step_fault s 1 (word_step word (H rows p) idle b l).0 (word_step word (H rows p) idle b l).1)) (walk_fault s [] (after_step rules word (at (H rows p) idle) (word_step word (H rows p) idle b l).0 (word_step word (H rows p) idle b l).1) words) ≡ []
-          → Ends (after_step rules word (at (H rows p) idle) (word_step word (H rows p) idle b l).0 (word_step word (H rows p) idle b l).1) words
-          → Found (word ∷ words) rows p (rows_at_end (after_step rules word (at (H rows p) idle) (word_step word (H rows p) idle b l).0 (word_step word (H rows p) idle b l).1) words)
-      first true is l long g d =
-          subst (λ (w : Text). Found (w ∷ words) rows p (rows_at_end (behind_mark (H rows p) idle) words)) (sym ((bytes_eq-Decides word dashes).0 is)) (marked_end words rows p g d)
-      first false is (Some q) long g d = option_read word q.0 q.1 long (arg_by_long rules q.0) (long_rule q.0) words rows p read behind g d
-      first false is None long g d = absurd (not_plain word _ rows p (short_of word) g)
+    -- the word behind an option is its value
+    abbrev ValueDone : Text → List Text → List Row → Text → Held × Step → Type 0
+    ValueDone v words rows name met =
+        walk_fault s [] (after_step rules v (at (H rows (Some (name, []))) (option name)) met.0 met.1) words ≡ []
+        → Ends (after_step rules v (at (H rows (Some (name, []))) (option name)) met.0 met.1) words
+        → Found words rows (Some (name, v ∷ [])) (rows_at_end (after_step rules v (at (H rows (Some (name, []))) (option name)) met.0 met.1) words)
 
-  pub reads : (words : List Text) → Reads words × ReadsBehind words
-  unfolding walk_fault
-  reads [] = ((λ rows p f e. ([], nothing, e, sym (append-nil (settled_rows rules p rows)), tt)), tt)
-  reads (w ∷ words) =
-      let behind = reads words in
-      ((λ rows p f e. turn w words rows p behind.0 behind.1 f e), behind.0)
+    value_kept : (v : Text) (words : List Text) (rows : List Row) (name : Text) (takes : ValueParser) → arg_by_id rules name ≡ Some (value_rule name takes) → bytes_eq name name ≡ true → Reads words
+        → ValueDone v words rows name (plain_word rules (option name) v (H rows (Some (name, []))))
+    value_kept v words rows name takes by_id self read =
+        subst (λ (o : Option Rule). ValueDone v words rows name ((option_word o name v (H rows (Some (name, [])))).0, next (option_word o name v (H rows (Some (name, [])))).1)) (sym by_id)
+        (subst (λ (b : Bool). ValueDone v words rows name (H rows (Some (name, v ∷ [])), next (cond (nat_lt (cond b 1 0) 1) (option name) idle))) (sym self) (read rows (Some (name, v ∷ []))))
+
+    value_read : (v : Text) (words : List Text) (rows : List Row) (name : Text) (takes : ValueParser) → arg_by_id rules name ≡ Some (value_rule name takes) → bytes_eq name name ≡ true → Reads words
+        → walk_fault s [] (at (H rows (Some (name, []))) (option name)) (v ∷ words) ≡ [] → Ends (at (H rows (Some (name, []))) (option name)) (v ∷ words)
+        → Found words rows (Some (name, v ∷ [])) (rows_at_end (at (H rows (Some (name, []))) (option name)) (v ∷ words))
+    unfolding walked walk_fault
+    value_read v words rows name takes by_id self read f e = first (bytes_eq v dashes) (long_of v) f e
+      where
+        second : (o : Option Text) → or_else (or_else (option_map_or (λ flags. bundle_fault rules false flags (H rows (Some (name, [])))) o []) (step_fault s 1 (short_or_plain rules (option name) v o (H rows (Some (name, [])))).0 (short_or_plain rules (option name) v o (H rows (Some (name, [])))).1))
+            (walk_fault s [] (after_step rules v (at (H rows (Some (name, []))) (option name)) (short_or_plain rules (option name) v o (H rows (Some (name, [])))).0 (short_or_plain rules (option name) v o (H rows (Some (name, [])))).1) words) ≡ []
+            → Ends (after_step rules v (at (H rows (Some (name, []))) (option name)) (short_or_plain rules (option name) v o (H rows (Some (name, [])))).0 (short_or_plain rules (option name) v o (H rows (Some (name, [])))).1) words
+            → Found words rows (Some (name, v ∷ [])) (rows_at_end (after_step rules v (at (H rows (Some (name, []))) (option name)) (short_or_plain rules (option name) v o (H rows (Some (name, [])))).0 (short_or_plain rules (option name) v o (H rows (Some (name, [])))).1) words)
+        second None g d = value_kept v words rows name takes by_id self read g d
+        second (Some flags) g d =
+            let bundling = bundle_fault rules false flags (H rows (Some (name, []))) in
+            let step = step_fault s 1 (short_word rules (option name) v flags (H rows (Some (name, [])))).0 (short_word rules (option name) v flags (H rows (Some (name, [])))).1 in
+            let none = earlier bundling step (earlier (or_else bundling step) _ g) in
+            let done : ValueDone v words rows name (short_word rules (option name) v flags (H rows (Some (name, [])))) =
+            subst (λ (q : Held × Outcome). ValueDone v words rows name (after_flag rules (option name) v q.0 q.1)) (sym (bundled rules short_rule flags rows (Some (name, [])) none))
+            (value_kept v words rows name takes by_id self read) in
+            done (later (or_else bundling step) _ g) d
+
+        first : (b : Bool) (l : Option (Text × Option Text))
+            → or_else (or_else (cond b [] (flag_word_fault rules false l v (H rows (Some (name, []))))) (step_fault s 1 (word_step v (H rows (Some (name, []))) (option name) b l).0 (word_step v (H rows (Some (name, []))) (option name) b l).1))
+            (walk_fault s [] (after_step rules v (at (H rows (Some (name, []))) (option name)) (word_step v (H rows (Some (name, []))) (option name) b l).0 (word_step v (H rows (Some (name, []))) (option name) b l).1) words) ≡ []
+            → Ends (after_step rules v (at (H rows (Some (name, []))) (option name)) (word_step v (H rows (Some (name, []))) (option name) b l).0 (word_step v (H rows (Some (name, []))) (option name) b l).1) words
+            → Found words rows (Some (name, v ∷ [])) (rows_at_end (after_step rules v (at (H rows (Some (name, []))) (option name)) (word_step v (H rows (Some (name, []))) (option name) b l).0 (word_step v (H rows (Some (name, []))) (option name) b l).1) words)
+        first true l g d =
+            let none = behind_mark_is_nothing (H rows (Some (name, []))) (option name) words g in
+            absurd (unsettled name takes rows by_id (subst (λ (ws : List Text). Ends (behind_mark (H rows (Some (name, []))) (option name)) ws) none d))
+        first false (Some p) g d =
+            let long = long_fault rules false (arg_by_long rules p.0) p.1 (H rows (Some (name, []))) in
+            let step = step_fault s 1 (word_step v (H rows (Some (name, []))) (option name) false (Some p)).0 (word_step v (H rows (Some (name, []))) (option name) false (Some p)).1 in
+            absurd (waiting_is_faulty name takes rows by_id p.0 (arg_by_long rules p.0) (long_rule p.0) p.1 (earlier long step (earlier (or_else long step) _ g)))
+        first false None g d = second (short_of v) g d
+
+    marked_end : (words : List Text) (rows : List Row) (p : Option (Text × List Text)) → walk_fault s [] (behind_mark (H rows p) idle) words ≡ [] → Ends (behind_mark (H rows p) idle) words
+        → Found (dashes ∷ words) rows p (rows_at_end (behind_mark (H rows p) idle) words)
+    unfolding walk_fault
+    marked_end [] rows p f e = ([], marked, e, sym (append-nil (settled_rows rules p rows)), tt)
+    marked_end (w ∷ words) rows p f e = absurd (faulty kind.UnknownArgument [] f)
+
+    abbrev OptionRead : Text → List Text → List Row → Option (Text × List Text) → Option Rule → Option Text → Type 0
+    OptionRead word words rows p o x =
+        or_else (or_else (long_fault rules false o x (H rows p)) (step_fault s 1 (flag_step word (H rows p) o x).0 (flag_step word (H rows p) o x).1))
+        (walk_fault s [] (after_step rules word (at (H rows p) idle) (flag_step word (H rows p) o x).0 (flag_step word (H rows p) o x).1) words) ≡ []
+        → Ends (after_step rules word (at (H rows p) idle) (flag_step word (H rows p) o x).0 (flag_step word (H rows p) o x).1) words
+        → Found (word ∷ words) rows p (rows_at_end (after_step rules word (at (H rows p) idle) (flag_step word (H rows p) o x).0 (flag_step word (H rows p) o x).1) words)
+
+    value_option : (word name : Text) (x : Option Text) → long_of word ≡ Some (name, x) → (takes : ValueParser) → arg_by_id rules name ≡ Some (value_rule name takes) → bytes_eq name name ≡ true
+        → (words : List Text) (rows : List Row) (p : Option (Text × List Text)) → Reads words → ReadsBehind words → OptionRead word words rows p (Some (value_rule name takes)) x
+    value_option word name (Some v) is takes by_id self words rows p read behind f e =
+        let before = settled_rows rules p rows in
+        let after = used (value_rule name takes) (v ∷ []) before in
+        let using_it = react_fault rules false (value_rule name takes) (v ∷ []) (H rows p) in
+        let react = earlier using_it [] (earlier (or_else using_it []) _ f) in
+        let got = read after None (later (or_else using_it []) _ f) e in (
+          (name, v) ∷ got.0,
+          joined is got.1,
+          earlier (settle_fault rules false (H rows p)) (use_fault false (value_rule name takes) (v ∷ []) before) react,
+          one_more (name, v) got.0 before after _ (used_row name takes v before by_id (later (settle_fault rules false (H rows p)) (use_fault false (value_rule name takes) (v ∷ []) before) react)) got.3,
+          (
+            takes,
+            by_id,
+            later (settle_fault rules false (H rows p)) (use_fault false (value_rule name takes) (v ∷ []) before) react,
+            subst (λ (rs : List Row). Taken rs got.0) (used_row name takes v before by_id (later (settle_fault rules false (H rows p)) (use_fault false (value_rule name takes) (v ∷ []) before) react)) got.4,
+          ),
+        )
+    value_option word name None is takes by_id self [] rows p read behind f e = absurd (unsettled name takes (settled_rows rules p rows) by_id e)
+    value_option word name None is takes by_id self (v ∷ words) rows p read behind f e =
+        let before = settled_rows rules p rows in
+        let settling = settle_fault rules false (H rows p) in
+        let got = value_read v words before name takes by_id self behind (later (or_else settling []) _ f) e in (
+          (name, v) ∷ got.0,
+          apart is got.1,
+          earlier settling [] (earlier (or_else settling []) _ f),
+          one_more (name, v) got.0 before (settled_rows rules (Some (name, v ∷ [])) before) _ (settles name takes v before by_id got.2) got.3,
+          (
+            takes,
+            by_id,
+            subst (λ (o : Option Rule). option_map_or (λ a. use_fault false a (v ∷ []) before) o [] ≡ []) by_id got.2,
+            subst (λ (rs : List Row). Taken rs got.0) (settles name takes v before by_id got.2) got.4,
+          ),
+        )
+
+    option_read : (word name : Text) (x : Option Text) → long_of word ≡ Some (name, x) → (o : Option Rule) → IsLongRule name o
+        → (words : List Text) (rows : List Row) (p : Option (Text × List Text)) → Reads words → ReadsBehind words → OptionRead word words rows p o x
+    option_read word name x is o (inl none) words rows p read behind =
+        subst (λ (r : Option Rule). OptionRead word words rows p r x) (sym none) (λ f e. absurd (faulty kind.UnknownArgument [] f))
+    option_read word name (Some y) is o (inr (inl help_is)) words rows p read behind =
+        subst (λ (r : Option Rule). OptionRead word words rows p r (Some y)) (sym help_is) (λ f e. absurd (faulty kind.TooManyValues [] f))
+    option_read word name None is o (inr (inl help_is)) words rows p read behind =
+        subst (λ (r : Option Rule). OptionRead word words rows p r None) (sym help_is)
+        (λ f e. absurd (help_is_asked rules rows p (earlier (react_fault rules false help [] (H rows p)) _ (earlier (or_else (react_fault rules false help [] (H rows p)) []) _ f))))
+    option_read word name x is o (inr (inr r)) words rows p read behind =
+        let rule_is : Some r.0 ≡ Some (value_rule name r.2.0) = ap (λ (a : Rule). Some a) r.2.1 in
+        subst (λ (a : Option Rule). OptionRead word words rows p a x) (sym (r.1 ∙ rule_is)) (value_option word name x is r.2.0 (r.2.2 ∙ rule_is) r.2.3 words rows p read behind)
+
+    not_plain : (word : Text) (rest : Kinds) (rows : List Row) (p : Option (Text × List Text)) (o : Option Text)
+        → or_else (or_else (option_map_or (λ flags. bundle_fault rules false flags (H rows p)) o []) (step_fault s 1 (short_or_plain rules idle word o (H rows p)).0 (short_or_plain rules idle word o (H rows p)).1)) rest ≡ [] → ⊥
+    not_plain word rest rows p None f = faulty kind.UnknownArgument [] f
+    not_plain word rest rows p (Some flags) f =
+        let bundling = bundle_fault rules false flags (H rows p) in
+        let step = step_fault s 1 (short_word rules idle word flags (H rows p)).0 (short_word rules idle word flags (H rows p)).1 in
+        let turn = earlier (or_else bundling step) rest f in
+        let none = earlier bundling step turn in
+        let value_step = subst (λ (q : Held × Outcome). step_fault s 1 (after_flag rules idle word q.0 q.1).0 (after_flag rules idle word q.0 q.1).1 ≡ []) (bundled rules short_rule flags rows p none) (later bundling step turn) in
+        faulty kind.UnknownArgument [] value_step
+
+    turn : (word : Text) (words : List Text) (rows : List Row) (p : Option (Text × List Text)) → Reads words → ReadsBehind words
+        → walk_fault s [] (at (H rows p) idle) (word ∷ words) ≡ [] → Ends (at (H rows p) idle) (word ∷ words) → Found (word ∷ words) rows p (rows_at_end (at (H rows p) idle) (word ∷ words))
+    unfolding walked walk_fault
+    turn word words rows p read behind f e = first (bytes_eq word dashes) refl (long_of word) refl f e
+      where
+        first : (b : Bool) → bytes_eq word dashes ≡ b → (l : Option (Text × Option Text)) → long_of word ≡ l
+            → or_else (or_else (cond b [] (flag_word_fault rules false l word (H rows p))) (step_fault s 1 (word_step word (H rows p) idle b l).0 (word_step word (H rows p) idle b l).1)) (walk_fault s [] (after_step rules word (at (H rows p) idle) (word_step word (H rows p) idle b l).0 (word_step word (H rows p) idle b l).1) words) ≡ []
+            → Ends (after_step rules word (at (H rows p) idle) (word_step word (H rows p) idle b l).0 (word_step word (H rows p) idle b l).1) words
+            → Found (word ∷ words) rows p (rows_at_end (after_step rules word (at (H rows p) idle) (word_step word (H rows p) idle b l).0 (word_step word (H rows p) idle b l).1) words)
+        first true is l long g d =
+            subst (λ (w : Text). Found (w ∷ words) rows p (rows_at_end (behind_mark (H rows p) idle) words)) (sym ((bytes_eq-Decides word dashes).0 is)) (marked_end words rows p g d)
+        first false is (Some q) long g d = option_read word q.0 q.1 long (arg_by_long rules q.0) (long_rule q.0) words rows p read behind g d
+        first false is None long g d = absurd (not_plain word _ rows p (short_of word) g)
+
+    pub reads : (words : List Text) → Reads words × ReadsBehind words
+    unfolding walk_fault
+    reads [] = ((λ rows p f e. ([], nothing, e, sym (append-nil (settled_rows rules p rows)), tt)), tt)
+    reads (w ∷ words) =
+        let behind = reads words in
+        ((λ rows p f e. turn w words rows p behind.0 behind.1 f e), behind.0)

@@ -1,25 +1,25 @@
--- Words of the form that `serve` takes have no fault.
+-- Words of the form that a command takes have no fault.
 use Rattle.std.proofs.Common.{◌≡◌, ◌∙◌, ◌||◌, Bool, true, false, cond, refl, sym, ap, subst, List, [], ◌∷◌, ◌++◌, inl, inr, ◌⊎◌, Option, Some, None, codes, true≢false}
-use Rattle.std.specs.Option.{is_some, option_and_then, option_map_or}
+use Rattle.std.specs.Option.{is_some, option_and_then, option_map, option_map_or}
 use Rattle.std.specs.List.{fold}
 use Rattle.std.specs.Prelude.{nat_lt}
 use Rattle.std.specs.Str.{bytes_eq}
 use Rattle.std.proofs.lemmas.Slice.Eq.{bytes_eq-Decides}
-use Rattle.clap.specs.Words.{App, IsAmong, Kinds, Row, Rule, Text, fault_of, is_simple_and_free}
+use Rattle.clap.specs.Words.{App, IsAmong, Kinds, Row, Rule, Shape, Text, fault_of, is_simple_and_free}
 use Rattle.clap.specs.declared.error.ErrorKind.{ErrorKind}
 use Rattle.clap.specs.declared.error.ErrorKind.TheVariants.{OutOfMemory}
 use Rattle.clap.specs.Kinds.{or_else}
 use Rattle.clap.specs.Lexer.{long_of, long_of_rest, short_of, short_of_rest, strip_byte}
-use Rattle.clap.specs.Faults.{bundle_fault, check_fault, default_fault, defaults_fault, entered_fault, flag_word_fault, long_fault, react_fault, settle_fault, step_fault, use_fault, walk_fault}
+use Rattle.clap.specs.Faults.{bundle_fault, check_fault, default_fault, defaults_fault, entered_fault, flag_word_fault, level_fault, long_fault, react_fault, settle_fault, step_fault, turn_fault, use_fault, walk_fault}
 use Rattle.clap.specs.Walk.{Held, Waiting, Walk, after_step, arg_by_id, arg_by_long, finished, has_row, idle, option, nothing_held, option_word, settled, settled_rows, short_or_plain, used, walk, walk_from, walked, with_default}
 use Rattle.clap.specs.declared.builder.ValueParser.{ValueParser}
 use Rattle.clap.specs.declared.builder.ValueParser.TheVariants as parser
-use Rattle.clap.specs.Simple.{entered}
+use Rattle.clap.specs.Simple.{entered, rows_at}
 use Rattle.gist.specs.CommandLine.{AreWellFormed, ClassNames, IsGistLine, gist_line, number_of_32_bits}
-use Rattle.gist.specs.Spelling.{SpellsPlainly, is_hyphened, no_more, behind_equals, as_next_word}
+use Rattle.gist.specs.Spelling.{IsStoreCommand, SpellsPlainly, is_hyphened, no_more, behind_equals, as_next_word}
 use Rattle.gist.proofs.Reading.{Ends, H, Taken, at, dashes, flag_step, help, rules, s, settles, used_row, value_rule, word_step}
-use Rattle.gist.proofs.Naming.{commands, line, no_rows, stopped_at, stops, top}
-use Rattle.gist.proofs.Serving.{is_free, serve_shape}
+use Rattle.gist.proofs.Naming.{Enters, commands, enters, line, no_rows, stopped_at, stops, top}
+use Rattle.gist.proofs.Serving.{is_free, store_shape}
 use Rattle.gist.proofs.Values.{are_taken, rule_named}
 
 both : (a b : Kinds) → a ≡ [] → b ≡ [] → or_else a b ≡ []
@@ -54,7 +54,7 @@ plain_word_is (x ∷ xs) e = record {
         let bad : true ≡ false = subst (λ (w : Text). is_hyphened w ≡ false) ((bytes_eq-Decides (x ∷ xs) dashes).0 is) e in
         absurd (true≢false bad)
 
-module _ (names : ClassNames) where
+module _ (names : ClassNames) (command : Text) where
   long_named : (name : Text) (takes : ValueParser) → arg_by_id (rules names) name ≡ Some (value_rule name takes) → arg_by_long (rules names) name ≡ Some (value_rule name takes)
   long_named name takes by_id = elim (rule_named names name takes by_id) [
     | inl c ↦ subst (λ (m : Text). arg_by_long (rules names) m ≡ Some (value_rule m takes)) (sym c.0) (ap (λ (t : ValueParser). Some (value_rule (codes "class") t)) (sym c.1))
@@ -65,13 +65,13 @@ module _ (names : ClassNames) where
   ]
 
   abbrev Passes : Walk → List Text → Type 0
-  Passes w words = (walk_fault (s names) [] w words ≡ []) × Ends names w words
+  Passes w words = (walk_fault (s names command) [] w words ≡ []) × Ends names w words
 
   -- what is left to pass behind a word
   abbrev After : Text → List Text → Held → Waiting → Bool → Option (Text × Option Text) → Type 0
   After word words h waiting b l =
-      (or_else (or_else (cond b [] (flag_word_fault (rules names) false l word h)) (step_fault (s names) 1 (word_step names word h waiting b l).0 (word_step names word h waiting b l).1))
-      (walk_fault (s names) [] (after_step (rules names) word (at h waiting) (word_step names word h waiting b l).0 (word_step names word h waiting b l).1) words) ≡ [])
+      (or_else (or_else (cond b [] (flag_word_fault (rules names) false l word h)) (step_fault (s names command) 1 (word_step names word h waiting b l).0 (word_step names word h waiting b l).1))
+      (walk_fault (s names command) [] (after_step (rules names) word (at h waiting) (word_step names word h waiting b l).0 (word_step names word h waiting b l).1) words) ≡ [])
       × Ends names (after_step (rules names) word (at h waiting) (word_step names word h waiting b l).0 (word_step names word h waiting b l).1) words
 
   word_passes : (word : Text) (words : List Text) (rows : List Row) (p : Option (Text × List Text)) → After word words (H rows p) idle (bytes_eq word dashes) (long_of word) → Passes (at (H rows p) idle) (word ∷ words)
@@ -84,8 +84,8 @@ module _ (names : ClassNames) where
 
   abbrev OptionAfter : Text → List Text → Held → Option Text → Option Rule → Type 0
   OptionAfter word words h x o =
-      (or_else (or_else (long_fault (rules names) false o x h) (step_fault (s names) 1 (flag_step names word h o x).0 (flag_step names word h o x).1))
-      (walk_fault (s names) [] (after_step (rules names) word (at h idle) (flag_step names word h o x).0 (flag_step names word h o x).1) words) ≡ [])
+      (or_else (or_else (long_fault (rules names) false o x h) (step_fault (s names command) 1 (flag_step names word h o x).0 (flag_step names word h o x).1))
+      (walk_fault (s names command) [] (after_step (rules names) word (at h idle) (flag_step names word h o x).0 (flag_step names word h o x).1) words) ≡ [])
       × Ends names (after_step (rules names) word (at h idle) (flag_step names word h o x).0 (flag_step names word h o x).1) words
 
   option_passes : (word : Text) (words : List Text) (rows : List Row) (p : Option (Text × List Text)) (name : Text) (x : Option Text) (takes : ValueParser) → long_of word ≡ Some (name, x)
@@ -98,8 +98,8 @@ module _ (names : ClassNames) where
 
   abbrev ShortAfter : Text → List Text → List Row → Text → Option Text → Type 0
   ShortAfter word words rows name o =
-      (or_else (or_else (option_map_or (λ flags. bundle_fault (rules names) false flags (H rows (Some (name, [])))) o []) (step_fault (s names) 1 (short_or_plain (rules names) (option name) word o (H rows (Some (name, [])))).0 (short_or_plain (rules names) (option name) word o (H rows (Some (name, [])))).1))
-      (walk_fault (s names) [] (after_step (rules names) word (at (H rows (Some (name, []))) (option name)) (short_or_plain (rules names) (option name) word o (H rows (Some (name, [])))).0 (short_or_plain (rules names) (option name) word o (H rows (Some (name, [])))).1) words) ≡ [])
+      (or_else (or_else (option_map_or (λ flags. bundle_fault (rules names) false flags (H rows (Some (name, [])))) o []) (step_fault (s names command) 1 (short_or_plain (rules names) (option name) word o (H rows (Some (name, [])))).0 (short_or_plain (rules names) (option name) word o (H rows (Some (name, [])))).1))
+      (walk_fault (s names command) [] (after_step (rules names) word (at (H rows (Some (name, []))) (option name)) (short_or_plain (rules names) (option name) word o (H rows (Some (name, [])))).0 (short_or_plain (rules names) (option name) word o (H rows (Some (name, [])))).1) words) ≡ [])
       × Ends names (after_step (rules names) word (at (H rows (Some (name, []))) (option name)) (short_or_plain (rules names) (option name) word o (H rows (Some (name, [])))).0 (short_or_plain (rules names) (option name) word o (H rows (Some (name, [])))).1) words
 
   abbrev PlainAfter : Text → List Text → List Row → Text → Held × Waiting → Type 0
@@ -166,27 +166,34 @@ module _ (names : ClassNames) where
       (both (default_fault second (value_rule (codes "least") number_of_32_bits)) _ (no_default_fault (has_row (codes "least") second) _)
       (both (default_fault third help) _ (no_default_fault (has_row (codes "help") third) _) refl)))
 
-  pub takes_words : (name : Text) (rest : List Text) (given : List (Text × Text)) → SpellsPlainly rest given → Taken names [] given → fault_of (gist_line names) (name ∷ codes "serve" ∷ rest) ≡ []
+  pub takes_words : (name : Text) (rest : List Text) (given : List (Text × Text)) → IsStoreCommand command → SpellsPlainly rest given → Taken names [] given → fault_of (gist_line names) (name ∷ command ∷ rest) ≡ []
   unfolding walked walk_fault defaults_fault
-  takes_words name rest given plainly taken =
-      let shape = serve_shape names in
-      let stop = (walk (top names).rules (commands names) nothing_held (codes "serve" ∷ rest)).stopped in
-      let stop_is : stop ≡ Some (codes "serve", rest) = stops (top names).rules (commands names) rest (codes "serve") [] in
-      let held_is : (walk (top names).rules (commands names) nothing_held (codes "serve" ∷ rest)).held ≡ no_rows = stopped_holds rest (codes "serve") [] in
+  takes_words name rest given is_command plainly taken =
+      let shape = store_shape names command in
+      let enter : Enters names command = enters names command is_command in
+      let end_at_top = fold (walked (top names).rules (commands names)) (walked (top names).rules (commands names) (walk_from nothing_held) command) rest in
+      let end_is : end_at_top ≡ fold (walked (top names).rules (commands names)) (stopped_at command []) rest = ap (λ (w : Walk). fold (walked (top names).rules (commands names)) w rest) enter.walk in
+      let stop_is : end_at_top.stopped ≡ Some (command, rest) = ap (λ (w : Walk). w.stopped) end_is ∙ stops (top names).rules (commands names) rest command [] in
+      let held_is : end_at_top.held ≡ no_rows = ap (λ (w : Walk). w.held) end_is ∙ stopped_holds rest command [] in
       let leaf = passes rest given [] None plainly refl taken in
       let end = (walk shape.rules [] nothing_held rest).held in
       let defaults = defaults_fault (settled shape.rules end).rows shape.rules in
-      let level : entered_fault (line names) (Some (codes "serve", rest)) ≡ [] =
+      let level : level_fault shape [] nothing_held rest false [] ≡ [] =
       both (walk_fault shape [] (walk_from nothing_held) rest) _ leaf.0
       (both (settle_fault shape.rules shape.args_override_self end) _ leaf.1 (both defaults _ (defaults_pass (settled shape.rules end).rows) refl)) in
-      let below : entered_fault (line names) stop ≡ [] = ap (entered_fault (line names)) stop_is ∙ level in
-      let met : is_some (entered (line names) stop) ≡ true = ap (λ (o : Option (Text × List Text)). is_some (entered (line names) o)) stop_is in
+      let below : entered_fault (line names) end_at_top.stopped ≡ [] =
+      ap (entered_fault (line names)) stop_is ∙ ap (λ (o : Option Shape). option_map_or (λ (s : Shape). level_fault s [] nothing_held rest false []) o []) enter.shape ∙ level in
+      let met : is_some (entered (line names) end_at_top.stopped) ≡ true =
+      ap (λ (o : Option (Text × List Text)). is_some (entered (line names) o)) stop_is ∙ ap (λ (o : Option Shape). is_some (option_map (λ (s : Shape). rows_at s rest) o)) enter.shape in
       let last : (h : Held) → h ≡ no_rows → (b : Bool) → b ≡ true
       → or_else (settle_fault (top names).rules (top names).args_override_self h) (or_else (defaults_fault (settled (top names).rules h).rows (top names).rules) (check_fault (top names) (finished (top names).rules h) b)) ≡ [] =
       λ h h_is b b_is. subst (λ (x : Held). or_else (settle_fault (top names).rules (top names).args_override_self x) (or_else (defaults_fault (settled (top names).rules x).rows (top names).rules) (check_fault (top names) (finished (top names).rules x) b)) ≡ []) (sym h_is)
       (subst (λ (c : Bool). check_fault (top names) [] c ≡ []) (sym b_is) refl) in
-      both (walk_fault (top names) (commands names) (walk_from nothing_held) (codes "serve" ∷ rest)) _ (stopped_passes rest (codes "serve") [])
-      (both (entered_fault (line names) stop) _ below (last _ held_is _ met))
+      let walking : walk_fault (top names) (commands names) (walk_from nothing_held) (command ∷ rest) ≡ [] =
+      both (turn_fault (top names) (commands names) (walk_from nothing_held) command) _ enter.turn
+      (subst (λ (w : Walk). walk_fault (top names) (commands names) w rest ≡ []) (sym enter.walk) (stopped_passes rest command [])) in
+      both (walk_fault (top names) (commands names) (walk_from nothing_held) (command ∷ rest)) _ walking
+      (both (entered_fault (line names) end_at_top.stopped) _ below (last _ held_is _ met))
 
 -- well-formed words are refused for memory alone
 pub only_memory : (program : App) (words : List Text) (why : ErrorKind) → IsGistLine program
@@ -194,8 +201,8 @@ pub only_memory : (program : App) (words : List Text) (why : ErrorKind) → IsGi
 only_memory program words why gist fails well =
     let names = gist.0 in
     let free : is_simple_and_free program ≡ true = ap is_simple_and_free gist.2 ∙ is_free names in
-    let none : fault_of program words ≡ [] = ap (λ (l : App). fault_of l words) gist.2 ∙ ap (fault_of (gist_line names)) well.3
-    ∙ takes_words names well.0 well.1 well.2 well.4 (are_taken names [] well.2 gist.1 well.5) in
+    let none : fault_of program words ≡ [] = ap (λ (l : App). fault_of l words) gist.2 ∙ ap (fault_of (gist_line names)) well.words_are
+    ∙ takes_words names well.command well.name well.rest well.given well.is_command well.spelled (are_taken names [] well.given gist.1 well.are_options) in
     elim (fails free) [
       | inl memory ↦ memory
       | inr among ↦ absurd (subst (λ (kinds : Kinds). IsAmong why kinds) none among)

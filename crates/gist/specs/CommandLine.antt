@@ -7,7 +7,7 @@ use Rattle.clap.specs.Words.{App, Row, Rule, Text, first_of, one_of, new_app, ne
 use Rattle.clap.specs.declared.builder.ValueParser.{ValueParser}
 use Rattle.clap.specs.declared.builder.ValueParser.TheVariants as parser
 use Rattle.clap.specs.declared.error.ErrorKind.{ErrorKind}
-use Rattle.gist.specs.Spelling.{AreOptions, SpellsNumber, SpellsOptions, SpellsPlainly, value_of}
+use Rattle.gist.specs.Spelling.{AreOptions, IsStoreCommand, SpellsNumber, SpellsOptions, SpellsPlainly, value_of}
 use Rattle.gist.specs.declared.options.Class.{Class}
 use Rattle.gist.specs.declared.options.Class.TheVariants as classes
 use Rattle.gist.specs.declared.options.StoreOptions.{StoreOptions}
@@ -25,9 +25,9 @@ abbrev pub ClassNames : Type 0
 ClassNames = Bor (List (Bor Text))
 
 -- a command with the options that say how rows are kept
-abbrev pub with_store_rules : ClassNames → App → App
-with_store_rules names command =
-    with_rule (with_rule (with_rule command (option_rule (codes "class") (parser.Names names)))
+abbrev pub store_command : ClassNames → Text → App
+store_command names name =
+    with_rule (with_rule (with_rule (new_app name) (option_rule (codes "class") (parser.Names names)))
     (option_rule (codes "fan") number_of_32_bits)) (option_rule (codes "least") number_of_32_bits)
 
 abbrev pub AreClassNames : ClassNames → Type 0
@@ -36,9 +36,9 @@ AreClassNames names = map (λ name. name.now) names.now ≡ codes "interval" ∷
 abbrev pub program : App
 program = record (new_app (codes "gist")) { top = record (new_app (codes "gist")).top { subcommand_required = true; disable_help_subcommand = true } }
 
--- `gist`, which wants the command `serve`, which takes each option of a store once at most
+-- `gist`, which wants the command `serve` or `replay`, each of which takes each option of a store once at most
 abbrev pub gist_line : ClassNames → App
-gist_line names = with_subcommand program (with_store_rules names (new_app (codes "serve"))).top
+gist_line names = with_subcommand (with_subcommand program (store_command names (codes "serve")).top) (store_command names (codes "replay")).top
 
 abbrev pub IsGistLine : App → Type 0
 IsGistLine line = (names : ClassNames) × AreClassNames names × (line ≡ gist_line names)
@@ -70,15 +70,27 @@ pub record OptionsGiven (given : List (Text × Text)) (options : StoreOptions) :
   pub fan : NumberGiven (value_of (codes "fan") given) 8 options.fan
   pub least : NumberGiven (value_of (codes "least") given) 3 options.least
 
--- behind the program's name the words are `serve` and its options, each once at most, which give these values
-abbrev pub Gives : List Text → Settings → Type 0
-Gives words (settings.Serve options) =
-    (rest : List Text) × (given : List (Text × Text)) × (drop 1 words ≡ codes "serve" ∷ rest) × SpellsOptions rest given × AreOptions [] given × OptionsGiven given options
+-- behind the program's name the words are this command and its options, each once at most, which give these values
+abbrev pub GivesStore : Text → List Text → StoreOptions → Type 0
+GivesStore command words options =
+    (rest : List Text) × (given : List (Text × Text)) × (drop 1 words ≡ command ∷ rest) × SpellsOptions rest given × AreOptions [] given × OptionsGiven given options
 
--- behind the program's name the words are `serve` and its options, each once at most, and a value that is a word of its
+-- the first word behind the program's name is the command, and those behind it give its options their values
+abbrev pub Gives : List Text → Settings → Type 0
+Gives words (settings.Serve options) = GivesStore (codes "serve") words options
+Gives words (settings.Replay options) = GivesStore (codes "replay") words options
+
+-- behind the program's name the words are a command and its options, each once at most, and a value that is a word of its
 -- own begins with no hyphen
-abbrev pub AreWellFormed : List Text → Type 0
-AreWellFormed words = (name : Text) × (rest : List Text) × (given : List (Text × Text)) × (words ≡ name ∷ codes "serve" ∷ rest) × SpellsPlainly rest given × AreOptions [] given
+pub record AreWellFormed (words : List Text) : Type 0 where
+  pub name : Text
+  pub command : Text
+  pub rest : List Text
+  pub given : List (Text × Text)
+  pub words_are : words ≡ name ∷ command ∷ rest
+  pub is_command : IsStoreCommand command
+  pub spelled : SpellsPlainly rest given
+  pub are_options : AreOptions [] given
 
 -- the words are refused, or ask for help, with an error of this kind
 abbrev pub Refuses : List Text → ErrorKind → Type 0

@@ -4,19 +4,25 @@ use Rattle.std.specs.Io.KnownBytes.{IsAtEnd}
 use Rattle.change_list.specs.Configs.{IsWithinLimits}
 use Rattle.change_list.specs.declared.config.Config.{Config}
 use Rattle.store.specs.States.{State}
+use Rattle.world.specs.States.{State as World, new_state as new_world}
+use Rattle.interval_class.specs.declared.class.Intervals.{Intervals}
 use Rattle.interval_class.specs.declared.interval.Interval.{Interval}
 use Rattle.interval_class.specs.declared.atom.Atom.{Atom as IntervalAtom}
-use Rattle.interval_class.specs.Intervals.{matches_atom as matches_interval}
+use Rattle.interval_class.specs.Intervals.{matches_atom as matches_interval, may_match_atom as may_match_interval, is_cover as covers_interval, union_of as union_of_intervals}
+use Rattle.box_class.specs.declared.class.Boxes.{Boxes}
 use Rattle.box_class.specs.declared.boxes.BoxKey.{BoxKey}
 use Rattle.box_class.specs.declared.atom.Atom.{Atom as BoxAtom}
-use Rattle.box_class.specs.Boxes.{matches_atom as matches_box}
+use Rattle.box_class.specs.Boxes.{matches_atom as matches_box, may_match_atom as may_match_box, is_cover as covers_box, union_of as union_of_boxes}
+use Rattle.set_class.specs.declared.class.Sets.{Sets}
 use Rattle.set_class.specs.declared.elements.Elements.{Elements}
 use Rattle.set_class.specs.declared.atom.Atom.{Atom as SetAtom}
-use Rattle.set_class.specs.Sets.{matches_atom as matches_set}
+use Rattle.set_class.specs.Sets.{matches_atom as matches_set, may_match_atom as may_match_set, is_cover as covers_set, union_of as union_of_sets}
 use Rattle.query_text.specs.IntervalTexts.{interval_at, interval_text, atom_of as interval_atom}
 use Rattle.query_text.specs.BoxTexts.{box_at, box_text, atom_of as box_atom}
 use Rattle.query_text.specs.SetTexts.{set_at, set_text, atom_of as set_atom}
 use Rattle.front.specs.Sessions.{AnsweredAll}
+use Rattle.front.specs.Conversations.{AnsweredAll as EventsAnswered}
+use Rattle.front.specs.Replays.{AnswersTokens, tray_words}
 use Rattle.gist.specs.declared.options.Class.{Class}
 use Rattle.gist.specs.declared.options.Class.TheVariants as classes
 use Rattle.gist.specs.declared.options.StoreOptions.{StoreOptions}
@@ -27,9 +33,9 @@ use Rattle.gist.specs.declared.options.Settings.TheVariants as settings
 abbrev pub limits_of : StoreOptions → Config
 limits_of options = record { fan = options.fan; least = options.least; pages = 65536; commits = 16777216 }
 
--- All bytes of the reader were lines of a session over a new store, and what was written answers them. `before` and
--- `after` are what the reader had and has, `held` and `written` what the writer had and has.
+-- `before` and `after` are what the reader had and has, `held` and `written` what the writer had and has.
 module _ (before after held written : Option (List ℕ)) where
+  -- All bytes of the reader were lines of a session over a new store, and what was written answers them.
   abbrev pub AnswersSession : Class → ℕ → Type 0
   AnswersSession classes.Interval commits = (pages : ℕ) × (store : State Interval IntervalAtom) × AnsweredAll interval_at interval_atom matches_interval pages interval_text before after held written commits store
   AnswersSession classes.Box commits = (pages : ℕ) × (store : State BoxKey BoxAtom) × AnsweredAll box_at box_atom matches_box pages box_text before after held written commits store
@@ -39,10 +45,22 @@ module _ (before after held written : Option (List ℕ)) where
   abbrev pub Serves : StoreOptions → Type 0
   Serves options = IsWithinLimits (limits_of options) × IsAtEnd after × AnswersSession options.class (limits_of options).commits
 
+  -- All bytes of the reader were lines of events, which were steps of a new world, and what was written answers them.
+  abbrev pub AnswersEvents : Class → Config → Type 0
+  AnswersEvents classes.Interval config = (last : World Interval IntervalAtom) × EventsAnswered (AnswersTokens Intervals interval_at interval_atom interval_text (tray_words matches_interval may_match_interval covers_interval union_of_intervals)) before after held written (new_world config) last
+  AnswersEvents classes.Box config = (last : World BoxKey BoxAtom) × EventsAnswered (AnswersTokens Boxes box_at box_atom box_text (tray_words matches_box may_match_box covers_box union_of_boxes)) before after held written (new_world config) last
+  AnswersEvents classes.Set config = (last : World Elements SetAtom) × EventsAnswered (AnswersTokens Sets set_at set_atom set_text (tray_words matches_set may_match_set covers_set union_of_sets)) before after held written (new_world config) last
+
+  -- the limits are in their ranges, and every line of events was answered
+  abbrev pub Replays : StoreOptions → Type 0
+  Replays options = IsWithinLimits (limits_of options) × IsAtEnd after × AnswersEvents options.class (limits_of options)
+
   -- what the settings say was done
   abbrev pub Does : Settings → Type 0
   Does (settings.Serve options) = Serves options
+  Does (settings.Replay options) = Replays options
 
 -- the settings name a number outside its range
 abbrev pub AreOutOfLimits : Settings → Type 0
 AreOutOfLimits (settings.Serve options) = ¬ IsWithinLimits (limits_of options)
+AreOutOfLimits (settings.Replay options) = ¬ IsWithinLimits (limits_of options)

@@ -1,4 +1,4 @@
--- How the words behind `serve` spell options.
+-- How the words behind a command's name spell options.
 use Rattle.std.specs.Prelude.{◌≡◌, ◌⊎◌, ℕ, ◌<◌, ◌^◌, ◌++◌, ⊤, false, pos, List, [], ◌∷◌, Option, Some, None, codes, if◌then◌else◌, Bool, ◌==◌}
 use Rattle.std.specs.List.{list_any}
 use Rattle.std.specs.Str.Parse.{IsNumeral, signed_digits_value, without_leading_sign}
@@ -18,6 +18,10 @@ abbrev pub value_of : Text → List (Text × Text) → Option Text
 value_of name [] = None
 value_of name (option ∷ given) = if bytes_eq option.0 name then Some option.1 else value_of name given
 
+-- a command that takes the options of how rows are kept
+abbrev pub IsStoreCommand : Text → Type 0
+IsStoreCommand word = (word ≡ codes "serve") ⊎ (word ≡ codes "replay")
+
 abbrev pub IsClassName : Text → Type 0
 IsClassName text = (text ≡ codes "interval") ⊎ (text ≡ codes "box") ⊎ (text ≡ codes "set")
 
@@ -30,11 +34,11 @@ pub record SpellsNumber (text : Text) (number : ℕ) : Type 0 where
 abbrev pub IsNumber : Text → Type 0
 IsNumber text = (number : ℕ) × SpellsNumber text number
 
--- an option that `serve` takes, with a value of its kind
+-- an option of how rows are kept, with a value of its kind
 abbrev pub IsOption : Text × Text → Type 0
 IsOption o = ((o.0 ≡ codes "class") × IsClassName o.1) ⊎ ((o.0 ≡ codes "fan") × IsNumber o.1) ⊎ ((o.0 ≡ codes "least") × IsNumber o.1)
 
--- each is an option that `serve` takes, and none has a name that was seen before it
+-- each is such an option, and none has a name that was seen before it
 abbrev pub AreOptions : List Text → List (Text × Text) → Type 0
 AreOptions seen [] = ⊤
 AreOptions seen (o ∷ given) = IsOption o × (list_any (λ name. bytes_eq name o.0) seen ≡ false) × AreOptions (seen ++ o.0 ∷ []) given

@@ -1,4 +1,5 @@
-//! The program: `gist serve` answers the lines of standard input on standard output.
+//! The program: `gist serve` answers the lines of standard input on standard output, and `gist replay` carries out its
+//! lines as events.
 #![tactic(auto)]
 
 mod help;

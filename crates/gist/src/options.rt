@@ -21,4 +21,6 @@ pub struct StoreOptions {
 pub enum Settings {
     /// Answer the lines of a session.
     Serve(StoreOptions),
+    /// Carry out the events of lines.
+    Replay(StoreOptions),
 }

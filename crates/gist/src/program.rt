@@ -2,12 +2,15 @@ ghost use Rattle.std.specs.Prelude.{◌≡◌, ◌≢◌, ◌↔◌, ◌⊎◌, 
 ghost use Rattle.std.specs.Io.KnownBytes.{IsAtEnd};
 ghost use Rattle.store.specs.States.{State};
 ghost use Rattle.change_list.specs.Configs.{IsWithinLimits};
+ghost use Rattle.world.specs.States.{State as WorldState, new_state as new_world};
 ghost use Rattle.front.specs.Sessions.{AnsweredAll};
+ghost use Rattle.front.specs.Conversations.{AnsweredAll as EventsAnswered};
+ghost use Rattle.front.specs.Replays.{AnswersTokens, tray_words};
 ghost use Rattle.clap.specs.Words.{kind_of};
 ghost use Rattle.clap.specs.declared.error.ErrorKind.{ErrorKind};
 ghost use Rattle.gist.specs.declared.options.Settings.{Settings};
 ghost use Rattle.gist.specs.CommandLine.{AreWellFormed, Gives, Refuses};
-ghost use Rattle.gist.specs.Served.{limits_of, Serves, Does, AreOutOfLimits};
+ghost use Rattle.gist.specs.Served.{limits_of, Serves, Replays, Does, AreOutOfLimits};
 
 use crate::options::{Class, Settings, StoreOptions};
 use crate::words::settings;
@@ -18,13 +21,15 @@ use clap::error::ErrorKind;
 use front::session;
 use interval_class::Intervals;
 use key_class::{Fault, Refusal};
+use mailbox::Tray;
 use query_text::ClassText;
 use set_class::Sets;
 use std::alloc::Global;
 use std::io::{Read, Write};
 use store::Store;
+use world::World;
 
-/// The limits of a store with these options: as many pages and commits as there may be.
+/// The limits that the options set: as many pages and commits as there may be.
 fn config_of(options: StoreOptions) -> Config
     ensures { result ≡ limits_of options }
 {
@@ -78,6 +83,48 @@ fn serve<R: Read, W: Write>(
     }
 }
 
+/// Gives a new world the events of the reader's lines until its bytes end.
+///
+/// # Errors
+/// `Refused` with `BadConfig` where a limit is out of its range; nothing was read then. Else as `front::replay`.
+fn replay_world<C: ClassText, R: Read, W: Write>(
+    alloc: Global,
+    config: Config,
+    reader: &mut R,
+    writer: &mut W,
+) -> Result<(), Fault>
+    ensures ok { result ≡ Ok tt → (last : WorldState C.Key C.Atom) × IsAtEnd (R.remaining reader.new) × EventsAnswered (AnswersTokens C C.key_at C.atom_of C.key_text (tray_words C.is_match C.is_consistent C.is_cover C.union_of)) (R.remaining reader.old) (R.remaining reader.new) (W.contents writer.old) (W.contents writer.new) (new_world config) last }
+    ensures within { result ≡ Ok tt → IsWithinLimits config }
+    ensures bad { (result ≡ Err (Fault.Refused Refusal.BadConfig)) ↔ (¬ IsWithinLimits config) }
+    ensures unread { ¬ IsWithinLimits config → (reader.new ≡ reader.old) × (writer.new ≡ writer.old) }
+{
+    let mut world = match World::<C, Tray<C::Key>>::new(alloc, config) {
+        Ok(world) => world,
+        Err(Refusal::OutOfMemory) => return Err(Fault::OutOfMemory),
+        Err(why) => return Err(Fault::Refused(why)),
+    };
+    front::replay(alloc, reader, writer, &mut world)
+}
+
+/// Gives the events to a new world of the class of the options.
+fn replay<R: Read, W: Write>(
+    alloc: Global,
+    options: StoreOptions,
+    reader: &mut R,
+    writer: &mut W,
+) -> Result<(), Fault>
+    ensures ok { result ≡ Ok tt → Replays (R.remaining reader.old) (R.remaining reader.new) (W.contents writer.old) (W.contents writer.new) options }
+    ensures bad { (result ≡ Err (Fault.Refused Refusal.BadConfig)) ↔ (¬ IsWithinLimits (limits_of options)) }
+    ensures unread { ¬ IsWithinLimits (limits_of options) → (reader.new ≡ reader.old) × (writer.new ≡ writer.old) }
+{
+    let config = config_of(options);
+    match options.class {
+        Class::Interval => replay_world::<Intervals, R, W>(alloc, config, reader, writer),
+        Class::Box => replay_world::<Boxes, R, W>(alloc, config, reader, writer),
+        Class::Set => replay_world::<Sets, R, W>(alloc, config, reader, writer),
+    }
+}
+
 /// Does what the settings say.
 fn run<R: Read, W: Write>(
     alloc: Global,
@@ -91,6 +138,7 @@ fn run<R: Read, W: Write>(
 {
     match settings {
         Settings::Serve(options) => serve(alloc, options, reader, writer),
+        Settings::Replay(options) => replay(alloc, options, reader, writer),
     }
 }
 

@@ -2,9 +2,13 @@ ghost use Rattle.std.specs.Prelude.{◌≡◌, ◌≢◌, ℕ, List, Option, Som
 ghost use Rattle.clap.specs.Words.{app_of, found_of, first_value, rule_of, rows_of, kind_of};
 ghost use Rattle.clap.specs.declared.builder.ValueParser.TheVariants.{Names};
 ghost use Rattle.clap.specs.declared.error.ErrorKind.{ErrorKind};
-ghost use Rattle.gist.specs.CommandLine.{ClassNames, AreClassNames, IsGistLine, OptionsRead, option_rule, number_of_32_bits, class_named, AreWellFormed, Gives, Refuses};
+ghost use Rattle.gist.specs.Spelling.{IsStoreCommand};
+ghost use Rattle.gist.specs.CommandLine.{IsGistLine, OptionsRead, option_rule, number_of_32_bits, store_command, class_named, AreWellFormed, Gives, Refuses};
 
-use crate::help::{ABOUT, FAN_HELP, FIRST_SESSION, LEAST_HELP, SERVE_ABOUT, SERVE_GUIDE};
+use crate::help::{
+    ABOUT, FAN_HELP, FIRST_SESSION, LEAST_HELP, REPLAY_ABOUT, REPLAY_GUIDE, SERVE_ABOUT,
+    SERVE_GUIDE,
+};
 use crate::options::{Class, Settings, StoreOptions};
 use clap::{Arg, ArgMatches, Command, Error, value_parser};
 use std::alloc::{AllocError, Global};
@@ -15,13 +19,6 @@ static CLASSES: [&str; 3] = ["interval", "box", "set"];
 const DEFAULT_FAN: u32 = 8;
 
 const DEFAULT_LEAST: u32 = 3;
-
-/// The options that say how rows are kept.
-struct StoreArgs<'a> {
-    class: Arg<'a>,
-    fan: Arg<'a>,
-    least: Arg<'a>,
-}
 
 /// An option that takes a number of 32 bits.
 fn number_arg<'a>(alloc: Global, name: &'a str, value: &'a str, help: &'a str) -> Arg<'a>
@@ -36,47 +33,49 @@ fn number_arg<'a>(alloc: Global, name: &'a str, value: &'a str, help: &'a str) -
 }
 
 /// The option that names a class.
-fn class_arg<'a>(alloc: Global) -> Arg<'a>
-    ensures rule { (names : ClassNames) × AreClassNames names × (rule_of result ≡ option_rule (codes "class") (Names names)) }
+fn class_arg<'a>(alloc: Global, classes: &'a [&'a str]) -> Arg<'a>
+    ensures rule { rule_of result ≡ option_rule (codes "class") (Names classes.entry) }
     ensures local { result.global ≡ false }
 {
     Arg::new(alloc, "class")
         .long("class")
         .value_name("CLASS")
-        .value_parser(CLASSES.as_slice())
+        .value_parser(classes)
         .help("What keys are [default: interval]")
 }
 
-fn store_args<'a>(alloc: Global) -> StoreArgs<'a>
-    ensures class { (names : ClassNames) × AreClassNames names × (rule_of result.class ≡ option_rule (codes "class") (Names names)) }
-    ensures fan { rule_of result.fan ≡ option_rule (codes "fan") number_of_32_bits }
-    ensures least { rule_of result.least ≡ option_rule (codes "least") number_of_32_bits }
-    ensures local { (result.class.global ≡ false) × (result.fan.global ≡ false) × (result.least.global ≡ false) }
+/// A command with the options that say how rows are kept.
+fn store_command<'a>(
+    alloc: Global,
+    name: &'a str,
+    classes: &'a [&'a str],
+) -> Result<Command<'a>, AllocError>
+    ensures { IfOk result (λ c. app_of c ≡ store_command classes.entry name.entry.now) }
 {
-    StoreArgs {
-        class: class_arg(alloc),
-        fan: number_arg(alloc, "fan", "M", FAN_HELP),
-        least: number_arg(alloc, "least", "m", LEAST_HELP),
-    }
+    Command::new(alloc, name)
+        .arg(class_arg(alloc, classes))?
+        .arg(number_arg(alloc, "fan", "M", FAN_HELP))?
+        .arg(number_arg(alloc, "least", "m", LEAST_HELP))
 }
 
 /// The program's command line.
 fn command_line<'a>(alloc: Global) -> Result<Command<'a>, AllocError>
     ensures { IfOk result (λ c. IsGistLine (app_of c)) }
 {
-    let StoreArgs { class, fan, least } = store_args(alloc);
-    let serve = Command::new(alloc, "serve")
+    let classes = CLASSES.as_slice();
+    let serve = store_command(alloc, "serve", classes)?
         .about(SERVE_ABOUT)
-        .after_help(SERVE_GUIDE)
-        .arg(class)?
-        .arg(fan)?
-        .arg(least)?;
+        .after_help(SERVE_GUIDE);
+    let replay = store_command(alloc, "replay", classes)?
+        .about(REPLAY_ABOUT)
+        .after_help(REPLAY_GUIDE);
     Command::new(alloc, "gist")
         .about(ABOUT)
         .after_help(FIRST_SESSION)
         .subcommand_required(true)
         .disable_help_subcommand(true)
-        .subcommand(serve)
+        .subcommand(serve)?
+        .subcommand(replay)
 }
 
 /// The class that the words give, else intervals.
@@ -101,6 +100,19 @@ fn store_options(options: &ArgMatches<'_>) -> StoreOptions
     }
 }
 
+/// What a command asks with these options.
+fn store_settings(command: &str, options: StoreOptions) -> Settings
+    requires { IsStoreCommand command.now }
+    ensures serve { command.now ≡ codes "serve" → result ≡ Settings.Serve options }
+    ensures replay { command.now ≡ codes "replay" → result ≡ Settings.Replay options }
+{
+    match command {
+        "serve" => Settings::Serve(options),
+        "replay" => Settings::Replay(options),
+        _ => unreachable!(),
+    }
+}
+
 /// What the program's words ask for. The first word is the program's name.
 ///
 /// # Errors
@@ -113,7 +125,7 @@ pub fn settings<'a>(alloc: Global, words: &'a [&'a str]) -> Result<Settings, Err
 {
     let matches = command_line(alloc)?.try_get_matches_from(words)?;
     match matches.subcommand() {
-        Some((_, options)) => Ok(Settings::Serve(store_options(options))),
+        Some((command, options)) => Ok(store_settings(command, store_options(options))),
         None => unreachable!(),
     }
 }

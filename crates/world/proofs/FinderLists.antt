@@ -1,5 +1,5 @@
 -- Every change of an event leaves open finders finders.
-use Rattle.std.proofs.Common.{◌≡◌, ◌+◌, ◌<◌, ℕ, Bool, List, [], ◌∷◌, ◌++◌, length, arith, subst, All, length-append}
+use Rattle.std.proofs.Common.{◌≡◌, ◌+◌, ◌<◌, ℕ, List, [], ◌∷◌, ◌++◌, length, arith, subst, length-append}
 use Rattle.change_list.specs.declared.write.Write.{Write}
 use Rattle.page_table.specs.Trees.{Tree}
 use Rattle.descent.specs.Finders.{OpenFinder, IsSeeking}

@@ -1,28 +1,27 @@
 -- The events of finders, and sweeps.
-use Rattle.std.proofs.Common.{◌≡◌, ◌+◌, ◌<◌, ◌≤◌, ℕ, Bool, true, false, not, ◌||◌, ◌&&◌, List, [], ◌∷◌, ◌++◌, length, Option, Some, None, inl, inr, refl, sym, ap, ◌∙◌, arith, subst}
+use Rattle.std.proofs.Common.{◌≡◌, ◌+◌, ◌<◌, ℕ, Bool, true, false, not, ◌||◌, ◌&&◌, [], ◌∷◌, ◌++◌, length, Some, None, refl, sym, ◌∙◌, arith, subst}
 use Rattle.std.proofs.Common.{Result, Ok, Err}
-use Rattle.std.specs.Prelude.{nat_le, nat_lt, nat_eq, is_none, OnOk, OnErr}
+use Rattle.std.specs.Prelude.{nat_le, nat_lt, nat_eq, OnOk, OnErr}
 use Rattle.std.proofs.lemmas.Bool.{and_parts}
 use Rattle.key_class.specs.declared.refusal.Refusal.{Refusal}
 use Rattle.key_class.specs.declared.refusal.Refusal.TheVariants as refusal
 use Rattle.change_list.specs.Changes.{commit_at, is_deleted, status_of}
 use Rattle.change_list.specs.declared.write.Status.TheVariants.{Live}
-use Rattle.change_list.specs.declared.write.Write.TheVariants.{Insert, Delete}
-use Rattle.page_table.specs.Soundness.{KeyLaws}
+use Rattle.change_list.specs.declared.write.Write.TheVariants.{Insert}
 use Rattle.page_table.specs.Trees.{page_at}
 use Rattle.scan.specs.LeafChanges.{after_sweep}
 use Rattle.split.specs.SearchTrees.{SearchTree, with_tree}
 use Rattle.split.specs.Tests.{first_failing, is_leaf, sweep_tests}
 use Rattle.split.proofs.RowsDone.{buried, swept, sweepable}
-use Rattle.descent.specs.Finders.{OpenFinder, IsSeeking, FindsRow, GoesFurther, is_at_row}
-use Rattle.descent.proofs.Seeking.{seeking_begun, seeking_further, finds_at_row, further_not_at_row, finds_page, finds_weigh, finds_leaf}
+use Rattle.descent.specs.Finders.{OpenFinder, IsSeeking, FindsRow, is_at_row}
+use Rattle.descent.proofs.Seeking.{seeking_begun, seeking_further, finds_at_row, finds_page, finds_weigh, finds_leaf}
 use Rattle.cursor.specs.OpenCursors.{Words}
 use Rattle.cursor.proofs.WordLaws.{WordLaws}
 use Rattle.world.specs.Serials.{without, put}
 use Rattle.world.specs.Stamps.{Stamp}
 use Rattle.world.specs.States.{State, finder_at, with_finder, IsSoundWorld}
 use Rattle.world.specs.Steps.{find_tests, finder_tests, row_tests, is_insert, Finds, Buries, SeeksOn, Sweeps}
-use Rattle.world.proofs.Refusing.{failing_first, failing_later, passed_first, passed_at, passes_at, fails_at}
+use Rattle.world.proofs.Refusing.{failing_later, passed_first, passed_at}
 use Rattle.world.proofs.Serials.{member_all}
 use Rattle.world.proofs.FinderLists.{finders_push, finders_put, finders_without}
 use Rattle.world.proofs.Sounding.{buried_sound, swept_sound, sought_sound}

@@ -1,5 +1,5 @@
 -- Every change of an event keeps a world sound.
-use Rattle.std.proofs.Common.{◌≡◌, ◌+◌, ◌<◌, ◌≤◌, ℕ, Bool, true, false, map, filter, List, [], ◌∷◌, ◌++◌, length, Some, None, refl, sym, arith, subst, All, length-append}
+use Rattle.std.proofs.Common.{◌≡◌, ◌+◌, ◌<◌, ◌≤◌, ℕ, Bool, map, filter, List, [], ◌∷◌, ◌++◌, length, None, refl, sym, arith, subst, All, length-append}
 use Rattle.std.proofs.lemmas.List.Elements.{All-nil}
 use Rattle.change_list.specs.declared.config.Config.{Config}
 use Rattle.change_list.specs.Configs.{IsWithinLimits}
@@ -26,8 +26,8 @@ use Rattle.cursor.specs.OpenCursors.{OpenCursor}
 use Rattle.descent.specs.Finders.{OpenFinder, IsSeeking}
 use Rattle.descent.proofs.Seeking.{seeking_moved, seeking_placed, seeking_buried, seeking_swept}
 use Rattle.world.specs.Serials.{without, Rise}
-use Rattle.world.specs.States.{State, new_state, with_pages, with_cursor, with_finder, IsAtWork, HasFinders, IsSoundWorld}
-use Rattle.world.proofs.FinderLists.{finders_kept, finders_push, finders_put, finders_without}
+use Rattle.world.specs.States.{State, new_state, with_pages, with_cursor, IsAtWork, HasFinders, IsSoundWorld}
+use Rattle.world.proofs.FinderLists.{finders_kept, finders_without}
 use Rattle.world.proofs.Serials.{rise_push, rise_put, rise_without, all_put, all_push, all_without, length_put, length_without}
 
 module _ {K A : Type 0} (is_cover : K → K → Bool) where
@@ -92,7 +92,7 @@ module _ {K A : Type 0} (is_cover : K → K → Bool) where
         let rows : List (Entry K) = map (marked row (length old.commits + 1)) (page_at old.search.tree p).rows in
         let n : length (old.commits ++ Delete row ∷ []) ≡ length old.commits + 1 = length-append old.commits (Delete row ∷ []) in
         let kept = finders_kept old.search.tree old.commits old.finders old.last_finder s.finders (after_rows old.search.tree p rows) (old.commits ++ Delete row ∷ [])
-            (λ k h. seeking_buried is_cover old.search.fan old.search.tree s.tree.sound old.commits k h p l row) in
+        (λ k h. seeking_buried is_cover old.search.fan old.search.tree s.tree.sound old.commits k h p l row) in
         record {
           tree = sound;
           legal = legal_push old.commits (Delete row) s.legal live;

@@ -5,7 +5,7 @@ use Rattle.std.proofs.lemmas.List.{append-nil}
 use Rattle.key_class.specs.declared.pred.Pred.{Pred}
 use Rattle.key_class.specs.declared.refusal.Refusal.{Refusal}
 use Rattle.key_class.specs.declared.refusal.Refusal.TheVariants as refusal
-use Rattle.change_list.specs.declared.write.Write.TheVariants.{Insert, Delete}
+use Rattle.change_list.specs.declared.write.Write.TheVariants.{Delete}
 use Rattle.change_list.specs.declared.item.Item.{Item}
 use Rattle.change_list.specs.Cursors.{Fits}
 use Rattle.page_table.specs.Trees.{Tree}
@@ -33,7 +33,7 @@ use Rattle.world.specs.Traces.{written, taken_by, asks}
 use Rattle.page_table.specs.Keeping.{KeepsRows}
 use Rattle.world.specs.Promises.{Serves, ServesAll, LowersWork, FitsAtOpening, KeepsRowsUnder}
 use Rattle.world.proofs.Serials.{member_serial, member_within, put_same, put_other, without_same, without_other, push_same, push_other}
-use Rattle.world.proofs.Effects.{Effect, FinderEffect, IsShut, IsFresh, Opening, Closing, Numbering, Finding, Writing, WasAsked}
+use Rattle.world.proofs.Effects.{Effect, FinderEffect, IsShut, IsFresh, Opening, Closing, Numbering, Finding, Writing}
 use Rattle.descent.specs.Finders.{OpenFinder}
 use Rattle.world.proofs.Refusing.{closed_fails, failing_first, passed_first, open_leaves_room, open_from_tests}
 use Rattle.world.proofs.Sounding.{moved_sound, placed_sound, opened_sound, turned_sound, closed_sound, fresh_at_work}

@@ -8,8 +8,8 @@ ghost use Rattle.world.specs.declared.event.Event.TheVariants as event;
 ghost use Rattle.world.specs.States.{Meets};
 ghost use Rattle.world.specs.Steps.{Step, find_tests};
 
-use crate::reply::{Reply, Stamped};
 use crate::places::place_of;
+use crate::reply::{Reply, Stamped};
 use crate::world::World;
 use change_list::{ChangeList, Status, Write};
 use descent::Finder;

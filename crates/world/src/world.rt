@@ -9,8 +9,8 @@ ghost use Rattle.world.specs.Steps.{Step, cursor_tests};
 ghost use Rattle.world.specs.Promises.{ServesAll, FitsAtOpening, LowersWork, KeepsRowsUnder};
 
 use crate::event::Event;
-use crate::reply::Reply;
 use crate::places::place_of;
+use crate::reply::Reply;
 use change_list::{ChangeList, Config, Write};
 use cursor::Cursor;
 use descent::Finder;

@@ -1,23 +1,31 @@
-use Rattle.std.proofs.Common.{rules, ◌≡◌, ◌∙◌, ap, ap₂, codes, true}
+use Rattle.std.proofs.Common.{rules, ◌≡◌, ◌∙◌, ◌&&◌, Bool, ap, ap₂, codes, false, not, refl, sym, true, true≢false}
 use Rattle.std.proofs.lemmas.Result.{IfOk-weaker}
-use Rattle.clap.specs.Words.{App, app_of, new_app, with_rule, with_subcommand}
-use Rattle.gist.specs.CommandLine.{program, with_store_rules}
+use Rattle.clap.specs.Words.{App, app_of, with_subcommand}
+use Rattle.gist.specs.CommandLine.{AreClassNames, program, store_command}
 use Rattle.gist.proofs.words.command_line.Goals as goal
 
 abbrev asking : App → App
 asking a = record a { top = record a.top { subcommand_required = true; disable_help_subcommand = true } }
 
+-- a plain command has no global argument
+no_globals : (groups external globals rest : Bool) → (groups && (external && (not globals && rest))) ≡ true → globals ≡ false
+no_globals true true false rest plain = refl
+no_globals true true true rest plain = absurd (true≢false (sym plain))
+no_globals true false globals rest plain = absurd (true≢false (sym plain))
+no_globals false external globals rest plain = absurd (true≢false (sym plain))
+
 pub returns : goal.returns
 returns c =
-    let args = c.store_args-class.ensures in
-    let start_is : app_of c.after_help.result ≡ new_app (codes "serve") = rw (c.after_help.ensures, c.about.ensures) c.new.ensures.app in
-    let serve_is : app_of c.in_ok-serve.serve ≡ with_store_rules args.class.0 (new_app (codes "serve")) =
-    c.in_ok-serve.ensures.shape args.local.2 ∙ ap₂ with_rule (c.in_ok-arg-2.ensures.shape args.local.1
-    ∙ ap₂ with_rule (c.in_ok-arg.ensures.shape args.local.0 ∙ ap₂ with_rule start_is args.class.2) args.fan) args.least in
+    let classes = c.as_slice-classes.result in
+    let named : AreClassNames classes = search rules in
+    let serve_is : app_of c.after_help-serve.result ≡ store_command classes (codes "serve") = rw (c.after_help-serve.ensures, c.about.ensures) c.in_ok-store_command.ensures in
+    let replay_is : app_of c.after_help-replay.result ≡ store_command classes (codes "replay") = rw (c.after_help-replay.ensures, c.about-2.ensures) c.in_ok-store_command-2.ensures in
     let program_is : app_of c.disable_help_subcommand.result ≡ program =
-    rw (c.disable_help_subcommand.ensures, c.subcommand_required.ensures, c.after_help-2.ensures, c.about-2.ensures) (ap asking c.new-2.ensures.app) in
-    IfOk-weaker c.subcommand.result _ _ (λ line added. (
-      args.class.0,
-      args.class.1,
-      added.shape (search rules) ∙ ap₂ with_subcommand program_is (ap (λ (a : App). a.top) serve_is),
-    )) c.subcommand.ensures
+    rw (c.disable_help_subcommand.ensures, c.subcommand_required.ensures, c.after_help.ensures, c.about-3.ensures) (ap asking c.new.ensures.app) in
+    let one_is : app_of c.in_ok-subcommand.field-0 ≡ with_subcommand program (store_command classes (codes "serve")).top =
+    c.in_ok-subcommand.ensures.shape (no_globals _ _ _ _ (ap (λ (a : App). a.top.is_plain) serve_is)) ∙ ap₂ with_subcommand program_is (ap (λ (a : App). a.top) serve_is) in
+    IfOk-weaker c.subcommand-2.result _ _ (λ line added. (
+      classes,
+      named,
+      added.shape (no_globals _ _ _ _ (ap (λ (a : App). a.top.is_plain) replay_is)) ∙ ap₂ with_subcommand one_is (ap (λ (a : App). a.top) replay_is),
+    )) c.subcommand-2.ensures

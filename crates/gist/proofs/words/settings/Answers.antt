@@ -1,10 +1,17 @@
-use Rattle.std.proofs.Common.{map}
+use Rattle.std.proofs.Common.{◌≡◌, ◌∙◌, map, Option, Some, None, refl, subst, sym, inl, inr}
+use Rattle.std.specs.Option.{option_map}
 use Rattle.std.proofs.lemmas.Result.{err_from_is_err_and}
-use Rattle.clap.specs.Words.{app_of, found_of, kind_of, rows_of, subcommand_rows_of}
-use Rattle.gist.proofs.Giving.{gives}
+use Rattle.clap.specs.Words.{Text, app_of, found_of, kind_of, rows_of, subcommand_rows_of}
+use Rattle.gist.specs.CommandLine.{Gives, GivesStore}
+use Rattle.gist.specs.declared.options.Settings.{Settings}
+use Rattle.gist.proofs.Giving.{Meets, gives, meets, names_command}
 use Rattle.gist.proofs.Serving.{refuses}
 use Rattle.gist.proofs.Taking.{only_memory}
 use Rattle.gist.proofs.words.settings.Goals as goal
+
+fused : {A B C : Type 0} (f : A → B) (g : B → C) (o : Option A) → option_map (λ a. g (f a)) o ≡ option_map g (option_map f o)
+fused f g None = refl
+fused f g (Some a) = refl
 
 pub returns-in_err-matches-clause-refused : goal.returns-in_err-matches-clause-refused
 returns-in_err-matches-clause-refused c =
@@ -16,8 +23,22 @@ returns-in_err-matches-clause-taken c well =
     let p = err_from_is_err_and c.from_residual-in_err-matches.result c.from_residual-in_err-matches.ensures.1 in
     rw (p.1, p.2) (only_memory (app_of c.in_ok-command_line.field-0) (map (λ word. word.now) c.args.words.now) (kind_of c.in_err-matches.field-0.0) c.in_ok-command_line.ensures c.in_err-matches.ensures.kinds well)
 
+pub store_settings-requires : goal.store_settings-requires
+store_settings-requires c =
+    let words = map (λ word. word.now) c.args.words.now in
+    let met = subcommand_rows_of c.in_ok-matches.matches in
+    let m : Meets words met = meets (app_of c.in_ok-command_line.field-0) words met c.in_ok-command_line.ensures c.in_ok-matches.ensures.kinds (λ simple. (c.in_ok-matches.ensures.matches simple).1) in
+    names_command words met c.in-Some.command.now m (c.in-Some.ensures.name ∙ fused _ _ _)
+
 pub returns-clause-given : goal.returns-clause-given
 returns-clause-given c =
-    gives (app_of c.in_ok-command_line.field-0) (map (λ word. word.now) c.args.words.now) (rows_of (found_of c.in-Some.options.now)) c.store_options.result
-    (subcommand_rows_of c.in_ok-matches.matches) c.in_ok-command_line.ensures c.in_ok-matches.ensures.kinds (λ simple. (c.in_ok-matches.ensures.matches simple).1)
-    c.in-Some.ensures.rows c.store_options.ensures
+    let words = map (λ word. word.now) c.args.words.now in
+    let met = subcommand_rows_of c.in_ok-matches.matches in
+    let m : Meets words met = meets (app_of c.in_ok-command_line.field-0) words met c.in_ok-command_line.ensures c.in_ok-matches.ensures.kinds (λ simple. (c.in_ok-matches.ensures.matches simple).1) in
+    let named : Some c.in-Some.command.now ≡ option_map (λ p. p.0) met = c.in-Some.ensures.name ∙ fused _ _ _ in
+    let options = c.store_options.result in
+    let given : GivesStore c.in-Some.command.now words options = gives words met c.in-Some.command.now (rows_of (found_of c.in-Some.options.now)) options m named c.in-Some.ensures.rows c.store_options.ensures in
+    elim (names_command words met c.in-Some.command.now m named) [
+      | inl is ↦ subst (λ (s : Settings). Gives words s) (sym (c.store_settings.ensures.serve is)) (subst (λ (command : Text). GivesStore command words options) is given)
+      | inr is ↦ subst (λ (s : Settings). Gives words s) (sym (c.store_settings.ensures.replay is)) (subst (λ (command : Text). GivesStore command words options) is given)
+    ]

@@ -1,11 +1,9 @@
-use Rattle.std.proofs.Common.{◌≡◌, ◌+◌, ◌++◌, ◌∷◌, [], true, refl, sym, ap, ◌∙◌, subst, arith, inl, inr, length, Some, None}
+use Rattle.std.proofs.Common.{◌≡◌, ◌+◌, ◌++◌, ◌∷◌, [], refl, sym, ap, ◌∙◌, subst, arith, inl, inr}
 use Rattle.std.proofs.lemmas.Grind.{common_steps}
-use Rattle.key_class.specs.declared.refusal.Refusal.TheVariants as refusal
 use Rattle.change_list.specs.Changes.{status_of}
 use Rattle.change_list.specs.declared.write.Status.TheVariants.{Live}
 use Rattle.change_list.specs.declared.write.Write.TheVariants.{Delete}
 use Rattle.world.specs.States.{Meets}
-use Rattle.world.specs.Stamps.{Stamp}
 use Rattle.world.proofs.FinderSteps.{meets_on, row_lives, buries_sound}
 use Rattle.world.proofs.Meeting.{finder_within, finder_is, meets_full, meets_passes, bury_change}
 use Rattle.world.proofs.world.World.bury.Goals as goal
@@ -69,7 +67,7 @@ invariant_of-self-in-Ok-bury g c =
     let pushed = c.push.ensures ∙ ap (λ l. l ++ Delete c.from.result ∷ []) (c.in-Ok.ensures.ok ∙ c.replace-changes.ensures.value) ∙ ap (λ n. c.self.inside.changes ++ Delete n ∷ []) c.from.ensures in
     let passed = meets_passes g.C.KeyClass.is_cover _ c.self.invariant c.args.f c.args.at c.args.page m (omega (arith, c.if-count-self.false, c.len-count.ensures.len)) in
     let change = bury_change g.C.KeyClass.is_cover _ c.self.invariant c.args.f c.args.at c.args.page m c.args.seat (record { number = c.len-count.result + 1; seat = c.args.seat; write = Delete c.row-row.result }) c.bury.new.self c.push.result c.remove.new.self.items c.row-row.result (c.len-count.result + 1) row
-        (ap (λ n. n + 1) c.len-count.ensures.len) c.in-Ok-bury.ensures.buried pushed c.remove.ensures.items refl in
+    (ap (λ n. n + 1) c.len-count.ensures.len) c.in-Ok-bury.ensures.buried pushed c.remove.ensures.items refl in
     buries_sound g.C.KeyClass.is_cover _ c.self.invariant c.args.seat c.args.f _ _ passed change
 
 pub returns-in-Ok-bury : goal.returns-in-Ok-bury

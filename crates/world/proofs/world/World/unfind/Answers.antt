@@ -1,6 +1,5 @@
-use Rattle.std.proofs.Common.{◌≡◌, ap, ◌∙◌, subst, remove, refl}
-use Rattle.world.specs.States.{IsFinderAt}
-use Rattle.world.specs.Serials.{IsMember, without}
+use Rattle.std.proofs.Common.{ap, refl}
+use Rattle.world.specs.Serials.{IsMember}
 use Rattle.world.proofs.FinderSteps.{unfound_sound}
 use Rattle.world.proofs.Meeting.{finder_gone}
 use Rattle.world.proofs.world.World.unfind.Goals as goal
