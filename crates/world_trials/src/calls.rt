@@ -1,7 +1,8 @@
 use super::steps::Trial;
 use change_list::{Config, Write};
-use interval_class::{Atom, Interval};
+use interval_class::{Atom, Interval, Intervals};
 use key_class::{Pred, Refusal, Rel};
+use mailbox::Tray;
 use std::alloc::Global;
 use std::test::Fail;
 use world::{Event, Reply};
@@ -13,19 +14,33 @@ const CONFIG: Config = Config {
     commits: 9,
 };
 
+/// A commit's number, seat and write.
+type Stamp = (u64, u32, Write<Interval>);
+
+fn stamp_of(reply: Reply<Intervals, Tray<Interval>>) -> Option<Stamp> {
+    match reply {
+        Reply::Committed(stamp) => Some((stamp.number(), stamp.seat(), stamp.write())),
+        _ => None,
+    }
+}
+
 #[test]
 fn tells_its_commits_and_pages(rt: HostRuntime) -> Result<(), Fail> {
     let mut world = Trial::new(rt.alloc(), CONFIG)?;
     let key = Interval::new(3, 4)?;
     let event = Event::Place(0, key, 5);
-    let reply = world.step_as(7, event.copy(rt.alloc())?);
-    let stamp = match reply {
-        Reply::Committed(stamp) => Some((stamp.number(), stamp.seat(), stamp.write())),
-        _ => None,
-    };
+    let stamp = stamp_of(world.step_as(7, event.copy(rt.alloc())?));
     assert_eq!(rt; stamp, Some((1, 7, Write::Insert(key, 5))));
-    assert_eq!(rt; (world.commits(), world.pages()), (1, 1));
-    for (number, commit) in [(0, None), (1, Some(Write::Insert(key, 5))), (2, None)] {
+    world.step_as(7, Event::Find(1));
+    let stamp = stamp_of(world.step_as(8, Event::Seek(1)));
+    assert_eq!(rt; stamp, Some((2, 8, Write::Delete(1))));
+    assert_eq!(rt; (world.commits(), world.pages()), (2, 1));
+    for (number, commit) in [
+        (0, None),
+        (1, Some(Write::Insert(key, 5))),
+        (2, Some(Write::Delete(1))),
+        (3, None),
+    ] {
         assert_eq!(rt; world.commit(number), commit);
     }
     for (number, rows) in [(0, Some(1)), (1, None), (4_294_967_296, None)] {

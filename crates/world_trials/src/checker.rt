@@ -1,4 +1,4 @@
-use super::listings::{Extent, extent_of, may_follow};
+use super::listings::{Extent, delete_refusal, extent_of, may_follow};
 use super::steps::{Answer, Ask, Ends, Query, Step};
 use change_list::{Item, Write};
 use interval_class::Interval;
@@ -22,6 +22,10 @@ pub enum Flaw {
     Closed,
     /// A cursor that was never opened isn't refused.
     Unknown,
+    /// A finder's serial was given before, or one that isn't open is asked and not refused, or one that is open is.
+    Finder,
+    /// A row that can't be deleted is looked for and not refused as such, or one that can is.
+    Row,
 }
 
 /// A cursor, as its answers tell.
@@ -102,12 +106,41 @@ impl Follower {
     }
 }
 
-/// The commits and the cursors, as the answers tell. It knows no page, link, stack and mailbox.
+/// A finder, as its answers tell.
+#[derive(Clone, Copy)]
+struct Seeker {
+    serial: u64,
+    row: u64,
+    is_open: bool,
+}
+
+fn inserts(write: Write<Interval>, (lo, hi): Ends, wanted_tag: u64) -> bool {
+    match write {
+        Write::Insert(key, tag) => (key.lo, key.hi, tag) == (lo, hi, wanted_tag),
+        Write::Delete(_) => false,
+    }
+}
+
+fn deletes(write: Write<Interval>, wanted_row: u64) -> bool {
+    matches!(write, Write::Delete(row) if row == wanted_row)
+}
+
+/// What an answer tells of a row that can't be deleted.
+fn told_of_row(answer: Answer) -> Option<Refusal> {
+    match answer {
+        Answer::Refused(Refusal::NoSuchRow) => Some(Refusal::NoSuchRow),
+        Answer::Refused(Refusal::AlreadyDeleted) => Some(Refusal::AlreadyDeleted),
+        _ => None,
+    }
+}
+
+/// The commits, cursors and finders, as the answers tell. It knows no page, link, stack and mailbox.
 #[derive(Drop)]
 struct Checker {
     alloc: Global,
     commits: Vec<Write<Interval>>,
     followers: Vec<Follower>,
+    seekers: Vec<Seeker>,
 }
 
 impl Checker {
@@ -116,40 +149,95 @@ impl Checker {
             alloc,
             commits: Vec::new(alloc),
             followers: Vec::new(alloc),
+            seekers: Vec::new(alloc),
         }
     }
 
     fn take_in(&mut self, step: Step) -> Result<Option<Flaw>, AllocError> {
+        if matches!(step.1, Answer::Committed(_, _)) && !step.0.writes() {
+            return Ok(Some(Flaw::Commit));
+        }
         if let Some(serial) = step.0.cursor() {
             return self.follow(serial, step);
         }
+        if let Some(serial) = step.0.finder() {
+            return self.seek(serial, step);
+        }
         match step {
             (Ask::Place(_, ends, tag), Answer::Committed(number, write)) => {
-                self.commit(ends, tag, number, write)
+                self.commit(inserts(write, ends, tag), number, write)
             }
-            (_, Answer::Committed(_, _)) => Ok(Some(Flaw::Commit)),
+            (Ask::Find(row), answer) => self.find(row, answer),
             (Ask::Open(query, _), Answer::Opened(serial)) => self.open(query, serial),
             _ => Ok(None),
         }
     }
 
+    /// A commit was answered, to an event that makes its write or not.
     fn commit(
         &mut self,
-        (lo, hi): Ends,
-        tag: u64,
+        is_of_event: bool,
         number: u64,
         write: Write<Interval>,
     ) -> Result<Option<Flaw>, AllocError> {
-        let is_of_event = match write {
-            Write::Insert(key, written) => (key.lo, key.hi, written) == (lo, hi, tag),
-            Write::Delete(_) => false,
-        };
         let is_next = number.checked_sub(1) == Some(self.commits.len() as u64);
         if !is_of_event || !is_next || !may_follow(&self.commits, write) {
             return Ok(Some(Flaw::Commit));
         }
         self.commits.push(write)?;
         Ok(None)
+    }
+
+    fn find(&mut self, row: u64, answer: Answer) -> Result<Option<Flaw>, AllocError> {
+        if told_of_row(answer) != delete_refusal(&self.commits, row) {
+            return Ok(Some(Flaw::Row));
+        }
+        let Answer::Finder(serial) = answer else {
+            return Ok(None);
+        };
+        for seeker in &self.seekers {
+            if seeker.serial == serial {
+                return Ok(Some(Flaw::Finder));
+            }
+        }
+        self.seekers.push(Seeker {
+            serial,
+            row,
+            is_open: true,
+        })?;
+        Ok(None)
+    }
+
+    /// The row of an open finder. It is open no more where its answer ends it.
+    fn sought(&mut self, serial: u64, answer: Answer) -> Option<u64> {
+        for seeker in &mut self.seekers {
+            if seeker.serial == serial && seeker.is_open {
+                seeker.is_open = !matches!(answer, Answer::Committed(_, _) | Answer::Unfound);
+                return Some(seeker.row);
+            }
+        }
+        None
+    }
+
+    fn seek(&mut self, serial: u64, (ask, answer): Step) -> Result<Option<Flaw>, AllocError> {
+        let row = self.sought(serial, answer);
+        let is_unknown = matches!(answer, Answer::Refused(Refusal::NoSuchFinder));
+        if row.is_none() != is_unknown {
+            return Ok(Some(Flaw::Finder));
+        }
+        match (ask, row) {
+            (Ask::Seek(_), Some(row)) => self.visit(row, answer),
+            _ => Ok(None),
+        }
+    }
+
+    /// An open finder of a row did a visit.
+    fn visit(&mut self, row: u64, answer: Answer) -> Result<Option<Flaw>, AllocError> {
+        if let Answer::Committed(number, write) = answer {
+            return self.commit(deletes(write, row), number, write);
+        }
+        let is_told = told_of_row(answer) == delete_refusal(&self.commits, row);
+        Ok((!is_told).then_some(Flaw::Row))
     }
 
     fn open(&mut self, query: Query, serial: u64) -> Result<Option<Flaw>, AllocError> {

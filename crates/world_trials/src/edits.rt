@@ -13,7 +13,8 @@ const CONFIG: Config = Config {
     commits: 16_777_216,
 };
 
-static EVENTS: [Ask; 21] = [
+/// Two rows, a cursor, inserts while it goes on, a mark.
+static INSERTS: [Ask; 21] = [
     Ask::Place(0, (1, 1), 7),
     Ask::Place(0, (2, 2), 8),
     Ask::Open(Query::Overlaps(0, 9), 8),
@@ -37,6 +38,32 @@ static EVENTS: [Ask; 21] = [
     Ask::Take(1),
 ];
 
+/// Two rows that a cursor's scan gives are deleted before it reads them. Then a mark.
+static DELETES: [Ask; 22] = [
+    Ask::Place(0, (1, 1), 7),
+    Ask::Place(0, (2, 2), 8),
+    Ask::Open(Query::Overlaps(0, 9), 8),
+    Ask::Find(1),
+    Ask::Find(2),
+    Ask::Seek(1),
+    Ask::Seek(2),
+    Ask::Turn(1),
+    Ask::Turn(1),
+    Ask::Turn(1),
+    Ask::Turn(1),
+    Ask::Turn(1),
+    Ask::AskMark(1),
+    Ask::Turn(1),
+    Ask::Take(1),
+    Ask::Take(1),
+    Ask::Take(1),
+    Ask::Take(1),
+    Ask::Take(1),
+    Ask::Seek(1),
+    Ask::Find(1),
+    Ask::Find(3),
+];
+
 fn row(number: u64, point: i64, tag: u64) -> Row<Interval> {
     Row {
         row: number,
@@ -48,9 +75,13 @@ fn row(number: u64, point: i64, tag: u64) -> Row<Interval> {
     }
 }
 
-/// The flaw that the checker finds in what a new world answers, where the answers at some places are edited.
-fn flaw(alloc: Global, edits: &[(usize, Answer)]) -> Result<Option<(usize, Flaw)>, Fail> {
-    let mut steps = trace_of(alloc, CONFIG, &EVENTS)?;
+/// The flaw that the checker finds in what a new world answers to a list, where the answers at some places are edited.
+fn flaw(
+    alloc: Global,
+    list: &[Ask],
+    edits: &[(usize, Answer)],
+) -> Result<Option<(usize, Flaw)>, Fail> {
+    let mut steps = trace_of(alloc, CONFIG, list)?;
     for (place, answer) in edits {
         if let Some(step) = steps.get_mut(*place) {
             step.1 = *answer;
@@ -60,7 +91,7 @@ fn flaw(alloc: Global, edits: &[(usize, Answer)]) -> Result<Option<(usize, Flaw)
 }
 
 #[test]
-fn a_trace_of_a_world_has_no_flaw(rt: HostRuntime) -> Result<(), Fail> {
+fn a_trace_with_inserts_has_no_flaw(rt: HostRuntime) -> Result<(), Fail> {
     let first = Answer::Taken(Item::Row(row(1, 1, 7)));
     let second = Answer::Taken(Item::Row(row(2, 2, 8)));
     let third = Answer::Taken(Item::Inserted(row(3, 3, 0)));
@@ -72,7 +103,7 @@ fn a_trace_of_a_world_has_no_flaw(rt: HostRuntime) -> Result<(), Fail> {
         // Rows come in any order.
         &[(6, second), (7, first)],
     ] {
-        assert_eq!(rt; flaw(rt.alloc(), edits)?, None);
+        assert_eq!(rt; flaw(rt.alloc(), &INSERTS, edits)?, None);
     }
     Ok(())
 }
@@ -95,7 +126,7 @@ fn edited_deliveries_are_refused(rt: HostRuntime) -> Result<(), Fail> {
         (&[(16, third)], 16),
     ] {
         let wanted = Some((place, Flaw::Delivery));
-        assert_eq!(rt; flaw(rt.alloc(), edits)?, wanted, "{edits:?}");
+        assert_eq!(rt; flaw(rt.alloc(), &INSERTS, edits)?, wanted, "{edits:?}");
     }
     Ok(())
 }
@@ -115,7 +146,11 @@ fn edited_marks_are_refused(rt: HostRuntime) -> Result<(), Fail> {
         (&[(10, full)], (17, Flaw::Asking)),
         (&[(18, mark)], (18, Flaw::Asking)),
     ] {
-        assert_eq!(rt; flaw(rt.alloc(), edits)?, Some(wanted), "{edits:?}");
+        assert_eq!(rt;
+            flaw(rt.alloc(), &INSERTS, edits)?,
+            Some(wanted),
+            "{edits:?}"
+        );
     }
     Ok(())
 }
@@ -131,7 +166,121 @@ fn edited_answers_are_refused(rt: HostRuntime) -> Result<(), Fail> {
         (&[(2, Answer::Opened(2))], (3, Flaw::Unknown)),
         (&[(20, Answer::Nothing)], (20, Flaw::Closed)),
     ] {
-        assert_eq!(rt; flaw(rt.alloc(), edits)?, Some(wanted), "{edits:?}");
+        assert_eq!(rt;
+            flaw(rt.alloc(), &INSERTS, edits)?,
+            Some(wanted),
+            "{edits:?}"
+        );
+    }
+    Ok(())
+}
+
+#[test]
+fn a_trace_with_deletes_has_no_flaw(rt: HostRuntime) -> Result<(), Fail> {
+    let (first, second) = (row(1, 1, 7), row(2, 2, 8));
+    for edits in [
+        [].as_slice(),
+        // What the world answers, which the other tests edit.
+        &[
+            (3, Answer::Finder(1)),
+            (4, Answer::Finder(2)),
+            (5, Answer::Committed(3, Write::Delete(1))),
+            (6, Answer::Committed(4, Write::Delete(2))),
+            (14, Answer::Taken(Item::Row(first))),
+            (15, Answer::Taken(Item::Row(second))),
+            (16, Answer::Taken(Item::Deleted(3, 1))),
+            (17, Answer::Taken(Item::Deleted(4, 2))),
+            (18, Answer::Taken(Item::Mark(4))),
+            (19, Answer::Refused(Refusal::NoSuchFinder)),
+            (20, Answer::Refused(Refusal::AlreadyDeleted)),
+            (21, Answer::Refused(Refusal::NoSuchRow)),
+        ],
+    ] {
+        assert_eq!(rt; flaw(rt.alloc(), &DELETES, edits)?, None, "{edits:?}");
+    }
+    Ok(())
+}
+
+#[test]
+fn edited_deletes_are_refused(rt: HostRuntime) -> Result<(), Fail> {
+    let first = Answer::Taken(Item::Deleted(3, 1));
+    let second = Answer::Taken(Item::Deleted(4, 2));
+    let other_row = Answer::Taken(Item::Deleted(3, 2));
+    let other_commit = Answer::Taken(Item::Deleted(4, 1));
+    let nothing = Answer::Nothing;
+    for (edits, wanted) in [
+        // One left out, both left out, and a row left out that is dead when it is taken.
+        ([(16, nothing)].as_slice(), (17, Flaw::Delivery)),
+        (&[(16, nothing), (17, nothing)], (18, Flaw::Mark)),
+        (&[(14, nothing)], (16, Flaw::Delivery)),
+        // One with another row, and one with another commit.
+        (&[(16, other_row)], (16, Flaw::Delivery)),
+        (&[(16, other_commit)], (16, Flaw::Delivery)),
+        // Two exchanged, and one doubled.
+        (&[(16, second), (17, first)], (16, Flaw::Delivery)),
+        (&[(17, first)], (17, Flaw::Delivery)),
+        // One of a row whose delete was not committed.
+        (&[(6, Answer::Seeking)], (17, Flaw::Delivery)),
+    ] {
+        assert_eq!(rt;
+            flaw(rt.alloc(), &DELETES, edits)?,
+            Some(wanted),
+            "{edits:?}"
+        );
+    }
+    Ok(())
+}
+
+#[test]
+fn edited_answers_to_finders_are_refused(rt: HostRuntime) -> Result<(), Fail> {
+    let key = Interval { lo: 1, hi: 1 };
+    let insert = Answer::Committed(3, Write::Insert(key, 7));
+    let other_row = Answer::Committed(3, Write::Delete(2));
+    let other_number = Answer::Committed(4, Write::Delete(1));
+    let no_finder = Answer::Refused(Refusal::NoSuchFinder);
+    let no_row = Answer::Refused(Refusal::NoSuchRow);
+    let deleted = Answer::Refused(Refusal::AlreadyDeleted);
+    for (edits, wanted) in [
+        // A commit that deletes another row, alone and exchanged with the other's; one that inserts; one out of number.
+        ([(5, other_row)].as_slice(), (5, Flaw::Commit)),
+        (
+            &[(5, other_row), (6, Answer::Committed(4, Write::Delete(1)))],
+            (5, Flaw::Commit),
+        ),
+        (&[(5, insert)], (5, Flaw::Commit)),
+        (&[(5, other_number)], (5, Flaw::Commit)),
+        // A delete by an event that deletes nothing.
+        (
+            &[(1, Answer::Committed(2, Write::Delete(1)))],
+            (1, Flaw::Commit),
+        ),
+        (
+            &[(13, Answer::Committed(5, Write::Delete(2)))],
+            (13, Flaw::Commit),
+        ),
+        // A finder of a row that is deleted.
+        (&[(20, Answer::Finder(3))], (20, Flaw::Row)),
+        // A serial given twice, a finder that goes on after its delete, one that is lost before it.
+        (&[(4, Answer::Finder(1))], (4, Flaw::Finder)),
+        (&[(19, Answer::Seeking)], (19, Flaw::Finder)),
+        (
+            &[(19, Answer::Committed(5, Write::Delete(1)))],
+            (19, Flaw::Finder),
+        ),
+        (&[(6, no_finder)], (6, Flaw::Finder)),
+        // Rows that are told as deleted or as never inserted and aren't, or the other way round.
+        (&[(3, no_row)], (3, Flaw::Row)),
+        (&[(4, deleted)], (4, Flaw::Row)),
+        (&[(6, deleted)], (6, Flaw::Row)),
+        (&[(20, no_row)], (20, Flaw::Row)),
+        (&[(21, deleted)], (21, Flaw::Row)),
+        (&[(21, Answer::Finder(3))], (21, Flaw::Row)),
+    ] {
+        assert_eq!(rt;
+            flaw(rt.alloc(), &DELETES, edits)?,
+            Some(wanted),
+            "{edits:?}"
+        );
     }
     Ok(())
 }

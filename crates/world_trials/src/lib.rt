@@ -7,6 +7,8 @@ mod calls;
 #[cfg(test)]
 mod checker;
 #[cfg(test)]
+mod deletes;
+#[cfg(test)]
 mod edits;
 #[cfg(test)]
 mod listings;

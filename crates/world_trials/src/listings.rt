@@ -1,6 +1,7 @@
 use super::steps::Query;
 use change_list::{Item, Row, Write};
 use interval_class::Interval;
+use key_class::Refusal;
 use std::alloc::{AllocError, Global};
 
 /// Some commits in their order. The first has number 1.
@@ -32,13 +33,22 @@ fn is_deleted(commits: Commits, count: u64, row: u64) -> bool {
     false
 }
 
+/// Why a row can't be deleted after some commits.
+pub fn delete_refusal(commits: Commits, row: u64) -> Option<Refusal> {
+    if inserted(commits, row).is_none() {
+        Some(Refusal::NoSuchRow)
+    } else if is_deleted(commits, u64::MAX, row) {
+        Some(Refusal::AlreadyDeleted)
+    } else {
+        None
+    }
+}
+
 /// Whether a write may follow some commits: an insert, or the delete of a row that is there.
 pub fn may_follow(commits: Commits, write: Write<Interval>) -> bool {
     match write {
         Write::Insert(_, _) => true,
-        Write::Delete(row) => {
-            inserted(commits, row).is_some() && !is_deleted(commits, u64::MAX, row)
-        }
+        Write::Delete(row) => delete_refusal(commits, row).is_none(),
     }
 }
 

@@ -1,11 +1,13 @@
 use super::checker::first_flaw;
+use super::listings::{Extent, extent_of};
 use super::steps::{Answer, Ask, Ends, Query, Step, Trial, answer_of};
-use change_list::Config;
+use change_list::{Config, Item, Row, Write};
 use interval_class::Interval;
 use node::Page;
 use rand_core::Rng;
 use rand_pcg::Pcg32;
 use std::alloc::Global;
+use std::process::Abort;
 use std::test::Fail;
 
 const CONFIG: Config = Config {
@@ -28,6 +30,7 @@ enum Use {
     Splitting,
     Posting,
     Enlarging,
+    Sweeping,
 }
 
 impl Use {
@@ -37,6 +40,7 @@ impl Use {
             Use::Splitting => page.rows().len().max(page.branches().len()) == 4,
             Use::Posting => page.is_owed(),
             Use::Enlarging => page.level() > 0,
+            Use::Sweeping => page.rows().iter().any(|entry| !entry.is_live()),
         }
     }
 }
@@ -47,9 +51,38 @@ struct Source {
     generator: Pcg32,
     /// The greatest serial that was given to a cursor.
     last_cursor: u64,
+    /// The greatest serial that was given to a finder.
+    last_finder: u64,
+    /// The serials of the finders that are open.
+    open_finders: Vec<u64>,
 }
 
 impl Source {
+    fn new(alloc: Global, seed: u64) -> Source {
+        Source {
+            generator: Pcg32::new(seed, 0),
+            last_cursor: 0,
+            last_finder: 0,
+            open_finders: Vec::new(alloc),
+        }
+    }
+
+    /// Learns the serials that an answer tells.
+    fn take_in(&mut self, (ask, answer): Step) -> Result<(), Fail> {
+        match (ask, answer) {
+            (_, Answer::Opened(serial)) => self.last_cursor = serial,
+            (_, Answer::Finder(serial)) => {
+                self.last_finder = serial;
+                self.open_finders.push(serial)?;
+            }
+            (Ask::Seek(ended), Answer::Committed(_, _)) | (Ask::Unfind(ended), Answer::Unfound) => {
+                self.open_finders.retain(|serial| *serial != ended);
+            }
+            _ => {}
+        }
+        Ok(())
+    }
+
     fn below(&mut self, bound: u64) -> u64 {
         u64::from(self.generator.next_u32())
             .checked_rem(bound)
@@ -148,13 +181,40 @@ impl Source {
         }
     }
 
+    /// A number up to twice the last that was given.
+    fn up_to_twice(&mut self, last: u64) -> u64 {
+        self.below(last.saturating_mul(2).saturating_add(1))
+    }
+
     /// The serial of a cursor that was opened, closed, or never given.
     fn cursor(&mut self) -> u64 {
         match self.below(8) {
-            0 => self.below(self.last_cursor.saturating_mul(2).saturating_add(1)),
+            0 => self.up_to_twice(self.last_cursor),
             1..5 => self.last_cursor,
             _ => self.last_cursor.saturating_sub(self.below(4)),
         }
+    }
+
+    /// Mostly the serial of a finder that is open.
+    fn finder(&mut self) -> u64 {
+        let count = self.open_finders.len() as u64;
+        let place = match self.below(8) {
+            0 => None,
+            1..5 => Some(0),
+            _ => Some(self.below(count) as usize),
+        };
+        match place.and_then(|place| self.open_finders.get(place)) {
+            Some(serial) => *serial,
+            None => self.up_to_twice(self.last_finder),
+        }
+    }
+
+    /// Mostly the number of a commit that is there.
+    fn row(&mut self, world: &Trial) -> u64 {
+        if self.below(5) == 0 {
+            return self.up_to_twice(world.commits());
+        }
+        self.below(world.commits()).saturating_add(1)
     }
 
     fn query(&mut self) -> Query {
@@ -196,44 +256,85 @@ impl Source {
         }
         let cursor = self.cursor();
         match self.below(128) {
-            0 | 1 => self.opening(),
-            2 => Ask::Close(cursor),
-            3..9 => Ask::AskMark(cursor),
+            0..3 => self.opening(),
+            3 => Ask::Close(cursor),
+            4..9 => Ask::AskMark(cursor),
             9..79 => Ask::Turn(cursor),
             _ => Ask::Take(cursor),
         }
     }
 
+    fn finder_step(&mut self, world: &Trial) -> Ask {
+        let finder = self.finder();
+        match self.below(32) {
+            0..6 => Ask::Find(self.row(world)),
+            6 => Ask::Unfind(finder),
+            _ => Ask::Seek(finder),
+        }
+    }
+
     fn ask(&mut self, world: &Trial) -> Ask {
-        match self.below(8) {
-            0 | 1 => {
+        match self.below(32) {
+            0..8 => {
                 let page = self.page(world, Use::Placing);
                 let key = self.key(world, page);
                 Ask::Place(page, key, self.below(3))
             }
-            2 | 3 => self.node_step(world),
+            8..14 => self.node_step(world),
+            14..20 => self.finder_step(world),
+            20 => Ask::Sweep(self.page(world, Use::Sweeping)),
             _ => self.cursor_step(),
         }
     }
 }
 
-/// What a new world answers to random events.
-fn random_trace(alloc: Global, seed: u64) -> Result<Vec<Step>, Fail> {
-    let mut world = Trial::new(alloc, CONFIG)?;
-    let mut source = Source {
-        generator: Pcg32::new(seed, 0),
-        last_cursor: 0,
-    };
-    let mut steps = Vec::new(alloc);
-    for _ in 0..EVENTS {
-        let ask = source.ask(&world);
-        let answer = answer_of(alloc, &mut world, ask)?;
-        if let Answer::Opened(serial) = answer {
-            source.last_cursor = serial;
+/// A world that was new and answered random events.
+#[derive(Drop)]
+struct Tried {
+    world: Trial,
+    source: Source,
+    steps: Vec<Step>,
+}
+
+impl Tried {
+    fn new(alloc: Global, seed: u64) -> Result<Tried, Fail> {
+        let mut tried = Tried {
+            world: Trial::new(alloc, CONFIG)?,
+            source: Source::new(alloc, seed),
+            steps: Vec::new(alloc),
+        };
+        for _ in 0..EVENTS {
+            tried.go_on(alloc)?;
         }
-        steps.push((ask, answer))?;
+        Ok(tried)
     }
-    Ok(steps)
+
+    /// One random event more.
+    fn go_on(&mut self, alloc: Global) -> Result<(), Fail> {
+        let ask = self.source.ask(&self.world);
+        self.answer(alloc, ask)
+    }
+
+    fn answer(&mut self, alloc: Global, ask: Ask) -> Result<(), Fail> {
+        let step = (ask, answer_of(alloc, &mut self.world, ask)?);
+        self.source.take_in(step)?;
+        self.steps.push(step)?;
+        Ok(())
+    }
+
+    /// Closes the cursors, ends the finders and sweeps the pages.
+    fn settle(&mut self, alloc: Global) -> Result<(), Fail> {
+        for cursor in 1..=self.source.last_cursor {
+            self.answer(alloc, Ask::Close(cursor))?;
+        }
+        for finder in 1..=self.source.last_finder {
+            self.answer(alloc, Ask::Unfind(finder))?;
+        }
+        for page in 0..self.world.pages() {
+            self.answer(alloc, Ask::Sweep(page))?;
+        }
+        Ok(())
+    }
 }
 
 /// How many steps have an answer that begins with a word.
@@ -247,14 +348,75 @@ fn count_word(steps: &[Step], word: &str) -> usize {
     count
 }
 
+/// How many rows the sweeps took.
+fn count_swept(steps: &[Step]) -> u64 {
+    let mut rows = 0;
+    for (_, answer) in steps {
+        if let Answer::Swept(count) = *answer {
+            rows = u64::saturating_add(rows, count);
+        }
+    }
+    rows
+}
+
+/// The commits of a world, in their order.
+fn commits_of(alloc: Global, world: &Trial) -> Result<Vec<Write<Interval>>, Fail> {
+    let mut commits = Vec::new(alloc);
+    for number in 1..=world.commits() {
+        if let Some(write) = world.commit(number) {
+            commits.push(write)?;
+        }
+    }
+    Ok(commits)
+}
+
+/// The rows on the pages of a world, each of which is to be live.
+fn rows_of(rt: &impl Abort, alloc: Global, world: &Trial) -> Result<Vec<Item<Interval>>, Fail> {
+    let mut items = Vec::new(alloc);
+    for number in 0..world.pages() {
+        let rows = world.page(number).map(|page| page.rows());
+        for entry in rows.unwrap_or(&[]) {
+            assert_eq!(rt; entry.died(), None, "page {number}");
+            items.push(Item::Row(Row {
+                row: u64::from(entry.row()),
+                key: entry.key(),
+                tag: entry.tag(),
+            }))?;
+        }
+    }
+    Ok(items)
+}
+
+#[test]
+fn settled_worlds_hold_the_live_rows(rt: HostRuntime) -> Result<(), Fail> {
+    let alloc = rt.alloc();
+    let mut last_swept = 0;
+    for seed in 1..=8 {
+        let mut tried = Tried::new(alloc, seed)?;
+        let swept = count_swept(&tried.steps);
+        tried.settle(alloc)?;
+        assert_eq!(rt; first_flaw(alloc, &tried.steps)?, None, "seed {seed}");
+        let newly_swept = u64::saturating_sub(count_swept(&tried.steps), swept);
+        last_swept = u64::saturating_add(last_swept, newly_swept);
+        let commits = commits_of(alloc, &tried.world)?;
+        let rows = rows_of(&rt, alloc, &tried.world)?;
+        let everything = Query::Overlaps(0, 31);
+        let now = (tried.world.commits(), tried.world.commits());
+        let extent = extent_of(alloc, &commits, everything, now, &rows)?;
+        assert_eq!(rt; extent, Extent::Whole, "seed {seed}");
+    }
+    assert!(rt; last_swept > 0);
+    Ok(())
+}
+
 #[test]
 fn random_lists_have_no_flaw(rt: HostRuntime) -> Result<(), Fail> {
     let alloc = rt.alloc();
     let mut all = Vec::new(alloc);
     for seed in 1..=SEEDS {
-        let steps = random_trace(alloc, seed)?;
-        assert_eq!(rt; first_flaw(alloc, &steps)?, None, "seed {seed}");
-        for step in &steps {
+        let tried = Tried::new(alloc, seed)?;
+        assert_eq!(rt; first_flaw(alloc, &tried.steps)?, None, "seed {seed}");
+        for step in &tried.steps {
             all.push(*step)?;
         }
     }
@@ -264,6 +426,11 @@ fn random_lists_have_no_flaw(rt: HostRuntime) -> Result<(), Fail> {
         "split",
         "posted",
         "grown",
+        "finder",
+        "seeking",
+        "buried",
+        "unfound",
+        "swept",
         "opened",
         "offered",
         "visited",
@@ -271,6 +438,7 @@ fn random_lists_have_no_flaw(rt: HostRuntime) -> Result<(), Fail> {
         "asked",
         "row",
         "inserted",
+        "deleted",
         "mark",
         "nothing",
         "closed",
@@ -282,12 +450,18 @@ fn random_lists_have_no_flaw(rt: HostRuntime) -> Result<(), Fail> {
         "Owed",
         "Unhung",
         "BadSides",
+        "NoSuchRow",
+        "AlreadyDeleted",
         "NoSuchCursor",
         "CursorClosed",
         "NoRoom",
         "Idle",
+        "NoSuchFinder",
     ] {
         assert!(rt; count_word(&all, word) > 0, "{word}");
     }
+    assert!(rt; count_word(&all, "buried") >= 200);
+    assert!(rt; count_word(&all, "deleted") >= 50);
+    assert!(rt; count_swept(&all) >= 200);
     Ok(())
 }

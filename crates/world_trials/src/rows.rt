@@ -1,14 +1,14 @@
 use super::checker::first_flaw;
-use super::steps::{Ask, Query, Trial, answer_of};
+use super::steps::{Ask, Query, Step, Trial, answer_of};
 use change_list::Config;
 use std::alloc::Global;
 use std::process::Abort;
 use std::test::Fail;
 
 /// An event with the text of its answer.
-type Row = (Ask, &'static str);
+pub type Row = (Ask, &'static str);
 
-const SMALL: Config = Config {
+pub const SMALL: Config = Config {
     fan: 4,
     least: 2,
     pages: 65_536,
@@ -220,16 +220,27 @@ static INTERLEAVED: [Row; 75] = [
     (Ask::Take(1), "nothing"),
 ];
 
-/// Whether a new world answers each event as its row tells, and the slow checker finds nothing wrong.
-fn check(rt: &impl Abort, alloc: Global, config: Config, rows: &[Row]) -> Result<(), Fail> {
-    let mut world = Trial::new(alloc, config)?;
+/// The steps of a world, which answers each event as its row tells.
+pub fn steps_of(
+    rt: &impl Abort,
+    alloc: Global,
+    world: &mut Trial,
+    rows: &[Row],
+) -> Result<Vec<Step>, Fail> {
     let mut steps = Vec::new(alloc);
     for (ask, wanted) in rows {
-        let answer = answer_of(alloc, &mut world, *ask)?;
+        let answer = answer_of(alloc, world, *ask)?;
         let text = answer.text(alloc)?;
         assert_eq!(rt; text.as_str(), *wanted, "{ask:?}");
         steps.push((*ask, answer))?;
     }
+    Ok(steps)
+}
+
+/// A new world answers each event as its row tells, and the slow checker finds nothing wrong.
+pub fn check(rt: &impl Abort, alloc: Global, config: Config, rows: &[Row]) -> Result<(), Fail> {
+    let mut world = Trial::new(alloc, config)?;
+    let steps = steps_of(rt, alloc, &mut world, rows)?;
     assert_eq!(rt; first_flaw(alloc, &steps)?, None);
     Ok(())
 }

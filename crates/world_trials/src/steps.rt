@@ -54,6 +54,10 @@ pub enum Ask {
     Split(u64, &'static str),
     Post(u64, u64),
     Grow(&'static str),
+    Find(u64),
+    Seek(u64),
+    Unfind(u64),
+    Sweep(u64),
     Open(Query, u64),
     Turn(u64),
     AskMark(u64),
@@ -71,6 +75,10 @@ impl Ask {
             Ask::Split(page, letters) => Ok(Event::Split(page, sides(alloc, letters)?)),
             Ask::Post(parent, child) => Ok(Event::Post(parent, child)),
             Ask::Grow(letters) => Ok(Event::Grow(sides(alloc, letters)?)),
+            Ask::Find(row) => Ok(Event::Find(row)),
+            Ask::Seek(finder) => Ok(Event::Seek(finder)),
+            Ask::Unfind(finder) => Ok(Event::Unfind(finder)),
+            Ask::Sweep(page) => Ok(Event::Sweep(page)),
             Ask::Open(query, room) => Ok(Event::Open(query.pred(alloc)?, room)),
             Ask::Turn(cursor) => Ok(Event::Turn(cursor)),
             Ask::AskMark(cursor) => Ok(Event::AskMark(cursor)),
@@ -79,12 +87,25 @@ impl Ask {
         }
     }
 
+    /// Whether it may be answered by a commit.
+    pub fn writes(self) -> bool {
+        matches!(self, Ask::Place(_, _, _) | Ask::Seek(_))
+    }
+
     /// The cursor that is asked.
     pub fn cursor(self) -> Option<u64> {
         match self {
             Ask::Turn(cursor) | Ask::AskMark(cursor) | Ask::Take(cursor) | Ask::Close(cursor) => {
                 Some(cursor)
             }
+            _ => None,
+        }
+    }
+
+    /// The finder that is asked.
+    pub fn finder(self) -> Option<u64> {
+        match self {
+            Ask::Seek(finder) | Ask::Unfind(finder) => Some(finder),
             _ => None,
         }
     }
@@ -111,6 +132,10 @@ pub enum Answer {
     Split(u32),
     Posted,
     Grown(u32, u32),
+    Finder(u64),
+    Seeking,
+    Unfound,
+    Swept(u64),
     Opened(u64),
     Offered,
     Visited(u32),
@@ -130,6 +155,10 @@ impl Answer {
             Reply::Split(sibling) => Answer::Split(sibling),
             Reply::Posted => Answer::Posted,
             Reply::Grown(first, second) => Answer::Grown(first, second),
+            Reply::Finder(serial) => Answer::Finder(serial),
+            Reply::Seeking => Answer::Seeking,
+            Reply::Unfound => Answer::Unfound,
+            Reply::Swept(count) => Answer::Swept(count),
             Reply::Opened(serial, ()) => Answer::Opened(serial),
             Reply::Offered => Answer::Offered,
             Reply::Visited(page) => Answer::Visited(page),
@@ -142,14 +171,19 @@ impl Answer {
         }
     }
 
-    /// The word that begins its text. A refusal is told by its name.
+    /// The word that begins its text. A refusal is told by its name, and the commit of a delete by a word of its own.
     pub fn word(self) -> &'static str {
         match self {
             Answer::Enlarged => "enlarged",
-            Answer::Committed(_, _) => "committed",
+            Answer::Committed(_, Write::Insert(_, _)) => "committed",
+            Answer::Committed(_, Write::Delete(_)) => "buried",
             Answer::Split(_) => "split",
             Answer::Posted => "posted",
             Answer::Grown(_, _) => "grown",
+            Answer::Finder(_) => "finder",
+            Answer::Seeking => "seeking",
+            Answer::Unfound => "unfound",
+            Answer::Swept(_) => "swept",
             Answer::Opened(_) => "opened",
             Answer::Offered => "offered",
             Answer::Visited(_) => "visited",
@@ -165,16 +199,22 @@ impl Answer {
         }
     }
 
-    /// Its text, as `row 1 (5 5) 0`.
+    /// Its text, as `row 1 (5 5) 0`. A delete's commit is told with its row, as `buried 3 1`.
     pub fn text(self, alloc: Global) -> Result<String, Fail> {
         let word = self.word();
         let text = match self {
-            Answer::Committed(number, _) => format!(in alloc; "{word} {number}")?,
-            Answer::Split(page) | Answer::Visited(page) => format!(in alloc; "{word} {page}")?,
-            Answer::Grown(first, second) => format!(in alloc; "{word} {first} {second}")?,
-            Answer::Opened(number) | Answer::Passed(number) => {
+            Answer::Committed(number, Write::Insert(_, _)) => {
                 format!(in alloc; "{word} {number}")?
             }
+            Answer::Committed(number, Write::Delete(row)) => {
+                format!(in alloc; "{word} {number} {row}")?
+            }
+            Answer::Split(page) | Answer::Visited(page) => format!(in alloc; "{word} {page}")?,
+            Answer::Grown(first, second) => format!(in alloc; "{word} {first} {second}")?,
+            Answer::Finder(number)
+            | Answer::Swept(number)
+            | Answer::Opened(number)
+            | Answer::Passed(number) => format!(in alloc; "{word} {number}")?,
             Answer::Taken(item) => item_text(alloc, word, item)?,
             Answer::Refused(refusal) => format!(in alloc; "refused {refusal}")?,
             _ => format!(in alloc; "{word}")?,
