@@ -1,1 +1,4 @@
+pub mod Best
+pub mod Descending
+pub mod Rising
 pub mod Seeking

@@ -1,4 +1,4 @@
-ghost use Rattle.std.specs.Prelude.{◌≡◌, ◌+◌, ◌<◌, ◌≤◌, [], ◌∷◌, ◌++◌, ℕ, suc, length, map, filter, true, count_by, Some, None, IfOk, IfErr, OnOk, OnErr, ◌&&◌, nat_eq, nat_le};
+ghost use Rattle.std.specs.Prelude.{◌≡◌, ◌+◌, ◌*◌, ◌<◌, ◌≤◌, [], ◌∷◌, ◌++◌, ℕ, suc, length, map, filter, true, count_by, Some, None, IfOk, IfErr, OnOk, OnErr, ◌&&◌, nat_eq, nat_le};
 ghost use Rattle.key_class.specs.Splits.{is_left, is_right};
 ghost use Rattle.row_version.specs.Entries.{is_needed, marked};
 ghost use Rattle.row_version.specs.Entries as model;
@@ -80,7 +80,9 @@ impl<C: KeyClass> SearchTree<C> {
 
     /// The fewest entries of each part of a page that is split.
     pub fn least(&self) -> usize
-        ensures { result ≡ self.now.least }
+        ensures least { result ≡ self.now.least }
+        ensures two_least { 2 ≤ self.now.least }
+        ensures two_parts { 2 * self.now.least ≤ self.now.fan }
     {
         self.least
     }

@@ -25,7 +25,7 @@ fn two_levels(alloc: Global) -> Result<SearchTree<Intervals>, Fail> {
 }
 
 /// What the next visit of a finder meets, where something is left to be visited.
-fn next(
+pub fn next(
     finder: &mut Finder<Intervals>,
     tree: &SearchTree<Intervals>,
 ) -> Result<Option<Sought>, AllocError>

@@ -1,5 +1,5 @@
-//! Trials of the tree over a class of keys: a worked trace of steps with its answers, ways of finders, the horizon of
-//! cursors, and each call once.
+//! Trials of the tree over a class of keys: a worked trace of steps with its answers, ways of finders, insertions, the
+//! horizon of cursors, and each call once.
 #![tactic(auto)]
 
 #[cfg(test)]
@@ -8,5 +8,7 @@ mod calls;
 mod finders;
 #[cfg(test)]
 mod horizons;
+#[cfg(test)]
+mod insertions;
 #[cfg(test)]
 mod trace;

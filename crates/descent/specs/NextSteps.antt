@@ -1,0 +1,47 @@
+-- Which step comes next where a key is to be inserted and the way down has come to page p.
+use Rattle.std.specs.Prelude.{◌≡◌, ◌⊎◌, ◌≢◌, ℕ, suc, ◌<◌, Bool, true, false, List, [], length, Option, Some, None}
+use Rattle.key_class.specs.declared.refusal.Refusal.{Refusal}
+use Rattle.key_class.specs.declared.refusal.Refusal.TheVariants as refusal
+use Rattle.node.specs.Pages.{entries_of, is_within}
+use Rattle.page_table.specs.Trees.{page_at}
+use Rattle.split.specs.SearchTrees.{SearchTree}
+use Rattle.split.specs.Tests.{first_failing, place_tests, enlarge_tests, split_tests, post_tests, grow_tests}
+use Rattle.descent.specs.Choosing.{IsBest}
+use Rattle.descent.specs.declared.step.Step.{Step}
+use Rattle.descent.specs.declared.step.Step.TheVariants.{Grow, Split, Post, Enlarge, Place, Down}
+
+-- no test fails, or the first that does tells of too few pages left
+abbrev pub OnlyPagesFull : List (Bool × Refusal) → Type 0
+OnlyPagesFull tests = (first_failing tests ≡ None) ⊎ (first_failing tests ≡ Some refusal.PagesFull)
+
+module _ {K : Type 0} where
+  abbrev pub HasRoom : SearchTree K → ℕ → Type 0
+  HasRoom s p = entries_of (page_at s.tree p) < s.fan
+
+  -- page p has room, and its best branch leads to child c
+  pub record IsChosen (union : K → K → K) (size : K → ℕ) (s : SearchTree K) (p : ℕ) (key : K) (c : ℕ) : Type 0 where
+    pub room : HasRoom s p
+    pub place : ℕ
+    pub best : IsBest union size key (page_at s.tree p).branches place
+    pub child : best.branch.child ≡ c
+
+  -- page c lies one level below p, it owes nothing and has room
+  pub record IsOpenBelow (s : SearchTree K) (p c : ℕ) : Type 0 where
+    pub exists : c < length s.tree.pages
+    pub not_root : c ≢ 0
+    pub level : suc (page_at s.tree c).level ≡ (page_at s.tree p).level
+    pub not_owed : (page_at s.tree c).owed ≡ false
+    pub room : HasRoom s c
+
+  module _ (is_cover : K → K → Bool) (union : K → K → K) (size : K → ℕ) (s : SearchTree K) (p : ℕ) (key : K) where
+    -- the step that comes next, none where an inner page has no branch
+    abbrev pub IsNextStep : Option Step → Type 0
+    IsNextStep None = (0 < (page_at s.tree p).level) × ((page_at s.tree p).branches ≡ [])
+    IsNextStep (Some (Grow sides)) = (p ≡ 0) × OnlyPagesFull (grow_tests s sides)
+    IsNextStep (Some (Place leaf)) = (leaf ≡ p) × (first_failing (place_tests is_cover s p key) ≡ None)
+    IsNextStep (Some (Post parent c)) = (parent ≡ p) × IsChosen union size s p key c × (first_failing (post_tests s p c) ≡ None)
+    IsNextStep (Some (Split c sides)) = IsChosen union size s p key c × OnlyPagesFull (split_tests s c sides)
+    IsNextStep (Some (Enlarge parent c)) =
+        (parent ≡ p) × IsChosen union size s p key c × IsOpenBelow s p c
+        × (is_within is_cover (page_at s.tree c).cover key ≡ false) × (first_failing (enlarge_tests is_cover s p c key) ≡ None)
+    IsNextStep (Some (Down c)) = IsChosen union size s p key c × IsOpenBelow s p c × (is_within is_cover (page_at s.tree c).cover key ≡ true)
