@@ -9,6 +9,7 @@ pub mod Meeting
 pub mod PageSteps
 pub mod Placing
 pub mod Refusing
+pub mod Resting
 pub mod Running
 pub mod Searching
 pub mod Serials

@@ -1,4 +1,5 @@
 pub mod Promises
+pub mod Resting
 pub mod Serials
 pub mod Stamps
 pub mod States

@@ -1,6 +1,6 @@
 ghost use Rattle.std.specs.Prelude.{◌≡◌, ◌≢◌, ◌↔◌, ◌⊎◌, ◌<◌, ◌≤◌, ℕ, suc, None, Some, length, IfOk, OnOk, IfErr, IfSome, is_some, nat_lt};
 ghost use Rattle.change_list.specs.Configs.{IsWithinLimits};
-ghost use Rattle.change_list.specs.Changes.{commit_at, IsLegal};
+ghost use Rattle.change_list.specs.Changes.{commit_at, status_of, IsLegal};
 ghost use Rattle.page_table.specs.Trees.{page_at};
 ghost use Rattle.split.specs.Tests.{first_failing};
 ghost use Rattle.cursor.specs.OpenCursors.{words};
@@ -11,7 +11,7 @@ ghost use Rattle.world.specs.Promises.{ServesAll, FitsAtOpening, LowersWork, Kee
 use crate::event::Event;
 use crate::places::place_of;
 use crate::reply::Reply;
-use change_list::{ChangeList, Config, Write};
+use change_list::{ChangeList, Config, Status, Write};
 use cursor::Cursor;
 use descent::Finder;
 use key_class::{KeyClass, Refusal};
@@ -93,6 +93,27 @@ impl<C: KeyClass, O: Outlet<C::Key>> World<C, O> {
         ensures { result ≡ commit_at self.now.commits number }
     {
         self.changes.commit(number)
+    }
+
+    /// What is known of a row number.
+    pub fn status(&self, row: u64) -> Status
+        ensures { result ≡ status_of self.now.commits row }
+    {
+        self.changes.status(row)
+    }
+
+    /// The greatest number of commits.
+    pub fn limit(&self) -> u64
+        ensures { result ≡ self.now.limit }
+    {
+        self.limit
+    }
+
+    /// The pages with their limits.
+    pub fn search(&self) -> &SearchTree<C>
+        ensures { result.now ≡ self.now.search }
+    {
+        &self.search
     }
 
     /// How many pages there are.
