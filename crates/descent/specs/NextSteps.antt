@@ -1,5 +1,5 @@
 -- Which step comes next where a key is to be inserted and the way down has come to page p.
-use Rattle.std.specs.Prelude.{◌≡◌, ◌⊎◌, ◌≢◌, ℕ, suc, ◌<◌, Bool, true, false, List, [], length, Option, Some, None}
+use Rattle.std.specs.Prelude.{◌≡◌, ◌⊎◌, ◌≢◌, ℕ, suc, ◌<◌, Bool, true, false, List, length, Some, None}
 use Rattle.key_class.specs.declared.refusal.Refusal.{Refusal}
 use Rattle.key_class.specs.declared.refusal.Refusal.TheVariants as refusal
 use Rattle.node.specs.Pages.{entries_of, is_within}
@@ -34,14 +34,13 @@ module _ {K : Type 0} where
     pub room : HasRoom s c
 
   module _ (is_cover : K → K → Bool) (union : K → K → K) (size : K → ℕ) (s : SearchTree K) (p : ℕ) (key : K) where
-    -- the step that comes next, none where an inner page has no branch
-    abbrev pub IsNextStep : Option Step → Type 0
-    IsNextStep None = (0 < (page_at s.tree p).level) × ((page_at s.tree p).branches ≡ [])
-    IsNextStep (Some (Grow sides)) = (p ≡ 0) × OnlyPagesFull (grow_tests s sides)
-    IsNextStep (Some (Place leaf)) = (leaf ≡ p) × (first_failing (place_tests is_cover s p key) ≡ None)
-    IsNextStep (Some (Post parent c)) = (parent ≡ p) × IsChosen union size s p key c × (first_failing (post_tests s p c) ≡ None)
-    IsNextStep (Some (Split c sides)) = IsChosen union size s p key c × OnlyPagesFull (split_tests s c sides)
-    IsNextStep (Some (Enlarge parent c)) =
+    -- the step that comes next
+    abbrev pub IsNextStep : Step → Type 0
+    IsNextStep (Grow sides) = (p ≡ 0) × OnlyPagesFull (grow_tests s sides)
+    IsNextStep (Place leaf) = (leaf ≡ p) × (first_failing (place_tests is_cover s p key) ≡ None)
+    IsNextStep (Post parent c) = (parent ≡ p) × IsChosen union size s p key c × (first_failing (post_tests s p c) ≡ None)
+    IsNextStep (Split c sides) = IsChosen union size s p key c × OnlyPagesFull (split_tests s c sides)
+    IsNextStep (Enlarge parent c) =
         (parent ≡ p) × IsChosen union size s p key c × IsOpenBelow s p c
         × (is_within is_cover (page_at s.tree c).cover key ≡ false) × (first_failing (enlarge_tests is_cover s p c key) ≡ None)
-    IsNextStep (Some (Down c)) = IsChosen union size s p key c × IsOpenBelow s p c × (is_within is_cover (page_at s.tree c).cover key ≡ true)
+    IsNextStep (Down c) = IsChosen union size s p key c × IsOpenBelow s p c × (is_within is_cover (page_at s.tree c).cover key ≡ true)

@@ -29,8 +29,7 @@ pub enum Step {
 
 /// The step that comes next where a key is to be inserted and the way down has come to the page: a full root grows, a
 /// leaf takes the row, and else it is about the child of the best branch, which is posted where it owes that, split where
-/// it is full, enlarged where it doesn't cover the key, and else is where the way goes on. None where an inner page has
-/// no branch.
+/// it is full, enlarged where it doesn't cover the key, and else is where the way goes on.
 ///
 /// # Errors
 /// Memory was wanting.
@@ -39,7 +38,7 @@ pub fn next_step<C: KeyClass>(
     search: &SearchTree<C>,
     page: u32,
     key: C::Key,
-) -> Result<Option<Step>, Refusal>
+) -> Result<Step, Refusal>
     requires exists { page < length search.now.tree.pages }
     requires covers { is_within C.is_cover (page_at search.now.tree page).cover key ≡ true }
     requires room { page ≢ 0 → HasRoom search.now page }
@@ -49,17 +48,16 @@ pub fn next_step<C: KeyClass>(
     let here = search.pages().page(page);
     if page == 0 && search.fan() <= here.entry_count() {
         let sides = parting::<C>(alloc, here, search.least())?;
-        return Ok(Some(Step::Grow(sides)));
+        return Ok(Step::Grow(sides));
     }
     if here.level() == 0 {
-        return Ok(Some(Step::Place(page)));
+        return Ok(Step::Place(page));
     }
     let Some(best) = best_branch::<C>(here.branches(), key) else {
-        return Ok(None);
+        unreachable!()
     };
     let child = here.branches()[best].child;
-    let step = step_below(alloc, search, page, child, key)?;
-    Ok(Some(step))
+    step_below(alloc, search, page, child, key)
 }
 
 /// The step that comes next where the best branch of the page leads to the child.
@@ -74,7 +72,7 @@ fn step_below<C: KeyClass>(
     requires inner { 0 < (page_at search.now.tree page).level }
     requires covers { is_within C.is_cover (page_at search.now.tree page).cover key ≡ true }
     requires chosen { IsChosen C.union_of C.size_of search.now page key child }
-    ensures step { IfOk result (λ step. IsNextStep C.is_cover C.union_of C.size_of search.now page key (Some step)) }
+    ensures step { IfOk result (λ step. IsNextStep C.is_cover C.union_of C.size_of search.now page key step) }
     ensures refused { IfErr result (λ refusal. refusal ≡ Refusal.OutOfMemory) }
 {
     let below = search.pages().page(child);

@@ -15,7 +15,7 @@ no_cause (inr l) = absurd (omega arith)
 claim : {K : Type 0} (is_cover : K → K → Bool) (fan p : ℕ) → p < 1 → Claim is_cover fan p
 unfolding new_tree pages_under pages_within
 claim {K} is_cover fan zero l = (
-  record { number = omega arith; link = no_cause; level_along = All-nil _; level_down = All-nil _; leaf = λ e. refl; inner = λ k. refl; fits = omega arith; low = omega arith },
+  record { number = omega arith; link = no_cause; level_along = All-nil _; level_down = All-nil _; leaf = λ e. refl; inner = λ k. refl; fits = omega arith; low = omega arith; branched = λ k. absurd (omega (arith, k)) },
   record { named = refl; owed_by = refl; settled = λ u. refl; linked_by = λ u. absurd (false_true true u refl); once = refl },
   record { rows = All-nil _; branches = All-nil _; below = All-nil _ },
 )

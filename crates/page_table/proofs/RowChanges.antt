@@ -140,6 +140,7 @@ module _ {K : Type 0} (is_cover : K → K → Bool) (t : Tree K) (fan : ℕ) (so
     inner = λ k. absurd (omega (arith, leaf));
     fits = omega (arith, fits, ap length (w.leaf leaf));
     low = omega (arith, w.low, rows_length);
+    branched = w.branched;
   }
 
   shape_other : (q : ℕ) → q < length t.pages → IsShaped u fan (page_at t q)
@@ -153,6 +154,7 @@ module _ {K : Type 0} (is_cover : K → K → Bool) (t : Tree K) (fan : ℕ) (so
     inner = w.inner;
     fits = w.fits;
     low = omega (arith, w.low, rows_length);
+    branched = w.branched;
   }
 
   posted_kept : weigh (λ page. cond page.hung 0 1) u.pages + u.counter < length u.pages

@@ -49,6 +49,8 @@ pub record IsShaped {K : Type 0} (t : Tree K) (fan : ℕ) (page : Page K) : Type
   pub fits : length page.rows + length page.branches ≤ fan
   -- no path down is longer than there are pages
   pub low : page.level < length t.pages
+  -- an inner page has a branch
+  pub branched : 0 < page.level → 0 < length page.branches
 
 pub record IsRoot {K : Type 0} (page : Page K) : Type 0 where
   pub number : page.nsn ≡ 0

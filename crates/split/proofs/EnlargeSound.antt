@@ -214,6 +214,7 @@ module _ {K : Type 0} (is_cover : K → K → Bool) (union : K → K → K) (law
     inner = w.inner;
     fits = w.fits;
     low = omega (arith, w.low, enlarge_length);
+    branched = w.branched;
   }
 
   parent_shape : IsShaped t' fan parent
@@ -226,6 +227,7 @@ module _ {K : Type 0} (is_cover : K → K → Bool) (union : K → K → K) (law
     inner = w.inner;
     fits = omega (arith, w.fits, length-map (page_at t p).branches (widened union c key));
     low = omega (arith, w.low);
+    branched = λ l. omega (arith, w.branched l, length-map (page_at t p).branches (widened union c key));
   }
 
   child_shape : IsShaped t' fan child
@@ -238,6 +240,7 @@ module _ {K : Type 0} (is_cover : K → K → Bool) (union : K → K → K) (law
     inner = w.inner;
     fits = w.fits;
     low = omega (arith, w.low, enlarge_length);
+    branched = w.branched;
   }
 
   root_not_child : (c ≡ 0) → ⊥

@@ -17,6 +17,7 @@ use Rattle.row_version.specs.Entries.{Entry}
 use Rattle.split.proofs.Bounds.{branches_within, rows_within}
 use Rattle.split.proofs.Grow.{grow-length, grow_pages, grow_rank, grow_ranked, grow_under, grown}
 use Rattle.split.proofs.GrowRows.{can_grow, grow_total}
+use Rattle.split.proofs.Halves.{some_branch}
 use Rattle.split.proofs.PartWeights.{All-left_part, All-right_part, length-parts, weigh-parts}
 use Rattle.split.proofs.SplitReached.{none_names, none_owes}
 use Rattle.split.specs.Steps.{CanGrow, SidesPart, after_grow}
@@ -185,6 +186,10 @@ module _ {K : Type 0} (is_cover : K → K → Bool) (union : K → K → K) (law
   length_new q None = omega arith
   length_new q (Some k) = omega arith
 
+  length_bound : (q : ℕ) (o : Option K) → (k : K) × (o ≡ Some k) → length (branch_to q o) ≡ 1
+  length_bound q None w = cc w.1
+  length_bound q (Some k) w = refl
+
   abbrev old : IsShaped t fan root
   old = sound.shape 0 sound.root_exists
 
@@ -199,6 +204,7 @@ module _ {K : Type 0} (is_cover : K → K → Bool) (union : K → K → K) (law
     inner = λ l. refl;
     fits = omega (arith, wide, length-append (branch_to n a.cover) (branch_to (suc n) b.cover), length_new n a.cover, length_new (suc n) b.cover);
     low = omega (arith, old.low, grow-length union t sides);
+    branched = λ l. omega (arith, length-append (branch_to n a.cover) (branch_to (suc n) b.cover), length_bound n a.cover can.left_bound);
   }
 
   a_shape : IsShaped t' fan a
@@ -212,6 +218,7 @@ module _ {K : Type 0} (is_cover : K → K → Bool) (union : K → K → K) (law
     inner = λ e. ap (left_part sides) (old.inner e) ∙ left_part-nil sides;
     fits = omega (arith, old.fits, length-parts sides root.rows, length-parts sides root.branches);
     low = omega (arith, old.low, grow-length union t sides);
+    branched = λ e. some_branch (left_part sides root.rows) (left_part sides root.branches) (ap (left_part sides) (old.inner e) ∙ left_part-nil sides) part.some_left;
   }
 
   no_cause : (false ≡ true) ⊎ (0 < 0) → (x : ℕ) × (None ≡ Some x)
@@ -229,6 +236,7 @@ module _ {K : Type 0} (is_cover : K → K → Bool) (union : K → K → K) (law
     inner = λ e. ap (right_part sides) (old.inner e) ∙ right_part-nil sides;
     fits = omega (arith, old.fits, length-parts sides root.rows, length-parts sides root.branches);
     low = omega (arith, old.low, grow-length union t sides);
+    branched = λ e. some_branch (right_part sides root.rows) (right_part sides root.branches) (ap (right_part sides) (old.inner e) ∙ right_part-nil sides) part.some_right;
   }
 
   other_shape : (q : ℕ) → q < n → IsShaped t' fan (page_at t q)
@@ -242,6 +250,7 @@ module _ {K : Type 0} (is_cover : K → K → Bool) (union : K → K → K) (law
     inner = w.inner;
     fits = w.fits;
     low = omega (arith, w.low, grow-length union t sides);
+    branched = w.branched;
   }
 
   one_left : one_if_equal n n + one_if_equal (suc n) n ≡ 1

@@ -33,6 +33,10 @@ length-right_part (Right ∷ ss) (x ∷ xs) e = omega (arith, length-right_part 
 length-keys_of : {K : Type 0} (rows : List (Entry K)) (branches : List (Branch K)) → length (keys_of rows branches) ≡ length rows + length branches
 length-keys_of rows branches = omega (arith, length-append (map (λ e. e.key) rows) (map (λ b. b.key) branches), length-map rows (λ e. e.key), length-map branches (λ b. b.key))
 
+-- where there are keys and none of rows, there is a branch
+pub some_branch : {K : Type 0} (rows : List (Entry K)) (branches : List (Branch K)) → rows ≡ [] → 0 < length (keys_of rows branches) → 0 < length branches
+some_branch rows branches none some = omega (arith, length-keys_of rows branches, ap length none, some)
+
 -- a leaf or an inner page
 leaf_or_inner : (level : ℕ) → (level ≡ 0) ⊎ (0 < level)
 leaf_or_inner level = grind arith

@@ -182,6 +182,7 @@ module _ {K : Type 0} (is_cover : K → K → Bool) (union : K → K → K) (law
     inner = w.inner;
     fits = omega (arith, room, length-append (map (rekeyed c (page_at t c).cover) (page_at t p).branches) (branch_to s (page_at t s).cover), length-map (page_at t p).branches (rekeyed c (page_at t c).cover), length_new (page_at t s).cover);
     low = omega (arith, w.low, post-length t p c s);
+    branched = λ l. omega (arith, w.branched l, length-append (map (rekeyed c (page_at t c).cover) (page_at t p).branches) (branch_to s (page_at t s).cover), length-map (page_at t p).branches (rekeyed c (page_at t c).cover));
   }
 
   plain_shape : (q : ℕ) (k : q < n) (page' : Page K) → page'.nsn ≤ suc t.counter → page'.level ≡ (page_at t q).level → page'.right ≡ (page_at t q).right → page'.branches ≡ (page_at t q).branches → page'.rows ≡ (page_at t q).rows →
@@ -196,6 +197,7 @@ module _ {K : Type 0} (is_cover : K → K → Bool) (union : K → K → K) (law
     inner = λ l. ew ∙ w.inner (subst (λ m. 0 < m) el l);
     fits = omega (arith, w.fits, ap length eb, ap length ew);
     low = omega (arith, w.low, el, post-length t p c s);
+    branched = λ l. omega (arith, w.branched (subst (λ m. 0 < m) el l), ap length eb);
   }
 
   -- the marks of owing after the posting

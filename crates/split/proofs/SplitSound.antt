@@ -17,6 +17,7 @@ use Rattle.page_table.specs.Trees.{Falls, IsRanked, Tree, page_at}
 use Rattle.page_table.specs.Weights.{weigh}
 use Rattle.row_version.specs.Entries.{Entry}
 use Rattle.split.proofs.Bounds.{branches_within, keys_covered, rows_within, union_below}
+use Rattle.split.proofs.Halves.{some_branch}
 use Rattle.split.proofs.PartWeights.{All-left_part, All-right_part, length-parts}
 use Rattle.split.proofs.Split.{split-length, split_pages, split_rank, split_ranked}
 use Rattle.split.proofs.SplitReached.{links_more, split_reached, split_total}
@@ -77,6 +78,7 @@ module _ {K : Type 0} (is_cover : K → K → Bool) (union : K → K → K) (law
     inner = λ e. ap (left_part sides) (old.inner e) ∙ left_part-nil sides;
     fits = omega (arith, old.fits, length-parts sides page.rows, length-parts sides page.branches);
     low = omega (arith, old.low, split-length union t p sides);
+    branched = λ e. some_branch (left_part sides page.rows) (left_part sides page.branches) (ap (left_part sides) (old.inner e) ∙ left_part-nil sides) can.some_left;
   }
 
   right_shape : IsShaped t' fan right
@@ -90,6 +92,7 @@ module _ {K : Type 0} (is_cover : K → K → Bool) (union : K → K → K) (law
     inner = λ e. ap (right_part sides) (old.inner e) ∙ right_part-nil sides;
     fits = omega (arith, old.fits, length-parts sides page.rows, length-parts sides page.branches);
     low = omega (arith, old.low, split-length union t p sides);
+    branched = λ e. some_branch (right_part sides page.rows) (right_part sides page.branches) (ap (right_part sides) (old.inner e) ∙ right_part-nil sides) can.some_right;
   }
     where
       right_link : (false ≡ true) ⊎ (0 < page.nsn) → (page.owed ≡ true) ⊎ (0 < page.nsn)
@@ -107,6 +110,7 @@ module _ {K : Type 0} (is_cover : K → K → Bool) (union : K → K → K) (law
     inner = w.inner;
     fits = w.fits;
     low = omega (arith, w.low, split-length union t p sides);
+    branched = w.branched;
   }
 
   -- the covers of both halves lie below a key that is above the old cover

@@ -25,7 +25,8 @@ fn step_at<C: KeyClass>(
     if page != 0 && tree.fan() <= here.entry_count() || !here.covers::<C>(key) {
         return Ok(None);
     }
-    next_step(alloc, tree, page, key)
+    let step = next_step(alloc, tree, page, key)?;
+    Ok(Some(step))
 }
 
 /// Carries out the steps of an insertion, and tells whether the last was to place the row.
