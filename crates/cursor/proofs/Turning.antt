@@ -11,7 +11,7 @@ use Rattle.change_list.specs.declared.item.Row.{Row}
 use Rattle.change_list.specs.declared.item.Item.{Item}
 use Rattle.change_list.specs.declared.item.Item.TheVariants as item
 use Rattle.change_list.specs.Changes.{snapshot}
-use Rattle.change_list.specs.Cursors.{IsFollowing, Fits}
+use Rattle.change_list.specs.Cursors.{IsFollowing, Fits, work}
 use Rattle.change_list.specs.Listings.{is_mark}
 use Rattle.change_list.proofs.Fitting.{fits_row, fits_changes, fits_mark, fits_push, fits_new}
 use Rattle.change_list.proofs.Lists.{slice_get_drop}
@@ -173,6 +173,28 @@ module _ {K A : Type 0} (w : Words K A) where
     turn_less_work (turned.Passed n) h =
         let d = tasks.passed w commits old h.0 in
         subst (λ k. tree_work w t commits k < tree_work w t commits old) (sym (h.2 ∙ ap (λ p. record old { position = p }) h.1)) (change_works t commits old old.unread d.within)
+
+    -- an offer leaves less to be given
+    pub offer_less : Turns w t commits old (Ok turned.Offered) new → work commits (shown w t new) < work commits (shown w t old)
+    offer_less s = by_item (tasks.offered w commits old s.item s.due)
+      where
+        by_item : Offers w commits old s.item → work commits (shown w t new) < work commits (shown w t old)
+        by_item (of_row row f e) = subst (λ k. work commits (shown w t k) < work commits (shown w t old)) (sym (s.after ∙ ap (λ x. sent x old) e)) (omega (arith, row_works t commits old row f))
+        by_item (of_change n c i) = subst (λ k. work commits (shown w t k) < work commits (shown w t old)) (sym (s.after ∙ c)) (omega (arith, change_works t commits old (old.unread ++ s.item ∷ []) n.within))
+        by_item (of_mark a q e) = subst (λ k. work commits (shown w t k) < work commits (shown w t old)) (sym (s.after ∙ ap (λ x. sent x old) e)) (omega (arith, mark_works t commits old q))
+
+    -- no turn leaves more
+    pub turn_no_more : (done : Turned) → Turns w t commits old (Ok done) new → work commits (shown w t new) ≤ work commits (shown w t old)
+    turn_no_more turned.Offered s = omega (arith, offer_less s)
+    turn_no_more (turned.Visited page) h =
+        let d = tasks.visited w commits old h.0 in
+        let a = length_permutation _ _ (found page h.1) in
+        let b : length (old.pending ++ to_find (wants w old) old.opened t old.stack) ≡ length (to_find (wants w old) old.opened t old.stack) =
+        ap (λ q. length (q ++ to_find (wants w old) old.opened t old.stack)) d.0 in
+        subst (λ k. work commits (shown w t k) ≤ work commits (shown w t old)) (sym h.1.after) (omega (arith, a, b))
+    turn_no_more (turned.Passed n) h =
+        let d = tasks.passed w commits old h.0 in
+        subst (λ k. work commits (shown w t k) ≤ work commits (shown w t old)) (sym (h.2 ∙ ap (λ p. record old { position = p }) h.1)) (omega (arith, d.within))
 
     -- the stack stays one of the tree
     pub turn_stack : (result : Result Turned Refusal) → Turns w t commits old result new → IsStack t new.stack

@@ -10,13 +10,13 @@ use Rattle.split.specs.Steps.{after_enlarge}
 use Rattle.descent.specs.NextSteps.{HasRoom, IsOpenBelow}
 
 module _ {K : Type 0} (union : K → K → K) (key : K) where
-  enlarged_child : (t : Tree K) (p c : ℕ) → c < length t.pages → ((c ≡ p) → ⊥) → page_at (after_enlarge union t p c key) c ≡ enlarge_child union key (page_at t c)
+  pub enlarged_child : (t : Tree K) (p c : ℕ) → c < length t.pages → ((c ≡ p) → ⊥) → page_at (after_enlarge union t p c key) c ≡ enlarge_child union key (page_at t c)
   unfolding after_enlarge
   enlarged_child t p c l apart =
       get_or-set_other (replaced t c (enlarge_child union key (page_at t c))).pages p c (enlarge_parent union c key (page_at t p)) no_page apart
       ∙ get_or-set_same t.pages c (enlarge_child union key (page_at t c)) no_page l
 
-  enlarged_length : (t : Tree K) (p c : ℕ) → length (after_enlarge union t p c key).pages ≡ length t.pages
+  pub enlarged_length : (t : Tree K) (p c : ℕ) → length (after_enlarge union t p c key).pages ≡ length t.pages
   unfolding after_enlarge
   enlarged_length t p c =
       replaced-length (replaced t c (enlarge_child union key (page_at t c))) p (enlarge_parent union c key (page_at t p)) ∙ replaced-length t c (enlarge_child union key (page_at t c))

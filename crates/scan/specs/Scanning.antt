@@ -26,6 +26,10 @@ module _ {K : Type 0} where
   abbrev pub seen : (K → Bool) → ℕ → List (Entry K) → List (Row K)
   seen wanted s entries = map row_of (filter (is_seen wanted s) entries)
 
+  -- the rows that are seen, of a page
+  abbrev pub seen_on : (K → Bool) → ℕ → Tree K → ℕ → List (Row K)
+  seen_on wanted s t page = seen wanted s (page_at t page).rows
+
   -- what a scan has still to find
   abbrev pub to_find : (K → Bool) → ℕ → Tree K → List StackItem → List (Row K)
   to_find wanted s t stack = seen wanted s (rows_left t stack)

@@ -1,7 +1,7 @@
-ghost use Rattle.std.specs.Prelude.{◌≡◌, IfOk};
+ghost use Rattle.std.specs.Prelude.{◌≡◌, ◌+◌, ◌≤◌, ◌++◌, length, vec_capacity, vec_len, IfOk};
 ghost use Rattle.key_class.specs.Queries.{query_of, matches_query};
 ghost use Rattle.scan.specs.Finding.{holds};
-ghost use Rattle.scan.specs.Scanning.{seen, row_of};
+ghost use Rattle.scan.specs.Scanning.{is_seen, seen, row_of};
 
 use crate::key_test::{KeyTest, OneAtom};
 use change_list::Row;
@@ -39,11 +39,53 @@ fn accepted_rows<C: KeyClass, T: KeyTest<C>>(
 {
     let mut rows = VecDeque::new(alloc);
     for entry in entries {
-        if entry.visible_at(commit) && test.is_accepted(entry.key()) {
+        if is_seen::<C, T>(entry, test, commit) {
             rows.push_back(row_of(entry))?;
         }
     }
     Ok(rows)
+}
+
+/// Appends the rows that are there after the first `commit` commits and match, in their order.
+pub fn note_rows<C: KeyClass>(
+    entries: &[Entry<C::Key>],
+    query: &Pred<C::Atom>,
+    commit: u32,
+    rows: &mut Vec<Row<C::Key>>,
+)
+    requires room { vec_len rows.old + length entries.now ≤ vec_capacity rows.old }
+    ensures { rows.new.items ≡ rows.old.items ++ seen (matches_query C.is_match (query_of query.now)) commit entries.now }
+{
+    match query {
+        Pred::Atom(atom) => {
+            note_accepted::<C, OneAtom<C::Atom>>(entries, &OneAtom { atom: *atom }, commit, rows)
+        }
+        _ => note_accepted::<C, Pred<C::Atom>>(entries, query, commit, rows),
+    }
+}
+
+/// Appends the rows that are there after the first `commit` commits and pass the test, in their order.
+fn note_accepted<C: KeyClass, T: KeyTest<C>>(
+    entries: &[Entry<C::Key>],
+    test: &T,
+    commit: u32,
+    rows: &mut Vec<Row<C::Key>>,
+)
+    requires room { vec_len rows.old + length entries.now ≤ vec_capacity rows.old }
+    ensures { rows.new.items ≡ rows.old.items ++ seen (T.accepts test.now) commit entries.now }
+{
+    for entry in entries {
+        if is_seen::<C, T>(entry, test, commit) {
+            rows.push_reserved(row_of(entry));
+        }
+    }
+}
+
+/// Whether an entry's row is there after the first `commit` commits and passes the test.
+fn is_seen<C: KeyClass, T: KeyTest<C>>(entry: &Entry<C::Key>, test: &T, commit: u32) -> bool
+    ensures { result ≡ is_seen (T.accepts test.now) commit entry.now }
+{
+    entry.visible_at(commit) && test.is_accepted(entry.key())
 }
 
 /// Whether an entry is that of the row.

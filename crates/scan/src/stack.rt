@@ -3,11 +3,11 @@ ghost use Rattle.smallvec.specs.SmallVec.{HasRoomFor};
 ghost use Rattle.key_class.specs.Queries.{query_of, consistent_with_query, matches_query};
 ghost use Rattle.page_table.specs.Stacks.{IsStack};
 ghost use Rattle.scan.specs.Finding.{Seeks, SeeksLess, KeepsFinder, LacksNext};
-ghost use Rattle.scan.specs.Scanning.{IsNext, GoesOn, Visits, LosesNothing, LowersWork, child_items};
+ghost use Rattle.scan.specs.Scanning.{IsNext, GoesOn, Visits, LosesNothing, LowersWork, child_items, seen_on};
 
 use crate::branch_test::{BranchTest, Covering};
 use crate::key_test::OneAtom;
-use crate::rows::{holds_row, seen_rows};
+use crate::rows::{holds_row, note_rows, seen_rows};
 use change_list::Row;
 use key_class::{KeyClass, Pred};
 use node::Branch;
@@ -112,6 +112,35 @@ impl Stack {
             page: item.page,
             rows,
         }))
+    }
+
+    /// Visits as `visit` does, and notes the rows at the end of a list. Answers the page's number.
+    ///
+    /// # Errors
+    /// Memory was wanting; the stack and the list's rows are as they were.
+    pub fn visit_into<C: KeyClass>(
+        &mut self,
+        table: &PageTable<C::Key>,
+        query: &Pred<C::Atom>,
+        opened: u32,
+        rows: &mut Vec<Row<C::Key>>,
+    ) -> Result<Option<u32>, AllocError>
+        requires { IsStack table.now self.old }
+        ensures visited { IfOk result (λ r. let wanted = matches_query C.is_match (query_of query.now) in MatchOption r ((self.old ≡ []) × (self.new ≡ self.old)) (λ page. Visits (consistent_with_query C.is_consistent (query_of query.now)) wanted opened table.now self.old page (seen_on wanted opened table.now page) self.new)) }
+        ensures noted { IfOk result (λ r. MatchOption r (rows.new.items ≡ rows.old.items) (λ page. rows.new.items ≡ rows.old.items ++ seen_on (matches_query C.is_match (query_of query.now)) opened table.now page)) }
+        ensures lost_nothing { IfOk result (λ r. let wanted = matches_query C.is_match (query_of query.now) in MatchOption r (Unit {0}) (λ page. LosesNothing C.is_cover wanted opened table.now self.old (seen_on wanted opened table.now page) self.new)) }
+        ensures less_work { IfOk result (λ r. MatchOption r (Unit {0}) (λ page. LowersWork C.is_cover table.now self.old self.new)) }
+        ensures refused { OnErr result (self.new ≡ self.old) }
+        ensures none_noted { OnErr result (rows.new.items ≡ rows.old.items) }
+    {
+        let Some(item) = self.last() else {
+            return Ok(None);
+        };
+        let entries = table.page(item.page).rows();
+        rows.reserve(entries.len())?;
+        self.go_on_by_query::<C>(table, item, query)?;
+        note_rows::<C>(entries, query, opened, rows);
+        Ok(Some(item.page))
     }
 
     /// Visits the page of the last item, where there is one, for the row with that number and key: where the page doesn't

@@ -1,200 +1,169 @@
--- The entries that a sweep leaves, and the cursors, whose scans lose nothing.
-use Rattle.std.proofs.Common.{◌≡◌, ◌+◌, ◌-◌, ◌<◌, ◌≤◌, ℕ, Bool, true, false, cond, ◌&&◌, List, [], ◌∷◌, ◌++◌, length, map, filter, Option, Some, None, refl, sym, ap, ◌∙◌, arith, subst, min}
-use Rattle.std.specs.Prelude.{nat_eq, nat_le, nat_lt, is_none, IsPermutation, if◌then◌else◌}
-use Rattle.std.specs.List.{AllByRecursion}
-use Rattle.std.proofs.lemmas.List.Sorted.{IsPermutation-refl}
-use Rattle.change_list.specs.declared.write.Write.{Write}
-use Rattle.change_list.specs.declared.item.Row.{Row}
-use Rattle.key_class.specs.Queries.{Query, matches_query}
-use Rattle.change_list.specs.Cursors.{CursorState, Fits}
-use Rattle.store.specs.declared.entry.Entry.{Entry}
-use Rattle.store.specs.Entries.{Held, shown, rows_to_scan, is_visible_at, is_live, row_of, dies_after, dead_rows, IsWithin, IsRising, IsSound, least_opening}
-use Rattle.store.specs.States.{State, DeadRow, Stays, Sweeps, IsNeededBy, horizon_of}
-use Rattle.store.proofs.Keeping.{keeps_cursors, as_many}
-use Rattle.store.proofs.Serials.{scan_before}
-use Rattle.store.proofs.Closing.{each_filtered}
-use Rattle.store.proofs.Deleting.{rising_weaker}
+-- What a sweep of every leaf takes of the dead of a store.
+use Rattle.std.proofs.Common.{◌≡◌, ◌<◌, ◌≤◌, ◌⊎◌, inl, inr, ℕ, zero, suc, Bool, true, false, cond, List, [], ◌∷◌, ◌++◌, length, map, filter, All, Option, Some, None, refl, ap, ◌∙◌, arith, subst, min}
+use Rattle.std.specs.Prelude.{slice_get, nat_lt, option_to_list, if◌then◌else◌, IsPermutation}
+use Rattle.std.specs.List.{AllByRecursion, filter_map}
+use Rattle.std.proofs.lemmas.Bool.{both_ways}
+use Rattle.std.proofs.lemmas.List.{length-map, map-append}
+use Rattle.std.proofs.lemmas.List.Elements.{All-nil, All-cons, All-head, All-tail}
+use Rattle.std.proofs.lemmas.List.Sorted.{All-permutation}
+use Rattle.change_list.proofs.Lists.{filter_map_cons}
+use Rattle.change_list.proofs.Tracking.{commit_within}
+use Rattle.cursor.specs.OpenCursors.{Words, OpenCursor, shown, is_scanning}
+use Rattle.collector.specs.Horizons.{IsHorizon, ScansFrom}
+use Rattle.page_table.specs.Trees.{Tree, rows_of_tree}
+use Rattle.page_table.proofs.Under.{entries_under}
+use Rattle.row_version.specs.Entries.{Entry}
+use Rattle.scan.specs.Agreement.{IsEntryOf, IsDeath}
+use Rattle.removal.proofs.HorizonFacts.{horizon_unique}
+use Rattle.removal.specs.Sweeping.{SweepsAll, SweepsSome, is_past}
+use Rattle.world.proofs.Refusing.{open_passes}
+use Rattle.world.proofs.Serials.{member_at, member_within}
+use Rattle.world.specs.Resting.{death, death_from, deaths, Rests}
+use Rattle.world.specs.States as world
+use Rattle.store.specs.States.{KeepsLiving, Sweeps, SweepsSome as StoreSweepsSome, IsNeededBy, is_needed, horizon_of}
+use Rattle.store.specs.Worlds.{dead_row, store_state}
+use Rattle.store.proofs.Worlds.{open_as}
+use Rattle.store.proofs.Keeping.{keeps_cursors, as_many, dead_rows_permuted}
 
--- of the elements that one test keeps, another keeps the same where the first gives all that it wants
-filter_within : {X : Type 0} (p q : X → Bool) (xs : List X) → ((x : X) → q x ≡ true → p x ≡ true) → filter q (filter p xs) ≡ filter q xs
-filter_within p q [] h = refl
-filter_within p q (x ∷ xs) h = go (p x) (q x) refl refl (filter_within p q xs h)
-  where
-    go : (a b : Bool) → p x ≡ a → q x ≡ b → filter q (filter p xs) ≡ filter q xs → filter q (filter p (x ∷ xs)) ≡ filter q (x ∷ xs)
-    go true b d e r = rw (d, e) (ap (λ l. cond b (x ∷ l) l) r)
-    go false false d e r = rw (d, e) r
-    go false true d e r = let f = h x e in absurd (cc)
+module _ {K A : Type 0} (w : Words K A) (t : Tree K) (commits : ℕ) where
+  later : (k : OpenCursor K A) (ks : List (OpenCursor K A)) (opened : ℕ) → ScansFrom ks opened → ScansFrom (k ∷ ks) opened
+  later k ks opened scan = record { at = suc scan.at; cursor = scan.cursor; is = scan.is; scanning = scan.scanning; opened_is = scan.opened_is }
 
-fewer_left : {X : Type 0} (p : X → Bool) (xs : List X) → length (filter p xs) ≤ length xs
-fewer_left p [] = omega arith
-fewer_left p (x ∷ xs) = go (p x) (fewer_left p xs)
-  where
-    go : (b : Bool) → length (filter p xs) ≤ length xs → length (cond b (x ∷ filter p xs) (filter p xs)) ≤ length (x ∷ xs)
-    go true r = omega (arith, r)
-    go false r = omega (arith, r)
-
-module _ {K : Type 0} (horizon : ℕ) where
-  -- whether a sweep leaves an entry
-  abbrev pub is_left : Entry K → Bool
-  is_left e = dies_after horizon e.died
-
-  live_left : (e : Entry K) → is_live e ≡ true → is_left e ≡ true
-  live_left e = go e.died
+  -- the horizon that a store shows is that of its world
+  pub shown_horizon : (ks : List (OpenCursor K A)) → IsHorizon commits ks (horizon_of commits (map (shown w t) ks))
+  shown_horizon [] = record { within = omega arith; least = λ opened scan. absurd (let e = scan.is in cc); reached = inl refl }
+  shown_horizon (k ∷ ks) = go (is_scanning k.stack) refl (shown_horizon ks)
     where
-      go : (d : Option ℕ) → is_none d ≡ true → dies_after horizon d ≡ true
-      go None h = refl
-      go (Some n) h = absurd (cc)
+      rest : ℕ
+      rest = horizon_of commits (map (shown w t) ks)
 
-  visible_left : (wanted : K → Bool) (s : ℕ) → horizon ≤ s → (e : Entry K) → (is_visible_at s e && wanted e.key) ≡ true → is_left e ≡ true
-  visible_left wanted s l e h = go (nat_le e.row s) (wanted e.key) e.died h
+      first_or_later : (at : ℕ) (c : OpenCursor K A) → slice_get (k ∷ ks) at ≡ Some c → (k ≡ c) ⊎ ((i : ℕ) × (slice_get ks i ≡ Some c))
+      first_or_later zero c h = inl (cc)
+      first_or_later (suc i) c h = inr (i, h)
+
+      least_of : (h : ℕ) → ((opened : ℕ) → ScansFrom ks opened → h ≤ opened) → (is_scanning k.stack ≡ true → h ≤ k.opened) → (opened : ℕ) → ScansFrom (k ∷ ks) opened → h ≤ opened
+      least_of h least above opened scan = elim (first_or_later scan.at scan.cursor scan.is) [
+        | inl e ↦
+            let scans : is_scanning k.stack ≡ true = ap (λ (c : OpenCursor K A). is_scanning c.stack) e ∙ scan.scanning in
+            let same : k.opened ≡ opened = ap (λ (c : OpenCursor K A). c.opened) e ∙ scan.opened_is in
+            omega (arith, above scans, same)
+        | inr old ↦ least opened (record { at = old.0; cursor = scan.cursor; is = old.1; scanning = scan.scanning; opened_is = scan.opened_is })
+      ]
+
+      either_one : (a b : ℕ) → ((min a b ≡ a) × (a ≤ b)) ⊎ ((min a b ≡ b) × (b ≤ a))
+      either_one a b = search arith
+
+      go : (b : Bool) → is_scanning k.stack ≡ b → IsHorizon commits ks (horizon_of commits (map (shown w t) ks)) → IsHorizon commits (k ∷ ks) (if b then min k.opened (horizon_of commits (map (shown w t) ks)) else horizon_of commits (map (shown w t) ks))
+      go false e is = record {
+        within = is.within;
+        least = least_of (horizon_of commits (map (shown w t) ks)) is.least (λ scans. absurd (both_ways (is_scanning k.stack) e scans));
+        reached = elim is.reached [ inl all ↦ inl all | inr scan ↦ inr (later k ks _ scan) ];
+      }
+      go true e is = elim (either_one k.opened (horizon_of commits (map (shown w t) ks))) [
+        | inl own ↦ rw (own.0) (record {
+            within = omega (arith, own.1, is.within);
+            least = least_of k.opened (λ opened scan. omega (arith, own.1, is.least opened scan)) (λ s. omega arith);
+            reached = inr (record { at = 0; cursor = k; is = refl; scanning = e; opened_is = refl });
+          })
+        | inr old ↦ rw (old.0) (record {
+            within = is.within;
+            least = least_of (horizon_of commits (map (shown w t) ks)) is.least (λ s. old.1);
+            reached = elim is.reached [ inl all ↦ inl all | inr scan ↦ inr (later k ks _ scan) ];
+          })
+      ]
+
+module _ {K A : Type 0} (w : Words K A) (old : world.State K A) (sound : world.IsSoundWorld w.is_cover old) (horizon : ℕ) (is : IsHorizon (length old.commits) old.cursors horizon) where
+  -- what a store says that a scan needs
+  same_horizon : horizon_of (length old.commits) (map (shown w old.search.tree) old.cursors) ≡ horizon
+  same_horizon = horizon_unique (length old.commits) old.cursors _ horizon (shown_horizon w old.search.tree (length old.commits) old.cursors) is
+
+  needed_as : (d : ℕ × ℕ) → is_needed (store_state w old) (dead_row d) ≡ is_past horizon d
+  needed_as d = ap (λ h. nat_lt h d.1) same_horizon
+
+  filter_as : (ds : List (ℕ × ℕ)) → filter (is_needed (store_state w old)) (map dead_row ds) ≡ map dead_row (filter (is_past horizon) ds)
+  filter_as [] = refl
+  filter_as (d ∷ ds) = rw (needed_as d) (go (is_past horizon d) (filter_as ds))
     where
-      go : (a b : Bool) (d : Option ℕ) → ((a && dies_after s d) && b) ≡ true → dies_after horizon d ≡ true
-      go a b None h = refl
-      go true true (Some n) h = search (arith, h, l)
-      go true false (Some n) h = absurd (both_false (nat_lt s n) h)
-        where
-          both_false : (x : Bool) → (x && false) ≡ true → ⊥
-          both_false true h = cc
-          both_false false h = cc
-      go false b (Some n) h = absurd (cc)
+      go : (b : Bool) → filter (is_needed (store_state w old)) (map dead_row ds) ≡ map dead_row (filter (is_past horizon) ds)
+          → cond b (dead_row d ∷ filter (is_needed (store_state w old)) (map dead_row ds)) (filter (is_needed (store_state w old)) (map dead_row ds)) ≡ map dead_row (cond b (d ∷ filter (is_past horizon) ds) (filter (is_past horizon) ds))
+      go true e = ap (λ l. dead_row d ∷ l) e
+      go false e = e
 
-  rising_left : (above : ℕ) (es : List (Entry K)) → IsRising above es → IsRising above (filter is_left es)
-  rising_left above [] h = tt
-  rising_left above (e ∷ es) h = go (is_left e) (rising_left e.row es h.1)
+  unneeded_as : (ds : List (ℕ × ℕ)) → AllByRecursion (λ d. is_past horizon d ≡ false) ds → AllByRecursion (λ d. is_needed (store_state w old) d ≡ false) (map dead_row ds)
+  unneeded_as [] a = tt
+  unneeded_as (d ∷ ds) a = (needed_as d ∙ a.0, unneeded_as ds a.1)
+
+  -- a dead row past the horizon is needed by an open cursor
+  needed_by : (d : ℕ × ℕ) → d.1 ≤ length old.commits → horizon < d.1 → IsNeededBy (store_state w old) (dead_row d)
+  needed_by d l past = elim is.reached [
+    | inl all ↦ absurd (omega (arith, all, l, past))
+    | inr scan ↦
+        let m = member_at (λ k. k.serial) scan.cursor.serial 0 old.last scan.at old.cursors scan.cursor sound.serials scan.is refl in
+        let n = member_within (λ k. k.serial) scan.cursor.serial 0 old.last old.cursors scan.cursor sound.serials m in
+        record {
+          serial = scan.cursor.serial;
+          cursor = shown w old.search.tree scan.cursor;
+          is_open = open_as w old scan.cursor.serial scan.cursor (open_passes old scan.cursor.serial scan.cursor m n.0 n.1) m;
+          scanning = scan.scanning;
+          opened = omega (arith, scan.opened_is, past);
+        }
+  ]
+
+  -- a death of the tree, of a row that a scan needs
+  abbrev IsKept : ℕ × ℕ → Type 0
+  IsKept d = (d.1 ≤ length old.commits) × (horizon < d.1)
+
+  deaths_within : (es : List (Entry K)) → All (λ e. IsEntryOf old.commits e) es → All (λ (d : ℕ × ℕ). d.1 ≤ length old.commits) (filter_map death es)
+  deaths_within [] a = All-nil (λ (d : ℕ × ℕ). d.1 ≤ length old.commits)
+  deaths_within (e ∷ es) a = rw (filter_map_cons death e es) (by_death (deaths_within es (All-tail (λ e. IsEntryOf old.commits e) e es a)) e.died refl)
     where
-      go : (b : Bool) → IsRising e.row (filter is_left es) → IsRising above (cond b (e ∷ filter is_left es) (filter is_left es))
-      go true r = (h.0, r)
-      go false r = rising_weaker e.row above (filter is_left es) (omega (arith, h.0)) r
+      by_death : All (λ (d : ℕ × ℕ). d.1 ≤ length old.commits) (filter_map death es) → (o : Option ℕ) → e.died ≡ o → All (λ (d : ℕ × ℕ). d.1 ≤ length old.commits) (option_to_list (death_from e.row e.died) ++ filter_map death es)
+      by_death rest None h = rw h rest
+      by_death rest (Some n) h =
+          let d : IsDeath old.commits e.row (Some n) = subst (λ o. IsDeath old.commits e.row o) h (All-head (λ e. IsEntryOf old.commits e) e es a).death in
+          rw h (All-cons (λ (d : ℕ × ℕ). d.1 ≤ length old.commits) (e.row, n) (filter_map death es) (commit_within old.commits n _ d).1 rest)
 
-  dead_left : (es : List (Entry K)) → dead_rows (filter is_left es) ≡ filter (λ (d : DeadRow). nat_lt horizon d.died) (dead_rows es)
-  dead_left [] = refl
-  dead_left (e ∷ es) = go e.died refl (dead_left es)
+  kept_filtered : (ds : List (ℕ × ℕ)) → All (λ (d : ℕ × ℕ). d.1 ≤ length old.commits) ds → All IsKept (filter (is_past horizon) ds)
+  kept_filtered [] a = All-nil IsKept
+  kept_filtered (d ∷ ds) a = go (is_past horizon d) refl (kept_filtered ds (All-tail (λ (d : ℕ × ℕ). d.1 ≤ length old.commits) d ds a))
     where
-      go : (d : Option ℕ) → e.died ≡ d → dead_rows (filter is_left es) ≡ filter (λ (d : DeadRow). nat_lt horizon d.died) (dead_rows es)
-          → dead_rows (filter is_left (e ∷ es)) ≡ filter (λ (d : DeadRow). nat_lt horizon d.died) (dead_rows (e ∷ es))
-      go None d r = rw d r
-      go (Some n) d r = by_test (nat_lt horizon n) refl
-        where
-          by_test : (b : Bool) → nat_lt horizon n ≡ b → dead_rows (filter is_left (e ∷ es)) ≡ filter (λ (d : DeadRow). nat_lt horizon d.died) (dead_rows (e ∷ es))
-          by_test true h = rw (d, h) (ap (λ l. (record { row = e.row; died = n }) ∷ l) r)
-          by_test false h = rw (d, h) r
+      go : (b : Bool) → is_past horizon d ≡ b → All IsKept (filter (is_past horizon) ds) → All IsKept (cond b (d ∷ filter (is_past horizon) ds) (filter (is_past horizon) ds))
+      go true e r = All-cons IsKept d (filter (is_past horizon) ds) (All-head (λ (d : ℕ × ℕ). d.1 ≤ length old.commits) d ds a, search (arith, e)) r
+      go false e r = r
 
-  -- each entry is live or dead
-  counted : (es : List (Entry K)) → length es ≡ length (filter is_live es) + length (dead_rows es)
-  counted [] = refl
-  counted (e ∷ es) = go e.died refl (counted es)
-    where
-      go : (d : Option ℕ) → e.died ≡ d → length es ≡ length (filter is_live es) + length (dead_rows es) → length (e ∷ es) ≡ length (filter is_live (e ∷ es)) + length (dead_rows (e ∷ es))
-      go None d r = rw d (omega (arith, r))
-      go (Some n) d r = rw d (omega (arith, r))
+  needed_all : (ds : List (ℕ × ℕ)) → All IsKept ds → AllByRecursion (λ d. IsNeededBy (store_state w old) d) (map dead_row ds)
+  needed_all [] a = tt
+  needed_all (d ∷ ds) a = let k = All-head IsKept d ds a in (needed_by d k.0 k.1, needed_all ds (All-tail IsKept d ds a))
 
-module _ {K A : Type 0} where
-  -- each scan in progress began at the least opening number or after it
-  least_below : (n m : ℕ) (hs : List (Held K A)) → m ≤ least_opening n hs → AllByRecursion (λ (h : Held K A). h.scanning ≡ true → m ≤ h.opened) hs
-  least_below n m [] l = tt
-  least_below n m (h ∷ hs) l = go (λ l. least_below n m hs l) h.scanning refl l
-    where
-      go : (m ≤ least_opening n hs → AllByRecursion (λ (h : Held K A). h.scanning ≡ true → m ≤ h.opened) hs) → (b : Bool) → h.scanning ≡ b
-          → m ≤ (if b then min h.opened (least_opening n hs) else least_opening n hs)
-          → (h.scanning ≡ true → m ≤ h.opened) × AllByRecursion (λ (h : Held K A). h.scanning ≡ true → m ≤ h.opened) hs
-      go r true e l = (λ s. omega (arith, l), r (omega (arith, l)))
-      go r false e l = (λ s. absurd (cc), r l)
+  pub old_kept : All IsKept (filter (is_past horizon) (deaths old.search.tree))
+  old_kept = kept_filtered (deaths old.search.tree) (deaths_within (rows_of_tree old.search.tree)
+      (entries_under old.search.tree sound.tree.sound.rank sound.tree.sound.ranked (λ e. IsEntryOf old.commits e) sound.agrees.entries 0 old.search.tree.counter sound.tree.sound.root_exists))
 
-  pub least_within : (n : ℕ) (hs : List (Held K A)) → least_opening n hs ≤ n
-  least_within n [] = omega arith
-  least_within n (h ∷ hs) = go h.scanning (least_within n hs)
-    where
-      go : (b : Bool) → least_opening n hs ≤ n → (if b then min h.opened (least_opening n hs) else least_opening n hs) ≤ n
-      go true r = omega (arith, r)
-      go false r = r
-
-  horizon_shown : (matching : A → K → Bool) (entries : List (Entry K)) (n : ℕ) (hs : List (Held K A)) → horizon_of n (map (shown matching entries) hs) ≡ least_opening n hs
-  horizon_shown matching entries n [] = refl
-  horizon_shown matching entries n (h ∷ hs) = rw (horizon_shown matching entries n hs) refl
-
-module _ {K A : Type 0} (matching : A → K → Bool) (commits : List (Write K)) (entries : List (Entry K)) (cursors : List (Held K A)) (last : ℕ) (s : IsSound commits entries cursors last) where
-  abbrev pub horizon : ℕ
-  horizon = least_opening (length commits) cursors
-
-  abbrev pub left : List (Entry K)
-  left = filter (is_left horizon) entries
-
-  same_seen : (scanning : Bool) (query : Query A) (opened : ℕ) → (scanning ≡ true → horizon ≤ opened) → rows_to_scan matching scanning query opened left ≡ rows_to_scan matching scanning query opened entries
-  same_seen false query opened h = refl
-  same_seen true query opened h =
-      ap (map row_of) (filter_within (is_left horizon) (λ (e : Entry K). is_visible_at opened e && matches_query matching query e.key) entries (visible_left horizon (matches_query matching query) opened (h refl)))
-
-  stays_swept : (h : Held K A) → (h.scanning ≡ true → horizon ≤ h.opened) → Stays matching commits commits (shown matching entries h) (shown matching left h)
-  stays_swept h b =
-      let r : (shown matching entries h).remaining ≡ (shown matching left h).remaining = ap (λ r. h.pending ++ r) (sym (same_seen h.scanning h.query h.opened b)) in
-      let same : shown matching entries h ≡ shown matching left h =
-      ap (λ (r : List (Row K)). let k : CursorState K A = record { serial = h.serial; query = h.query; opened = h.opened; scanning = h.scanning; remaining = r; position = h.position; asked = h.asked } in k) r in
-      record { query = refl; opened = refl; scanning = refl; asked = refl; fits = λ items f. subst (λ k. Fits matching commits k items) same f }
-
-  pub sound_sweep : IsSound commits left cursors last
-  sound_sweep = record {
-    legal = s.legal;
-    agree = record {
-      live = ap (map row_of) (filter_within (is_left horizon) is_live entries (live_left horizon)) ∙ s.agree.live;
-      numbers = each_filtered (λ (e : Entry K). (e.row ≤ length commits) × IsWithin (length commits) e.died) (is_left horizon) entries s.agree.numbers;
-      rising = rising_left horizon 0 entries s.agree.rising;
-    };
-    serials = s.serials;
+module _ {K A : Type 0} (w : Words K A) (old new : world.State K A) (sound : world.IsSoundWorld w.is_cover old) (rests : Rests w old new) (commits : new.commits ≡ old.commits)
+    (pages : length new.search.tree.pages ≡ length old.search.tree.pages) (last_finder : new.last_finder ≡ old.last_finder) where
+  keeps_living : KeepsLiving w.matching (store_state w old) (store_state w new)
+  keeps_living = record {
+    limit = rests.limit;
+    commits = commits;
+    last = rests.last;
+    cursors = keeps_cursors w old new rests;
+    as_many = as_many w old new rests;
+    pages = omega (arith, pages, rests.page_limit);
+    finders = last_finder;
   }
 
-  module _ (limit pages : ℕ) where
-    abbrev pub swept_state : State K A
-    swept_state = record { limit = limit; commits = commits; cursors = map (shown matching entries) cursors; last = last; dead = dead_rows entries; pages_left = pages; finders = 0 }
+  pub sweeps : (number : ℕ) → SweepsAll old number new → Sweeps w.matching (store_state w old) number (store_state w new)
+  sweeps number s = record {
+    rest = keeps_living;
+    counted = let a : length (map dead_row (deaths new.search.tree)) ≡ length (deaths new.search.tree) = length-map (deaths new.search.tree) dead_row in let b : length (map dead_row (deaths old.search.tree)) ≡ length (deaths old.search.tree) = length-map (deaths old.search.tree) dead_row in omega (arith, a, b, s.counted);
+    left = rw (filter_as w old sound s.horizon s.is (deaths old.search.tree)) (dead_rows_permuted (filter (is_past s.horizon) (deaths old.search.tree)) (deaths new.search.tree) s.left);
+    needed = needed_all w old sound s.horizon s.is (deaths new.search.tree) (All-permutation (IsKept w old sound s.horizon s.is) (filter (is_past s.horizon) (deaths old.search.tree)) (deaths new.search.tree) s.left (old_kept w old sound s.horizon s.is));
+  }
 
-    -- what stays is needed by an open cursor
-    needed_one : (d : DeadRow) → horizon < d.died → d.died ≤ length commits → IsNeededBy swept_state d
-    needed_one d l w =
-        let b = scan_before matching entries 0 last (length commits) d.died cursors s.serials l w in
-        let z : nat_eq b.cursor.serial 0 ≡ false = search (arith, b.above_it) in
-        let g : nat_lt last b.cursor.serial ≡ false = search (arith, b.given) in
-        record { serial = b.cursor.serial; cursor = shown matching entries b.cursor; is_open = rw (z, g, b.found) refl; scanning = b.scanning; opened = b.opened }
-
-    needed_all : (es : List (Entry K)) → AllByRecursion (λ (e : Entry K). (e.row ≤ length commits) × IsWithin (length commits) e.died) es
-        → AllByRecursion (λ (d : DeadRow). IsNeededBy swept_state d) (dead_rows (filter (is_left horizon) es))
-    needed_all [] h = tt
-    needed_all (e ∷ es) h = go e.died refl h.0.1 (needed_all es h.1)
-      where
-        go : (d : Option ℕ) → e.died ≡ d → IsWithin (length commits) e.died → AllByRecursion (λ (d : DeadRow). IsNeededBy swept_state d) (dead_rows (filter (is_left horizon) es))
-            → AllByRecursion (λ (d : DeadRow). IsNeededBy swept_state d) (dead_rows (filter (is_left horizon) (e ∷ es)))
-        go None d w r = rw d r
-        go (Some n) d w r = by_test (nat_lt horizon n) refl
-          where
-            by_test : (b : Bool) → nat_lt horizon n ≡ b → AllByRecursion (λ (d : DeadRow). IsNeededBy swept_state d) (dead_rows (filter (is_left horizon) (e ∷ es)))
-            by_test true h =
-                let m : n ≤ length commits = subst (λ x. IsWithin (length commits) x) d w in
-                rw (d, h) (needed_one (record { row = e.row; died = n }) (search (arith, h)) m, r)
-            by_test false h = rw (d, h) r
-
-  pub sweeps : (limit pages number : ℕ) → number ≡ length entries - length left
-      → Sweeps matching
-      (record { limit = limit; commits = commits; cursors = map (shown matching entries) cursors; last = last; dead = dead_rows entries; pages_left = pages; finders = 0 })
-      number
-      (record { limit = limit; commits = commits; cursors = map (shown matching left) cursors; last = last; dead = dead_rows left; pages_left = pages; finders = 0 })
-  sweeps limit pages number e =
-      let d = dead_left horizon entries in
-      let lives : length (filter is_live left) ≡ length (filter is_live entries) = ap length (filter_within (is_left horizon) is_live entries (live_left horizon)) in
-      let f : horizon_of (length commits) (map (shown matching entries) cursors) ≡ horizon = horizon_shown matching entries (length commits) cursors in
-      let fewer : length (dead_rows left) ≤ length (dead_rows entries) = rw d (fewer_left (λ (x : DeadRow). nat_lt horizon x.died) (dead_rows entries)) in
-      record {
-        rest = record {
-          limit = refl;
-          commits = refl;
-          last = refl;
-          pages = refl;
-          finders = refl;
-          as_many = as_many matching entries left cursors;
-          cursors = keeps_cursors matching commits commits entries left (λ (h : Held K A). h.scanning ≡ true → horizon ≤ h.opened) stays_swept cursors limit last pages pages (dead_rows entries) (dead_rows left)
-              (least_below (length commits) horizon cursors (omega arith));
-        };
-        needed = needed_all limit pages entries s.agree.numbers;
-        counted = omega (arith, e, counted horizon entries, counted horizon left, lives, fewer);
-        left =
-            let same : filter (λ (x : DeadRow). nat_lt (horizon_of (length commits) (map (shown matching entries) cursors)) x.died) (dead_rows entries) ≡ dead_rows left =
-            ap (λ n. filter (λ (x : DeadRow). nat_lt n x.died) (dead_rows entries)) f ∙ sym d in
-            subst (λ l. IsPermutation l (dead_rows left)) (sym same) (IsPermutation-refl (dead_rows left));
-      }
+  pub sweeps_some : SweepsSome old new → StoreSweepsSome w.matching (store_state w old) (store_state w new)
+  sweeps_some s = record {
+    rest = keeps_living;
+    gone = map dead_row s.gone;
+    parted = subst (λ l. IsPermutation (map dead_row (deaths old.search.tree)) l) (map-append dead_row s.gone (deaths new.search.tree)) (dead_rows_permuted (deaths old.search.tree) (s.gone ++ deaths new.search.tree) s.parted);
+    unneeded = unneeded_as w old sound s.horizon s.is s.gone s.unneeded;
+  }

@@ -1,3 +1,2 @@
-pub mod Entries
 pub mod States
-pub mod Steps
+pub mod Worlds

@@ -1,45 +1,39 @@
-ghost use Rattle.std.specs.Prelude.{◌≡◌, ◌+◌, ◌≤◌, ◌<◌, ◌↔◌, ◌⊎◌, ◌&&◌, List, [], ◌∷◌, ◌++◌, length, filter, map, IfOk, IfErr, OnOk, OnErr, Some, None, Ok, Err, IsPermutation, IsTrue, not, nat_eq};
+ghost use Rattle.std.specs.Prelude.{◌≡◌, ◌+◌, ◌≤◌, ◌<◌, ◌↔◌, ◌⊎◌, List, [], ◌∷◌, ◌++◌, length, IfOk, IfErr, OnOk, OnErr, Ok, Err, IsPermutation};
 ghost use Rattle.key_class.specs.Queries.{query_of, matches_query, depth_of};
 ghost use Rattle.change_list.specs.Configs.{IsWithinLimits};
 ghost use Rattle.change_list.specs.Changes.{IsLegal, status_of, snapshot, commit_at};
-ghost use Rattle.change_list.specs.Cursors.{CursorState};
-ghost use Rattle.store.specs.States.{State, new_state, Commits, Keeps, cursor_of, with_cursor, without_cursor, Gives, IsOpened, IsBadOpening, IsFullOf, is_needed, RefusesDelete, Closes, Drains, Sweeps, SweepsSome, Nexts, RefusesNext, Changes, with_asking, IsAt};
-ghost use Rattle.store.specs.Entries.{dead_rows, dies_after, least_opening, shown, marked, row_of, is_live};
+ghost use Rattle.store.specs.Worlds.{HasCursor};
+ghost use Rattle.store.specs.States.{new_state, Commits, Keeps, cursor_of, IsOpened, IsBadOpening, IsFullOf, RefusesDelete, Closes, Drains, Sweeps, SweepsSome, Nexts, RefusesNext, Changes, with_asking};
 
-use crate::cursor::Cursor;
-use crate::entry::Entry;
-use change_list::{ChangeList, Config, Item, Row, Status, Write};
+use crate::reading::next_item;
+use change_list::{Config, Item, Row, Status, Write};
 use key_class::{KeyClass, Pred, Refusal};
-use std::alloc::{AllocError, Global};
-use std::collections::VecDeque;
+use mailbox::Tray;
+use std::alloc::Global;
 use std::marker::Model;
+use world::{Event, Reply, World};
 
-/// A store over a plain list of entries.
+/// A store of rows over a tree of pages, with its commits and its open cursors.
 #[derive(Drop)]
 pub struct Store<C: KeyClass> {
     alloc: Global,
-    limit: u64,
-    pages_left: u64,
-    changes: ChangeList<C::Key>,
-    entries: Vec<Entry<C::Key>>,
-    cursors: Vec<Cursor<C>>,
-    last: u64,
+    world: World<C, Tray<C::Key>>,
 }
 
 impl<C: KeyClass> Model for Store<C> {
     ghost use Rattle.key_class.specs.QueryCodes.{query_code};
-    ghost use Rattle.std.specs.Prelude.{map};
     ghost use Rattle.std.specs.Coded.{codes};
     ghost use Rattle.store.specs.States.{State};
-    ghost use Rattle.store.specs.Entries.{shown, dead_rows, IsSound};
+    ghost use Rattle.store.specs.Worlds.{store_state, IsQuiet};
+    ghost use Rattle.world.specs.Trays.{tray_words};
 
     ghost Value = { State C.Key C.Atom };
 
     ghost coded = { Prim.hlevel (codes, query_code) };
 
-    ghost view = { λ s. record { limit = s.limit; commits = s.changes; cursors = map (shown C.is_match s.entries.items) s.cursors.items; last = s.last; dead = dead_rows s.entries.items; pages_left = s.pages_left; finders = 0 } };
+    ghost view = { λ s. store_state (tray_words C.is_match C.is_consistent C.is_cover C.union_of) s.world };
 
-    ghost invariant = { λ s. IsSound s.changes s.entries.items s.cursors.items s.last };
+    ghost invariant = { λ s. IsQuiet s.world };
 }
 
 impl<C: KeyClass> Store<C> {
@@ -52,18 +46,8 @@ impl<C: KeyClass> Store<C> {
         ensures bad { (result ≡ Err Refusal.BadConfig) ↔ (¬ IsWithinLimits config) }
         ensures refusals { IfErr result (λ e. (e ≡ Refusal.BadConfig) ⊎ (e ≡ Refusal.OutOfMemory)) }
     {
-        if !config.is_within_limits() {
-            return Err(Refusal::BadConfig);
-        }
-        Ok(Store {
-            alloc,
-            limit: u64::from(config.commits),
-            pages_left: u64::from(config.pages - 1),
-            changes: ChangeList::new(alloc),
-            entries: Vec::new(alloc),
-            cursors: Vec::new(alloc),
-            last: 0,
-        })
+        let world = World::new(alloc, config)?;
+        Ok(Store { alloc, world })
     }
 
     /// How many commits there are.
@@ -71,15 +55,21 @@ impl<C: KeyClass> Store<C> {
         ensures number { result ≡ length self.now.commits }
         ensures legal { IsLegal self.now.commits }
     {
-        let commits = self.changes.len();
-        commits as u64
+        self.world.commits()
+    }
+
+    /// Nothing is done. The clause states what holds of every store.
+    fn is_legal(&self)
+        ensures { IsLegal self.now.commits }
+    {
+        let _commits = self.commits();
     }
 
     /// The commit with a number. The first has number 1.
     pub fn commit(&self, number: u64) -> Option<Write<C::Key>>
         ensures { result ≡ commit_at self.now.commits number }
     {
-        self.changes.commit(number)
+        self.world.commit(number)
     }
 
     /// Adds a row.
@@ -93,20 +83,9 @@ impl<C: KeyClass> Store<C> {
         ensures refusals { IfErr result (λ e. (e ≡ Refusal.OutOfMemory) ⊎ (e ≡ Refusal.CommitsFull) ⊎ ((e ≡ Refusal.PagesFull) × (self.new.pages_left < 2))) }
         ensures legal { IsLegal self.new.commits }
     {
-        let count = self.changes.len() as u64;
-        if count >= self.limit {
-            return Err(Refusal::CommitsFull);
-        }
-        self.entries.try_reserve(1)?;
-        self.changes.push(Write::Insert(key, tag))?;
-        let number = count + 1;
-        let _pushed = self.entries.push(Entry {
-            key,
-            row: number,
-            tag,
-            died: None,
-        });
-        Ok(number)
+        let inserted = insertion::insert(self.alloc, &mut self.world, key, tag);
+        self.is_legal();
+        inserted
     }
 
     /// Deletes a row, and gives the commit's number.
@@ -126,42 +105,9 @@ impl<C: KeyClass> Store<C> {
         ensures finders { self.new.finders ≤ self.old.finders + 1 }
         ensures legal { IsLegal self.new.commits }
     {
-        match self.changes.status(row) {
-            Status::NeverIssued => return Err(Refusal::NoSuchRow),
-            Status::Dead => return Err(Refusal::AlreadyDeleted),
-            Status::Live => {}
-        }
-        let count = self.changes.len() as u64;
-        if count >= self.limit {
-            return Err(Refusal::CommitsFull);
-        }
-        self.changes.push(Write::Delete(row))?;
-        let number = count + 1;
-        mark_dead(&mut self.entries, row, number);
-        Ok(number)
-    }
-
-    /// The place of an open cursor, or why there is none.
-    fn place_of(&self, c: u64) -> Result<usize, Refusal>
-        ensures ok { IfOk result (λ at. IsAt self.now c at) }
-        ensures err { IfErr result (λ why. cursor_of self.now c ≡ Err why) }
-    {
-        if c == 0 || self.last < c {
-            return Err(Refusal::NoSuchCursor);
-        }
-        'searching: for at in 0..self.cursors.len() {
-            if self.cursors[at].serial == c {
-                return Ok(at);
-            }
-        }
-        Err(Refusal::CursorClosed)
-    }
-
-    /// Whether as many cursors are open as may be, or the last serial was given.
-    fn is_full(&self) -> bool
-        ensures { IsTrue result ↔ IsFullOf self.now }
-    {
-        self.cursors.len() >= 256 || self.last >= 4_294_967_295
+        let deleted = removal::delete(&mut self.world, row);
+        self.is_legal();
+        deleted
     }
 
     /// Opens a cursor at the present commits.
@@ -176,26 +122,14 @@ impl<C: KeyClass> Store<C> {
         ensures full { (result ≡ Err Refusal.CursorsFull) ↔ ((¬ IsBadOpening (query_of query) room) × IsFullOf self.old) }
         ensures refusals { IfErr result (λ e. (e ≡ Refusal.BadConfig) ⊎ (e ≡ Refusal.CursorsFull) ⊎ (e ≡ Refusal.OutOfMemory)) }
     {
-        if is_bad_opening(&query, room) {
+        if room == 0 || room > 4_096 {
             return Err(Refusal::BadConfig);
         }
-        if self.is_full() {
-            return Err(Refusal::CursorsFull);
+        match self.world.step(Event::Open(query, 1)) {
+            Reply::Opened(serial, ()) => return Ok(serial),
+            Reply::Refused(refusal) => return Err(refusal),
+            _ => unreachable!(),
         }
-        let count = self.changes.len() as u64;
-        let serial = self.last + 1;
-        let pending = VecDeque::new(self.alloc);
-        self.cursors.push(Cursor {
-            serial,
-            query,
-            opened: count,
-            scanning: true,
-            pending,
-            position: count,
-            asked: false,
-        })?;
-        self.last = serial;
-        Ok(serial)
     }
 
     /// The next item of a cursor, or none where nothing is left and no mark is asked.
@@ -203,11 +137,15 @@ impl<C: KeyClass> Store<C> {
         ensures ok { IfOk result (λ item. Nexts C.is_match self.old c item self.new) }
         ensures err { IfErr result (λ why. RefusesNext C.is_match self.old c why self.new) }
     {
-        let at = self.place_of(c)?;
-        match self.cursors[at].next(self.alloc, &self.changes, &self.entries) {
-            Ok(item) => return Ok(item),
-            Err(_) => return Err(Refusal::OutOfMemory),
-        }
+        next_item(&mut self.world, c)
+    }
+
+    /// Nothing where a cursor is open.
+    fn check(&self, c: u64) -> Result<(), Refusal>
+        ensures open { OnOk result (HasCursor self.now c) }
+        ensures refused { IfErr result (λ why. cursor_of self.now c ≡ Err why) }
+    {
+        self.world.check_cursor(c)
     }
 
     /// Puts a cursor's items behind those of a list, until nothing is left to give.
@@ -218,15 +156,13 @@ impl<C: KeyClass> Store<C> {
         ensures { (given : List (Item C.Key)) × (into.new.items ≡ into.old.items ++ given) × Drains C.is_match self.old c given result self.new }
     {
         'draining: loop {
-            self.place_of(c)?;
+            self.check(c)?;
             let Ok(()) = into.try_reserve(1) else {
                 return Err(Refusal::OutOfMemory);
             };
             match self.next(c)? {
                 None => return Ok(()),
-                Some(item) => {
-                    let _pushed = into.push(item);
-                }
+                Some(item) => into.push_reserved(item),
             }
         }
     }
@@ -240,14 +176,8 @@ impl<C: KeyClass> Store<C> {
         ensures err { OnErr result (SweepsSome C.is_match self.old self.new) }
         ensures refusals { IfErr result (λ e. e ≡ Refusal.OutOfMemory) }
     {
-        let horizon = horizon::<C>(&self.cursors, self.changes.len() as u64);
-        let before = self.entries.len();
-        self.entries.retain(
-            |entry: &Entry<C::Key>| -> bool
-                ensures { result ≡ dies_after horizon entry.now.died }
-            { entry.outlives(horizon) },
-        );
-        Ok((before - self.entries.len()) as u64)
+        self.world.is_sound();
+        removal::sweep_all(&mut self.world)
     }
 
     /// Asks a cursor for a mark.
@@ -255,9 +185,11 @@ impl<C: KeyClass> Store<C> {
         ensures ok { OnOk result (Changes with_asking self.old c self.new) }
         ensures err { IfErr result (λ why. (cursor_of self.old c ≡ Err why) × (self.new ≡ self.old)) }
     {
-        let at = self.place_of(c)?;
-        self.cursors[at].ask();
-        Ok(())
+        match self.world.step(Event::AskMark(c)) {
+            Reply::Asked => return Ok(()),
+            Reply::Refused(refusal) => return Err(refusal),
+            _ => unreachable!(),
+        }
     }
 
     /// Closes a cursor.
@@ -268,13 +200,12 @@ impl<C: KeyClass> Store<C> {
         ensures ok { OnOk result (Closes self.old c self.new) }
         ensures err { IfErr result (λ why. (cursor_of self.old c ≡ Err why) × (self.new ≡ self.old)) }
     {
-        self.place_of(c)?;
-        self.cursors.retain(
-            |cursor: &Cursor<C>| -> bool
-                ensures { result ≡ not (nat_eq cursor.now.serial c) }
-            { cursor.serial != c },
-        );
-        Ok(())
+        self.world.is_sound();
+        match self.world.step(Event::Close(c)) {
+            Reply::Closed => return Ok(()),
+            Reply::Refused(refusal) => return Err(refusal),
+            _ => unreachable!(),
+        }
     }
 
     /// The live rows that match, by rising number.
@@ -286,53 +217,10 @@ impl<C: KeyClass> Store<C> {
         if !query.is_within_depth(32) {
             return Err(Refusal::BadConfig);
         }
-        let rows = live_rows::<C>(self.alloc, &self.entries, query)?;
+        self.world.is_sound();
+        let table = self.world.search().pages();
+        let commits = self.world.commits() as u32;
+        let rows = survey::live_rows::<C>(self.alloc, table, commits, query)?;
         Ok(rows)
     }
-}
-
-/// Whether a room or a query's depth is out of range.
-fn is_bad_opening<A>(query: &Pred<A>, room: u64) -> bool
-    ensures { IsTrue result ↔ IsBadOpening (query_of query.now) room }
-{
-    room == 0 || room > 4_096 || !query.is_within_depth(32)
-}
-
-/// The least opening number of the cursors whose scan isn't over, or the number of commits.
-fn horizon<C: KeyClass>(cursors: &[Cursor<C>], commits: u64) -> u64
-    ensures { result ≡ least_opening commits cursors.now }
-{
-    let mut horizon = commits;
-    for cursor in cursors {
-        if cursor.scanning {
-            horizon = horizon.min(cursor.opened);
-        }
-    }
-    horizon
-}
-
-/// Lets the live entry of a row die with a commit.
-fn mark_dead<K>(entries: &mut Vec<Entry<K>>, row: u64, number: u64)
-    ensures { entries.new.items ≡ map (marked row number) entries.old.items }
-{
-    for entry in entries.iter_mut() {
-        entry.die(row, number);
-    }
-}
-
-/// The live rows of a list of entries that match.
-fn live_rows<C: KeyClass>(
-    alloc: Global,
-    entries: &[Entry<C::Key>],
-    query: &Pred<C::Atom>,
-) -> Result<Vec<Row<C::Key>>, AllocError>
-    ensures { IfOk result (λ rows. rows.items ≡ map row_of (filter (λ e. is_live e && matches_query C.is_match (query_of query.now) e.key) entries.now)) }
-{
-    let mut rows = Vec::new(alloc);
-    for entry in entries {
-        if entry.died.is_none() && query.matches::<C>(entry.key) {
-            rows.push(entry.to_row())?;
-        }
-    }
-    Ok(rows)
 }

@@ -30,7 +30,7 @@ fn step_at<C: KeyClass>(
 }
 
 /// Carries out the steps of an insertion, and tells whether the last was to place the row.
-fn insert<C: KeyClass>(
+pub fn insert<C: KeyClass>(
     alloc: Global,
     tree: &mut SearchTree<C>,
     entry: Entry<C::Key>,
@@ -67,7 +67,7 @@ fn insert<C: KeyClass>(
 }
 
 /// The key of a row: one of 101 beginnings and 7 lengths.
-fn key_of(row: u32) -> Result<Interval, Fail> {
+pub fn key_of(row: u32) -> Result<Interval, Fail> {
     let lo = i64::from(row % 101).wrapping_mul(37) % 101;
     Ok(Interval::new(lo, lo.wrapping_add(i64::from(row % 7)))?)
 }
@@ -90,14 +90,15 @@ fn found(
     }
 }
 
+/// The page on which a finder meets the row.
+pub fn page_of(alloc: Global, tree: &SearchTree<Intervals>, row: u32) -> Result<Option<u32>, Fail> {
+    let mut finder = Finder::new(alloc, 7, row, key_of(row)?, tree.pages().counter());
+    Ok(found(&mut finder, tree, 1_000)?)
+}
+
 /// Whether a finder meets the row on a leaf.
 fn stands(alloc: Global, tree: &SearchTree<Intervals>, row: u32) -> Result<bool, Fail> {
-    let mut finder = Finder::new(alloc, 7, row, key_of(row)?, tree.pages().counter());
-    let Some(page) = found(&mut finder, tree, 1_000)? else {
-        return Ok(false);
-    };
-    let table = tree.pages();
-    Ok((page as usize) < table.len() && table.page(page).level() == 0)
+    Ok(page_of(alloc, tree, row)?.is_some_and(|page| tree.is_leaf(u64::from(page))))
 }
 
 #[test]

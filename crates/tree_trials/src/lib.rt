@@ -1,5 +1,5 @@
 //! Trials of the tree over a class of keys: a worked trace of steps with its answers, ways of finders, insertions, the
-//! horizon of cursors, and each call once.
+//! horizon of cursors, rows that are live, and each call once.
 #![tactic(auto)]
 
 #[cfg(test)]
@@ -10,5 +10,7 @@ mod finders;
 mod horizons;
 #[cfg(test)]
 mod insertions;
+#[cfg(test)]
+mod surveys;
 #[cfg(test)]
 mod trace;

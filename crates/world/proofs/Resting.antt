@@ -24,10 +24,10 @@ use Rattle.world.specs.Resting.{death, deaths, Rests}
 use Rattle.world.specs.States.{State, cursor_at}
 use Rattle.world.specs.Traces.{taken_by}
 
-abbrev same_pair : ℕ × ℕ → ℕ × ℕ → Bool
+abbrev pub same_pair : ℕ × ℕ → ℕ × ℕ → Bool
 same_pair x y = nat_eq x.0 y.0 && nat_eq x.1 y.1
 
-same_pair_exact : (x y : ℕ × ℕ) → (same_pair x y ≡ true) ↔ (x ≡ y)
+pub same_pair_exact : (x y : ℕ × ℕ) → (same_pair x y ≡ true) ↔ (x ≡ y)
 same_pair_exact x y = (there, λ e. subst (λ z. same_pair x z ≡ true) e (and_from _ _ (eq-eqb x.0 x.0 refl) (eq-eqb x.1 x.1 refl)))
   where
     there : same_pair x y ≡ true → x ≡ y

@@ -5,3 +5,4 @@ pub mod Stamps
 pub mod States
 pub mod Steps
 pub mod Traces
+pub mod Trays

@@ -149,6 +149,19 @@ impl<C: KeyClass, O: Outlet<C::Key>> World<C, O> {
         place_of(self.cursors.as_slice(), c).ok_or(Refusal::CursorClosed)
     }
 
+    /// Nothing where a cursor is open.
+    ///
+    /// # Errors
+    /// `NoSuchCursor` where the serial was never given, `CursorClosed` where its cursor is closed.
+    pub fn check_cursor(&self, c: u64) -> Result<(), Refusal>
+        ensures open { OnOk result (first_failing (cursor_tests self.now c) ≡ None) }
+        ensures refused { IfErr result (λ why. first_failing (cursor_tests self.now c) ≡ Some why) }
+    {
+        self.is_sound();
+        self.place_of(c)?;
+        Ok(())
+    }
+
     /// One event, in one atomic step.
     pub fn step(&mut self, event: Event<C>) -> Reply<C, O>
         ensures step { Step (words C.is_match C.is_consistent C.is_cover C.union_of O.may_take O.may_refuse O.is_emptied_elsewhere) 0 self.old event result self.new }
@@ -175,7 +188,7 @@ impl<C: KeyClass, O: Outlet<C::Key>> World<C, O> {
     }
 
     /// Nothing is done. The clause states what holds of every world.
-    fn is_sound(&self)
+    pub fn is_sound(&self)
         ensures { IsSoundWorld C.is_cover self.now }
     {
         let _limit = self.limit;

@@ -1,35 +1,19 @@
-use Rattle.std.proofs.Common.{◌≡◌, sym, ◌∙◌}
-use Rattle.change_list.specs.Changes.{status_of}
-use Rattle.change_list.specs.declared.write.Status.TheVariants.{Live}
-use Rattle.store.proofs.Deleting.{sound_delete, delete_commits, delete_dead}
+use Rattle.world.specs.Trays.{tray_words}
+use Rattle.std.proofs.Common.{◌+◌, ◌∷◌, sym, subst, length}
+use Rattle.std.proofs.lemmas.List.Sorted.{IsPermutation-refl}
+use Rattle.std.specs.Prelude.{IsPermutation}
+use Rattle.change_list.specs.declared.write.Write.TheVariants.{Delete}
+use Rattle.world.specs.Resting.{deaths}
+use Rattle.store.proofs.Keeping.{on_ok, on_errs, commits_write, keeps, dead_rows_permuted}
 use Rattle.store.proofs.store.Store.delete.Goals as goal
 
-pub invariant_of-self-2 : goal.invariant_of-self-2
-invariant_of-self-2 g c =
-    let live : status_of c.self.inside.changes c.args.row ≡ Live = sym c.status.ensures ∙ c.in-Live.is in
-    rw (c.in_ok-push.ensures.ok, c.mark_dead.ensures, c.len-count.ensures.len) (sound_delete g.C.KeyClass.is_match c.self.inside.changes c.self.inside.entries.items c.args.row live c.self.inside.cursors.items c.self.inside.last c.self.invariant)
-
 pub returns-clause-ok : goal.returns-clause-ok
-returns-clause-ok g c =
-    let live : status_of c.self.inside.changes c.args.row ≡ Live = sym c.status.ensures ∙ c.in-Live.is in
-    rw (← c.self.view_is, c.in_ok-push.ensures.ok, c.mark_dead.ensures, c.len-count.ensures.len) (delete_commits g.C.KeyClass.is_match c.self.inside.changes c.self.inside.entries.items c.args.row live c.self.inside.cursors.items c.self.inside.last c.self.invariant c.self.inside.limit c.self.inside.pages_left)
+returns-clause-ok g c = rw (← c.self.view_is) (on_ok c.delete-deleted.result (λ e. commits_write (tray_words g.C.KeyClass.is_match g.C.KeyClass.is_consistent g.C.KeyClass.is_cover g.C.KeyClass.union_of) c.self.inside.world c.delete-deleted.new.world c.delete-deleted.ensures.rests (Delete c.args.row) e) c.delete-deleted.ensures.committed)
 
 pub returns-clause-dead : goal.returns-clause-dead
-returns-clause-dead g c =
-    let live : status_of c.self.inside.changes c.args.row ≡ Live = sym c.status.ensures ∙ c.in-Live.is in
-    rw (← c.self.view_is, c.mark_dead.ensures, c.len-count.ensures.len) (delete_dead g.C.KeyClass.is_match c.self.inside.changes c.self.inside.entries.items c.args.row live c.self.inside.cursors.items c.self.inside.last c.self.invariant)
+returns-clause-dead g c = rw (← c.self.view_is) (on_ok c.delete-deleted.result (λ p. dead_rows_permuted ((c.args.row, length c.self.inside.world.commits + 1) ∷ deaths c.self.inside.world.search.tree) (deaths c.delete-deleted.new.world.search.tree) p) c.delete-deleted.ensures.dead)
 
-pub returns-clause-no_such_row : goal.returns-clause-no_such_row
-returns-clause-no_such_row g c =
-    let live : status_of c.self.inside.changes c.args.row ≡ Live = sym c.status.ensures ∙ c.in-Live.is in
-    rw (← c.self.view_is) (λ h. absurd (cc), λ h. absurd (cc))
-
-pub returns-clause-already_deleted : goal.returns-clause-already_deleted
-returns-clause-already_deleted g c =
-    let live : status_of c.self.inside.changes c.args.row ≡ Live = sym c.status.ensures ∙ c.in-Live.is in
-    rw (← c.self.view_is) (λ h. absurd (cc), λ h. absurd (cc))
-
-pub returns-clause-legal : goal.returns-clause-legal
-returns-clause-legal g c =
-    let live : status_of c.self.inside.changes c.args.row ≡ Live = sym c.status.ensures ∙ c.in-Live.is in
-    rw c.in_ok-push.ensures.ok ((sound_delete g.C.KeyClass.is_match c.self.inside.changes c.self.inside.entries.items c.args.row live c.self.inside.cursors.items c.self.inside.last c.self.invariant).legal)
+pub returns-clause-err : goal.returns-clause-err
+returns-clause-err g c =
+    rw (← c.self.view_is)
+    (on_errs c.delete-deleted.result (λ e d. keeps (tray_words g.C.KeyClass.is_match g.C.KeyClass.is_consistent g.C.KeyClass.is_cover g.C.KeyClass.union_of) c.self.inside.world c.delete-deleted.new.world c.delete-deleted.ensures.rests e (subst (λ ds. IsPermutation (deaths c.self.inside.world.search.tree) ds) (sym d) (IsPermutation-refl (deaths c.self.inside.world.search.tree)))) c.delete-deleted.ensures.unchanged c.delete-deleted.ensures.dead_kept)

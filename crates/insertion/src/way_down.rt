@@ -1,0 +1,87 @@
+ghost use Rattle.std.specs.Prelude.{◌≡◌, ◌⊎◌, ◌↔◌, ◌<◌, ◌≤◌, ◌+◌, [], ◌∷◌, ◌++◌, length, None, Err, IfOk, IfErr, OnOk, OnErr, IsPermutation};
+ghost use Rattle.change_list.specs.declared.write.Write.TheVariants.{Insert};
+ghost use Rattle.split.specs.Tests.{first_failing, place_tests};
+ghost use Rattle.cursor.specs.OpenCursors.{words};
+ghost use Rattle.world.specs.Resting.{Rests, deaths};
+ghost use Rattle.insertion.specs.PageSteps.{IsWanting, MovesPages};
+
+use crate::page_steps::{move_pages, place};
+use descent::{Step, next_step};
+use key_class::{KeyClass, Refusal};
+use mailbox::Outlet;
+use std::alloc::Global;
+use world::{Event, World};
+
+/// Adds a row to a world, and gives the number of its commit. The way goes down from the root, at each page by the branch
+/// whose bound gains least by the key, to a leaf that takes the row (Guttman 1984). On the way a full root grows, a full
+/// child is split and a sibling that is owed is posted, after each of which the way begins anew at the root; a child whose
+/// bound doesn't cover the key is enlarged (Kornacker, Mohan and Hellerstein 1997). Each of these is one step of the world,
+/// and leaves to open cursors and finders what they have still to find.
+///
+/// # Errors
+/// `CommitsFull` where there are as many commits as may be, `PagesFull` where fewer than two pages are left when it
+/// returns, and want of memory. No row is added then; the steps on the way that were made stand.
+pub fn insert<C: KeyClass, O: Outlet<C::Key>>(
+    alloc: Global,
+    world: &mut World<C, O>,
+    key: C::Key,
+    tag: u64,
+) -> Result<u64, Refusal>
+    ensures number { IfOk result (λ number. number ≡ length world.old.commits + 1) }
+    ensures committed { OnOk result (world.new.commits ≡ world.old.commits ++ Insert key tag ∷ []) }
+    ensures unchanged { OnErr result (world.new.commits ≡ world.old.commits) }
+    ensures rests { Rests (words C.is_match C.is_consistent C.is_cover C.union_of O.may_take O.may_refuse O.is_emptied_elsewhere) world.old world.new }
+    ensures dead { IsPermutation (deaths world.old.search.tree) (deaths world.new.search.tree) }
+    ensures finders { world.new.finders ≡ world.old.finders }
+    ensures last_finder { world.new.last_finder ≡ world.old.last_finder }
+    ensures full { (result ≡ Err Refusal.CommitsFull) ↔ (world.old.limit ≤ length world.old.commits) }
+    ensures refusals { IfErr result (λ why. (why ≡ Refusal.OutOfMemory) ⊎ (why ≡ Refusal.CommitsFull) ⊎ ((why ≡ Refusal.PagesFull) × (world.new.search.limit < length world.new.search.tree.pages + 2))) }
+{
+    if world.limit() <= world.commits() {
+        return Err(Refusal::CommitsFull);
+    }
+    let leaf = make_way(alloc, world, key)?;
+    place(world, leaf, key, tag)
+}
+
+/// Goes down to a leaf that takes the key, with the changes of pages that this needs, and gives the leaf's number.
+///
+/// # Errors
+/// `PagesFull` where fewer than two pages are left when it returns, and want of memory. The steps that were made stand.
+fn make_way<C: KeyClass, O: Outlet<C::Key>>(
+    alloc: Global,
+    world: &mut World<C, O>,
+    key: C::Key,
+) -> Result<u32, Refusal>
+    ensures leaf { IfOk result (λ leaf. first_failing (place_tests C.is_cover world.new.search leaf key) ≡ None) }
+    ensures moved { MovesPages (words C.is_match C.is_consistent C.is_cover C.union_of O.may_take O.may_refuse O.is_emptied_elsewhere) world.old world.new }
+    ensures refusals { IfErr result (IsWanting world.new.search) }
+{
+    world.is_sound();
+    let mut page = 0;
+    'descending: loop {
+        match next_step(alloc, world.search(), page, key)? {
+            Step::Grow(sides) => {
+                move_pages(world, Event::Grow(sides))?;
+                page = 0;
+            }
+            Step::Post(parent, child) => {
+                move_pages(world, Event::Post(u64::from(parent), u64::from(child)))?;
+                page = 0;
+            }
+            Step::Split(child, sides) => {
+                move_pages(world, Event::Split(u64::from(child), sides))?;
+                page = 0;
+            }
+            Step::Enlarge(parent, child) => {
+                move_pages(
+                    world,
+                    Event::Enlarge(u64::from(parent), u64::from(child), key),
+                )?;
+                page = child;
+            }
+            Step::Down(child) => page = child,
+            Step::Place(leaf) => return Ok(leaf),
+        }
+    }
+}

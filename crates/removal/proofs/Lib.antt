@@ -1,0 +1,4 @@
+pub mod Deaths
+pub mod HorizonFacts
+pub mod Swept
+pub mod UnderWay

@@ -1,0 +1,32 @@
+-- A finder under way for a row, and how its search ends.
+use Rattle.std.specs.Prelude.{◌≡◌, ℕ, ◌+◌, ◌≤◌, [], ◌∷◌, ◌++◌, length, Option, Some, None, IsPermutation}
+use Rattle.change_list.specs.declared.write.Write.TheVariants.{Delete}
+use Rattle.cursor.specs.OpenCursors.{Words}
+use Rattle.descent.specs.Finders.{OpenFinder}
+use Rattle.world.specs.Resting.{deaths, Rests}
+use Rattle.world.specs.States.{State}
+
+module _ {K A : Type 0} where
+  -- the world has one finder more, and is the same otherwise
+  pub record Looks (old : State K A) (row : ℕ) (new : State K A) : Type 0 where
+    pub finder : OpenFinder K
+    pub row_is : finder.row ≡ row
+    pub serial : finder.serial ≡ old.last_finder + 1
+    pub is : new ≡ record old { finders = old.finders ++ finder ∷ []; last_finder = old.last_finder + 1 }
+
+  -- the world has given one serial more to a finder, or none, and is the same otherwise
+  pub record Leaves (old new : State K A) : Type 0 where
+    pub last_finder : ℕ
+    pub few : last_finder ≤ old.last_finder + 1
+    pub is : new ≡ record old { last_finder = last_finder }
+
+module _ {K A : Type 0} (w : Words K A) where
+  -- the next commit deletes the row, and one row more is dead in the tree
+  pub record Deletes (old : State K A) (row number : ℕ) (new : State K A) : Type 0 where
+    pub number_is : number ≡ length old.commits + 1
+    pub commits : new.commits ≡ old.commits ++ Delete row ∷ []
+    pub rests : Rests w old new
+    pub dead : IsPermutation ((row, length old.commits + 1) ∷ deaths old.search.tree) (deaths new.search.tree)
+    pub pages : length new.search.tree.pages ≡ length old.search.tree.pages
+    pub finders : new.finders ≡ old.finders
+    pub last_finder : new.last_finder ≤ old.last_finder + 1

@@ -1,0 +1,35 @@
+ghost use Rattle.std.specs.Prelude.{◌≡◌, length, IfOk, IfErr, OnErr};
+ghost use Rattle.cursor.specs.OpenCursors.{words};
+ghost use Rattle.removal.specs.Sweeping.{SweepsAll, SweepsSome};
+ghost use Rattle.world.specs.Resting.{Rests};
+
+use key_class::{KeyClass, Refusal};
+use mailbox::Outlet;
+use world::{Event, Reply, World};
+
+/// Sweeps every leaf: removes the dead rows that no cursor with a scan in progress needs, and gives their number.
+///
+/// # Errors
+/// Want of memory; some of those rows may be removed then.
+pub fn sweep_all<C: KeyClass, O: Outlet<C::Key>>(world: &mut World<C, O>) -> Result<u64, Refusal>
+    ensures rests { Rests (words C.is_match C.is_consistent C.is_cover C.union_of O.may_take O.may_refuse O.is_emptied_elsewhere) world.old world.new }
+    ensures commits { world.new.commits ≡ world.old.commits }
+    ensures pages { length world.new.search.tree.pages ≡ length world.old.search.tree.pages }
+    ensures finders { world.new.finders ≡ world.old.finders }
+    ensures last_finder { world.new.last_finder ≡ world.old.last_finder }
+    ensures swept { IfOk result (λ number. SweepsAll world.old number world.new) }
+    ensures partly { OnErr result (SweepsSome world.old world.new) }
+    ensures refusals { IfErr result (λ why. why ≡ Refusal.OutOfMemory) }
+{
+    let mut number = 0;
+    for page in 0..world.pages() {
+        if world.search().is_leaf(page) {
+            match world.step(Event::Sweep(page)) {
+                Reply::Swept(count) => number += count,
+                Reply::Refused(why) => return Err(why),
+                _ => unreachable!(),
+            }
+        }
+    }
+    Ok(number)
+}

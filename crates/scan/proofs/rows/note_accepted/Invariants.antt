@@ -1,0 +1,11 @@
+use Rattle.std.proofs.Common.{◌≡◌, ◌+◌, ◌≤◌, ◌++◌, drop, length}
+use Rattle.std.specs.Prelude.{vec_capacity, vec_len}
+use Rattle.scan.specs.Scanning.{seen}
+use Rattle.scan.proofs.rows.note_accepted.Given as goal
+
+abbrev pub invariant-loop-entry : goal.invariant-loop-entry
+invariant-loop-entry g l =
+    let accepts = g.T.KeyTest.accepts l.test in record {
+      room : vec_len l.rows + length (drop l.entry-index l.entries) ≤ vec_capacity l.rows;
+      noted : l.rows.items ++ seen accepts l.commit (drop l.entry-index l.entries) ≡ l.initial.rows.items ++ seen accepts l.commit l.entries;
+    }

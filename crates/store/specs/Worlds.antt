@@ -1,0 +1,41 @@
+-- What a store shows of the world on which it stands.
+use Rattle.std.specs.Prelude.{◌≡◌, ℕ, ◌-◌, ◌<◌, [], length, map, Some, Ok, All}
+use Rattle.change_list.specs.Cursors.{CursorState}
+use Rattle.cursor.specs.OpenCursors.{Words, OpenCursor, shown}
+use Rattle.world.specs.Resting.{deaths}
+use Rattle.world.specs.States as world
+use Rattle.store.specs.States.{State, DeadRow, cursor_of}
+
+abbrev pub dead_row : ℕ × ℕ → DeadRow
+dead_row (row, died) = record { row = row; died = died }
+
+module _ {K A : Type 0} where
+  -- the state of a store, by that of its world
+  abbrev pub store_state : Words K A → world.State K A → State K A
+  store_state w s = record {
+    limit = s.limit;
+    commits = s.commits;
+    cursors = map (shown w s.search.tree) s.cursors;
+    last = s.last;
+    dead = map dead_row (deaths s.search.tree);
+    pages_left = s.search.limit - length s.search.tree.pages;
+    finders = s.last_finder;
+  }
+
+  -- a cursor with the serial is open
+  abbrev pub HasCursor : State K A → ℕ → Type 0
+  HasCursor state c = (k : CursorState K A) × (cursor_of state c ≡ Ok k)
+
+  -- the mailbox is empty, and has a place
+  pub record IsEmptied (k : OpenCursor K A) : Type 0 where
+    pub empty : k.unread ≡ []
+    pub place : 0 < k.room
+
+  -- between the calls of a store no finder is open, and every mailbox is empty
+  pub record IsQuiet (s : world.State K A) : Type 0 where
+    pub no_finder : s.finders ≡ []
+    pub emptied : All (λ k. IsEmptied k) s.cursors
+
+  -- the mailbox of the open cursor isn't empty
+  abbrev pub IsFilled : world.State K A → ℕ → Type 0
+  IsFilled s c = (k : OpenCursor K A) → world.cursor_at s c ≡ Some k → ¬ (k.unread ≡ [])

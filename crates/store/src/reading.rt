@@ -1,0 +1,52 @@
+//! What a cursor gives next.
+ghost use Rattle.std.specs.Prelude.{◌≡◌, None, IfOk, IfErr};
+ghost use Rattle.store.specs.States.{Nexts, RefusesNext};
+ghost use Rattle.store.specs.Worlds.{store_state, IsQuiet, IsFilled};
+ghost use Rattle.split.specs.Tests.{first_failing};
+ghost use Rattle.world.specs.Steps.{Takes, cursor_tests};
+ghost use Rattle.world.specs.Trays.{tray_words};
+
+use change_list::Item;
+use key_class::{KeyClass, Refusal};
+use mailbox::Tray;
+use world::{Event, Reply, World};
+
+/// Turns a cursor until it gives an item, or has nothing to give.
+pub fn next_item<C: KeyClass>(
+    world: &mut World<C, Tray<C::Key>>,
+    c: u64,
+) -> Result<Option<Item<C::Key>>, Refusal>
+    requires quiet { IsQuiet world.old }
+    ensures quiet { IsQuiet world.new }
+    ensures ok { IfOk result (λ item. Nexts C.is_match (store_state (tray_words C.is_match C.is_consistent C.is_cover C.union_of) world.old) c item (store_state (tray_words C.is_match C.is_consistent C.is_cover C.union_of) world.new)) }
+    ensures err { IfErr result (λ why. RefusesNext C.is_match (store_state (tray_words C.is_match C.is_consistent C.is_cover C.union_of) world.old) c why (store_state (tray_words C.is_match C.is_consistent C.is_cover C.union_of) world.new)) }
+{
+    world.is_sound();
+    if let Err(refusal) = world.check_cursor(c) {
+        return Err(refusal);
+    }
+    'turning: loop {
+        match world.step(Event::Turn(c)) {
+            Reply::Offered => return Ok(Some(take_item(world, c))),
+            Reply::Refused(refusal) => match refusal {
+                Refusal::Idle => return Ok(None),
+                _ => return Err(refusal),
+            },
+            Reply::Visited(_) => {}
+            Reply::Passed(_) => {}
+            _ => unreachable!(),
+        }
+    }
+}
+
+/// Takes the item that the cursor's mailbox holds.
+fn take_item<C: KeyClass>(world: &mut World<C, Tray<C::Key>>, c: u64) -> Item<C::Key>
+    requires open { first_failing (cursor_tests world.old c) ≡ None }
+    requires filled { IsFilled world.old c }
+    ensures { Takes world.old c result world.new }
+{
+    let Reply::Taken(item) = world.step(Event::Take(c)) else {
+        unreachable!()
+    };
+    item
+}

@@ -1,0 +1,5 @@
+use Rattle.world.proofs.Handling.{at_passes}
+use Rattle.world.proofs.world.World.check_cursor.Goals as goal
+
+pub returns-clause-open : goal.returns-clause-open
+returns-clause-open g c = at_passes g.C.KeyClass.is_cover c.args.self.now c.is_sound.ensures c.args.c c.in_ok-place_of.field-0 c.in_ok-place_of.ensures.found
