@@ -1,12 +1,12 @@
 -- Which texts answer which event lines, and what becomes of the world.
-use Rattle.std.specs.Prelude.{◌≡◌, ℕ, Bool, false, nat_lt, nat_le, List, [], ◌∷◌, Result, Ok, Err, ◌⊎◌}
+use Rattle.std.specs.Prelude.{◌≡◌, ℕ, List, [], ◌∷◌, Result, Ok, Err, ◌⊎◌}
 use Rattle.key_class.specs.declared.refusal.Refusal.{Refusal}
 use Rattle.key_class.specs.declared.refusal.Refusal.TheVariants as refusal
 use Rattle.key_class.specs.declared.sides.Rel.{Rel}
 use Rattle.mailbox.specs.Outlets.{Tray}
 use Rattle.query_text.specs.Tokens.{Placed}
 use Rattle.query_text.specs.Keys.{Reading}
-use Rattle.cursor.specs.OpenCursors.{Words, words}
+use Rattle.cursor.specs.OpenCursors.{Words}
 use Rattle.world.specs.States.{State}
 use Rattle.world.specs.Steps.{Step}
 use Rattle.world.specs.declared.event.Event.{Event}
@@ -15,10 +15,6 @@ use Rattle.world.specs.declared.reply.Reply.TheVariants as reply
 use Rattle.front.specs.EventLines.{Asked, IsEvent, IsNoEvent, asked_by, verb_of}
 use Rattle.front.specs.EventReplies.{reply_line}
 use Rattle.front.specs.Replies.{refusal_line}
-
--- the words of a class over trays
-abbrev pub tray_words : {K A : Type 0} → (A → K → Bool) → (A → K → Bool) → (K → K → Bool) → (K → K → K) → Words K A
-tray_words matching consistent is_cover union = words matching consistent is_cover union (λ room count. nat_lt count room) (λ room count. nat_le room count) false
 
 -- a reply of a world over trays, whose other ends are nothing
 abbrev pub TrayReply : Type 0 → Type 0 → Type 0 → Type 0

@@ -2,7 +2,8 @@
 ghost use Rattle.std.specs.Prelude.{◌≡◌, length, map, IfOk, IfErr, OnOk, Err, ◌⊎◌};
 ghost use Rattle.std.specs.Io.KnownBytes.{IsAtEnd};
 ghost use Rattle.front.specs.EventLines.{side_of, asked_of, IsEvent, IsNoEvent};
-ghost use Rattle.front.specs.Replays.{tray_words, RepliesTo, AnswersTokens};
+ghost use Rattle.front.specs.Replays.{RepliesTo, AnswersTokens};
+ghost use Rattle.world.specs.Trays.{tray_words};
 ghost use Rattle.front.specs.Conversations.{AnsweredAll, AnsweredWhole, AnsweredFirst};
 
 use crate::answers::gather_refusal;

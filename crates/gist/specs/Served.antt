@@ -22,7 +22,8 @@ use Rattle.query_text.specs.BoxTexts.{box_at, box_text, atom_of as box_atom}
 use Rattle.query_text.specs.SetTexts.{set_at, set_text, atom_of as set_atom}
 use Rattle.front.specs.Sessions.{AnsweredAll}
 use Rattle.front.specs.Conversations.{AnsweredAll as EventsAnswered}
-use Rattle.front.specs.Replays.{AnswersTokens, tray_words}
+use Rattle.front.specs.Replays.{AnswersTokens}
+use Rattle.world.specs.Trays.{tray_words}
 use Rattle.gist.specs.declared.options.Class.{Class}
 use Rattle.gist.specs.declared.options.Class.TheVariants as classes
 use Rattle.gist.specs.declared.options.StoreOptions.{StoreOptions}

@@ -74,10 +74,8 @@ fn make_way<C: KeyClass, O: Outlet<C::Key>>(
                 page = 0;
             }
             Step::Enlarge(parent, child) => {
-                move_pages(
-                    world,
-                    Event::Enlarge(u64::from(parent), u64::from(child), key),
-                )?;
+                let wider = Event::Enlarge(u64::from(parent), u64::from(child), key);
+                move_pages(world, wider)?;
                 page = child;
             }
             Step::Down(child) => page = child,

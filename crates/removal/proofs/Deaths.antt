@@ -1,10 +1,10 @@
 -- What a change of one leaf's rows does to the weight of all rows, and to the dead.
-use Rattle.std.proofs.Common.{◌≡◌, ◌+◌, ◌<◌, ◌≤◌, ℕ, Bool, true, false, List, [], ◌∷◌, ◌++◌, length, map, filter, Option, Some, None, cond, inl, inr, refl, sym, ap, ◌∙◌, arith, subst, All}
-use Rattle.std.specs.Prelude.{nat_eq, option_to_list, IsPermutation}
+use Rattle.std.proofs.Common.{◌≡◌, ◌+◌, ◌<◌, ◌≤◌, ℕ, Bool, false, List, [], ◌∷◌, length, map, Option, Some, None, cond, inl, inr, refl, sym, ap, ◌∙◌, arith, All}
+use Rattle.std.specs.Prelude.{option_to_list, IsPermutation}
 use Rattle.std.proofs.lemmas.Bool.{both_ways, eq-eqb, ne_eqb}
 use Rattle.std.proofs.lemmas.List.Elements.{All-head, All-tail, All-weaker}
 use Rattle.change_list.proofs.Tracking.{live_row}
-use Rattle.change_list.specs.Changes.{commit_at, is_deleted, status_of}
+use Rattle.change_list.specs.Changes.{is_deleted, status_of}
 use Rattle.change_list.specs.declared.write.Status.TheVariants.{Live}
 use Rattle.change_list.specs.declared.write.Write.{Write}
 use Rattle.page_table.proofs.Arranged.{arranged}
@@ -46,7 +46,7 @@ module _ {K : Type 0} (is_cover : K → K → Bool) (t : Tree K) (fan : ℕ) (so
       let new : weigh f (rows_of_tree (after_rows t p rows)) ≡ weigh h' (pages_under t 0 t.counter) = new_weight t sound.rank sound.ranked p l rows f 0 t.counter in
       let old : weigh f (rows_of_tree t) ≡ weigh h (pages_under t 0 t.counter) = rows_under-weigh t f 0 t.counter in
       let both : weigh h' (pages_under t 0 t.counter) + h p ≡ weigh h (pages_under t 0 t.counter) + h' p =
-          weigh_once h h' p (λ x d. ap (weigh f) (rows_off t sound.rank sound.ranked p l rows x d)) (pages_under t 0 t.counter) ((sound.reached p l).once) in
+      weigh_once h h' p (λ x d. ap (weigh f) (rows_off t sound.rank sound.ranked p l rows x d)) (pages_under t 0 t.counter) ((sound.reached p l).once) in
       let here : h' p ≡ weigh f rows = ap (weigh f) (rows_at t sound.rank sound.ranked p l rows) in
       omega (arith, new, old, both, here)
     where

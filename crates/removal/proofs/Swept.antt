@@ -1,15 +1,14 @@
 -- What sweeps of the first pages take, page by page.
-use Rattle.std.proofs.Common.{◌≡◌, ◌+◌, ◌*◌, ◌<◌, ◌≤◌, ◌⊎◌, inl, inr, ℕ, zero, suc, Bool, true, false, not, ◌&&◌, cond, List, [], ◌∷◌, ◌++◌, length, filter, map, Option, Some, None, refl, sym, ap, ◌∙◌, arith, subst, All}
+use Rattle.std.proofs.Common.{◌≡◌, ◌+◌, ◌*◌, ◌<◌, ◌≤◌, inl, inr, ℕ, Bool, true, false, cond, List, [], ◌∷◌, ◌++◌, length, filter, Option, Some, None, refl, sym, ap, ◌∙◌, arith, subst, All}
 use Rattle.std.proofs.Common.{length-append}
-use Rattle.std.specs.Prelude.{nat_eq, nat_lt, option_to_list, IsPermutation}
+use Rattle.std.specs.Prelude.{nat_lt, option_to_list}
 use Rattle.std.specs.List.{AllByRecursion, filter_map}
-use Rattle.std.proofs.lemmas.Bool.{and_parts, cases_Bool, eq-eqb}
-use Rattle.std.proofs.lemmas.List.Elements.{All-cons, All-head, All-nil, All-tail}
+use Rattle.std.proofs.lemmas.List.Elements.{All-cons, All-nil}
 use Rattle.key_class.specs.declared.refusal.Refusal.{Refusal}
 use Rattle.key_class.specs.declared.refusal.Refusal.TheVariants as refusal
 use Rattle.change_list.proofs.Lists.{filter_map_cons}
 use Rattle.collector.specs.Horizons.{IsHorizon}
-use Rattle.cursor.specs.OpenCursors.{Words, OpenCursor}
+use Rattle.cursor.specs.OpenCursors.{Words}
 use Rattle.page_table.proofs.Arranged.{arranged}
 use Rattle.page_table.proofs.PageLists.{is_or_not}
 use Rattle.page_table.proofs.RowChanges.{rows_at, rows_off}
@@ -28,9 +27,7 @@ use Rattle.removal.proofs.Deaths.{rows_changed}
 use Rattle.removal.proofs.HorizonFacts.{a_horizon, horizon_unique}
 use Rattle.removal.proofs.UnderWay.{rows_pages}
 use Rattle.world.proofs.Resting.{death_weight, rests_refl, rests_trans, same_pair, same_pair_exact, step_rests, weigh_filter_map}
-use Rattle.world.specs.declared.event.Event.{Event}
 use Rattle.world.specs.declared.event.Event.TheVariants as event
-use Rattle.world.specs.declared.reply.Reply.{Reply}
 use Rattle.world.specs.declared.reply.Reply.TheVariants as reply
 use Rattle.world.specs.Promises.{ServesAll}
 use Rattle.world.specs.Resting.{death, death_from, deaths, Rests}
@@ -120,7 +117,6 @@ module _ {K : Type 0} (horizon : ℕ) where
   lost_unneeded (x ∷ xs) = subst (λ l. AllByRecursion (λ d. is_past horizon d ≡ false) l) (sym (filter_map_cons (λ (e : Entry K). lost_from horizon e.row e.died) x xs))
       (recursion_append (λ d. is_past horizon d ≡ false) (option_to_list (lost_from horizon x.row x.died)) (lost xs) (part_unneeded horizon x.row x.died) (lost_unneeded xs))
 
-
 weigh_unneeded : (f : ℕ × ℕ → ℕ) (horizon : ℕ) (gone : List (ℕ × ℕ)) → AllByRecursion (λ d. is_past horizon d ≡ false) gone → weigh (λ d. cond (is_past horizon d) (f d) 0) gone ≡ 0
 weigh_unneeded f horizon [] a = refl
 weigh_unneeded f horizon (d ∷ gone) a =
@@ -191,8 +187,8 @@ module _ {K A : Type 0} (w : Words K A) where
             let d : weigh p (deaths now.search.tree) ≡ weigh (death_weight p) (rows_of_tree now.search.tree) = weigh_filter_map p death (rows_of_tree now.search.tree) in
             let e : weigh f (deaths now.search.tree) ≡ weigh (death_weight f) (rows_of_tree now.search.tree) = weigh_filter_map f death (rows_of_tree now.search.tree) in
             let g : weigh (death_weight p) (rows_of_tree now.search.tree) ≡ weigh (death_weight f) (rows_of_tree now.search.tree) =
-                weigh-where (λ (e : Entry K). is_needed h.horizon e ≡ true) (death_weight p) (death_weight f) (λ e n. needed_past f h.horizon e.row e.died n) (rows_of_tree now.search.tree)
-                (entries_under now.search.tree h.sound.tree.sound.rank h.sound.tree.sound.ranked (λ e. is_needed h.horizon e ≡ true) needed 0 now.search.tree.counter h.sound.tree.sound.root_exists) in
+            weigh-where (λ (e : Entry K). is_needed h.horizon e ≡ true) (death_weight p) (death_weight f) (λ e n. needed_past f h.horizon e.row e.died n) (rows_of_tree now.search.tree)
+            (entries_under now.search.tree h.sound.tree.sound.rank h.sound.tree.sound.ranked (λ e. is_needed h.horizon e ≡ true) needed 0 now.search.tree.counter h.sound.tree.sound.root_exists) in
             omega (arith, a, b, c, d, e, g)
 
     -- some is swept
@@ -304,10 +300,13 @@ module _ {K A : Type 0} (w : Words K A) where
 
     -- a sweep of a leaf is refused for want of memory alone
     pub sweep_refused : {C : Type 0} (new : State K A) (why : Refusal) → is_leaf now.search.tree page ≡ true → IsRefused {C = C} w now (event.Sweep page) why new → (why ≡ refusal.OutOfMemory) × HasSwept old page number new
-    sweep_refused new why leaf r = (elim r.cause [
-      | inl failed ↦ absurd (let e : None ≡ Some why = sym passed ∙ failed in cc)
-      | inr later ↦ later.1
-    ], subst (λ s. HasSwept old page number s) (sym r.unchanged) h)
+    sweep_refused new why leaf r = (
+      elim r.cause [
+        | inl failed ↦ absurd (let e : None ≡ Some why = sym passed ∙ failed in cc)
+        | inr later ↦ later.1
+      ],
+      subst (λ s. HasSwept old page number s) (sym r.unchanged) h,
+    )
       where
         passed : first_failing (sweep_tests now.search page) ≡ None
         passed = rw leaf refl

@@ -1,14 +1,14 @@
 -- A finder of a live row: how it begins, each visit, and its end.
-use Rattle.std.proofs.Common.{◌≡◌, ◌+◌, ◌<◌, ◌≤◌, ◌⊎◌, inl, inr, ℕ, suc, Bool, true, false, not, ◌||◌, ◌&&◌, List, [], ◌∷◌, ◌++◌, length, take, drop, Option, Some, None, refl, sym, ap, ◌∙◌, arith, subst}
+use Rattle.std.proofs.Common.{◌≡◌, ◌+◌, ◌<◌, ◌≤◌, ◌⊎◌, inl, inr, ℕ, suc, Bool, true, false, ◌&&◌, List, [], ◌∷◌, ◌++◌, length, take, drop, Option, Some, None, refl, sym, ap, ◌∙◌, arith, subst, ◌↔◌, ◌||◌}
 use Rattle.std.proofs.Common.{Result, Ok, Err}
-use Rattle.std.specs.Prelude.{nat_le, slice_get, slice_set, IsPermutation, map, IfOk, OnErr}
+use Rattle.std.specs.Prelude.{nat_le, slice_set, IsPermutation, map, IfOk, OnErr}
 use Rattle.key_class.specs.declared.refusal.Refusal.{Refusal}
 use Rattle.key_class.specs.declared.refusal.Refusal.TheVariants as refusal
 use Rattle.change_list.proofs.Lists.{slice_get_end}
 use Rattle.change_list.proofs.Tracking.{live_row}
-use Rattle.change_list.specs.Changes.{commit_at, is_deleted, status_of}
+use Rattle.change_list.specs.Changes.{is_deleted, status_of}
 use Rattle.change_list.specs.declared.write.Status.TheVariants.{Live}
-use Rattle.change_list.specs.declared.write.Write.TheVariants.{Insert, Delete}
+use Rattle.change_list.specs.declared.write.Write.TheVariants.{Delete}
 use Rattle.cursor.specs.OpenCursors.{Words}
 use Rattle.descent.proofs.Seeking.{finds_page, finds_weigh}
 use Rattle.descent.specs.Finders.{OpenFinder, FindsRow, IsSeeking, is_at_row}
@@ -24,7 +24,6 @@ use Rattle.scan.specs.LeafChanges.{after_bury}
 use Rattle.split.specs.Tests.{first_failing}
 use Rattle.removal.specs.Deleting.{Looks, Leaves, Deletes}
 use Rattle.removal.proofs.Deaths.{buried_deaths}
-use Rattle.world.specs.declared.event.Event.{Event}
 use Rattle.world.specs.declared.event.Event.TheVariants as event
 use Rattle.world.specs.declared.reply.Reply.{Reply}
 use Rattle.world.specs.declared.reply.Reply.TheVariants as reply
@@ -33,8 +32,8 @@ use Rattle.world.specs.Resting.{deaths, Rests}
 use Rattle.world.specs.Serials.{put, without}
 use Rattle.world.specs.Stamps.{Stamp}
 use Rattle.world.specs.States.{State, finder_at, with_finder, IsSoundWorld}
-use Rattle.world.specs.Steps.{Step, IsRefused, Buries, Finds, SeeksOn, tests}
-use Rattle.world.proofs.FinderSteps.{finder_of}
+use Rattle.world.specs.Steps.{Buries, Finds, IsRefused, SeeksOn, Step, find_tests, tests}
+use Rattle.world.proofs.FinderSteps.{finder_of, may_find}
 use Rattle.world.proofs.Resting.{rests_trans, step_rests}
 use Rattle.world.proofs.Serials.{member_at, put_at, without_at}
 
@@ -85,10 +84,6 @@ module _ {K A : Type 0} (w : Words K A) where
     pub sound : IsSoundWorld w.is_cover now
     pub rests : Rests w first now
 
-  -- why a finder of a live row can't begin
-  abbrev pub RefusesFinder : State K A → Refusal → Type 0
-  RefusesFinder old why = (why ≡ refusal.OutOfMemory) ⊎ ((why ≡ refusal.FindersFull) × ((64 ≤ length old.finders) ⊎ (4294967295 ≤ old.last_finder)))
-
   pub leaves_rests : (old : State K A) (n : ℕ) → Rests w old (record old { last_finder = n })
   leaves_rests old n = record { limit = refl; page_limit = refl; pages = omega arith; last = refl; cursors = refl; fits = λ c k h items f. f }
 
@@ -135,9 +130,6 @@ module _ {K A : Type 0} (w : Words K A) (first : State K A) (row f : ℕ) (now :
         on.after
         ∙ ap (λ s. with_finder s on.later) u.looks.is
         ∙ ap {A = List (OpenFinder K)} {B = State K A} (λ ks. record first { finders = ks; last_finder = first.last_finder + 1 }) (looking_put w.is_cover first k u.looks.serial there on.later later_serial)
-
-    same_tree : new.search.tree ≡ now.search.tree
-    same_tree = ap (λ s. s.search.tree) on.after
 
   -- where it goes on, it is under way, with fewer pages left
   pub gone_on : {C O E : Type 0} (new : State K A) → ServesAll {C = C} {O = O} {E = E} w now (event.Seek f) reply.Seeking new → SeeksOn w now f new → IsSoundWorld w.is_cover new → IsUnderWay w first row f new
@@ -199,10 +191,13 @@ module _ {K A : Type 0} (w : Words K A) (first : State K A) (row f : ℕ) (now :
 
   -- it is refused for want of memory alone
   pub refused : {C : Type 0} (why : Refusal) (new : State K A) → status_of first.commits row ≡ Live → length first.commits < first.limit → IsRefused {C = C} w now (event.Seek f) why new → (why ≡ refusal.OutOfMemory) × (new ≡ now)
-  refused {C} why new live room r = (elim r.cause [
-    | inl failed ↦ absurd (let e : None ≡ Some why = sym passed ∙ failed in cc)
-    | inr later ↦ later.1
-  ], r.unchanged)
+  refused {C} why new live room r = (
+    elim r.cause [
+      | inl failed ↦ absurd (let e : None ≡ Some why = sym passed ∙ failed in cc)
+      | inr later ↦ later.1
+    ],
+    r.unchanged,
+  )
     where
       alive : is_deleted now.commits k.row ≡ false
       alive = let e = live_row first.commits row live in ap (λ s. is_deleted s.commits k.row) u.looks.is ∙ ap (is_deleted first.commits) u.looks.row_is ∙ e.kept
@@ -246,7 +241,7 @@ fewer_left w now new f sound on found =
     let less = seek_pages w.is_cover now.search.tree now.search.fan sound.tree.sound (λ bound. w.is_cover bound on.before.key) on.before.stack _ on.further.stack seeking.stack on.further.further.goes_on in
     let before : pages_to_seek f now ≡ length (pages_left now.search.tree on.before.stack) = ap (left_of now.search.tree) on.is_open in
     let later : pages_to_seek f new ≡ length (pages_left now.search.tree on.further.stack) =
-        ap (left_of new.search.tree) found ∙ ap (λ t. length (pages_left t on.later.stack)) (ap (λ s. s.search.tree) on.after) ∙ ap (λ (x : OpenFinder _). length (pages_left now.search.tree x.stack)) on.further.after in
+    ap (left_of new.search.tree) found ∙ ap (λ t. length (pages_left t on.later.stack)) (ap (λ s. s.search.tree) on.after) ∙ ap (λ (x : OpenFinder _). length (pages_left now.search.tree x.stack)) on.further.after in
     omega (arith, less, before, later)
 
 -- a visit that goes on
@@ -260,3 +255,47 @@ gone_less w first row f now u new serves on sound =
 pub rests_either : {K A Y : Type 0} (w : Words K A) (old : State K A) (row : ℕ) (result : Result ℕ Y) (new : State K A) → IfOk result (λ number. Deletes w old row number new) → OnErr result (Leaves old new) → Rests w old new
 rests_either w old row (Ok number) new done left = done.rests
 rests_either w old row (Err why) new done left = subst (λ s. Rests w old s) (sym left.is) (leaves_rests w old left.last_finder)
+
+module _ {K A : Type 0} where
+  -- there is no place or no serial for one more finder
+  abbrev pub IsFullOfFinders : State K A → Type 0
+  IsFullOfFinders s = (64 ≤ length s.finders) ⊎ (4294967295 ≤ s.last_finder)
+
+  -- where a finder begins, there was a place
+  pub has_place : (s : State K A) (row : ℕ) → first_failing (find_tests s row) ≡ None → IsFullOfFinders s → ⊥
+  has_place s row passed full =
+      let may = may_find s row passed in
+      elim full [
+        | inl many ↦ omega (arith, many, may.few)
+        | inr given ↦ omega (arith, given, may.given)
+      ]
+
+  -- a finder of a live row is refused for its want of a place exactly where there is none
+  pub refused_finder : {C : Type 0} (w : Words K A) (old : State K A) (row : ℕ) (why : Refusal) (new : State K A) → status_of old.commits row ≡ Live → IsRefused {C = C} w old (event.Find row) why new
+      → (why ≡ refusal.FindersFull) ↔ IsFullOfFinders old
+  refused_finder w old row why new live r = by_test full refl
+    where
+      full : Bool
+      full = nat_le 64 (length old.finders) || nat_le 4294967295 old.last_finder
+
+      last_test : first_failing (find_tests old row) ≡ first_failing ((full, refusal.FindersFull) ∷ [])
+      last_test = let lives = live_row old.commits row live in rw (lives.is, lives.kept) refl
+
+      by_test : (b : Bool) → full ≡ b → (why ≡ refusal.FindersFull) ↔ IsFullOfFinders old
+      by_test true e =
+          let first : first_failing (find_tests old row) ≡ Some refusal.FindersFull = last_test ∙ ap (λ b. first_failing ((b, refusal.FindersFull) ∷ [])) e in
+          let there : IsFullOfFinders old = search (arith, e) in (
+            λ h. there,
+            λ h. elim r.cause [
+              | inl failed ↦ let same : Some refusal.FindersFull ≡ Some why = sym first ∙ failed in cc
+              | inr later ↦ absurd (let none : None ≡ Some refusal.FindersFull = sym later.0 ∙ first in cc)
+            ],
+          )
+      by_test false e =
+          let first : first_failing (find_tests old row) ≡ None = last_test ∙ ap (λ b. first_failing ((b, refusal.FindersFull) ∷ [])) e in (
+            λ h. elim r.cause [
+              | inl failed ↦ absurd (let none : None ≡ Some why = sym first ∙ failed in cc)
+              | inr later ↦ absurd (let memory : refusal.FindersFull ≡ refusal.OutOfMemory = sym h ∙ later.1 in cc)
+            ],
+            λ h. absurd (has_place old row first h),
+          )

@@ -1,5 +1,5 @@
 -- A finder under way for a row, and how its search ends.
-use Rattle.std.specs.Prelude.{◌≡◌, ℕ, ◌+◌, ◌≤◌, [], ◌∷◌, ◌++◌, length, Option, Some, None, IsPermutation}
+use Rattle.std.specs.Prelude.{◌≡◌, ℕ, ◌+◌, ◌≤◌, [], ◌∷◌, ◌++◌, length, IsPermutation}
 use Rattle.change_list.specs.declared.write.Write.TheVariants.{Delete}
 use Rattle.cursor.specs.OpenCursors.{Words}
 use Rattle.descent.specs.Finders.{OpenFinder}

@@ -30,6 +30,7 @@ pub fn delete<C: KeyClass, O: Outlet<C::Key>>(
     ensures already_deleted { (result ≡ Err Refusal.AlreadyDeleted) ↔ (status_of world.old.commits row ≡ Status.Dead) }
     ensures full { (result ≡ Err Refusal.CommitsFull) ↔ ((status_of world.old.commits row ≡ Status.Live) × (world.old.limit ≤ length world.old.commits)) }
     ensures refusals { IfErr result (λ why. (why ≡ Refusal.NoSuchRow) ⊎ (why ≡ Refusal.AlreadyDeleted) ⊎ (why ≡ Refusal.CommitsFull) ⊎ (why ≡ Refusal.OutOfMemory) ⊎ ((why ≡ Refusal.FindersFull) × ((64 ≤ length world.old.finders) ⊎ (4294967295 ≤ world.old.last_finder)))) }
+    ensures finders_full { (result ≡ Err Refusal.FindersFull) ↔ ((status_of world.old.commits row ≡ Status.Live) × (length world.old.commits < world.old.limit) × ((64 ≤ length world.old.finders) ⊎ (4294967295 ≤ world.old.last_finder))) }
     ensures finders { world.new.finders ≡ world.old.finders }
     ensures last_finder { world.new.last_finder ≤ world.old.last_finder + 1 }
 {
@@ -53,6 +54,7 @@ fn find_and_bury<C: KeyClass, O: Outlet<C::Key>>(
     requires room { length world.old.commits < world.old.limit }
     ensures deleted { IfOk result (λ number. Deletes (words C.is_match C.is_consistent C.is_cover C.union_of O.may_take O.may_refuse O.is_emptied_elsewhere) world.old row number world.new) }
     ensures left { OnErr result (Leaves world.old world.new) }
+    ensures full { (result ≡ Err Refusal.FindersFull) ↔ ((64 ≤ length world.old.finders) ⊎ (4294967295 ≤ world.old.last_finder)) }
     ensures refusals { IfErr result (λ why. (why ≡ Refusal.OutOfMemory) ⊎ ((why ≡ Refusal.FindersFull) × ((64 ≤ length world.old.finders) ⊎ (4294967295 ≤ world.old.last_finder)))) }
 {
     let finder = match world.step(Event::Find(row)) {

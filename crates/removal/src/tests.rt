@@ -126,7 +126,12 @@ fn a_place_for_one_finder(rt: HostRuntime) -> Result<(), Fail> {
         assert_eq!(rt; delete(&mut world, row)?, row + 3);
     }
     // The deletions have ended their finders, and nothing else.
-    assert!(rt; matches!(world.step(Event::Seek(68)), Reply::Refused(Refusal::NoSuchFinder)));
+    assert!(rt;
+        matches!(
+            world.step(Event::Seek(68)),
+            Reply::Refused(Refusal::NoSuchFinder)
+        )
+    );
     assert!(rt; matches!(world.step(Event::Seek(64)), Reply::Seeking));
     Ok(())
 }

@@ -1,5 +1,5 @@
 -- Worlds whose cursors have trays, which the world's own side empties.
-use Rattle.std.specs.Prelude.{ℕ, Bool, false, nat_lt, nat_le}
+use Rattle.std.specs.Prelude.{Bool, false, nat_lt, nat_le}
 use Rattle.cursor.specs.OpenCursors.{Words, words}
 
 -- the words of a class over trays

@@ -1,7 +1,7 @@
-use Rattle.std.proofs.Common.{inl, subst, sym}
+use Rattle.std.proofs.Common.{◌≡◌, Err, ap, inl, subst, sym}
 use Rattle.cursor.specs.OpenCursors.{words}
-use Rattle.removal.specs.Deleting.{Deletes, Leaves}
-use Rattle.removal.proofs.UnderWay.{IsUnderWay, begun, gone_on, gone_less, met, refused, ended}
+use Rattle.key_class.specs.declared.refusal.Refusal.TheVariants as refusal
+use Rattle.removal.proofs.UnderWay.{has_place, refused_finder, IsUnderWay, begun, gone_on, gone_less, met, refused, ended}
 use Rattle.removal.proofs.deleting.find_and_bury.Goals as goal
 
 pub seeking-init : goal.seeking-init
@@ -26,7 +26,7 @@ returns-in-Committed-clause-deleted g c =
 pub returns-in-Refused-step-clause-left : goal.returns-in-Refused-step-clause-left
 returns-in-Refused-step-clause-left g c =
     let because = refused (words g.C.KeyClass.is_match g.C.KeyClass.is_consistent g.C.KeyClass.is_cover g.C.KeyClass.union_of g.O.Outlet.may_take g.O.Outlet.may_refuse g.O.Outlet.is_emptied_elsewhere) c.args.world.now c.args.row c.in-Finder.finder c.seeking.world c.seeking.invariant
-        c.in-Refused-step.why c.step-in-seeking.new.self c.requires.live c.requires.room c.in-Refused-step.ensures.step in
+    c.in-Refused-step.why c.step-in-seeking.new.self c.requires.live c.requires.room c.in-Refused-step.ensures.step in
     let under_way = subst (λ s. IsUnderWay (words g.C.KeyClass.is_match g.C.KeyClass.is_consistent g.C.KeyClass.is_cover g.C.KeyClass.union_of g.O.Outlet.may_take g.O.Outlet.may_refuse g.O.Outlet.is_emptied_elsewhere) c.args.world.now c.args.row c.in-Finder.finder s) (sym because.1) c.seeking.invariant in
     ended (words g.C.KeyClass.is_match g.C.KeyClass.is_consistent g.C.KeyClass.is_cover g.C.KeyClass.union_of g.O.Outlet.may_take g.O.Outlet.may_refuse g.O.Outlet.is_emptied_elsewhere) c.args.world.now c.args.row c.in-Finder.finder c.step-in-seeking.new.self under_way
     c.step-unfound.new.self c.step-unfound.result c.step-unfound.ensures.step
@@ -35,3 +35,14 @@ pub returns-in-Refused-step-clause-refusals : goal.returns-in-Refused-step-claus
 returns-in-Refused-step-clause-refusals g c =
     inl (refused (words g.C.KeyClass.is_match g.C.KeyClass.is_consistent g.C.KeyClass.is_cover g.C.KeyClass.union_of g.O.Outlet.may_take g.O.Outlet.may_refuse g.O.Outlet.is_emptied_elsewhere) c.args.world.now c.args.row c.in-Finder.finder c.seeking.world c.seeking.invariant
     c.in-Refused-step.why c.step-in-seeking.new.self c.requires.live c.requires.room c.in-Refused-step.ensures.step).0
+
+pub returns-in-Refused-clause-full : goal.returns-in-Refused-clause-full
+returns-in-Refused-clause-full g c =
+    let why = refused_finder (words g.C.KeyClass.is_match g.C.KeyClass.is_consistent g.C.KeyClass.is_cover g.C.KeyClass.union_of g.O.Outlet.may_take g.O.Outlet.may_refuse g.O.Outlet.is_emptied_elsewhere) c.args.world.now c.args.row c.in-Refused.why c.step.new.self c.requires.live c.in-Refused.ensures.step in
+    (λ e. why.0 (cc), λ full. ap (λ w. Err w) (why.1 full))
+
+pub returns-in-Refused-step-clause-full : goal.returns-in-Refused-step-clause-full
+returns-in-Refused-step-clause-full g c =
+    let because = refused (words g.C.KeyClass.is_match g.C.KeyClass.is_consistent g.C.KeyClass.is_cover g.C.KeyClass.union_of g.O.Outlet.may_take g.O.Outlet.may_refuse g.O.Outlet.is_emptied_elsewhere) c.args.world.now c.args.row c.in-Finder.finder c.seeking.world c.seeking.invariant
+    c.in-Refused-step.why c.step-in-seeking.new.self c.requires.live c.requires.room c.in-Refused-step.ensures.step in
+    (λ e. absurd (let memory : c.in-Refused-step.why ≡ refusal.OutOfMemory = because.0 in cc), λ full. absurd (has_place c.args.world.now c.args.row c.in-Finder.ensures.step.passed full))

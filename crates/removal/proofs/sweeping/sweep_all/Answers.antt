@@ -1,7 +1,7 @@
-use Rattle.std.proofs.Common.{◌≡◌, ◌<◌, ◌∙◌, Bool, true, false, length, sym, ap, arith}
+use Rattle.std.proofs.Common.{◌≡◌, ◌<◌, ◌∙◌, true, false, length, sym, ap, arith}
 use Rattle.cursor.specs.OpenCursors.{words}
 use Rattle.split.specs.Tests.{is_leaf}
-use Rattle.removal.proofs.Swept.{HasSwept, sweep_refused, swept_all, swept_inner, swept_leaf, swept_none, swept_some}
+use Rattle.removal.proofs.Swept.{sweep_refused, swept_all, swept_inner, swept_leaf, swept_none, swept_some}
 use Rattle.removal.proofs.sweeping.sweep_all.Goals as goal
 use Rattle.removal.proofs.sweeping.sweep_all.Goals.{then-is_leaf+in-Swept, else-is_leaf}
 
