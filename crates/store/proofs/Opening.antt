@@ -38,9 +38,9 @@ module _ {K A : Type 0} (w : Words K A) (old new : world.State K A) where
       serial = o.serial;
       cursor = shown w old.search.tree opened;
       after =
-        ap (store_state w) o.after
-        ∙ ap (appended (old.last + 1)) (map-append (shown w old.search.tree) old.cursors (opened ∷ []))
-        ∙ ap (λ n. appended n (map (shown w old.search.tree) old.cursors ++ shown w old.search.tree opened ∷ [])) (sym o.serial);
+          ap (store_state w) o.after
+          ∙ ap (appended (old.last + 1)) (map-append (shown w old.search.tree) old.cursors (opened ∷ []))
+          ∙ ap (λ n. appended n (map (shown w old.search.tree) old.cursors ++ shown w old.search.tree opened ∷ [])) (sym o.serial);
       number = sym o.serial;
       is_open = open_as w new c opened new_passes new_open ∙ ap (λ (s : world.State K A). Ok (shown w s.search.tree opened)) o.after;
       query = refl;
@@ -84,13 +84,13 @@ module _ {K A : Type 0} (w : Words K A) (old new : world.State K A) where
             cursor = shown w old.search.tree o.cursor;
             was_open = open_as w old c o.cursor passed o.is_open;
             one_less =
-              let m : length (map (shown w new.search.tree) new.cursors) ≡ length new.cursors = length-map new.cursors (shown w new.search.tree) in
-              let a : length (map (shown w new.search.tree) new.cursors) ≡ length (without (λ k. k.serial) c old.cursors) = m ∙ ap (λ (s : world.State K A). length s.cursors) is in
-              let b : length (map (shown w old.search.tree) old.cursors) ≡ length old.cursors = length-map old.cursors (shown w old.search.tree) in
-              omega (arith, a, b, one_less 0 old.cursors o.cursor sound.serials o.is_open);
+                let m : length (map (shown w new.search.tree) new.cursors) ≡ length new.cursors = length-map new.cursors (shown w new.search.tree) in
+                let a : length (map (shown w new.search.tree) new.cursors) ≡ length (without (λ k. k.serial) c old.cursors) = m ∙ ap (λ (s : world.State K A). length s.cursors) is in
+                let b : length (map (shown w old.search.tree) old.cursors) ≡ length old.cursors = length-map old.cursors (shown w old.search.tree) in
+                omega (arith, a, b, one_less 0 old.cursors o.cursor sound.serials o.is_open);
             is =
-              let kept : List (CursorState K A) → State K A = λ ks. record (store_state w old) { cursors = ks } in
-              ap (store_state w) is ∙ ap kept (without_shown w old.search.tree c old.cursors);
+                let kept : List (CursorState K A) → State K A = λ ks. record (store_state w old) { cursors = ks } in
+                ap (store_state w) is ∙ ap kept (without_shown w old.search.tree c old.cursors);
           }
         where
           all_others : (above : ℕ) (ks : List (OpenCursor K A)) → c ≤ above → Rise (λ k. k.serial) above old.last ks → without (λ k. k.serial) c ks ≡ ks

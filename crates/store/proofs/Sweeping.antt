@@ -61,15 +61,15 @@ module _ {K A : Type 0} (w : Words K A) (t : Tree K) (commits : ℕ) where
       }
       go true e is = elim (either_one k.opened (horizon_of commits (map (shown w t) ks))) [
         | inl own ↦ rw (own.0) (record {
-            within = omega (arith, own.1, is.within);
-            least = least_of k.opened (λ opened scan. omega (arith, own.1, is.least opened scan)) (λ s. omega arith);
-            reached = inr (record { at = 0; cursor = k; is = refl; scanning = e; opened_is = refl });
-          })
+          within = omega (arith, own.1, is.within);
+          least = least_of k.opened (λ opened scan. omega (arith, own.1, is.least opened scan)) (λ s. omega arith);
+          reached = inr (record { at = 0; cursor = k; is = refl; scanning = e; opened_is = refl });
+        })
         | inr old ↦ rw (old.0) (record {
-            within = is.within;
-            least = least_of (horizon_of commits (map (shown w t) ks)) is.least (λ s. old.1);
-            reached = elim is.reached [ inl all ↦ inl all | inr scan ↦ inr (later k ks _ scan) ];
-          })
+          within = is.within;
+          least = least_of (horizon_of commits (map (shown w t) ks)) is.least (λ s. old.1);
+          reached = elim is.reached [ inl all ↦ inl all | inr scan ↦ inr (later k ks _ scan) ];
+        })
       ]
 
 module _ {K A : Type 0} (w : Words K A) (old : world.State K A) (sound : world.IsSoundWorld w.is_cover old) (horizon : ℕ) (is : IsHorizon (length old.commits) old.cursors horizon) where

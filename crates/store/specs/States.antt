@@ -1,5 +1,5 @@
 -- What contracts see of a store, and what its calls do to it.
-use Rattle.std.specs.Prelude.{◌≡◌, ℕ, ◌+◌, ◌-◌, ◌<◌, ◌≤◌, Bool, true, false, not, ◌||◌, nat_lt, nat_eq, List, [], ◌∷◌, ◌++◌, length, filter, find, min, Option, Some, None, Result, Ok, Err, IsPermutation, if◌then◌else◌, option_to_list, slice_get, slice_set, ◌⊎◌, IfSome}
+use Rattle.std.specs.Prelude.{◌≡◌, ℕ, ◌+◌, ◌-◌, ◌<◌, ◌≤◌, Bool, true, false, not, ◌||◌, nat_lt, nat_eq, List, [], ◌∷◌, ◌++◌, length, filter, find, min, Option, Some, None, Result, Ok, Err, IsPermutation, if◌then◌else◌, option_to_list, ◌⊎◌, IfSome}
 use Rattle.std.specs.List.{AllByRecursion}
 use Rattle.change_list.specs.declared.config.Config.{Config}
 use Rattle.change_list.specs.declared.write.Write.{Write}
@@ -240,15 +240,6 @@ module _ {K A : Type 0} where
 
   abbrev pub with_asking : CursorState K A → CursorState K A
   with_asking k = record k { asked = true }
-
-  -- the place of an open cursor
-  pub record IsAt (state : State K A) (c at : ℕ) : Type 0 where
-    pub within : at < length state.cursors
-    pub cursor : CursorState K A
-    pub number : cursor.serial ≡ c
-    pub is : slice_get state.cursors at ≡ Some cursor
-    pub is_open : cursor_of state c ≡ Ok cursor
-    pub put : (k : CursorState K A) → k.serial ≡ c → replaced k state.cursors ≡ slice_set state.cursors at k
 
 -- the room or the depth is out of range
 abbrev pub IsBadOpening : {A : Type 0} → Query A → ℕ → Type 0

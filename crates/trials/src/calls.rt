@@ -78,6 +78,29 @@ fn limits_of_a_store(rt: HostRuntime) -> Result<(), Fail> {
 }
 
 #[test]
+fn pages_of_a_store(rt: HostRuntime) -> Result<(), Fail> {
+    let mut store = Store::<Intervals>::new(
+        rt.alloc(),
+        Config {
+            fan: 4,
+            least: 2,
+            pages: 2,
+            ..CONFIG
+        },
+    )?;
+    for row in 1..5 {
+        assert_eq!(rt; store.insert(key(5, 5)?, row), Ok(row));
+    }
+    assert_eq!(rt; store.insert(key(5, 5)?, 0), Err(Refusal::PagesFull));
+    assert_eq!(rt; store.commits(), 4);
+    let rows = store.find(&overlapping(0, 9)?)?;
+    assert!(rt; rows.iter().map(|row| row.row).eq(1..5));
+    assert_eq!(rt; store.delete(3), Ok(5));
+    assert_eq!(rt; store.find(&overlapping(0, 9)?)?.len(), 3);
+    Ok(())
+}
+
+#[test]
 fn calls_of_a_store(rt: HostRuntime) -> Result<(), Fail> {
     let mut store = Store::<Intervals>::new(rt.alloc(), CONFIG)?;
     assert_eq!(rt; store.insert(key(5, 5)?, 7)?, 1);

@@ -1,12 +1,18 @@
-//! Trials over memory: calls of a store, sessions and replays of lines with their answers, readers and writers that fail.
+//! Trials over memory: calls of a store, random calls beside a plain list, sessions and replays of lines with their answers, readers and writers that fail.
 #![tactic(auto)]
 
+#[cfg(test)]
+mod alike;
 #[cfg(test)]
 mod calls;
 #[cfg(test)]
 mod faults;
 #[cfg(test)]
+mod growths;
+#[cfg(test)]
 mod memory;
+#[cfg(test)]
+mod plain;
 #[cfg(test)]
 mod replays;
 #[cfg(test)]

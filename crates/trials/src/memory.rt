@@ -49,7 +49,7 @@ const EVENTS: Script = Script {
     answers: "committed 1\ncommitted 2\ncommitted 3\ncommitted 4\ngrown 1 2\nopened 1\nvisited 0\nfinder 1\nseeking\ncommitted 5\nswept 0\nvisited 1\n",
 };
 
-const REFUSED: &str = "refused 1 OutOfMemory";
+pub const REFUSED: &str = "refused 1 OutOfMemory";
 
 /// How a run over some lines ended.
 #[derive(Drop)]

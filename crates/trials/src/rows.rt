@@ -2,6 +2,7 @@ use box_class::Boxes;
 use change_list::Config;
 use front::session;
 use interval_class::Intervals;
+use key_class::Fault;
 use query_text::ClassText;
 use set_class::Sets;
 use std::test::Fail;
@@ -15,7 +16,7 @@ pub const CONFIG: Config = Config {
 };
 
 #[derive(Clone, Copy)]
-enum Class {
+pub enum Class {
     Interval,
     Box,
     Set,
@@ -23,11 +24,14 @@ enum Class {
 
 /// The options of a session.
 #[derive(Clone, Copy)]
-struct Options {
-    class: Class,
-    fan: u32,
-    least: u32,
+pub struct Options {
+    pub class: Class,
+    pub fan: u32,
+    pub least: u32,
 }
+
+/// The options of a session, its input, and what it writes.
+pub type Lines = (Options, &'static str, &'static str);
 
 const INTERVALS: Options = Options {
     class: Class::Interval,
@@ -53,38 +57,55 @@ const SETS: Options = Options {
     least: 32,
 };
 
-/// What a session over a new store of a class writes for its input.
-fn class_answers<C: ClassText>(
+/// How a session ended, what it wrote, and how many commits there are then.
+#[derive(Drop)]
+pub struct Ending {
+    pub result: Result<(), Fault>,
+    pub written: Vec<u8>,
+    pub commits: u64,
+}
+
+/// How a session over a new store of a class ends.
+fn class_ending<C: ClassText>(
     rt: HostRuntime,
     config: Config,
     input: &[u8],
-) -> Result<Vec<u8>, Fail> {
+) -> Result<Ending, Fail> {
     let mut store = Store::<C>::new(rt.alloc(), config)?;
     let mut reader = input;
-    let mut writer = Vec::new(rt.alloc());
-    session(rt.alloc(), &mut reader, &mut writer, &mut store)?;
-    Ok(writer)
+    // All that the rows write, so that no write wants memory.
+    let mut written = Vec::with_capacity(rt.alloc(), 4_096)?;
+    let result = session(rt.alloc(), &mut reader, &mut written, &mut store);
+    Ok(Ending {
+        result,
+        written,
+        commits: store.commits(),
+    })
 }
 
-/// What a session with these options writes for its input.
-fn answers(rt: HostRuntime, options: Options, input: &[u8]) -> Result<Vec<u8>, Fail> {
+/// How a session with these options ends.
+pub fn end_of(rt: HostRuntime, options: Options, input: &[u8]) -> Result<Ending, Fail> {
     let config = Config {
         fan: options.fan,
         least: options.least,
         ..CONFIG
     };
     match options.class {
-        Class::Interval => class_answers::<Intervals>(rt, config, input),
-        Class::Box => class_answers::<Boxes>(rt, config, input),
-        Class::Set => class_answers::<Sets>(rt, config, input),
+        Class::Interval => class_ending::<Intervals>(rt, config, input),
+        Class::Box => class_ending::<Boxes>(rt, config, input),
+        Class::Set => class_ending::<Sets>(rt, config, input),
     }
 }
 
+/// What a session with these options writes for its input.
+fn answers(rt: HostRuntime, options: Options, input: &[u8]) -> Result<Vec<u8>, Fail> {
+    let ending = end_of(rt, options, input)?;
+    ending.result?;
+    Ok(ending.written)
+}
+
 /// The first input that isn't answered by its row's output.
-fn first_wrong<'a>(
-    rt: HostRuntime,
-    rows: &[(Options, &'a str, &str)],
-) -> Result<Option<&'a str>, Fail> {
+fn first_wrong(rt: HostRuntime, rows: &[Lines]) -> Result<Option<&'static str>, Fail> {
     for (options, input, output) in rows {
         let written = answers(rt, *options, input.as_bytes())?;
         if written.as_slice() != output.as_bytes() {
@@ -94,80 +115,82 @@ fn first_wrong<'a>(
     Ok(None)
 }
 
+pub const INSERTS_AND_FINDS: [Lines; 9] = [
+    (INTERVALS, "", ""),
+    (INTERVALS, "\n  \n", ""),
+    (INTERVALS, "find overlaps(0 9)\n", "found 0\n"),
+    (
+        INTERVALS,
+        "find overlaps(0 9)\ninsert (5 5) 0\nfind overlaps(5 5)\n",
+        "found 0\ncommitted 1\nfound 1\nrow 1 (5 5) 0\n",
+    ),
+    (
+        INTERVALS,
+        "insert (0 10) 1\nfind overlaps(10 20)\nfind within(0 9)\n",
+        "committed 1\nfound 1\nrow 1 (0 10) 1\nfound 0\n",
+    ),
+    (
+        INTERVALS,
+        "insert (-3 4) 18446744073709551615\nfind same(-3 4)\nfind holds(0 0)",
+        "committed 1\nfound 1\nrow 1 (-3 4) 18446744073709551615\nfound 1\nrow 1 (-3 4) 18446744073709551615\n",
+    ),
+    (
+        INTERVALS_OF_FOUR,
+        "insert (7 7) 0\ninsert (7 7) 0\ninsert (7 7) 0\ninsert (7 7) 0\ninsert (7 7) 0\nfind same(7 7)\n",
+        "committed 1\ncommitted 2\ncommitted 3\ncommitted 4\ncommitted 5\nfound 5\nrow 1 (7 7) 0\nrow 2 (7 7) 0\nrow 3 (7 7) 0\nrow 4 (7 7) 0\nrow 5 (7 7) 0\n",
+    ),
+    (
+        BOXES,
+        "insert (-2147483648 -2147483648 2147483647 2147483647) 1\ninsert (0 0 0 0) 2\nfind same(0 0 0 0)\nfind holds(0 0 0 0)\n",
+        "committed 1\ncommitted 2\nfound 1\nrow 2 (0 0 0 0) 2\nfound 2\nrow 1 (-2147483648 -2147483648 2147483647 2147483647) 1\nrow 2 (0 0 0 0) 2\n",
+    ),
+    (
+        SETS,
+        "insert {} 7\nfind within{}\nfind within{3}\nfind overlaps{3}\nfind not overlaps{3}\n",
+        "committed 1\nfound 1\nrow 1 {} 7\nfound 1\nrow 1 {} 7\nfound 0\nfound 1\nrow 1 {} 7\n",
+    ),
+];
+
 #[test]
 fn inserts_and_finds(rt: HostRuntime) -> Result<(), Fail> {
-    let rows = [
-        (INTERVALS, "", ""),
-        (INTERVALS, "\n  \n", ""),
-        (INTERVALS, "find overlaps(0 9)\n", "found 0\n"),
-        (
-            INTERVALS,
-            "find overlaps(0 9)\ninsert (5 5) 0\nfind overlaps(5 5)\n",
-            "found 0\ncommitted 1\nfound 1\nrow 1 (5 5) 0\n",
-        ),
-        (
-            INTERVALS,
-            "insert (0 10) 1\nfind overlaps(10 20)\nfind within(0 9)\n",
-            "committed 1\nfound 1\nrow 1 (0 10) 1\nfound 0\n",
-        ),
-        (
-            INTERVALS,
-            "insert (-3 4) 18446744073709551615\nfind same(-3 4)\nfind holds(0 0)",
-            "committed 1\nfound 1\nrow 1 (-3 4) 18446744073709551615\nfound 1\nrow 1 (-3 4) 18446744073709551615\n",
-        ),
-        (
-            INTERVALS_OF_FOUR,
-            "insert (7 7) 0\ninsert (7 7) 0\ninsert (7 7) 0\ninsert (7 7) 0\ninsert (7 7) 0\nfind same(7 7)\n",
-            "committed 1\ncommitted 2\ncommitted 3\ncommitted 4\ncommitted 5\nfound 5\nrow 1 (7 7) 0\nrow 2 (7 7) 0\nrow 3 (7 7) 0\nrow 4 (7 7) 0\nrow 5 (7 7) 0\n",
-        ),
-        (
-            BOXES,
-            "insert (-2147483648 -2147483648 2147483647 2147483647) 1\ninsert (0 0 0 0) 2\nfind same(0 0 0 0)\nfind holds(0 0 0 0)\n",
-            "committed 1\ncommitted 2\nfound 1\nrow 2 (0 0 0 0) 2\nfound 2\nrow 1 (-2147483648 -2147483648 2147483647 2147483647) 1\nrow 2 (0 0 0 0) 2\n",
-        ),
-        (
-            SETS,
-            "insert {} 7\nfind within{}\nfind within{3}\nfind overlaps{3}\nfind not overlaps{3}\n",
-            "committed 1\nfound 1\nrow 1 {} 7\nfound 1\nrow 1 {} 7\nfound 0\nfound 1\nrow 1 {} 7\n",
-        ),
-    ];
-    assert_eq!(rt; first_wrong(rt, rows.as_slice())?, None);
+    assert_eq!(rt; first_wrong(rt, INSERTS_AND_FINDS.as_slice())?, None);
     Ok(())
 }
 
+pub const REFUSED_LINES: [Lines; 20] = [
+    (INTERVALS, "find", "refused 21 QueryText 4\n"),
+    (INTERVALS, "open", "refused 22 Line 4\n"),
+    (INTERVALS, "open 4", "refused 21 QueryText 6\n"),
+    (INTERVALS, "find overlaps{1}", "refused 21 QueryText 13\n"),
+    (
+        INTERVALS,
+        "find same(1 2) xor same(3 4)",
+        "refused 21 QueryText 15\n",
+    ),
+    (INTERVALS, "find (same(1 2)", "refused 21 QueryText 15\n"),
+    (INTERVALS, "find overlaps(0", "refused 21 QueryText 15\n"),
+    (INTERVALS, "find overlaps(3 1)", "refused 21 QueryText 13\n"),
+    (INTERVALS, "find holds(+1 2)", "refused 21 QueryText 11\n"),
+    (INTERVALS, "delete1", "refused 22 Line 6\n"),
+    (
+        INTERVALS,
+        "delete 18446744073709551616",
+        "refused 22 Line 7\n",
+    ),
+    (INTERVALS, "insert (5-6) 0", "refused 22 Line 9\n"),
+    (INTERVALS, "insert (9 5) 0", "refused 22 Line 7\n"),
+    (INTERVALS, "insert (5 5)", "refused 22 Line 12\n"),
+    (INTERVALS, "insert (5 5) 0 1", "refused 22 Line 15\n"),
+    (INTERVALS, "insert(5 5)0", "committed 1\n"),
+    (SETS, "insert {128} 0", "refused 22 Line 8\n"),
+    (SETS, "insert {1 128} 0", "refused 22 Line 10\n"),
+    (BOXES, "insert (0 0 2147483648 0) 0", "refused 22 Line 12\n"),
+    (BOXES, "insert (0 5 0 4) 0", "refused 22 Line 7\n"),
+];
+
 #[test]
 fn refused_lines(rt: HostRuntime) -> Result<(), Fail> {
-    let rows = [
-        (INTERVALS, "find", "refused 21 QueryText 4\n"),
-        (INTERVALS, "open", "refused 22 Line 4\n"),
-        (INTERVALS, "open 4", "refused 21 QueryText 6\n"),
-        (INTERVALS, "find overlaps{1}", "refused 21 QueryText 13\n"),
-        (
-            INTERVALS,
-            "find same(1 2) xor same(3 4)",
-            "refused 21 QueryText 15\n",
-        ),
-        (INTERVALS, "find (same(1 2)", "refused 21 QueryText 15\n"),
-        (INTERVALS, "find overlaps(0", "refused 21 QueryText 15\n"),
-        (INTERVALS, "find overlaps(3 1)", "refused 21 QueryText 13\n"),
-        (INTERVALS, "find holds(+1 2)", "refused 21 QueryText 11\n"),
-        (INTERVALS, "delete1", "refused 22 Line 6\n"),
-        (
-            INTERVALS,
-            "delete 18446744073709551616",
-            "refused 22 Line 7\n",
-        ),
-        (INTERVALS, "insert (5-6) 0", "refused 22 Line 9\n"),
-        (INTERVALS, "insert (9 5) 0", "refused 22 Line 7\n"),
-        (INTERVALS, "insert (5 5)", "refused 22 Line 12\n"),
-        (INTERVALS, "insert (5 5) 0 1", "refused 22 Line 15\n"),
-        (INTERVALS, "insert(5 5)0", "committed 1\n"),
-        (SETS, "insert {128} 0", "refused 22 Line 8\n"),
-        (SETS, "insert {1 128} 0", "refused 22 Line 10\n"),
-        (BOXES, "insert (0 0 2147483648 0) 0", "refused 22 Line 12\n"),
-        (BOXES, "insert (0 5 0 4) 0", "refused 22 Line 7\n"),
-    ];
-    assert_eq!(rt; first_wrong(rt, rows.as_slice())?, None);
+    assert_eq!(rt; first_wrong(rt, REFUSED_LINES.as_slice())?, None);
     Ok(())
 }
 
@@ -207,50 +230,51 @@ fn ends_and_long_lines(rt: HostRuntime) -> Result<(), Fail> {
     Ok(())
 }
 
+pub const CURSORS_AND_SWEEPS: [Lines; 8] = [
+    (
+        INTERVALS,
+        "insert (5 5) 0\nopen 4 overlaps(0 9)\ninsert (6 6) 0\nnext 1\nnext 1\nnext 1\n",
+        "committed 1\nopened 1\ncommitted 2\nrow 1 (5 5) 0\ninserted 2 (6 6) 0\nempty\n",
+    ),
+    (
+        INTERVALS,
+        "insert (5 5) 0\nopen 4 overlaps(0 9)\ndelete 1\nsweep\nnext 1\nnext 1\nsweep\nnext 1\n",
+        "committed 1\nopened 1\ncommitted 2\nswept 0\nrow 1 (5 5) 0\ndeleted 2 1\nswept 1\nempty\n",
+    ),
+    (
+        INTERVALS,
+        "insert (5 5) 0\ndelete 1\ndelete 1\nsweep\ndelete 1\ndelete 2\ndelete 0\ndelete 99\n",
+        "committed 1\ncommitted 2\nrefused 15 AlreadyDeleted\nswept 1\nrefused 15 AlreadyDeleted\nrefused 14 NoSuchRow\nrefused 14 NoSuchRow\nrefused 14 NoSuchRow\n",
+    ),
+    (
+        INTERVALS,
+        "insert (1 1) 0\nopen 1 overlaps(0 9)\nmark 1\nmark 1\nnext 1\nnext 1\nnext 1\ninsert (2 2) 0\nmark 1\nnext 1\nnext 1\nnext 1\n",
+        "committed 1\nopened 1\nasked\nasked\nrow 1 (1 1) 0\nmark 1\nempty\ncommitted 2\nasked\ninserted 2 (2 2) 0\nmark 2\nempty\n",
+    ),
+    (
+        INTERVALS,
+        "open 1 overlaps(0 9)\nclose 1\nclose 1\nnext 1\nmark 1\nnext 2\nmark 0\nclose 9\n",
+        "opened 1\nclosed\nrefused 17 CursorClosed\nrefused 17 CursorClosed\nrefused 17 CursorClosed\nrefused 16 NoSuchCursor\nrefused 16 NoSuchCursor\nrefused 16 NoSuchCursor\n",
+    ),
+    (
+        INTERVALS,
+        "open 0 overlaps(0 9)\nopen 4097 overlaps(0 9)\nopen 4096 overlaps(0 9)\n",
+        "refused 2 BadConfig\nrefused 2 BadConfig\nopened 1\n",
+    ),
+    (
+        BOXES,
+        "insert (0 0 1 1) 3\nopen 1 not holds(0 0 0 0)\nopen 1 holds(0 0 0 0)\ninsert (5 5 6 6) 4\nnext 1\nnext 1\nnext 2\nnext 2\n",
+        "committed 1\nopened 1\nopened 2\ncommitted 2\ninserted 2 (5 5 6 6) 4\nempty\nrow 1 (0 0 1 1) 3\nempty\n",
+    ),
+    (
+        SETS,
+        "insert {1 2} 3\nopen 1 overlaps{2}\ndelete 1\nnext 1\nmark 1\nnext 1\nnext 1\nclose 1\nsweep\n",
+        "committed 1\nopened 1\ncommitted 2\nrow 1 {1 2} 3\nasked\ndeleted 2 1\nmark 2\nclosed\nswept 1\n",
+    ),
+];
+
 #[test]
 fn cursors_and_sweeps(rt: HostRuntime) -> Result<(), Fail> {
-    let rows = [
-        (
-            INTERVALS,
-            "insert (5 5) 0\nopen 4 overlaps(0 9)\ninsert (6 6) 0\nnext 1\nnext 1\nnext 1\n",
-            "committed 1\nopened 1\ncommitted 2\nrow 1 (5 5) 0\ninserted 2 (6 6) 0\nempty\n",
-        ),
-        (
-            INTERVALS,
-            "insert (5 5) 0\nopen 4 overlaps(0 9)\ndelete 1\nsweep\nnext 1\nnext 1\nsweep\nnext 1\n",
-            "committed 1\nopened 1\ncommitted 2\nswept 0\nrow 1 (5 5) 0\ndeleted 2 1\nswept 1\nempty\n",
-        ),
-        (
-            INTERVALS,
-            "insert (5 5) 0\ndelete 1\ndelete 1\nsweep\ndelete 1\ndelete 2\ndelete 0\ndelete 99\n",
-            "committed 1\ncommitted 2\nrefused 15 AlreadyDeleted\nswept 1\nrefused 15 AlreadyDeleted\nrefused 14 NoSuchRow\nrefused 14 NoSuchRow\nrefused 14 NoSuchRow\n",
-        ),
-        (
-            INTERVALS,
-            "insert (1 1) 0\nopen 1 overlaps(0 9)\nmark 1\nmark 1\nnext 1\nnext 1\nnext 1\ninsert (2 2) 0\nmark 1\nnext 1\nnext 1\nnext 1\n",
-            "committed 1\nopened 1\nasked\nasked\nrow 1 (1 1) 0\nmark 1\nempty\ncommitted 2\nasked\ninserted 2 (2 2) 0\nmark 2\nempty\n",
-        ),
-        (
-            INTERVALS,
-            "open 1 overlaps(0 9)\nclose 1\nclose 1\nnext 1\nmark 1\nnext 2\nmark 0\nclose 9\n",
-            "opened 1\nclosed\nrefused 17 CursorClosed\nrefused 17 CursorClosed\nrefused 17 CursorClosed\nrefused 16 NoSuchCursor\nrefused 16 NoSuchCursor\nrefused 16 NoSuchCursor\n",
-        ),
-        (
-            INTERVALS,
-            "open 0 overlaps(0 9)\nopen 4097 overlaps(0 9)\nopen 4096 overlaps(0 9)\n",
-            "refused 2 BadConfig\nrefused 2 BadConfig\nopened 1\n",
-        ),
-        (
-            BOXES,
-            "insert (0 0 1 1) 3\nopen 1 not holds(0 0 0 0)\nopen 1 holds(0 0 0 0)\ninsert (5 5 6 6) 4\nnext 1\nnext 1\nnext 2\nnext 2\n",
-            "committed 1\nopened 1\nopened 2\ncommitted 2\ninserted 2 (5 5 6 6) 4\nempty\nrow 1 (0 0 1 1) 3\nempty\n",
-        ),
-        (
-            SETS,
-            "insert {1 2} 3\nopen 1 overlaps{2}\ndelete 1\nnext 1\nmark 1\nnext 1\nnext 1\nclose 1\nsweep\n",
-            "committed 1\nopened 1\ncommitted 2\nrow 1 {1 2} 3\nasked\ndeleted 2 1\nmark 2\nclosed\nswept 1\n",
-        ),
-    ];
-    assert_eq!(rt; first_wrong(rt, rows.as_slice())?, None);
+    assert_eq!(rt; first_wrong(rt, CURSORS_AND_SWEEPS.as_slice())?, None);
     Ok(())
 }

@@ -1,0 +1,301 @@
+#!/usr/bin/env python3
+"""Measures the processor time, the instructions and the memory of `gist serve`.
+
+The lines of one fixed seed are written to a file. The program reads prefixes of that file, each up to the end of a
+phase; what a phase costs is the difference of two runs. The child's own processor time is measured (`os.wait4`), so
+the harness costs nothing.
+"""
+
+import argparse
+import os
+import random
+import shutil
+import subprocess
+import sys
+import tempfile
+import time
+
+SEED = 20_240_607
+MOST_COMMITS = 16_777_216
+
+# What is aimed at: microseconds of processor time a line, growth, and bytes a row.
+INSERT_AIM = 1.5
+FIND_AIM = 5.0
+GROWTH_AIM = 3.0
+BYTES_AIM = 100.0
+
+
+class Intervals:
+    """Points and short intervals on a line, as many a unit for each number of rows."""
+
+    name = "interval"
+
+    def __init__(self, rows, generator):
+        self.span = rows * 100
+        self.generator = generator
+
+    def key(self):
+        low = self.generator.randrange(self.span)
+        return f"({low} {low + self.generator.randrange(20)})"
+
+    def query(self, rows):
+        low = self.generator.randrange(self.span)
+        return f"overlaps({low} {low + rows * 100 - 10})"
+
+
+class Boxes:
+    """Small boxes in a square, as many in an area for each number of rows."""
+
+    name = "box"
+
+    def __init__(self, rows, generator):
+        self.span = min(int((rows * 10_000) ** 0.5), 2_000_000_000)
+        self.generator = generator
+
+    def key(self):
+        left, low = self.generator.randrange(self.span), self.generator.randrange(self.span)
+        right, high = left + self.generator.randrange(20), low + self.generator.randrange(20)
+        return f"({left} {low} {right} {high})"
+
+    def query(self, rows):
+        side = int((rows * 10_000) ** 0.5) - 10
+        left, low = self.generator.randrange(self.span), self.generator.randrange(self.span)
+        return f"overlaps({left} {low} {left + side} {low + side})"
+
+
+CLASSES = {kind.name: kind for kind in (Intervals, Boxes)}
+
+
+class Phase:
+    """Lines of one kind, and where they end in the file."""
+
+    def __init__(self, name, lines, end):
+        self.name = name
+        self.lines = lines
+        self.end = end
+
+
+def write_lines(path, kind, rows, finds, cursors, items):
+    """Writes the lines, and tells the phases."""
+    generator = random.Random(SEED)
+    keys = kind(rows, generator)
+    phases = []
+    with open(path, "w", encoding="ascii", newline="\n") as file:
+
+        def phase(name, lines):
+            count = 0
+            for line in lines:
+                file.write(line + "\n")
+                count += 1
+            phases.append(Phase(name, count, file.tell()))
+
+        phase("insert", (f"insert {keys.key()} {number % 10}" for number in range(rows)))
+        phase("find of ten", (f"find {keys.query(10)}" for _ in range(finds)))
+        deleted = generator.sample(range(1, rows + 1), rows // 2)
+        phase("delete", (f"delete {row}" for row in deleted))
+        phase("sweep", iter(["sweep"]))
+        phase("find of five", (f"find {keys.query(10)}" for _ in range(finds)))
+        phase("open", (f"open 64 {keys.query(2 * items)}" for _ in range(cursors)))
+        phase("next", (f"next {c + 1}" for _ in range(items) for c in range(cursors)))
+        phase("insert, followed", (f"insert {keys.key()} 7" for _ in range(rows // 10)))
+        phase("next, following", (f"next {c + 1}" for _ in range(4) for c in range(cursors)))
+        phase("close", (f"close {c + 1}" for c in range(cursors)))
+    return phases
+
+
+def copy_prefix(path, length, to):
+    """Copies the first bytes of a file."""
+    with open(path, "rb") as source, open(to, "wb") as target:
+        left = length
+        while left:
+            block = source.read(min(left, 1 << 20))
+            if not block:
+                raise SystemExit("bench: the file of lines is too short")
+            target.write(block)
+            left -= len(block)
+
+
+def run(words, input_path, output_path):
+    """Runs the program on a file, and gives the processor seconds of the child alone."""
+    with open(input_path, "rb") as source, open(output_path, "wb") as target:
+        child = subprocess.Popen(words, stdin=source, stdout=target)
+        _, status, usage = os.wait4(child.pid, 0)
+    child.returncode = os.waitstatus_to_exitcode(status)
+    if child.returncode != 0:
+        raise SystemExit(f"bench: {' '.join(words)} ended with {child.returncode}")
+    return usage.ru_utime + usage.ru_stime
+
+
+def prefix_costs(ends, turns, lines_path, prefix_path, measured):
+    """The least cost of each prefix: a busy machine adds time and never takes any."""
+    least = [float("inf")] * len(ends)
+    for _ in range(turns):
+        for place, end in enumerate(ends):
+            copy_prefix(lines_path, end, prefix_path)
+            least[place] = min(least[place], measured())
+    return least
+
+
+def most_memory(words, input_path, last_answer, output_path):
+    """The most bytes that the program held until an answer came.
+
+    A child's `ru_maxrss` begins with what its parent held, so the kernel is asked while the program waits for more
+    lines.
+    """
+    with open(output_path, "wb") as target:
+        child = subprocess.Popen(words, stdin=subprocess.PIPE, stdout=target)
+    with open(input_path, "rb") as source:
+        shutil.copyfileobj(source, child.stdin, 1 << 20)
+    child.stdin.flush()
+    with open(output_path, "rb") as answers:
+        for _ in range(60_000):
+            answers.seek(max(os.path.getsize(output_path) - len(last_answer), 0))
+            if answers.read() == last_answer:
+                break
+            time.sleep(0.001)
+        else:
+            raise SystemExit("bench: the last answer didn't come")
+    with open(f"/proc/{child.pid}/status", encoding="ascii") as status:
+        held = next(int(line.split()[1]) * 1024 for line in status if line.startswith("VmHWM:"))
+    child.stdin.close()
+    child.wait()
+    return held
+
+
+def instructions(words, input_path, folder):
+    """How many instructions a run takes."""
+    out = os.path.join(folder, "callgrind.out")
+    told = subprocess.run(
+        ["valgrind", "--tool=callgrind", f"--callgrind-out-file={out}", *words],
+        stdin=open(input_path, "rb"),
+        stdout=subprocess.DEVNULL,
+        stderr=subprocess.PIPE,
+        check=True,
+        text=True,
+    ).stderr
+    for line in told.splitlines():
+        if "Collected" in line:
+            return int(line.split(":")[1])
+    raise SystemExit("bench: valgrind told no number of instructions")
+
+
+def refused_answers(path):
+    """The refusals by their names, and how many rows a find has."""
+    refused = {}
+    found = finds = 0
+    with open(path, "rb") as file:
+        for line in file:
+            if line.startswith(b"refused"):
+                name = line.split()[2].decode("ascii")
+                refused[name] = refused.get(name, 0) + 1
+            elif line.startswith(b"found "):
+                finds += 1
+                found += int(line[6:])
+    return refused, found / max(finds, 1)
+
+
+def bytes_a_row(words, inserts_path, rows, answers_path):
+    """What a row takes: the memory of the whole program after the inserts, but for that of an empty one."""
+    few_path = inserts_path + ".few"
+    with open(few_path, "wb") as few:
+        few.write(b"sweep\n")
+    few = most_memory(words, few_path, b"swept 0\n", answers_path)
+    many = most_memory(words, inserts_path, f"committed {rows}\n".encode("ascii"), answers_path)
+    return (many - few) / rows
+
+
+def measure(words, kind, rows, options, folder):
+    """Prints and gives what each phase costs: microseconds a line, and bytes a row."""
+    lines_path = os.path.join(folder, "lines")
+    prefix_path = os.path.join(folder, "prefix")
+    answers_path = os.path.join(folder, "answers")
+    phases = write_lines(lines_path, kind, rows, options.finds, options.cursors, options.items)
+    ends = [0] + [phase.end for phase in phases]
+    if options.callgrind:
+        totals = prefix_costs(ends, 1, lines_path, prefix_path, lambda: instructions(words, prefix_path, folder))
+    else:
+        # Short runs are turned more often.
+        turns = options.turns * min(1 + 100_000 // rows, 5)
+        totals = prefix_costs(ends, turns, lines_path, prefix_path, lambda: run(words, prefix_path, os.devnull))
+
+    costs = {}
+    print(f"{kind.name}, {rows:,} rows")
+    for phase, before, after in zip(phases, totals, totals[1:]):
+        cost = (after - before) / phase.lines
+        print(f"  {phase.name:<17}{phase.lines:>9,} lines", end="")
+        if options.callgrind:
+            print(f" {cost:>12,.0f} instructions a line", end="")
+        elif cost > 0:
+            print(f" {cost * 1e6:>11.3f} us a line {1 / cost:>13,.0f} lines a second", end="")
+        else:
+            print(" below the noise", end="")
+        costs[phase.name] = cost * 1e6
+        if phase.name == "insert":
+            copy_prefix(lines_path, phase.end, prefix_path)
+            costs["bytes"] = bytes_a_row(words, prefix_path, rows, answers_path)
+            print(f"  {costs['bytes']:.1f} bytes a row", end="")
+        print()
+    sys.stdout.flush()
+    if not options.callgrind:
+        run(words, lines_path, answers_path)
+        refused, found = refused_answers(answers_path)
+        print(f"  refusals: {refused or 'none'}; a find has {found:.1f} rows on the average")
+    return costs
+
+
+def told(aim, value, unit):
+    return f"{value:.2f} {unit}, aim {aim}: {'met' if value <= aim else 'MISSED'}"
+
+
+def compare(kind, costs):
+    """Prints the measured numbers beside those aimed at."""
+    print(f"{kind.name}, beside the aims")
+    middle = costs.get(100_000)
+    if middle:
+        print("  insert at 100,000 rows:", told(INSERT_AIM, middle["insert"], "us"))
+        print("  find of ten at 100,000 rows:", told(FIND_AIM, middle["find of ten"], "us"))
+    few, many = costs.get(10_000), costs.get(1_000_000)
+    if few and many:
+        for phase in ("insert", "find of ten", "delete"):
+            if few[phase] > 0:
+                print(f"  {phase}, 1,000,000 over 10,000 rows:", told(GROWTH_AIM, many[phase] / few[phase], "times"))
+    for rows, cost in costs.items():
+        if rows >= 100_000:
+            print(f"  memory at {rows:,} rows:", told(BYTES_AIM, cost["bytes"], "bytes a row"))
+
+
+def main():
+    parser = argparse.ArgumentParser(description="Measures `gist serve` by lines of a fixed seed.")
+    parser.add_argument("program", help="the built program, as crates/gist/out/gist")
+    parser.add_argument("--class", dest="kinds", action="append", choices=sorted(CLASSES), help="by default all")
+    parser.add_argument("--rows", type=int, action="append", help="by default 10000, 100000 and 1000000")
+    parser.add_argument("--fan", type=int, default=32)
+    parser.add_argument("--least", type=int, default=12)
+    parser.add_argument("--finds", type=int, default=20_000, help="finds in a phase")
+    parser.add_argument("--cursors", type=int, default=100, help="cursors that follow, at most 256")
+    parser.add_argument("--items", type=int, default=100, help="items that each cursor is first asked for")
+    parser.add_argument("--turns", type=int, default=3, help="runs, the least of which counts; up to five times as many of short ones")
+    parser.add_argument("--callgrind", action="store_true", help="instructions in place of time, by valgrind")
+    parser.add_argument("--option", action="append", default=[], help="a further word for `gist serve`, as --option=--pages=65536")
+    options = parser.parse_args()
+    if options.callgrind and shutil.which("valgrind") is None:
+        parser.error("--callgrind needs valgrind")
+    if not 1 <= options.cursors <= 256:
+        parser.error("--cursors is 1 to 256")
+    rows_of_runs = options.rows or ([10_000] if options.callgrind else [10_000, 100_000, 1_000_000])
+    if any(rows * 5 // 2 > MOST_COMMITS or rows < 2 for rows in rows_of_runs):
+        parser.error("--rows is 2 to 6,710,886")
+    for name in options.kinds or sorted(CLASSES, reverse=True):
+        kind = CLASSES[name]
+        words = [options.program, "serve", "--class", name, "--fan", str(options.fan), "--least", str(options.least)]
+        words += options.option
+        costs = {}
+        for rows in rows_of_runs:
+            with tempfile.TemporaryDirectory(prefix="gist-bench-") as folder:
+                costs[rows] = measure(words, kind, rows, options, folder)
+        if not options.callgrind:
+            compare(kind, costs)
+
+
+if __name__ == "__main__":
+    main()
