@@ -53,6 +53,3 @@ impl<K: Copy> RoomyList<K> {
         }
     }
 }
-
-#[cfg(test)]
-mod tests;

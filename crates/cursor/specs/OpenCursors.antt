@@ -11,7 +11,7 @@ use Rattle.change_list.specs.Changes.{item_at}
 use Rattle.change_list.specs.Cursors.{CursorState, work}
 use Rattle.page_table.specs.Trees.{Tree}
 use Rattle.page_table.specs.Stacks.{StackItem, pages_left}
-use Rattle.scan.specs.Scanning.{Visits, to_find}
+use Rattle.scan.specs.Scanning.{Visits, VisitGrows, to_find}
 use Rattle.cursor.specs.declared.cursor.Turned.{Turned}
 use Rattle.cursor.specs.declared.cursor.Turned.TheVariants as turned
 
@@ -120,7 +120,7 @@ module _ {K A : Type 0} (w : Words K A) where
   Turns t commits old (Ok (turned.Passed n)) new = (task commits old ≡ pass) × (n ≡ old.position + 1) × (new ≡ record old { position = n })
   Turns t commits old (Err refusal.NoRoom) new = IsHandedBack commits old new
   Turns t commits old (Err refusal.Idle) new = (task commits old ≡ rest) × (new ≡ old)
-  Turns t commits old (Err refusal.OutOfMemory) new = (task commits old ≡ visit) × (new ≡ old)
+  Turns t commits old (Err refusal.OutOfMemory) new = (task commits old ≡ visit) × (new ≡ old) × VisitGrows (admits old) (wants old) old.opened t old.stack
   Turns t commits old (Err why) new = ⊥
 
   -- what a client may know of it

@@ -1,4 +1,6 @@
-ghost use Rattle.std.specs.Prelude.{◌≡◌, ◌↔◌, ◌+◌, ◌<◌, ◌≤◌, ℕ, true, false, [], ◌∷◌, ◌++◌, List, length, Some, None, slice_get, IfOk, OnOk};
+ghost use Rattle.std.specs.Prelude.{◌≡◌, ◌≢◌, ◌⊎◌, ◌↔◌, ◌+◌, ◌<◌, ◌≤◌, ℕ, true, false, [], ◌∷◌, ◌++◌, List, length, Some, None, slice_get, IfOk, IfErr, OnOk, IsTrue};
+ghost use Rattle.cursor.specs.Preparing.{IsPrepared, IsDue, RefusesVisit};
+ghost use Rattle.std.specs.Arc.{arc_value};
 ghost use Rattle.key_class.specs.Queries.{query_of};
 ghost use Rattle.change_list.specs.declared.item.Item.{Item};
 ghost use Rattle.change_list.specs.declared.write.Write.{Write};
@@ -19,10 +21,11 @@ use change_list::{ChangeList, Item, Row};
 use key_class::{KeyClass, Pred, Refusal};
 use mailbox::{Outlet, Taken};
 use page_table::PageTable;
-use scan::Stack;
+use scan::{PreparedVisit, Stack};
 use std::alloc::Global;
 use std::collections::VecDeque;
 use std::marker::Model;
+use std::sync::Arc;
 
 /// What a turn did.
 #[derive(Clone, Copy, Debug, PartialEq, Eq)]
@@ -39,7 +42,7 @@ pub enum Turned {
 #[derive(Drop)]
 pub struct Cursor<C: KeyClass, O: Outlet<C::Key>> {
     serial: u64,
-    query: Pred<C::Atom>,
+    query: Arc<Pred<C::Atom>>,
     opened: u32,
     stack: Stack,
     pending: VecDeque<Row<C::Key>>,
@@ -52,13 +55,14 @@ impl<C: KeyClass, O: Outlet<C::Key>> Model for Cursor<C, O> {
     ghost use Rattle.key_class.specs.Queries.{query_of};
     ghost use Rattle.key_class.specs.QueryCodes.{query_code};
     ghost use Rattle.std.specs.Coded.{codes};
+    ghost use Rattle.std.specs.Arc.{arc_value};
     ghost use Rattle.cursor.specs.OpenCursors.{OpenCursor};
 
     ghost Value = { OpenCursor C.Key C.Atom };
 
     ghost coded = { Prim.hlevel (codes, query_code) };
 
-    ghost view = { λ c. record { serial = c.serial; query = query_of c.query; opened = c.opened; stack = c.stack; pending = c.pending.items; position = c.position; asked = c.asked; room = O.room_of c.outlet; unread = O.unread c.outlet } };
+    ghost view = { λ c. record { serial = c.serial; query = query_of (arc_value c.query); opened = c.opened; stack = c.stack; pending = c.pending.items; position = c.position; asked = c.asked; room = O.room_of c.outlet; unread = O.unread c.outlet } };
 }
 
 impl<C: KeyClass, O: Outlet<C::Key>> Cursor<C, O> {
@@ -67,12 +71,12 @@ impl<C: KeyClass, O: Outlet<C::Key>> Cursor<C, O> {
     pub fn new(
         alloc: Global,
         serial: u64,
-        query: Pred<C::Atom>,
+        query: Arc<Pred<C::Atom>>,
         opened: u32,
         counter: u32,
         outlet: O,
     ) -> Self
-        ensures new { result ≡ record { serial = serial; query = query_of query; opened = opened; stack = (record { page = 0; memo = counter }) ∷ []; pending = []; position = opened; asked = false; room = O.room_of outlet; unread = O.unread outlet } }
+        ensures new { result ≡ record { serial = serial; query = query_of (arc_value query); opened = opened; stack = (record { page = 0; memo = counter }) ∷ []; pending = []; position = opened; asked = false; room = O.room_of outlet; unread = O.unread outlet } }
         ensures fits { let w = words C.is_match C.is_consistent C.is_cover C.union_of O.may_take O.may_refuse O.is_emptied_elsewhere in (tree : Tree C.Key) (commits : List (Write C.Key)) → opened ≡ length commits → Same (to_find (wants w result) opened tree result.stack) (snapshot (wants w result) opened commits) → FitsOver w tree commits result [] }
     {
         Cursor {
@@ -139,6 +143,9 @@ impl<C: KeyClass, O: Outlet<C::Key>> Cursor<C, O> {
     }
 
     /// Visits a page.
+    ///
+    /// # Errors
+    /// Memory was wanting for a row to note or a page to push; the cursor is as it was.
     fn visit(&mut self, alloc: Global, table: &PageTable<C::Key>) -> Result<Turned, Refusal>
         requires stack { IsStack table.now self.old.stack }
         requires none_pending { self.old.pending ≡ [] }
@@ -154,6 +161,67 @@ impl<C: KeyClass, O: Outlet<C::Key>> Cursor<C, O> {
                 Ok(Turned::Visited(visited.page))
             }
             Ok(None) => unreachable!(),
+            Err(_) => Err(Refusal::OutOfMemory),
+        }
+    }
+
+    /// The visit that the cursor's next turn makes, where its next turn is one.
+    ///
+    /// # Errors
+    /// NotHere where a row is to be offered or no page is left, else there are too many owners of the page or the query.
+    pub fn prepare(
+        &self,
+        alloc: Global,
+        table: &PageTable<C::Key>,
+    ) -> Result<PreparedVisit<C>, Refusal>
+        requires { IsStack table.now self.now.stack }
+        ensures prepared { IfOk result (IsPrepared table.now self.now) }
+        ensures refusals { IfErr result (RefusesVisit self.now) }
+    {
+        if self.pending.len() > 0 {
+            return Err(Refusal::NotHere);
+        }
+        match self
+            .stack
+            .prepare::<C>(alloc, table, &self.query, self.opened)
+        {
+            Ok(Some(visit)) => Ok(visit),
+            Ok(None) => Err(Refusal::NotHere),
+            Err(_) => Err(Refusal::OutOfMemory),
+        }
+    }
+
+    /// Whether the visit is what the cursor's next turn makes.
+    pub fn is_due(&self, table: &PageTable<C::Key>, visit: &PreparedVisit<C>) -> bool
+        requires { IsStack table.now self.now.stack }
+        ensures { IsTrue result ↔ IsDue table.now self.now visit.now }
+    {
+        self.pending.len() == 0
+            && self.opened == visit.opened()
+            && self.query.same_as::<C>(visit.query())
+            && self.stack.is_due::<C>(table, visit)
+    }
+
+    /// A turn that makes a visit which was worked out.
+    ///
+    /// # Errors
+    /// Memory was wanting; the cursor is as it was.
+    #[tactic(auto, using(crate::proofs::Preparing::prepared_turns, crate::proofs::Preparing::prepared_refused))]
+    pub fn turn_prepared(
+        &mut self,
+        table: &PageTable<C::Key>,
+        visit: PreparedVisit<C>,
+    ) -> Result<Turned, Refusal>
+        requires stack { IsStack table.now self.old.stack }
+        requires due { IsDue table.now self.old visit }
+        requires worked { visit.worked ≡ true }
+        ensures { (commits : List (Write C.Key)) → Turns (words C.is_match C.is_consistent C.is_cover C.union_of O.may_take O.may_refuse O.is_emptied_elsewhere) table.now commits self.old result self.new }
+    {
+        match self.stack.visit_prepared::<C>(table.counter(), visit) {
+            Ok(visited) => {
+                self.pending = visited.rows;
+                Ok(Turned::Visited(visited.page))
+            }
             Err(_) => Err(Refusal::OutOfMemory),
         }
     }
@@ -226,7 +294,8 @@ impl<C: KeyClass, O: Outlet<C::Key>> Cursor<C, O> {
     /// item is offered, or the commit passed where it isn't asked for; a mark that was asked for is offered.
     ///
     /// # Errors
-    /// The outlet had no room, nothing was to do, or memory was wanting in a visit; the cursor is as it was.
+    /// The outlet had no room, nothing was to do, or memory was wanting in a visit that notes a row or pushes a page; the
+    /// cursor is as it was.
     pub fn turn(
         &mut self,
         alloc: Global,

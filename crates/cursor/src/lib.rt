@@ -7,6 +7,3 @@ mod laws;
 
 pub use cursor::{Cursor, Turned};
 pub use laws::cursors_survive_steps;
-
-#[cfg(test)]
-mod tests;

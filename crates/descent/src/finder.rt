@@ -4,6 +4,7 @@ ghost use Rattle.page_table.specs.Soundness.{IsSound};
 ghost use Rattle.page_table.specs.Stacks.{IsStack};
 ghost use Rattle.scan.specs.Agreement.{Agrees};
 ghost use Rattle.scan.specs.Finding.{SeeksLess};
+ghost use Rattle.scan.specs.Scanning.{PushesSome};
 ghost use Rattle.descent.specs.Finders.{SeeksRow, IsSeeking, is_at_row};
 
 use key_class::KeyClass;
@@ -67,13 +68,14 @@ impl<C: KeyClass> Finder<C> {
     /// children whose bounds cover the row's key.
     ///
     /// # Errors
-    /// Memory was wanting, and the page lacks the row; the finder is as it was.
+    /// Memory was wanting for a page to push, and the page lacks the row; the finder is as it was.
     pub fn seek(&mut self, table: &PageTable<C::Key>) -> Result<Sought, AllocError>
         requires stack { IsStack table.now self.old.stack }
         requires unfinished { ¬ (self.old.stack ≡ []) }
         ensures sought { IfOk result (λ met. SeeksRow C.is_cover table.now self.old met self.new) }
         ensures refused { OnErr result (self.new ≡ self.old) }
         ensures refused_further { OnErr result (is_at_row table.now self.old ≡ false) }
+        ensures memory { OnErr result (PushesSome (λ bound. C.is_cover bound self.old.key) table.now self.old.stack) }
         ensures seeking { (fan : ℕ) (commits : List (Write C.Key)) → IsSound C.is_cover fan table.now → Agrees table.now commits → IsSeeking table.now commits self.old → IsSeeking table.now commits self.new }
         ensures stack { (fan : ℕ) → IsSound C.is_cover fan table.now → IsStack table.now self.new.stack }
         ensures less_work { IfOk result (λ met. SeeksLess C.is_cover table.now self.old.stack met self.new.stack) }

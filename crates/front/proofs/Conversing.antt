@@ -2,16 +2,16 @@
 use Rattle.std.proofs.Common.{◌≡◌, ◌≢◌, ◌<◌, ℕ, Bool, true, false, List, [], ◌∷◌, ◌++◌, length, Option, Some, None, arith, refl, sym, ap, ◌∙◌, subst, append_assoc, length-append}
 use Rattle.std.specs.List.{flat_map, AllByRecursion}
 use Rattle.std.specs.Prelude.{nat_eq}
-use Rattle.std.specs.Io.KnownBytes.{Consumes, Appends, Keeps}
+use Rattle.std.specs.Io.KnownBytes.{Consumes, Keeps}
 use Rattle.std.proofs.KnownBytes.{Consumes-trans, Consumes-kept}
 use Rattle.std.proofs.lemmas.List.{append-nil}
 use Rattle.query_text.specs.Tokens.{Placed}
 use Rattle.front.specs.Lines.{HasNoFeed, ended, AreLines}
 use Rattle.front.specs.Held.{Held, with_room, Fills, IsRestOf}
-use Rattle.front.specs.Written.{Writes}
+use Rattle.front.specs.Written.{Writes, WritesBeginning}
 use Rattle.front.specs.Conversations.{AnswersLine, AnswersLines, AnsweredAll, AnsweredWhole, AnsweredFirst}
 use Rattle.front.proofs.Bytes.{no_feed_append}
-use Rattle.front.proofs.Writing.{gathers, writes_both, writes_then_nothing}
+use Rattle.front.proofs.Writing.{gathers, writes_both, writes_then_nothing, all_written, fails_behind, fails_in}
 
 -- all bytes of the line that is being read, of which these are held
 abbrev pub Holds : Bool → List ℕ → List ℕ → Type 0
@@ -119,12 +119,6 @@ pub keeps_itself : (r : Option (List ℕ)) → Keeps r r
 keeps_itself None = tt
 keeps_itself (Some xs) = refl
 
--- with nothing gathered all is written
-all_written : (w w' : Option (List ℕ)) (text : List ℕ) → Writes w [] w' [] text → Appends w w' text
-all_written None w' text h = tt
-all_written (Some xs) None text h = h
-all_written (Some xs) (Some ys) text h = sym (append-nil ys) ∙ h ∙ ap (λ l. l ++ text) (append-nil xs)
-
 -- at the reader's end what is held has no line feed, as before
 pub no_feed_at_end : (r r' : Option (List ℕ)) (held held' : Held) → HasNoFeed held.rest → Fills r r' held false held' → HasNoFeed held'.rest
 no_feed_at_end r r' held held' n f =
@@ -174,8 +168,8 @@ module _ {S : Type 0} (answers : ℕ → S → List Placed → List ℕ → S �
 
     module _ (r w : Option (List ℕ)) (gathered : List ℕ) (s : S) (held : Held) (p : Progress r w gathered s held) where
       -- every line that was answered stands
-      pub stands_now : AnsweredFirst answers r0 r s0 s
-      stands_now =
+      pub stands_now : (w' : Option (List ℕ)) → WritesBeginning w w' (gathered ++ []) → AnsweredFirst answers r0 r w0 w' s0 s
+      stands_now w' h =
           let l = split_lines p.part in
           record {
             bytes = flat_map ended p.lines ++ p.part;
@@ -188,6 +182,7 @@ module _ {S : Type 0} (answers : ℕ → S → List Placed → List ℕ → S �
             are_lines = lines_before p.lines p.part l.lines l.rest p.lines_have_none l.are;
             parted = append_assoc p.lines l.lines (l.rest ∷ []);
             answers_lines = p.answers_lines;
+            wrote = fails_in w0 w w' [] gathered p.text p.wrote h;
           }
 
       pub sent : (w' : Option (List ℕ)) (gathered' : List ℕ) → Writes w gathered w' gathered' [] → Progress r w' gathered' s held
@@ -254,9 +249,9 @@ module _ {S : Type 0} (answers : ℕ → S → List Placed → List ℕ → S �
               wrote = writes_both w0 w w' [] gathered gathered' p.text a.0 p.wrote a.2;
             }
 
-        -- the line was carried out, though the answer wasn't written
-        pub stands_after : (wrote : List ℕ → Type 0) → IsAnswered s s' held.overlong line wrote → AnsweredFirst answers r0 r s0 s'
-        stands_after wrote f =
+        -- the line was carried out, though not all of the answer was written
+        pub stands_after : (w' : Option (List ℕ)) → IsAnswered s s' held.overlong line (λ text. WritesBeginning w w' (gathered ++ text)) → AnsweredFirst answers r0 r w0 w' s0 s'
+        stands_after w' f =
             let h = next_whole in
             let a = f h.whole h.is_rest in
             let l = split_lines rest in
@@ -271,6 +266,7 @@ module _ {S : Type 0} (answers : ℕ → S → List Placed → List ℕ → S �
               are_lines = lines_before (p.lines ++ h.whole ∷ []) rest l.lines l.rest (lines_more p.lines h.whole p.lines_have_none h.no_feed) l.are;
               parted = append_assoc (p.lines ++ h.whole ∷ []) l.lines (l.rest ∷ []);
               answers_lines = lines_next s0 p.lines p.text s h.whole a.0 s' p.answers_lines a.1;
+              wrote = fails_behind w0 w w' [] gathered p.text a.0 p.wrote a.2;
             }
 
       module _ (no_feed : HasNoFeed held.rest) (s' : S) where
@@ -299,8 +295,8 @@ module _ {S : Type 0} (answers : ℕ → S → List Placed → List ℕ → S �
               wrote = all_written w0 w'' text (subst (λ g. Writes w0 [] w'' g text) e two);
             }
 
-        pub stands_last : (wrote : List ℕ → Type 0) → IsAnswered s s' held.overlong held.rest wrote → AnsweredFirst answers r0 r s0 s'
-        stands_last wrote f =
+        pub stands_last : (w' : Option (List ℕ)) → IsAnswered s s' held.overlong held.rest (λ text. WritesBeginning w w' (gathered ++ text)) → AnsweredFirst answers r0 r w0 w' s0 s'
+        stands_last w' f =
             let a = f p.part last_whole.is_rest in
             record {
               bytes = flat_map ended p.lines ++ p.part;
@@ -313,4 +309,5 @@ module _ {S : Type 0} (answers : ℕ → S → List Placed → List ℕ → S �
               are_lines = last_are;
               parted = sym (append-nil (p.lines ++ p.part ∷ []));
               answers_lines = lines_next s0 p.lines p.text s p.part a.0 s' p.answers_lines a.1;
+              wrote = fails_behind w0 w w' [] gathered p.text a.0 p.wrote a.2;
             }

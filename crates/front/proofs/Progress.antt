@@ -10,7 +10,6 @@ use Rattle.key_class.specs.declared.refusal.Refusal.TheVariants as refusal
 use Rattle.store.specs.States.{State, new_state}
 use Rattle.query_text.specs.Tokens.{Placed}
 use Rattle.query_text.specs.Keys.{Reading}
-use Rattle.front.specs.declared.line_buffer.TheConstants.{MAX_LINE}
 use Rattle.front.specs.declared.reply.Reply.{Reply}
 use Rattle.front.specs.declared.reply.Reply.TheVariants as reply
 use Rattle.front.specs.Replies.{refusal_line}
@@ -83,9 +82,9 @@ module _ {K A : Type 0} (key_at : ℕ → List Placed → Reading K) (atom_of : 
 
     tells_line : (old : State K A) (line text : List ℕ) (new : State K A) (told : Told K A) → conversations.AnswersLine Carries old line text new → IsAsTold matching old told → TellsLine old line text new told
     tells_line old line text new told (inl h) t = record {
-      said = Some (reply.Refused (refusal.Line MAX_LINE));
+      said = Some (reply.Refused (refusal.Line 4096));
       after = told;
-      is_text = h.1 ∙ sym (append-nil (refusal_line (refusal.Line MAX_LINE)));
+      is_text = h.1 ∙ sym (append-nil (refusal_line (refusal.Line 4096)));
       pages = omega (arith, ap (λ (s : State K A). s.pages_left) h.2);
       replies = inl (h.0, refl, refl);
       as_told = subst (λ (s : State K A). IsAsTold matching s told) (sym h.2) t;
@@ -137,7 +136,7 @@ module _ {K A : Type 0} (key_at : ℕ → List Placed → Reading K) (atom_of : 
           let t = tells old a.lines a.text new (nothing_told old.limit) a.answers_lines (new_as_told matching old is_new) in
           record { bytes = a.bytes; lines = a.lines; rest = a.rest; text = a.text; told = t.after; read = a.read; are_lines = a.are_lines; answers = t.answers new.pages_left (omega arith); wrote = a.wrote; as_told = t.as_told }
 
-      pub told_first : conversations.AnsweredFirst Carries r0 r old new → Stands key_at atom_of matching new.pages_left key_text r0 r old.limit new
+      pub told_first : conversations.AnsweredFirst Carries r0 r w0 w old new → Stands key_at atom_of matching new.pages_left key_text r0 r w0 w old.limit new
       told_first a =
           let t = tells old a.first a.text new (nothing_told old.limit) a.answers_lines (new_as_told matching old is_new) in
           record {
@@ -152,5 +151,6 @@ module _ {K A : Type 0} (key_at : ℕ → List Placed → Reading K) (atom_of : 
             are_lines = a.are_lines;
             parted = a.parted;
             answers = t.answers new.pages_left (omega arith);
+            wrote = a.wrote;
             as_told = t.as_told;
           }

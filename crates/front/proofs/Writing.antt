@@ -1,20 +1,77 @@
--- Answers that are gathered, one behind the other.
-use Rattle.std.proofs.Common.{◌≡◌, ◌+◌, ◌<◌, ℕ, suc, zero, List, [], ◌∷◌, ◌++◌, length, get_or, take, Option, Some, None, arith, sym, ap, ◌∙◌, subst, append_assoc}
+-- Answers that are gathered, one behind the other, and written.
+use Rattle.std.proofs.Common.{◌≡◌, ◌+◌, ◌<◌, ℕ, suc, zero, List, [], ◌∷◌, ◌++◌, length, get_or, take, drop, Option, Result, Ok, Err, arith, refl, sym, ap, ◌∙◌, subst, append_assoc, take-append-drop}
 use Rattle.std.specs.List.{flat_map}
-use Rattle.std.proofs.KnownBytes.{Appends-trans}
+use Rattle.std.specs.Result.{IsErr}
+use Rattle.std.specs.Io.KnownBytes.{Appends, Keeps}
+use Rattle.std.proofs.KnownBytes.{Appends-nil, Appends-trans, Appends-kept}
 use Rattle.std.proofs.lemmas.List.{append-nil}
-use Rattle.front.specs.Written.{written, Writes}
+use Rattle.front.specs.Written.{WritesAllBut, WritesBeginning, Writes, WritesOrFails}
+
+-- nothing is written yet
+pub none_written : (w : Option (List ℕ)) (bytes : List ℕ) → WritesAllBut w w bytes bytes
+none_written w bytes = ([], Appends-nil w, refl)
+
+-- some more of the bytes was written
+pub more_written : (w0 w1 w2 : Option (List ℕ)) (bytes rest : List ℕ) (n : ℕ) → WritesAllBut w0 w1 bytes rest → Appends w1 w2 (take n rest) → WritesAllBut w0 w2 bytes (drop n rest)
+more_written w0 w1 w2 bytes rest n a h = (
+  a.0 ++ take n rest,
+  Appends-trans w0 w1 w2 a.0 (take n rest) a.1 h,
+  a.2 ∙ ap (λ l. a.0 ++ l) (sym (take-append-drop n rest)) ∙ sym (append_assoc a.0 (take n rest) (drop n rest)),
+)
+
+pub still_written : (w0 w1 w2 : Option (List ℕ)) (bytes rest : List ℕ) → WritesAllBut w0 w1 bytes rest → Keeps w1 w2 → WritesAllBut w0 w2 bytes rest
+still_written w0 w1 w2 bytes rest a h = (a.0, Appends-kept w0 w1 w2 a.0 a.1 h, a.2)
+
+pub all_written : (w0 w1 : Option (List ℕ)) (bytes : List ℕ) → WritesAllBut w0 w1 bytes [] → Appends w0 w1 bytes
+all_written w0 w1 bytes a = subst (λ l. Appends w0 w1 l) (sym (a.2 ∙ append-nil a.0)) a.1
+
+-- a beginning of a beginning
+pub beginning_of : (w0 w1 : Option (List ℕ)) (bytes more : List ℕ) → WritesBeginning w0 w1 bytes → WritesBeginning w0 w1 (bytes ++ more)
+beginning_of w0 w1 bytes more a = (a.0 ++ more, (a.1.0, a.1.1, ap (λ l. l ++ more) a.1.2 ∙ append_assoc a.1.0 a.0 more))
 
 -- what is gathered comes behind what the writer holds
-pub gathers : (contents : Option (List ℕ)) (xs ys text : List ℕ) → ys ≡ xs ++ text → Writes contents xs contents ys text
-gathers None xs ys text e = tt
-gathers (Some zs) xs ys text e = ap (λ l. zs ++ l) e ∙ sym (append_assoc zs xs text)
+pub gathers : (w : Option (List ℕ)) (xs ys text : List ℕ) → ys ≡ xs ++ text → Writes w xs w ys text
+gathers w xs ys text e = ([], Appends-nil w, sym e)
 
-pub writes_both : (c0 c1 c2 : Option (List ℕ)) (g0 g1 g2 text more : List ℕ) → Writes c0 g0 c1 g1 text → Writes c1 g1 c2 g2 more → Writes c0 g0 c2 g2 (text ++ more)
-writes_both c0 c1 c2 g0 g1 g2 text more a b = Appends-trans (written c0 g0) (written c1 g1) (written c2 g2) text more a b
+-- all that was gathered is sent
+pub sends : (w0 w1 : Option (List ℕ)) (xs ys : List ℕ) → Appends w0 w1 xs → ys ≡ [] → Writes w0 xs w1 ys []
+sends w0 w1 xs ys a e = (xs, a, ap (λ l. xs ++ l) (sym e))
 
-pub writes_then_nothing : (c0 c1 c2 : Option (List ℕ)) (g0 g1 g2 text : List ℕ) → Writes c0 g0 c1 g1 text → Writes c1 g1 c2 g2 [] → Writes c0 g0 c2 g2 text
-writes_then_nothing c0 c1 c2 g0 g1 g2 text a b = subst (λ t. Writes c0 g0 c2 g2 t) (append-nil text) (writes_both c0 c1 c2 g0 g1 g2 text [] a b)
+pub writes_both : (w0 w1 w2 : Option (List ℕ)) (g0 g1 g2 text more : List ℕ) → Writes w0 g0 w1 g1 text → Writes w1 g1 w2 g2 more → Writes w0 g0 w2 g2 (text ++ more)
+writes_both w0 w1 w2 g0 g1 g2 text more a b = (
+  a.0 ++ b.0,
+  Appends-trans w0 w1 w2 a.0 b.0 a.1 b.1,
+  sym (append_assoc g0 text more) ∙ ap (λ l. l ++ more) a.2 ∙ append_assoc a.0 g1 more ∙ ap (λ l. a.0 ++ l) b.2 ∙ sym (append_assoc a.0 b.0 g2),
+)
+
+pub writes_then_nothing : (w0 w1 w2 : Option (List ℕ)) (g0 g1 g2 text : List ℕ) → Writes w0 g0 w1 g1 text → Writes w1 g1 w2 g2 [] → Writes w0 g0 w2 g2 text
+writes_then_nothing w0 w1 w2 g0 g1 g2 text a b = subst (λ t. Writes w0 g0 w2 g2 t) (append-nil text) (writes_both w0 w1 w2 g0 g1 g2 text [] a b)
+
+-- the writer failed in what was to come behind the text
+pub fails_behind : (w0 w1 w2 : Option (List ℕ)) (g0 g1 text more : List ℕ) → Writes w0 g0 w1 g1 text → WritesBeginning w1 w2 (g1 ++ more) → WritesBeginning w0 w2 (g0 ++ (text ++ more))
+fails_behind w0 w1 w2 g0 g1 text more a b = (b.0, writes_both w0 w1 w2 g0 g1 b.0 text more a b.1)
+
+-- the writer failed in what was gathered, the text at its end
+pub fails_in : (w0 w1 w2 : Option (List ℕ)) (g0 g1 text : List ℕ) → Writes w0 g0 w1 g1 text → WritesBeginning w1 w2 (g1 ++ []) → WritesBeginning w0 w2 (g0 ++ text)
+fails_in w0 w1 w2 g0 g1 text a b = subst (λ t. WritesBeginning w0 w2 (g0 ++ t)) (append-nil text) (fails_behind w0 w1 w2 g0 g1 text [] a b)
+
+-- where there is a fault, a beginning is all
+pub failed : {E : Type 0} (r : Result (Unit {0}) E) (w0 w1 : Option (List ℕ)) (g0 g1 text : List ℕ) → IsErr r → WritesBeginning w0 w1 (g0 ++ text) → WritesOrFails r w0 g0 w1 g1 text
+failed (Ok done) w0 w1 g0 g1 text e h = absurd (cc)
+failed (Err fault) w0 w1 g0 g1 text e h = h
+
+-- the text was gathered, and then what was gathered was sent, or not all of it
+pub then_sent : {E : Type 0} (r : Result (Unit {0}) E) (w0 w1 w2 : Option (List ℕ)) (g0 g1 g2 text : List ℕ) → Writes w0 g0 w1 g1 text → WritesOrFails r w1 g1 w2 g2 [] → WritesOrFails r w0 g0 w2 g2 text
+then_sent (Ok done) w0 w1 w2 g0 g1 g2 text a h = writes_then_nothing w0 w1 w2 g0 g1 g2 text a h
+then_sent (Err fault) w0 w1 w2 g0 g1 g2 text a h = fails_in w0 w1 w2 g0 g1 text a h
+
+-- a beginning of what was gathered is one of it and more
+pub more_fails : (w0 w1 : Option (List ℕ)) (g more : List ℕ) → WritesBeginning w0 w1 (g ++ []) → WritesBeginning w0 w1 (g ++ more)
+more_fails w0 w1 g more h = subst (λ l. WritesBeginning w0 w1 (l ++ more)) (append-nil g) (beginning_of w0 w1 (g ++ []) more h)
+
+-- the text was not gathered
+pub nothing_taken : (w : Option (List ℕ)) (bytes : List ℕ) → WritesBeginning w w bytes
+nothing_taken w bytes = (bytes, none_written w bytes)
 
 pub flat_map_next : {X : Type 0} (f : X → List ℕ) (xs : List X) (i : ℕ) (x : X) → i < length xs → x ≡ get_or xs i x → flat_map f (take (i + 1) xs) ≡ flat_map f (take i xs) ++ f x
 flat_map_next f [] i x l e = absurd (omega (arith, l))
@@ -22,3 +79,16 @@ flat_map_next f (y ∷ xs) zero x l e = append-nil (f y) ∙ ap f (sym e)
 flat_map_next f (y ∷ xs) (suc i) x l e =
     let s : suc i + 1 ≡ suc (i + 1) = omega arith in
     ap (λ k. flat_map f (take k (y ∷ xs))) s ∙ ap (λ t. f y ++ t) (flat_map_next f xs i x (omega (arith, l)) e) ∙ sym (append_assoc (f y) (flat_map f (take i xs)) (f x))
+
+-- the texts of the first of some things, and those of the others
+pub flat_map_parted : {X : Type 0} (f : X → List ℕ) (xs : List X) (i : ℕ) → flat_map f (take i xs) ++ flat_map f (drop i xs) ≡ flat_map f xs
+flat_map_parted f [] zero = refl
+flat_map_parted f [] (suc i) = refl
+flat_map_parted f (y ∷ xs) zero = refl
+flat_map_parted f (y ∷ xs) (suc i) = append_assoc (f y) (flat_map f (take i xs)) (flat_map f (drop i xs)) ∙ ap (λ t. f y ++ t) (flat_map_parted f xs i)
+
+-- the texts of the first things were written, and the writer failed in those of the others
+pub fails_among : {X : Type 0} (f : X → List ℕ) (xs : List X) (i : ℕ) (w0 w1 w2 : Option (List ℕ)) (g0 g1 : List ℕ) → Writes w0 g0 w1 g1 (flat_map f (take i xs)) → WritesBeginning w1 w2 (g1 ++ flat_map f (drop i xs))
+    → WritesBeginning w0 w2 (g0 ++ flat_map f xs)
+fails_among f xs i w0 w1 w2 g0 g1 a h =
+    subst (λ t. WritesBeginning w0 w2 (g0 ++ t)) (flat_map_parted f xs i) (fails_behind w0 w1 w2 g0 g1 (flat_map f (take i xs)) (flat_map f (drop i xs)) a h)

@@ -3,17 +3,17 @@ use Rattle.std.specs.Prelude.{◌≡◌, ℕ, ◌<◌, ◌≤◌, false, List, [
 use Rattle.std.specs.Io.KnownBytes.{Consumes, Appends}
 use Rattle.key_class.specs.declared.refusal.Refusal.TheVariants as refusal
 use Rattle.query_text.specs.Tokens.{Placed, Cuts}
-use Rattle.front.specs.declared.line_buffer.TheConstants.{MAX_LINE}
 use Rattle.front.specs.Lines.{AreLines}
 use Rattle.front.specs.Replies.{refusal_line}
+use Rattle.front.specs.Written.{WritesBeginning}
 
 -- answers: which text may answer the tokens of a line with so many bytes, in one state, and which state comes of it
 module _ {S : Type 0} (answers : ℕ → S → List Placed → List ℕ → S → Type 0) where
   -- a line that is too long is refused at the first byte too many
   abbrev pub AnswersLine : S → List ℕ → List ℕ → S → Type 0
   AnswersLine old line text new =
-      ((MAX_LINE < length line) × (text ≡ refusal_line (refusal.Line MAX_LINE)) × (new ≡ old))
-      ⊎ ((length line ≤ MAX_LINE) × (ts : List Placed) × Cuts false 0 line ts × answers (length line) old ts text new)
+      ((4096 < length line) × (text ≡ refusal_line (refusal.Line 4096)) × (new ≡ old))
+      ⊎ ((length line ≤ 4096) × (ts : List Placed) × Cuts false 0 line ts × answers (length line) old ts text new)
 
   -- the text may answer the lines, one after the other
   abbrev pub AnswersLines : S → List (List ℕ) → List ℕ → S → Type 0
@@ -43,8 +43,8 @@ module _ {S : Type 0} (answers : ℕ → S → List Placed → List ℕ → S �
     pub answers_lines : AnswersLines old lines text new
     pub wrote : Appends held written text
 
-  -- Some first lines of what was read are answered, whatever of the answers was written.
-  pub record AnsweredFirst (before after : Option (List ℕ)) (old new : S) : Type 0 where
+  -- Some first lines of what was read are answered, and a beginning of their answers was written.
+  pub record AnsweredFirst (before after : Option (List ℕ)) (held written : Option (List ℕ)) (old new : S) : Type 0 where
     pub bytes : List ℕ
     pub lines : List (List ℕ)
     pub rest : List ℕ
@@ -55,3 +55,4 @@ module _ {S : Type 0} (answers : ℕ → S → List Placed → List ℕ → S �
     pub are_lines : AreLines bytes lines rest
     pub parted : lines ++ rest ∷ [] ≡ first ++ others
     pub answers_lines : AnswersLines old first text new
+    pub wrote : WritesBeginning held written text

@@ -10,12 +10,12 @@ use Rattle.query_text.specs.Keys.{Reading}
 use Rattle.query_text.specs.Grammar.{SpellsQuery, RefusesTokens}
 use Rattle.front.specs.declared.reply.Reply.{Reply}
 use Rattle.front.specs.declared.reply.Reply.TheVariants as reply
-use Rattle.front.specs.declared.line_buffer.TheConstants.{MAX_LINE}
 use Rattle.front.specs.Lines.{AreLines}
 use Rattle.front.specs.Requests.{Command, insert_row, delete_row, next_item, ask_mark, close_cursor, open_cursor, find_rows, sweep_all, asked_by, verb_of}
 use Rattle.front.specs.Replies.{text_of}
 use Rattle.front.specs.Told.{Told, nothing_told, RepliesInsert, RepliesDelete, RepliesOpen, RepliesNext, RepliesMark, RepliesFind, RepliesSweep, RepliesClose}
 use Rattle.front.specs.AsTold.{IsAsTold}
+use Rattle.front.specs.Written.{WritesBeginning}
 
 -- what is written of a reply, if there is one
 abbrev pub text_of_answer : {K : Type 0} → (K → List ℕ) → Option (Reply K) → List ℕ
@@ -55,8 +55,8 @@ module _ {K A : Type 0} (key_at : ℕ → List Placed → Reading K) (atom_of : 
     -- a line that is too long is refused at the first byte too many
     abbrev pub RepliesLine : Told K A → List ℕ → Option (Reply K) → Told K A → Type 0
     RepliesLine old line said new =
-        ((MAX_LINE < length line) × (said ≡ Some (reply.Refused (refusal.Line MAX_LINE))) × (new ≡ old))
-        ⊎ ((length line ≤ MAX_LINE) × (ts : List Placed) × Cuts false 0 line ts × RepliesTokens (length line) old ts said new)
+        ((4096 < length line) × (said ≡ Some (reply.Refused (refusal.Line 4096))) × (new ≡ old))
+        ⊎ ((length line ≤ 4096) × (ts : List Placed) × Cuts false 0 line ts × RepliesTokens (length line) old ts said new)
 
     module _ (key_text : K → List ℕ) where
       -- the text may answer the lines, one after the other
@@ -93,8 +93,8 @@ module _ {K A : Type 0} (key_at : ℕ → List Placed → Reading K) (atom_of : 
         pub wrote : Appends held written text
         pub as_told : IsAsTold matching store told
 
-      -- The store is as the answers to some first lines of what was read tell, whatever of them was written.
-      pub record Stands (before after : Option (List ℕ)) (limit : ℕ) (store : State K A) : Type 0 where
+      -- The store is as the answers to some first lines of what was read tell, and a beginning of them was written.
+      pub record Stands (before after : Option (List ℕ)) (held written : Option (List ℕ)) (limit : ℕ) (store : State K A) : Type 0 where
         pub bytes : List ℕ
         pub lines : List (List ℕ)
         pub rest : List ℕ
@@ -106,6 +106,7 @@ module _ {K A : Type 0} (key_at : ℕ → List Placed → Reading K) (atom_of : 
         pub are_lines : AreLines bytes lines rest
         pub parted : lines ++ rest ∷ [] ≡ first ++ others
         pub answers : Answers (nothing_told limit) first text told
+        pub wrote : WritesBeginning held written text
         pub as_told : IsAsTold matching store told
 
 module _ {K A : Type 0} (key_at : ℕ → List Placed → Reading K) (atom_of : Rel → K → A) (matching : A → K → Bool) (key_text : K → List ℕ) where

@@ -1,10 +1,20 @@
--- What a session has written: what the writer holds, and then the answers that are gathered for it.
-use Rattle.std.specs.Prelude.{ℕ, List, Option}
-use Rattle.std.specs.Io.KnownBytes.{append_known, Appends}
+-- What a session writes: some of it its writer took, the rest is gathered for the writer.
+use Rattle.std.specs.Prelude.{◌≡◌, ℕ, List, ◌++◌, Option, Result, Ok, Err}
+use Rattle.std.specs.Io.KnownBytes.{Appends}
 
-abbrev pub written : Option (List ℕ) → List ℕ → Option (List ℕ)
-written contents gathered = append_known contents gathered
+-- the writer took these bytes in their order, all but the rest
+abbrev pub WritesAllBut : Option (List ℕ) → Option (List ℕ) → List ℕ → List ℕ → Type 0
+WritesAllBut held written bytes rest = (taken : List ℕ) × Appends held written taken × (bytes ≡ taken ++ rest)
 
--- these bytes came behind what was written
+-- the writer took a beginning of these bytes, and nothing else
+abbrev pub WritesBeginning : Option (List ℕ) → Option (List ℕ) → List ℕ → Type 0
+WritesBeginning held written bytes = (rest : List ℕ) × WritesAllBut held written bytes rest
+
+-- the text came behind what was gathered, and of both the writer took all but what is gathered now
 abbrev pub Writes : Option (List ℕ) → List ℕ → Option (List ℕ) → List ℕ → List ℕ → Type 0
-Writes contents gathered contents' gathered' text = Appends (written contents gathered) (written contents' gathered') text
+Writes held gathered written gathered' text = WritesAllBut held written (gathered ++ text) gathered'
+
+-- the text is written so; or there is a fault, and of what was gathered and the text the writer took a beginning
+abbrev pub WritesOrFails : {E : Type 0} → Result (Unit {0}) E → Option (List ℕ) → List ℕ → Option (List ℕ) → List ℕ → List ℕ → Type 0
+WritesOrFails (Ok done) held gathered written gathered' text = Writes held gathered written gathered' text
+WritesOrFails (Err fault) held gathered written gathered' text = WritesBeginning held written (gathered ++ text)

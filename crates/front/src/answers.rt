@@ -3,13 +3,13 @@ ghost use Rattle.std.specs.List.{flat_map};
 ghost use Rattle.std.specs.Fmt.{decimal};
 ghost use Rattle.front.specs.Replies.{row_text, row_line, item_line, refusal_line, first_line, listed, text_of};
 ghost use Rattle.std.specs.Io.KnownBytes.{Appends};
-ghost use Rattle.front.specs.Written.{Writes};
+ghost use Rattle.front.specs.Written.{WritesBeginning, WritesOrFails};
 
 use crate::reply::Reply;
 use change_list::{Item, Row};
 use key_class::{Fault, Refusal};
 use query_text::ClassText;
-use std::io::{self, Write};
+use std::io::{self, ErrorKind, Write};
 
 /// How many bytes of answers are gathered before they are written.
 const GATHERED: usize = 512;
@@ -17,27 +17,50 @@ const GATHERED: usize = 512;
 /// The room for gathered answers and one line more, which has at most 443 bytes.
 pub const ANSWERS: usize = 1_024;
 
+/// Writes bytes, and goes on where a signal came between.
+///
+/// # Errors
+/// `Write` where the writer failed. It took a beginning of the bytes, and is given no more.
+fn write_out<W: Write>(writer: &mut W, bytes: &[u8]) -> Result<(), Fault>
+    ensures ok { OnOk result (Appends (W.contents writer.old) (W.contents writer.new) bytes.now) }
+    ensures part { OnErr result (WritesBeginning (W.contents writer.old) (W.contents writer.new) bytes.now) }
+    ensures err { IfErr result (λ e. e ≡ Fault.Write) }
+{
+    let mut rest = bytes;
+    'writing: for _ in 0..u64::MAX {
+        if rest.is_empty() {
+            return Ok(());
+        }
+        match writer.write(rest) {
+            Ok(0) => return Err(Fault::Write),
+            Ok(count) => rest = &rest[count..],
+            Err(error) => {
+                if error.kind() != ErrorKind::Interrupted {
+                    return Err(Fault::Write);
+                }
+            }
+        }
+    }
+    Err(Fault::Write)
+}
+
 /// Writes what was gathered.
 ///
 /// # Errors
-/// `Write` where the writer failed; it may hold the beginning.
+/// `Write` where the writer failed. It took a beginning, and is given no more.
 pub fn send<W: Write>(writer: &mut W, gathered: &mut Vec<u8>) -> Result<(), Fault>
-    ensures ok { OnOk result (Writes (W.contents writer.old) gathered.old.items (W.contents writer.new) gathered.new.items []) }
+    ensures written { WritesOrFails result (W.contents writer.old) gathered.old.items (W.contents writer.new) gathered.new.items [] }
     ensures empty { OnOk result (gathered.new.items ≡ []) }
     ensures err { IfErr result (λ e. e ≡ Fault.Write) }
 {
-    match writer.write_all(gathered.as_slice()) {
-        Ok(()) => {
-            gathered.clear();
-            Ok(())
-        }
-        Err(_) => Err(Fault::Write),
-    }
+    write_out(writer, gathered.as_slice())?;
+    gathered.clear();
+    Ok(())
 }
 
 /// Writes what was gathered, once it is enough.
 pub fn send_enough<W: Write>(writer: &mut W, gathered: &mut Vec<u8>) -> Result<(), Fault>
-    ensures ok { OnOk result (Writes (W.contents writer.old) gathered.old.items (W.contents writer.new) gathered.new.items []) }
+    ensures written { WritesOrFails result (W.contents writer.old) gathered.old.items (W.contents writer.new) gathered.new.items [] }
     ensures err { IfErr result (λ e. e ≡ Fault.Write) }
 {
     if gathered.len() < GATHERED {
@@ -91,7 +114,7 @@ fn write_rows<C: ClassText, W: Write>(
     gathered: &mut Vec<u8>,
     rows: &[Row<C::Key>],
 ) -> Result<(), Fault>
-    ensures ok { OnOk result (Writes (W.contents writer.old) gathered.old.items (W.contents writer.new) gathered.new.items (flat_map (row_line C.key_text) rows.now)) }
+    ensures written { WritesOrFails result (W.contents writer.old) gathered.old.items (W.contents writer.new) gathered.new.items (flat_map (row_line C.key_text) rows.now) }
     ensures err { IfErr result (λ e. e ≡ Fault.Write) }
 {
     for row in rows {
@@ -113,13 +136,13 @@ pub fn write_refusal<W: Write>(why: Refusal, writer: &mut W) -> io::Result<()>
 /// Writes a refusal, behind the answers that are gathered.
 ///
 /// # Errors
-/// `Write` where the writer failed, or the gathered answers found no memory; the writer may hold the beginning.
+/// `Write` where the writer failed, or the gathered answers found no memory. The writer took a beginning of them.
 pub fn gather_refusal<W: Write>(
     why: Refusal,
     writer: &mut W,
     gathered: &mut Vec<u8>,
 ) -> Result<(), Fault>
-    ensures ok { OnOk result (Writes (W.contents writer.old) gathered.old.items (W.contents writer.new) gathered.new.items (refusal_line why)) }
+    ensures written { WritesOrFails result (W.contents writer.old) gathered.old.items (W.contents writer.new) gathered.new.items (refusal_line why) }
     ensures err { IfErr result (λ e. e ≡ Fault.Write) }
 {
     match write_refusal(why, gathered) {
@@ -161,13 +184,13 @@ fn rows_of<K>(reply: &Reply<K>) -> &[Row<K>]
 /// Writes the lines of a reply, behind the answers that are gathered.
 ///
 /// # Errors
-/// `Write` where the writer failed, or the gathered answers found no memory; the writer may hold the beginning.
+/// `Write` where the writer failed, or the gathered answers found no memory. The writer took a beginning of them.
 pub fn write_reply<C: ClassText, W: Write>(
     writer: &mut W,
     gathered: &mut Vec<u8>,
     reply: &Reply<C::Key>,
 ) -> Result<(), Fault>
-    ensures ok { OnOk result (Writes (W.contents writer.old) gathered.old.items (W.contents writer.new) gathered.new.items (text_of C.key_text reply.now)) }
+    ensures written { WritesOrFails result (W.contents writer.old) gathered.old.items (W.contents writer.new) gathered.new.items (text_of C.key_text reply.now) }
     ensures err { IfErr result (λ e. e ≡ Fault.Write) }
 {
     match write_line::<C, Vec<u8>>(reply, gathered) {

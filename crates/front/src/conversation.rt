@@ -4,7 +4,7 @@ ghost use Rattle.std.specs.Io.KnownBytes.{IsAtEnd};
 ghost use Rattle.query_text.specs.Tokens.{Placed, placed};
 ghost use Rattle.front.specs.Conversations.{AnswersLine, AnsweredAll, AnsweredWhole, AnsweredFirst};
 ghost use Rattle.front.specs.Held.{IsRestOf};
-ghost use Rattle.front.specs.Written.{Writes};
+ghost use Rattle.front.specs.Written.{WritesOrFails};
 
 use crate::answers::{ANSWERS, gather_refusal, send};
 use crate::line_buffer::{LineBuffer, MAX_LINE};
@@ -30,7 +30,7 @@ pub trait Responder {
         writer: &mut W,
         gathered: &mut Vec<u8>,
     ) -> Result<(), Fault>
-        ensures answers { (said : List ℕ) × answers (length text.now) self.old (placed text.now lexemes.now) said self.new × OnOk result (Writes (W.contents writer.old) gathered.old.items (W.contents writer.new) gathered.new.items said) }
+        ensures answers { (said : List ℕ) × answers (length text.now) self.old (placed text.now lexemes.now) said self.new × WritesOrFails result (W.contents writer.old) gathered.old.items (W.contents writer.new) gathered.new.items said }
         ensures err { IfErr result (λ e. e ≡ Fault.Write) };
 }
 
@@ -44,10 +44,10 @@ fn answer_line<S: Responder, W: Write>(
     writer: &mut W,
     gathered: &mut Vec<u8>,
 ) -> Result<(), Fault>
-    requires { MAX_LINE ≤ vec_capacity lexemes.old }
+    requires { 4096 ≤ vec_capacity lexemes.old }
     ensures answers { (whole : List ℕ) → IsRestOf overlong whole line.now
-        → (said : List ℕ) × AnswersLine S.answers responder.old whole said responder.new × OnOk result (Writes (W.contents writer.old) gathered.old.items (W.contents writer.new) gathered.new.items said) }
-    ensures capacity { MAX_LINE ≤ vec_capacity lexemes.new }
+        → (said : List ℕ) × AnswersLine S.answers responder.old whole said responder.new × WritesOrFails result (W.contents writer.old) gathered.old.items (W.contents writer.new) gathered.new.items said }
+    ensures capacity { 4096 ≤ vec_capacity lexemes.new }
     ensures err { IfErr result (λ e. e ≡ Fault.Write) }
 {
     if overlong || line.len() > MAX_LINE {
@@ -65,7 +65,8 @@ fn answer_line<S: Responder, W: Write>(
 ///
 /// # Errors
 /// `OutOfMemory` where a buffer found no memory at the start; nothing was read then. `Read` where the reader failed: the
-/// whole lines before that were answered. `Write` where the writer failed: some first lines were carried out.
+/// whole lines before that were answered. `Write` where the writer failed: some first lines were carried out, and a
+/// beginning of their answers was written.
 pub fn converse<S: Responder, R: Read, W: Write>(
     alloc: Global,
     reader: &mut R,
@@ -74,7 +75,7 @@ pub fn converse<S: Responder, R: Read, W: Write>(
 ) -> Result<(), Fault>
     ensures ok { OnOk result (IsAtEnd (R.remaining reader.new) × AnsweredAll S.answers (R.remaining reader.old) (R.remaining reader.new) (W.contents writer.old) (W.contents writer.new) responder.old responder.new) }
     ensures read { result ≡ Err Fault.Read → AnsweredWhole S.answers (R.remaining reader.old) (R.remaining reader.new) (W.contents writer.old) (W.contents writer.new) responder.old responder.new }
-    ensures write { result ≡ Err Fault.Write → AnsweredFirst S.answers (R.remaining reader.old) (R.remaining reader.new) responder.old responder.new }
+    ensures write { result ≡ Err Fault.Write → AnsweredFirst S.answers (R.remaining reader.old) (R.remaining reader.new) (W.contents writer.old) (W.contents writer.new) responder.old responder.new }
     ensures memory { result ≡ Err Fault.OutOfMemory → (reader.new ≡ reader.old) × (writer.new ≡ writer.old) × (responder.new ≡ responder.old) }
     ensures faults { IfErr result (λ e. (e ≡ Fault.OutOfMemory) ⊎ (e ≡ Fault.Read) ⊎ (e ≡ Fault.Write)) }
 {

@@ -2,7 +2,7 @@
 ghost use Rattle.std.specs.Prelude.{◌≡◌, OnOk, IfErr};
 ghost use Rattle.std.specs.Io.KnownBytes.{Appends};
 ghost use Rattle.front.specs.EventReplies.{reply_line};
-ghost use Rattle.front.specs.Written.{Writes};
+ghost use Rattle.front.specs.Written.{WritesOrFails};
 
 use crate::answers::{send_enough, write_item, write_refusal};
 use key_class::Fault;
@@ -46,13 +46,13 @@ fn write_line<C: ClassText, O: Outlet<C::Key>, W: Write>(
 /// Writes the line of a reply, behind the answers that are gathered.
 ///
 /// # Errors
-/// `Write` where the writer failed, or the gathered answers found no memory; the writer may hold the beginning.
+/// `Write` where the writer failed, or the gathered answers found no memory. The writer took a beginning of them.
 pub fn write_event_reply<C: ClassText, O: Outlet<C::Key>, W: Write>(
     writer: &mut W,
     gathered: &mut Vec<u8>,
     reply: &Reply<C, O>,
 ) -> Result<(), Fault>
-    ensures ok { OnOk result (Writes (W.contents writer.old) gathered.old.items (W.contents writer.new) gathered.new.items (reply_line C.key_text reply.now)) }
+    ensures written { WritesOrFails result (W.contents writer.old) gathered.old.items (W.contents writer.new) gathered.new.items (reply_line C.key_text reply.now) }
     ensures err { IfErr result (λ e. e ≡ Fault.Write) }
 {
     match write_line::<C, O, Vec<u8>>(reply, gathered) {

@@ -123,7 +123,8 @@ impl<C: ClassText> Responder for World<C, Tray<C::Key>> {
 ///
 /// # Errors
 /// `OutOfMemory` where a buffer found no memory at the start; nothing was read then. `Read` where the reader failed: the
-/// whole lines before that were answered. `Write` where the writer failed: the events of some first lines stand.
+/// whole lines before that were answered. `Write` where the writer failed: the events of some first lines stand, and a
+/// beginning of their answers was written.
 pub fn replay<C: ClassText, R: Read, W: Write>(
     alloc: Global,
     reader: &mut R,
@@ -132,7 +133,7 @@ pub fn replay<C: ClassText, R: Read, W: Write>(
 ) -> Result<(), Fault>
     ensures ok { OnOk result (IsAtEnd (R.remaining reader.new) × AnsweredAll (AnswersTokens C C.key_at C.atom_of C.key_text (tray_words C.is_match C.is_consistent C.is_cover C.union_of)) (R.remaining reader.old) (R.remaining reader.new) (W.contents writer.old) (W.contents writer.new) world.old world.new) }
     ensures read { result ≡ Err Fault.Read → AnsweredWhole (AnswersTokens C C.key_at C.atom_of C.key_text (tray_words C.is_match C.is_consistent C.is_cover C.union_of)) (R.remaining reader.old) (R.remaining reader.new) (W.contents writer.old) (W.contents writer.new) world.old world.new }
-    ensures write { result ≡ Err Fault.Write → AnsweredFirst (AnswersTokens C C.key_at C.atom_of C.key_text (tray_words C.is_match C.is_consistent C.is_cover C.union_of)) (R.remaining reader.old) (R.remaining reader.new) world.old world.new }
+    ensures write { result ≡ Err Fault.Write → AnsweredFirst (AnswersTokens C C.key_at C.atom_of C.key_text (tray_words C.is_match C.is_consistent C.is_cover C.union_of)) (R.remaining reader.old) (R.remaining reader.new) (W.contents writer.old) (W.contents writer.new) world.old world.new }
     ensures memory { result ≡ Err Fault.OutOfMemory → (reader.new ≡ reader.old) × (writer.new ≡ writer.old) × (world.new ≡ world.old) }
     ensures faults { IfErr result (λ e. (e ≡ Fault.OutOfMemory) ⊎ (e ≡ Fault.Read) ⊎ (e ≡ Fault.Write)) }
 {

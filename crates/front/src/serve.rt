@@ -117,7 +117,8 @@ impl<C: ClassText> Responder for Store<C> {
 ///
 /// # Errors
 /// `OutOfMemory` where a buffer found no memory at the start; nothing was read then. `Read` where the reader failed: the
-/// whole lines before that were answered. `Write` where the writer failed: the commands of some first lines stand.
+/// whole lines before that were answered. `Write` where the writer failed: the commands of some first lines stand, and a
+/// beginning of their answers was written.
 pub fn session<C: ClassText, R: Read, W: Write>(
     alloc: Global,
     reader: &mut R,
@@ -127,7 +128,7 @@ pub fn session<C: ClassText, R: Read, W: Write>(
     requires { (config : Config) × (store.old ≡ new_state config) }
     ensures ok { OnOk result (IsAtEnd (R.remaining reader.new) × AnsweredAll C.key_at C.atom_of C.is_match store.new.pages_left C.key_text (R.remaining reader.old) (R.remaining reader.new) (W.contents writer.old) (W.contents writer.new) store.old.limit store.new) }
     ensures read { result ≡ Err Fault.Read → AnsweredWhole C.key_at C.atom_of C.is_match store.new.pages_left C.key_text (R.remaining reader.old) (R.remaining reader.new) (W.contents writer.old) (W.contents writer.new) store.old.limit store.new }
-    ensures write { result ≡ Err Fault.Write → Stands C.key_at C.atom_of C.is_match store.new.pages_left C.key_text (R.remaining reader.old) (R.remaining reader.new) store.old.limit store.new }
+    ensures write { result ≡ Err Fault.Write → Stands C.key_at C.atom_of C.is_match store.new.pages_left C.key_text (R.remaining reader.old) (R.remaining reader.new) (W.contents writer.old) (W.contents writer.new) store.old.limit store.new }
     ensures memory { result ≡ Err Fault.OutOfMemory → (reader.new ≡ reader.old) × (writer.new ≡ writer.old) × (store.new ≡ store.old) }
     ensures faults { IfErr result (λ e. (e ≡ Fault.OutOfMemory) ⊎ (e ≡ Fault.Read) ⊎ (e ≡ Fault.Write)) }
 {

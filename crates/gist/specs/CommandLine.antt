@@ -7,6 +7,7 @@ use Rattle.clap.specs.Words.{App, Row, Rule, Text, first_of, one_of, new_app, ne
 use Rattle.clap.specs.declared.builder.ValueParser.{ValueParser}
 use Rattle.clap.specs.declared.builder.ValueParser.TheVariants as parser
 use Rattle.clap.specs.declared.error.ErrorKind.{ErrorKind}
+use Rattle.clap.specs.declared.error.ErrorKind.TheVariants as kind
 use Rattle.gist.specs.Spelling.{AreOptions, IsStoreCommand, SpellsNumber, SpellsOptions, SpellsPlainly, value_of}
 use Rattle.gist.specs.declared.options.Class.{Class}
 use Rattle.gist.specs.declared.options.Class.TheVariants as classes
@@ -95,3 +96,7 @@ pub record AreWellFormed (words : List Text) : Type 0 where
 -- the words are refused, or ask for help, with an error of this kind
 abbrev pub Refuses : List Text → ErrorKind → Type 0
 Refuses words kind = (line : App) × IsGistLine line × IsAmong kind (fault_of line words)
+
+-- the words give no settings, and don't ask for help
+abbrev pub NameNothing : List Text → Type 0
+NameNothing words = ((settings : Settings) → ¬ Gives words settings) × (¬ Refuses words kind.DisplayHelp)

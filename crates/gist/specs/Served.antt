@@ -1,9 +1,10 @@
 -- What a program that ended well did.
-use Rattle.std.specs.Prelude.{ℕ, List, Option}
+use Rattle.std.specs.Prelude.{ℕ, List, Option, Bool}
 use Rattle.std.specs.Io.KnownBytes.{IsAtEnd}
 use Rattle.change_list.specs.Configs.{IsWithinLimits}
 use Rattle.change_list.specs.declared.config.Config.{Config}
-use Rattle.store.specs.States.{State}
+use Rattle.key_class.specs.declared.sides.Rel.{Rel}
+use Rattle.store.specs.States.{State, new_state}
 use Rattle.world.specs.States.{State as World, new_state as new_world}
 use Rattle.interval_class.specs.declared.class.Intervals.{Intervals}
 use Rattle.interval_class.specs.declared.interval.Interval.{Interval}
@@ -17,6 +18,8 @@ use Rattle.set_class.specs.declared.class.Sets.{Sets}
 use Rattle.set_class.specs.declared.elements.Elements.{Elements}
 use Rattle.set_class.specs.declared.atom.Atom.{Atom as SetAtom}
 use Rattle.set_class.specs.Sets.{matches_atom as matches_set, may_match_atom as may_match_set, is_cover as covers_set, union_of as union_of_sets}
+use Rattle.query_text.specs.Tokens.{Placed}
+use Rattle.query_text.specs.Keys.{Reading}
 use Rattle.query_text.specs.IntervalTexts.{interval_at, interval_text, atom_of as interval_atom}
 use Rattle.query_text.specs.BoxTexts.{box_at, box_text, atom_of as box_atom}
 use Rattle.query_text.specs.SetTexts.{set_at, set_text, atom_of as set_atom}
@@ -24,6 +27,8 @@ use Rattle.front.specs.Sessions.{AnsweredAll}
 use Rattle.front.specs.Conversations.{AnsweredAll as EventsAnswered}
 use Rattle.front.specs.Replays.{AnswersTokens}
 use Rattle.world.specs.Trays.{tray_words}
+use Rattle.clap.specs.Words.{Text}
+use Rattle.gist.specs.CommandLine.{AreWellFormed, Gives}
 use Rattle.gist.specs.declared.options.Class.{Class}
 use Rattle.gist.specs.declared.options.Class.TheVariants as classes
 use Rattle.gist.specs.declared.options.StoreOptions.{StoreOptions}
@@ -36,15 +41,20 @@ limits_of options = record { fan = options.fan; least = options.least; pages = 6
 
 -- `before` and `after` are what the reader had and has, `held` and `written` what the writer had and has.
 module _ (before after held written : Option (List ℕ)) where
-  -- All bytes of the reader were lines of a session over a new store, and what was written answers them.
-  abbrev pub AnswersSession : Class → ℕ → Type 0
-  AnswersSession classes.Interval commits = (pages : ℕ) × (store : State Interval IntervalAtom) × AnsweredAll interval_at interval_atom matches_interval pages interval_text before after held written commits store
-  AnswersSession classes.Box commits = (pages : ℕ) × (store : State BoxKey BoxAtom) × AnsweredAll box_at box_atom matches_box pages box_text before after held written commits store
-  AnswersSession classes.Set commits = (pages : ℕ) × (store : State Elements SetAtom) × AnsweredAll set_at set_atom matches_set pages set_text before after held written commits store
+  -- All bytes of the reader were lines of a session over this store, and what was written answers them. At the end the
+  -- store is as the answers tell, and has fewer than two pages left if one of them told that pages are wanting.
+  abbrev pub AnsweredOver : {K A : Type 0} → (ℕ → List Placed → Reading K) → (Rel → K → A) → (A → K → Bool) → (K → List ℕ) → State K A → Type 0
+  AnsweredOver {K} {A} key_at atom_of matching key_text store = (last : State K A) × AnsweredAll key_at atom_of matching last.pages_left key_text before after held written store.limit last
+
+  -- the same of a store of the class that is new with these limits
+  abbrev pub AnswersSession : Class → Config → Type 0
+  AnswersSession classes.Interval config = AnsweredOver interval_at interval_atom matches_interval interval_text (new_state config)
+  AnswersSession classes.Box config = AnsweredOver box_at box_atom matches_box box_text (new_state config)
+  AnswersSession classes.Set config = AnsweredOver set_at set_atom matches_set set_text (new_state config)
 
   -- the limits are in their ranges, and a whole session was answered
   abbrev pub Serves : StoreOptions → Type 0
-  Serves options = IsWithinLimits (limits_of options) × IsAtEnd after × AnswersSession options.class (limits_of options).commits
+  Serves options = IsWithinLimits (limits_of options) × IsAtEnd after × AnswersSession options.class (limits_of options)
 
   -- All bytes of the reader were lines of events, which were steps of a new world, and what was written answers them.
   abbrev pub AnswersEvents : Class → Config → Type 0
@@ -65,3 +75,7 @@ module _ (before after held written : Option (List ℕ)) where
 abbrev pub AreOutOfLimits : Settings → Type 0
 AreOutOfLimits (settings.Serve options) = ¬ IsWithinLimits (limits_of options)
 AreOutOfLimits (settings.Replay options) = ¬ IsWithinLimits (limits_of options)
+
+-- the words are well-formed, and the settings that they give name a number outside its range
+abbrev pub NameBadLimits : List Text → Type 0
+NameBadLimits words = AreWellFormed words × ((settings : Settings) → Gives words settings → AreOutOfLimits settings)

@@ -1,17 +1,16 @@
 ghost use Rattle.std.specs.Prelude.{◌≡◌, ◌≢◌, ◌↔◌, ◌⊎◌, ◌<◌, ℕ, List, map, Ok, Err, IfErr};
 ghost use Rattle.std.specs.Io.KnownBytes.{IsAtEnd};
-ghost use Rattle.store.specs.States.{State};
+ghost use Rattle.store.specs.States.{new_state};
 ghost use Rattle.change_list.specs.Configs.{IsWithinLimits};
 ghost use Rattle.world.specs.States.{State as WorldState, new_state as new_world};
-ghost use Rattle.front.specs.Sessions.{AnsweredAll};
 ghost use Rattle.front.specs.Conversations.{AnsweredAll as EventsAnswered};
 ghost use Rattle.front.specs.Replays.{AnswersTokens};
 ghost use Rattle.world.specs.Trays.{tray_words};
 ghost use Rattle.clap.specs.Words.{kind_of};
 ghost use Rattle.clap.specs.declared.error.ErrorKind.{ErrorKind};
 ghost use Rattle.gist.specs.declared.options.Settings.{Settings};
-ghost use Rattle.gist.specs.CommandLine.{AreWellFormed, Gives, Refuses};
-ghost use Rattle.gist.specs.Served.{limits_of, Serves, Replays, Does, AreOutOfLimits};
+ghost use Rattle.gist.specs.CommandLine.{AreWellFormed, NameNothing, Gives, Refuses};
+ghost use Rattle.gist.specs.Served.{limits_of, AnsweredOver, Serves, Replays, Does, AreOutOfLimits, NameBadLimits};
 
 use crate::options::{Class, Settings, StoreOptions};
 use crate::words::settings;
@@ -52,7 +51,8 @@ fn serve_store<C: ClassText, R: Read, W: Write>(
     reader: &mut R,
     writer: &mut W,
 ) -> Result<(), Fault>
-    ensures ok { result ≡ Ok tt → (pages : ℕ) × (store : State C.Key C.Atom) × IsAtEnd (R.remaining reader.new) × AnsweredAll C.key_at C.atom_of C.is_match pages C.key_text (R.remaining reader.old) (R.remaining reader.new) (W.contents writer.old) (W.contents writer.new) config.commits store }
+    ensures at_end { result ≡ Ok tt → IsAtEnd (R.remaining reader.new) }
+    ensures answered { result ≡ Ok tt → AnsweredOver (R.remaining reader.old) (R.remaining reader.new) (W.contents writer.old) (W.contents writer.new) C.key_at C.atom_of C.is_match C.key_text (new_state config) }
     ensures within { result ≡ Ok tt → IsWithinLimits config }
     ensures bad { (result ≡ Err (Fault.Refused Refusal.BadConfig)) ↔ (¬ IsWithinLimits config) }
     ensures unread { ¬ IsWithinLimits config → (reader.new ≡ reader.old) × (writer.new ≡ writer.old) }
@@ -147,6 +147,7 @@ fn run<R: Read, W: Write>(
 fn show<W: Write, E: Write>(error: &Error, writer: &mut W, errors: &mut E) -> u8
     ensures well { result ≡ 0 → (kind_of error.now ≡ ErrorKind.DisplayHelp) × (errors.new ≡ errors.old) }
     ensures wrong { (result ≡ 2) ↔ ((kind_of error.now ≢ ErrorKind.DisplayHelp) × (kind_of error.now ≢ ErrorKind.OutOfMemory)) }
+    ensures memory { kind_of error.now ≡ ErrorKind.OutOfMemory → result ≡ 1 }
     ensures quiet { kind_of error.now ≢ ErrorKind.DisplayHelp → writer.new ≡ writer.old }
     ensures status { result < 3 }
 {
@@ -185,6 +186,8 @@ pub fn command<R: Read, W: Write, E: Write>(
     ensures quiet { result ≡ 0 → errors.new ≡ errors.old }
     ensures wrong_words { result ≡ 2 → (kind : ErrorKind) × Refuses (map (λ word. word.now) words.now) kind × (kind ≢ ErrorKind.DisplayHelp) }
     ensures unread { result ≡ 2 → (reader.new ≡ reader.old) × (writer.new ≡ writer.old) }
+    ensures refused_words { NameNothing (map (λ word. word.now) words.now) → (result ≡ 2) ⊎ ((result ≡ 1) × (reader.new ≡ reader.old) × (writer.new ≡ writer.old)) }
+    ensures bad_limits { NameBadLimits (map (λ word. word.now) words.now) → (result ≡ 1) × (reader.new ≡ reader.old) × (writer.new ≡ writer.old) }
     ensures status { result < 3 }
 {
     let settings = match settings(alloc, words) {

@@ -186,6 +186,28 @@ fn sessions_are_served(rt: HostRuntime) -> Result<(), Fail> {
 }
 
 #[test]
+fn many_rows_are_kept(rt: HostRuntime) -> Result<(), Fail> {
+    let mut input = String::new(rt.alloc());
+    let mut output = String::new(rt.alloc());
+    for number in 1..=400 {
+        writeln!(input, "insert ({number} {number}) 0")?;
+        writeln!(output, "committed {number}")?;
+    }
+    writeln!(input, "find same(400 400)")?;
+    writeln!(output, "found 1\nrow 400 (400 400) 0")?;
+    for words in [
+        ["gist", "serve"].as_slice(),
+        ["gist", "serve", "--fan=4", "--least=2"].as_slice(),
+    ] {
+        let run = run_of(rt, words, input.as_str());
+        assert_eq!(rt; run.status, 0);
+        assert_eq!(rt; run.written.as_slice(), output.as_bytes());
+        assert!(rt; run.unread == 0 && run.told.is_empty());
+    }
+    Ok(())
+}
+
+#[test]
 fn events_are_replayed(rt: HostRuntime) -> Result<(), Fail> {
     for (words, lines) in [
         (

@@ -5,6 +5,3 @@ mod page_steps;
 mod way_down;
 
 pub use way_down::insert;
-
-#[cfg(test)]
-mod tests;

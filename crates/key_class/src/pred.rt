@@ -113,6 +113,3 @@ pub fn bounds_miss_no_match<C: KeyClass>()
     ensures consistent { (q : Query C.Atom) (b k : C.Key) → C.is_cover b k ≡ true → matches_query C.is_match q k ≡ true → consistent_with_query C.is_consistent q b ≡ true }
     ensures no_match { (q : Query C.Atom) (b k : C.Key) → C.is_cover b k ≡ true → consistent_with_query C.is_consistent q b ≡ false → matches_query C.is_match q k ≡ false }
 {}
-
-#[cfg(test)]
-mod tests;

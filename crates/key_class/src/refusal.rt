@@ -161,6 +161,3 @@ pub enum Fault {
     #[error("refused {0}")]
     Refused(Refusal),
 }
-
-#[cfg(test)]
-mod tests;

@@ -36,13 +36,21 @@ pub trait Outlet<K>: Drop {
     /// Whether somebody else empties it.
     ghost is_emptied_elsewhere: { Bool };
 
+    /// Whether an end is the other end of an outlet.
+    ghost is_end_of: { Self.End → Self → Type 0 };
+
+    /// Whether nothing came out of an end yet.
+    ghost fresh: { Self.End → Type 0 };
+
     /// An outlet with that room and no item, and its other end.
     ///
     /// # Errors
     /// Memory was wanting.
     fn make(alloc: Global, room: u32) -> Result<(Self, Self::End), AllocError>
         ensures room { IfOk result (λ made. room_of made.0 ≡ room) }
-        ensures empty { IfOk result (λ made. unread made.0 ≡ []) };
+        ensures empty { IfOk result (λ made. unread made.0 ≡ []) }
+        ensures end { IfOk result (λ made. is_end_of made.1 made.0) }
+        ensures fresh { IfOk result (λ made. fresh made.1) };
 
     /// Adds an item, or hands it back.
     fn offer(&mut self, item: Item<K>) -> Result<(), Item<K>>
@@ -51,12 +59,14 @@ pub trait Outlet<K>: Drop {
         ensures handed_back { IfErr result (λ back. back ≡ item) }
         ensures unchanged { OnErr result (unread self.new ≡ unread self.old) }
         ensures may_refuse { OnErr result (may_refuse (room_of self.old) (length (unread self.old)) ≡ true) }
-        ensures room { room_of self.new ≡ room_of self.old };
+        ensures room { room_of self.new ≡ room_of self.old }
+        ensures end { (end : Self.End) → is_end_of end self.old → is_end_of end self.new };
 
     /// Takes out the item at the front.
     fn take(&mut self) -> Taken<K>
         ensures takes { Takes is_emptied_elsewhere (unread self.old) result (unread self.new) }
-        ensures room { room_of self.new ≡ room_of self.old };
+        ensures room { room_of self.new ≡ room_of self.old }
+        ensures end { (end : Self.End) → is_end_of end self.old → is_end_of end self.new };
 
     /// Whether somebody else empties outlets of this kind.
     fn is_emptied_elsewhere() -> bool

@@ -39,6 +39,10 @@ impl<K: Copy> Outlet<K> for Tray<K> {
 
     ghost is_emptied_elsewhere = { false };
 
+    ghost is_end_of = { λ end tray. Unit {0} };
+
+    ghost fresh = { λ end. Unit {0} };
+
     fn make(alloc: Global, room: u32) -> Result<(Tray<K>, ()), AllocError>
         ensures made { IfOk result (λ made. made.0 ≡ record { room = room; held = [] }) }
     {
@@ -69,6 +73,3 @@ impl<K: Copy> Outlet<K> for Tray<K> {
         false
     }
 }
-
-#[cfg(test)]
-mod tests;

@@ -1,7 +1,7 @@
 -- A page of the tree, as contracts see it.
-use Rattle.std.specs.Prelude.{ℕ, ◌+◌, Bool, true, false, cond, ◌||◌, nat_lt, nat_eq, List, [], ◌++◌, length, Option, Some, None, map, option_to_list}
+use Rattle.std.specs.Prelude.{ℕ, ◌+◌, Bool, true, false, not, cond, ◌||◌, nat_lt, nat_eq, List, [], ◌++◌, length, Option, Some, None, map, option_to_list}
 use Rattle.std.specs.List.{list_any}
-use Rattle.row_version.specs.Entries.{Entry}
+use Rattle.row_version.specs.Entries.{Entry, is_needed}
 use Rattle.node.specs.declared.branch.Branch.{Branch}
 
 -- A leaf has level 0 and rows, an inner page has branches.
@@ -35,6 +35,10 @@ entries_of page = length page.rows + length page.branches
 -- a branch leads to the child
 abbrev pub names : {K : Type 0} → ℕ → Page K → Bool
 names child page = list_any (λ b. nat_eq b.child child) page.branches
+
+-- a row that nobody needs who opened at that commit or later
+abbrev pub has_unneeded : {K : Type 0} → ℕ → Page K → Bool
+has_unneeded horizon page = list_any (λ e. not (is_needed horizon e)) page.rows
 
 -- the bound covers the key; where there is none, every key counts as covered
 abbrev pub is_within : {K : Type 0} → (K → K → Bool) → Option K → K → Bool

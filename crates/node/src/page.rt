@@ -1,13 +1,13 @@
 ghost use Rattle.std.specs.Prelude.{◌≡◌, ◌+◌, ◌<◌, ◌^◌, ◌++◌, ◌∷◌, [], length, map, filter, IfOk, OnOk, OnErr, option_to_list};
 ghost use Rattle.row_version.specs.Entries.{is_needed, marked};
-ghost use Rattle.node.specs.Pages.{empty_leaf, followed, entries_of, names, is_within, keys_of};
+ghost use Rattle.node.specs.Pages.{empty_leaf, followed, entries_of, names, has_unneeded, is_within, keys_of};
 ghost use Rattle.node.specs.Parts.{cover_of};
 ghost use Rattle.node.specs.Changes.{split_left, split_right, post_parent, post_child, post_sibling, grown_left, grown_right, risen, enlarge_parent, enlarge_child, with_rows};
 
 use crate::branch::Branch;
 use crate::parts::{
-    add_branch, bury, join_branches, join_rows, keep_left, left_entries, rekey, right_entries,
-    sweep, widen,
+    add_branch, bury, copied, join_branches, join_rows, keep_left, left_entries, rekey,
+    right_entries, sweep, widen,
 };
 use key_class::{KeyClass, Sides};
 use row_version::Entry;
@@ -114,6 +114,13 @@ impl<K> Page<K> {
         } else {
             None
         }
+    }
+
+    /// Whether it has a row that nobody needs who opened at the commit `horizon` or later.
+    pub fn has_unneeded(&self, horizon: u32) -> bool
+        ensures { result ≡ has_unneeded horizon self.now }
+    {
+        self.rows.iter().any(|entry| !entry.is_needed(horizon))
     }
 
     /// Whether a branch leads to the child.
@@ -310,6 +317,24 @@ impl<K: Copy> Page<K> {
         rekey(&mut self.branches, child.0, child.1);
         add_branch(&mut self.branches, sibling.0, sibling.1);
         Ok(())
+    }
+}
+
+impl<K: Copy> Clone for Page<K> {
+    ghost is_clone = { λ page copy. copy ≡ page };
+
+    /// The same page, with room for as many entries.
+    fn clone(&self) -> Result<Page<K>, AllocError> {
+        Ok(Page {
+            level: self.level,
+            nsn: self.nsn,
+            right: self.right,
+            owed: self.owed,
+            hung: self.hung,
+            rows: copied(&self.rows)?,
+            branches: copied(&self.branches)?,
+            cover: self.cover,
+        })
     }
 }
 

@@ -1,4 +1,5 @@
 pub mod Arranged
+pub mod Aside
 pub mod Chains
 pub mod Counting
 pub mod Entries
@@ -13,6 +14,7 @@ pub mod RowsOnce
 pub mod SameLinks
 pub mod Scans
 pub mod Stacks
+pub mod Sweeping
 pub mod Under
 pub mod Visits
 pub mod Weights

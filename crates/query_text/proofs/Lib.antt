@@ -6,6 +6,8 @@ pub mod IntervalLaws
 pub mod BoxLaws
 pub mod SetLaws
 pub mod Unique
+pub mod Cutting
+pub mod Total
 pub mod Meaning
 pub mod TextLaws
 pub mod PrintLaws

@@ -1,13 +1,19 @@
 -- A text means one query or is refused at one place.
-use Rattle.std.proofs.Common.{◌≡◌, ℕ, ◌<◌, List, arith, refl, false, length}
+use Rattle.std.proofs.Common.{◌≡◌, ◌⊎◌, inl, inr, ⊎_elim, ℕ, zero, suc, ◌<◌, ◌≤◌, List, [], ◌∷◌, arith, refl, false, length}
 use Rattle.key_class.specs.declared.sides.Rel.{Rel}
 use Rattle.key_class.specs.Queries.{Query, depth_of}
-use Rattle.query_text.specs.declared.limits.TheConstants.{MAX_DEPTH}
 use Rattle.query_text.specs.Tokens.{Placed}
-use Rattle.query_text.specs.Keys.{Reading}
-use Rattle.query_text.specs.Grammar.{SpellsQuery, RefusesTokens, no_spelling, too_deep, SpellsText, RefusesText, too_long, refuses_tokens}
+use Rattle.query_text.specs.Keys.{Reading, LeavesFewer}
+use Rattle.query_text.specs.Grammar.{most_bytes, most_depth, whole, Spells, ends_before, SpellsQuery, RefusesTokens, no_spelling, too_deep, SpellOrAreRefused, SpellsText, RefusesText, too_long, refuses_tokens, SpellsOrIsRefused}
 use Rattle.query_text.proofs.CutLaws.{one_cut}
+use Rattle.query_text.proofs.Cutting.{text_is_cut}
+use Rattle.query_text.proofs.Total.{spelled_or_refused}
 use Rattle.query_text.proofs.Unique.{one_query, spelled_not_refused, one_place}
+
+le_or_lt : (m n : ℕ) → (m ≤ n) ⊎ (n < m)
+le_or_lt zero n = inl (omega arith)
+le_or_lt (suc m) zero = inr (omega arith)
+le_or_lt (suc m) (suc n) = ⊎_elim (λ h. inl (omega arith)) (λ h. inr (omega arith)) (le_or_lt m n)
 
 module _ {K A : Type 0} (key_at : ℕ → List Placed → Reading K) (atom_of : Rel → K → A) where
   pub one_query_of : (len : ℕ) (ts : List Placed) (q r : Query A) → SpellsQuery key_at atom_of len ts q → SpellsQuery key_at atom_of len ts r → q ≡ r
@@ -17,7 +23,7 @@ module _ {K A : Type 0} (key_at : ℕ → List Placed → Reading K) (atom_of : 
   not_both_of len ts q place s (no_spelling r) = spelled_not_refused (key_at len) atom_of len place s.spelled r
   not_both_of len ts q place s (too_deep {q = r} u d) =
       let same : q ≡ r = one_query (key_at len) atom_of s.spelled u in
-      let deep : MAX_DEPTH < depth_of q = rw same d in
+      let deep : most_depth < depth_of q = rw same d in
       absurd (omega (arith, s.shallow, deep))
 
   pub one_place_of : (len : ℕ) (ts : List Placed) (p q : ℕ) → RefusesTokens key_at atom_of len ts p → RefusesTokens key_at atom_of len ts q → p ≡ q
@@ -44,3 +50,31 @@ module _ {K A : Type 0} (key_at : ℕ → List Placed → Reading K) (atom_of : 
   one_place_of_text text p q (refuses_tokens {ts = ts} l c r) (refuses_tokens {ts = us} m d s) =
       let same : us ≡ ts = one_cut false 0 text us ts d c in
       one_place_of (length text) ts p q r (rw same at s)
+
+  spelled_by_tokens : (len : ℕ) (ts : List Placed) (q : Query A) → Spells (key_at len) atom_of whole ts q [] → SpellOrAreRefused key_at atom_of len ts
+  spelled_by_tokens len [] q s = inr (len, no_spelling ends_before)
+  spelled_by_tokens len (t ∷ ts) q s = ⊎_elim
+      (λ h. inl (q, record { spelled = s; shallow = h }))
+      (λ h. inr (t.place, too_deep s h))
+      (le_or_lt (depth_of q) most_depth)
+
+  module _ (fewer : (len : ℕ) (ts : List Placed) → LeavesFewer (length ts) (key_at len ts)) where
+    pub some_meaning_of : (len : ℕ) (ts : List Placed) → SpellOrAreRefused key_at atom_of len ts
+    some_meaning_of len ts = ⊎_elim
+        (λ s. spelled_by_tokens len ts s.0 s.1)
+        (λ b. inr (b.0, no_spelling b.1))
+        (spelled_or_refused (key_at len) atom_of len (fewer len) ts)
+
+    meaning_of_short : (text : List ℕ) → length text ≤ most_bytes → SpellsOrIsRefused key_at atom_of text
+    meaning_of_short text l =
+        let cut = text_is_cut text in
+        ⊎_elim
+        (λ s. inl (s.0, record { short = l; tokens = cut.0; cut = cut.1; query = s.1 }))
+        (λ b. inr (b.0, refuses_tokens l cut.1 b.1))
+        (some_meaning_of (length text) cut.0)
+
+    pub some_meaning_of_text : (text : List ℕ) → SpellsOrIsRefused key_at atom_of text
+    some_meaning_of_text text = ⊎_elim
+        (λ h. meaning_of_short text h)
+        (λ h. inr (most_bytes, too_long h))
+        (le_or_lt (length text) most_bytes)

@@ -8,10 +8,9 @@ use Rattle.query_text.specs.declared.terminal.Terminal.{Terminal}
 use Rattle.query_text.specs.declared.terminal.Terminal.TheVariants as terminal
 use Rattle.query_text.specs.declared.parser.Pending.{Pending}
 use Rattle.query_text.specs.declared.parser.Pending.TheVariants.{Not, Bracket, And, Or}
-use Rattle.query_text.specs.declared.limits.TheConstants.{MAX_DEPTH}
 use Rattle.query_text.specs.Tokens.{Placed}
 use Rattle.query_text.specs.Keys.{Reading}
-use Rattle.query_text.specs.Grammar.{terminal_of, Level, whole, conjunction, unit, Spells, one_conjunction, or_of, one_unit, and_of, not_of, in_brackets, relation_of, before, behind, move, refused, Refused, ends_before, ends_open, stuck, moves, bad_key, good_key, RefusesTokens, no_spelling, too_deep}
+use Rattle.query_text.specs.Grammar.{most_depth, terminal_of, Level, whole, conjunction, unit, Spells, one_conjunction, or_of, one_unit, and_of, not_of, in_brackets, relation_of, before, behind, move, refused, Refused, ends_before, ends_open, stuck, moves, bad_key, good_key, RefusesTokens, no_spelling, too_deep}
 use Rattle.query_text.specs.Parsing.{open_brackets, Waits, at_start, in_whole, in_conjunction, behind_or, behind_and, behind_not, behind_bracket, HasRead, Completes, pending}
 
 pub pending-push : {A : Type 0} (ps : List (Pending A)) (p : Pending A) → pending (ps ++ p ∷ []) ≡ p ∷ pending ps
@@ -247,5 +246,5 @@ module _ {K A : Type 0} (key_at : List Placed → Reading K) (atom_of : Rel → 
 pub refuses_empty : {K A : Type 0} (key_at : ℕ → List Placed → Reading K) (atom_of : Rel → K → A) (len : ℕ) (ts : List Placed) → ts ≡ [] → RefusesTokens key_at atom_of len ts len
 refuses_empty key_at atom_of len ts e = rw e (no_spelling ends_before)
 
-pub refuses_deep : {K A : Type 0} (key_at : ℕ → List Placed → Reading K) (atom_of : Rel → K → A) (len : ℕ) (ts us : List Placed) (t : Placed) (q : Query A) → ts ≡ t ∷ us → Spells (key_at len) atom_of whole ts q [] → MAX_DEPTH < depth_of q → RefusesTokens key_at atom_of len ts t.place
+pub refuses_deep : {K A : Type 0} (key_at : ℕ → List Placed → Reading K) (atom_of : Rel → K → A) (len : ℕ) (ts us : List Placed) (t : Placed) (q : Query A) → ts ≡ t ∷ us → Spells (key_at len) atom_of whole ts q [] → most_depth < depth_of q → RefusesTokens key_at atom_of len ts t.place
 refuses_deep key_at atom_of len ts us t q e s d = rw e (too_deep (rw e at s) d)

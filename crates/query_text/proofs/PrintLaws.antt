@@ -7,11 +7,10 @@ use Rattle.std.proofs.lemmas.Bool.{not-true}
 use Rattle.key_class.specs.declared.sides.Rel.{Rel}
 use Rattle.key_class.specs.declared.sides.Rel.TheVariants.{Overlaps, Within, Holds, Same}
 use Rattle.key_class.specs.Queries.{Query, atom, both, either, never, depth_of}
-use Rattle.query_text.specs.declared.limits.TheConstants.{MAX_BYTES, MAX_DEPTH}
 use Rattle.query_text.specs.declared.terminal.Terminal.TheVariants as terminal
 use Rattle.query_text.specs.Tokens.{Placed, at, word, open_bracket, close_bracket, is_letter, begins, beginning, Cuts, cut_nothing, cut_space, cut_token}
 use Rattle.query_text.specs.Keys.{Reading, ReadsBack}
-use Rattle.query_text.specs.Grammar.{rel_word, keyword_of, Level, whole, conjunction, unit, Spells, one_conjunction, or_of, one_unit, and_of, not_of, in_brackets, relation_of, SpellsText}
+use Rattle.query_text.specs.Grammar.{most_bytes, most_depth, rel_word, keyword_of, Level, whole, conjunction, unit, Spells, one_conjunction, or_of, one_unit, and_of, not_of, in_brackets, relation_of, SpellsText}
 use Rattle.query_text.specs.Printing.{is_or, is_and_or_or, bracketed, text_of, atom_text, begins_apart, EachAtom, IsSpelling}
 use Rattle.query_text.proofs.TextLaws.{cuts_open, cuts_close}
 
@@ -134,5 +133,5 @@ module _ {K A : Type 0} (key_at : ℕ → List Placed → Reading K) (atom_of : 
         let r = (reads_each q h).0 (length (written q)) 0 [] [] (cut_nothing refl) in
         rw (e) (r.0, rw append-nil at r.1, r.2)
 
-  pub spelling_is_read : (text : List ℕ) (q : Query A) → IsSpelling key_at atom_of text q → length text ≤ MAX_BYTES → depth_of q ≤ MAX_DEPTH → SpellsText key_at atom_of text q
+  pub spelling_is_read : (text : List ℕ) (q : Query A) → IsSpelling key_at atom_of text q → length text ≤ most_bytes → depth_of q ≤ most_depth → SpellsText key_at atom_of text q
   spelling_is_read text q s short shallow = record { short = short; tokens = s.0; cut = s.1; query = record { spelled = s.2; shallow = shallow } }

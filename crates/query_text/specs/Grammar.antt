@@ -1,14 +1,21 @@
 -- Which tokens spell which query, and where other tokens are refused.
-use Rattle.std.specs.Prelude.{◌≡◌, ℕ, suc, ◌<◌, ◌≤◌, false, List, [], ◌∷◌, length, Ok, Err, if◌then◌else◌, codes}
+use Rattle.std.specs.Prelude.{◌≡◌, ◌⊎◌, ℕ, suc, ◌<◌, ◌≤◌, false, List, [], ◌∷◌, length, Ok, Err, if◌then◌else◌, codes}
 use Rattle.std.specs.Str.{bytes_eq}
 use Rattle.key_class.specs.declared.sides.Rel.{Rel}
 use Rattle.key_class.specs.declared.sides.Rel.TheVariants.{Overlaps, Within, Holds, Same}
 use Rattle.key_class.specs.Queries.{Query, atom, both, either, never, depth_of}
 use Rattle.query_text.specs.declared.terminal.Terminal.{Terminal}
 use Rattle.query_text.specs.declared.terminal.Terminal.TheVariants as terminal
-use Rattle.query_text.specs.declared.limits.TheConstants.{MAX_BYTES, MAX_DEPTH}
 use Rattle.query_text.specs.Tokens.{Token, open_bracket, close_bracket, word, Placed, Cuts}
 use Rattle.query_text.specs.Keys.{Reading}
+
+-- how many bytes a query's text may have
+abbrev pub most_bytes : ℕ
+most_bytes = 4096
+
+-- how deep a query may be
+abbrev pub most_depth : ℕ
+most_depth = 32
 
 abbrev pub rel_word : Rel → List ℕ
 rel_word Overlaps = codes "overlaps"
@@ -84,21 +91,30 @@ pub data Refused {K : Type 0} (key_at : List Placed → Reading K) (len : ℕ) :
 -- The tokens of a text with len bytes spell the query, which is no deeper than a query may be.
 pub record SpellsQuery {K A : Type 0} (key_at : ℕ → List Placed → Reading K) (atom_of : Rel → K → A) (len : ℕ) (ts : List Placed) (q : Query A) : Type 0 where
   pub spelled : Spells (key_at len) atom_of whole ts q []
-  pub shallow : depth_of q ≤ MAX_DEPTH
+  pub shallow : depth_of q ≤ most_depth
 
 -- The tokens of a text with len bytes are refused as a query at the place; a query that is too deep, at its first token.
 pub data RefusesTokens {K A : Type 0} (key_at : ℕ → List Placed → Reading K) (atom_of : Rel → K → A) (len : ℕ) : List Placed → ℕ → Type 0 where
   no_spelling : {ts : List Placed} {place : ℕ} → Refused (key_at len) len before 0 ts place → RefusesTokens key_at atom_of len ts place
-  too_deep : {t : Placed} {ts : List Placed} {q : Query A} → Spells (key_at len) atom_of whole (t ∷ ts) q [] → MAX_DEPTH < depth_of q → RefusesTokens key_at atom_of len (t ∷ ts) t.place
+  too_deep : {t : Placed} {ts : List Placed} {q : Query A} → Spells (key_at len) atom_of whole (t ∷ ts) q [] → most_depth < depth_of q → RefusesTokens key_at atom_of len (t ∷ ts) t.place
 
 -- the text is a spelling of the query
 pub record SpellsText {K A : Type 0} (key_at : ℕ → List Placed → Reading K) (atom_of : Rel → K → A) (text : List ℕ) (q : Query A) : Type 0 where
-  pub short : length text ≤ MAX_BYTES
+  pub short : length text ≤ most_bytes
   pub tokens : List Placed
   pub cut : Cuts false 0 text tokens
   pub query : SpellsQuery key_at atom_of (length text) tokens q
 
 -- the text is refused as a query at the place
 pub data RefusesText {K A : Type 0} (key_at : ℕ → List Placed → Reading K) (atom_of : Rel → K → A) : List ℕ → ℕ → Type 0 where
-  too_long : {text : List ℕ} → MAX_BYTES < length text → RefusesText key_at atom_of text MAX_BYTES
-  refuses_tokens : {text : List ℕ} {ts : List Placed} {place : ℕ} → length text ≤ MAX_BYTES → Cuts false 0 text ts → RefusesTokens key_at atom_of (length text) ts place → RefusesText key_at atom_of text place
+  too_long : {text : List ℕ} → most_bytes < length text → RefusesText key_at atom_of text most_bytes
+  refuses_tokens : {text : List ℕ} {ts : List Placed} {place : ℕ} → length text ≤ most_bytes → Cuts false 0 text ts → RefusesTokens key_at atom_of (length text) ts place → RefusesText key_at atom_of text place
+
+module _ {K A : Type 0} (key_at : ℕ → List Placed → Reading K) (atom_of : Rel → K → A) where
+  -- the tokens of a text with len bytes spell some query, or are refused at some place
+  abbrev pub SpellOrAreRefused : ℕ → List Placed → Type 0
+  SpellOrAreRefused len ts = ((q : Query A) × SpellsQuery key_at atom_of len ts q) ⊎ ((place : ℕ) × RefusesTokens key_at atom_of len ts place)
+
+  -- the text is a spelling of some query, or is refused at some place
+  abbrev pub SpellsOrIsRefused : List ℕ → Type 0
+  SpellsOrIsRefused text = ((q : Query A) × SpellsText key_at atom_of text q) ⊎ ((place : ℕ) × RefusesText key_at atom_of text place)

@@ -1,5 +1,5 @@
 -- Keys at the front of tokens.
-use Rattle.std.specs.Prelude.{◌≡◌, ℕ, ℤ, ◌+◌, Bool, true, false, T, List, [], ◌∷◌, ◌++◌, length, Option, Some, None, Result, Ok, Err, MatchResult, if◌then◌else◌}
+use Rattle.std.specs.Prelude.{◌≡◌, ℕ, ℤ, ◌+◌, ◌<◌, ⊤, Bool, true, false, T, List, [], ◌∷◌, ◌++◌, length, Option, Some, None, Result, Ok, Err, MatchResult, if◌then◌else◌}
 use Rattle.std.specs.Borrow.{Bor}
 use Rattle.query_text.specs.declared.lexeme.Lexeme.{Lexeme}
 use Rattle.query_text.specs.Tokens.{Token, open_bracket, close_bracket, open_brace, close_brace, Placed, placed, number_within, Cuts}
@@ -49,6 +49,11 @@ expected_at is_expected len (t ∷ ts) = if is_expected t.token then Ok (t.place
 abbrev pub number_at : ℤ → ℤ → ℕ → List Placed → Reading ℤ
 number_at least most len [] = Err len
 number_at least most len (t ∷ ts) = or_fault_at t.place ts (number_within least most t.token)
+
+-- if something was read, fewer tokens than n stand behind it
+abbrev pub LeavesFewer : {A : Type 0} → ℕ → Reading A → Type 0
+LeavesFewer n (Ok r) = length r.1 < n
+LeavesFewer n (Err place) = ⊤
 
 -- what was returned is what reading gives
 abbrev pub Gives : {A : Type 0} → List ℕ → Result (A × Bor (List Lexeme)) ℕ → Reading A → Type 0

@@ -1,6 +1,7 @@
 pub mod BoxTexts
 pub mod Grammar
 pub mod IntervalTexts
+pub mod KeyLengths
 pub mod Keys
 pub mod Parsing
 pub mod Printing

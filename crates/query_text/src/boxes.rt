@@ -1,5 +1,6 @@
 ghost use Rattle.std.specs.Prelude.{◌≡◌, refl};
 ghost use Rattle.query_text.specs.BoxTexts.{box_at, box_text, atom_of};
+ghost use Rattle.query_text.specs.KeyLengths.{box_leaves_fewer};
 
 use crate::class::ClassText;
 use crate::lexeme::Lexeme;
@@ -45,6 +46,8 @@ impl ClassText for Boxes {
     fn parts(atom: &Atom) -> (Rel, BoxKey) {
         (atom.rel, atom.operand)
     }
+
+    ghost key_leaves_fewer = { box_leaves_fewer };
 
     ghost key_text_is_apart = { λ k. refl };
 

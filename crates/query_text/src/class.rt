@@ -2,7 +2,7 @@ ghost use Rattle.std.specs.Prelude.{◌≡◌, ℕ, ◌<◌, true, List, Result,
 ghost use Rattle.std.specs.Io.KnownBytes.{Appends};
 ghost use Rattle.key_class.specs.declared.sides.Rel.{Rel};
 ghost use Rattle.query_text.specs.Tokens.{Placed, placed};
-ghost use Rattle.query_text.specs.Keys.{Reading, Gives, ReadsBack};
+ghost use Rattle.query_text.specs.Keys.{Reading, LeavesFewer, Gives, ReadsBack};
 ghost use Rattle.query_text.specs.Printing.{begins_apart};
 
 use crate::lexeme::Lexeme;
@@ -48,6 +48,8 @@ pub trait ClassText: KeyClass {
     fn parts(atom: &Self::Atom) -> (Rel, Self::Key)
         ensures rel { result.0 ≡ rel_of atom.now }
         ensures operand { result.1 ≡ operand_of atom.now };
+
+    ghost key_leaves_fewer: { (len : ℕ) (ts : List Placed) → LeavesFewer (length ts) (key_at len ts) };
 
     ghost key_text_is_apart: { (k : Self.Key) → begins_apart (key_text k) ≡ true };
 

@@ -1,5 +1,6 @@
 ghost use Rattle.std.specs.Prelude.{◌≡◌, refl};
 ghost use Rattle.query_text.specs.IntervalTexts.{interval_at, interval_text, atom_of};
+ghost use Rattle.query_text.specs.KeyLengths.{interval_leaves_fewer};
 
 use crate::class::ClassText;
 use crate::lexeme::Lexeme;
@@ -43,6 +44,8 @@ impl ClassText for Intervals {
     fn parts(atom: &Atom) -> (Rel, Interval) {
         (atom.rel, atom.operand)
     }
+
+    ghost key_leaves_fewer = { interval_leaves_fewer };
 
     ghost key_text_is_apart = { λ k. refl };
 

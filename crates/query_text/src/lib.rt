@@ -13,8 +13,6 @@ mod reader;
 mod scanner;
 mod sets;
 mod terminal;
-#[cfg(test)]
-mod tests;
 
 pub use class::ClassText;
 pub use lexeme::{Kind, Lexeme};

@@ -1,7 +1,7 @@
 ghost use Rattle.std.specs.Prelude.{◌≡◌, ℕ, List, ◌<◌, ◌⊎◌, length, Result, Ok, Err, IfOk, IfErr, MatchOption, true, false, [], ◌∷◌, ◌++◌};
 ghost use Rattle.key_class.specs.Queries.{Query, query_of};
 ghost use Rattle.query_text.specs.Tokens.{Placed, placed};
-ghost use Rattle.query_text.specs.Grammar.{unit, conjunction, whole, Spells, SpellsQuery, RefusesTokens, SpellsText, RefusesText};
+ghost use Rattle.query_text.specs.Grammar.{unit, conjunction, whole, Spells, SpellsQuery, RefusesTokens, SpellOrAreRefused, SpellsText, RefusesText, SpellsOrIsRefused};
 ghost use Rattle.query_text.specs.Parsing.{Completes, ReadsUnit, RefusesUnit, GoesOn, RefusedAt, pending};
 ghost use Rattle.query_text.specs.declared.terminal.Terminal.TheVariants as terminal;
 ghost use Rattle.query_text.specs.declared.lexeme.Lexeme.{Lexeme};
@@ -260,9 +260,10 @@ pub fn parse<C: ClassText>(alloc: Global, text: &[u8]) -> Result<Pred<C::Atom>, 
     parse_tokens::<C>(alloc, text, &lexemes)
 }
 
-/// Nothing is done: the clauses say that a text spells one query or none, that a text is refused at one place or none,
-/// and that none is both.
+/// Nothing is done: the clauses say that a text spells a query or is refused at a place, that none is both, and that it
+/// spells one query and is refused at one place at most.
 pub fn one_meaning_for_text<C: ClassText>()
+    ensures some_meaning { (text : List ℕ) → SpellsOrIsRefused C.key_at C.atom_of text }
     ensures one_query { (text : List ℕ) (q r : Query C.Atom) → SpellsText C.key_at C.atom_of text q → SpellsText C.key_at C.atom_of text r → q ≡ r }
     ensures one_place { (text : List ℕ) (p q : ℕ) → RefusesText C.key_at C.atom_of text p → RefusesText C.key_at C.atom_of text q → p ≡ q }
     ensures not_both { (text : List ℕ) (q : Query C.Atom) (place : ℕ) → SpellsText C.key_at C.atom_of text q → RefusesText C.key_at C.atom_of text place → ⊥ }
@@ -270,6 +271,7 @@ pub fn one_meaning_for_text<C: ClassText>()
 
 /// Nothing is done: the clauses say the same of the tokens of a text with so many bytes.
 pub fn one_meaning_for_tokens<C: ClassText>()
+    ensures some_meaning { (len : ℕ) (ts : List Placed) → SpellOrAreRefused C.key_at C.atom_of len ts }
     ensures one_query { (len : ℕ) (ts : List Placed) (q r : Query C.Atom) → SpellsQuery C.key_at C.atom_of len ts q → SpellsQuery C.key_at C.atom_of len ts r → q ≡ r }
     ensures one_place { (len : ℕ) (ts : List Placed) (p q : ℕ) → RefusesTokens C.key_at C.atom_of len ts p → RefusesTokens C.key_at C.atom_of len ts q → p ≡ q }
     ensures not_both { (len : ℕ) (ts : List Placed) (q : Query C.Atom) (place : ℕ) → SpellsQuery C.key_at C.atom_of len ts q → RefusesTokens C.key_at C.atom_of len ts place → ⊥ }

@@ -3,11 +3,10 @@ ghost use Rattle.std.specs.Io.KnownBytes.{Appends};
 ghost use Rattle.key_class.specs.declared.sides.Rel.{Rel};
 ghost use Rattle.key_class.specs.Queries.{query_of, depth_of};
 ghost use Rattle.query_text.specs.Keys.{ReadsBack};
-ghost use Rattle.query_text.specs.Grammar.{rel_word, SpellsText};
+ghost use Rattle.query_text.specs.Grammar.{most_bytes, most_depth, rel_word, SpellsText};
 ghost use Rattle.query_text.specs.Printing.{is_or, is_and_or_or, bracketed, text_of, atom_text, EachAtom, IsSpelling};
 
 use crate::class::ClassText;
-use crate::limits::{MAX_BYTES, MAX_DEPTH};
 use key_class::{Pred, Refusal, Rel};
 use std::alloc::Global;
 use std::io::{self, Write};
@@ -83,15 +82,15 @@ fn write_query<C: ClassText, W: Write>(
     }
 }
 
-/// The text of a query, with brackets only where the grammar needs them. Where it has at most [`MAX_BYTES`] bytes and
-/// the query's depth is at most [`MAX_DEPTH`], it is read again as the same query.
+/// The text of a query, with brackets only where the grammar needs them. Where it has at most 4,096 bytes and the
+/// query's depth is at most 32, it is read again as the same query.
 ///
 /// # Errors
 /// `OutOfMemory` alone.
 pub fn print<C: ClassText>(alloc: Global, query: &Pred<C::Atom>) -> Result<Vec<u8>, Refusal>
     ensures text { IfOk result (λ text. text.items ≡ text_of (atom_text C.rel_of C.operand_of C.key_text) (query_of query.now)) }
     ensures spelling { IfOk result (λ text. IsSpelling C.key_at C.atom_of text.items (query_of query.now)) }
-    ensures read_again { IfOk result (λ text. length text.items ≤ MAX_BYTES → depth_of (query_of query.now) ≤ MAX_DEPTH → SpellsText C.key_at C.atom_of text.items (query_of query.now)) }
+    ensures read_again { IfOk result (λ text. length text.items ≤ most_bytes → depth_of (query_of query.now) ≤ most_depth → SpellsText C.key_at C.atom_of text.items (query_of query.now)) }
     ensures refusal { IfErr result (λ e. e ≡ Refusal.OutOfMemory) }
 {
     let mut text = Vec::new(alloc);

@@ -6,6 +6,7 @@ ghost use Rattle.set_class.specs.declared.elements.Elements.{Elements};
 ghost use Rattle.query_text.specs.Tokens.{placed, token_in};
 ghost use Rattle.query_text.specs.Keys.{Gives};
 ghost use Rattle.query_text.specs.SetTexts.{element_of, elements_at, with_elements, mask_of, elements_below, set_at, set_text, number_text, atom_of};
+ghost use Rattle.query_text.specs.KeyLengths.{set_leaves_fewer};
 
 use crate::class::ClassText;
 use crate::lexeme::{Kind, Lexeme};
@@ -102,6 +103,8 @@ impl ClassText for Sets {
     fn parts(atom: &Atom) -> (Rel, Elements) {
         (atom.rel, atom.operand)
     }
+
+    ghost key_leaves_fewer = { set_leaves_fewer };
 
     ghost key_text_is_apart = { λ k. refl };
 

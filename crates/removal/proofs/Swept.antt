@@ -303,7 +303,7 @@ module _ {K A : Type 0} (w : Words K A) where
     sweep_refused new why leaf r = (
       elim r.cause [
         | inl failed ↦ absurd (let e : None ≡ Some why = sym passed ∙ failed in cc)
-        | inr later ↦ later.1
+        | inr later ↦ later.1.memory
       ],
       subst (λ s. HasSwept old page number s) (sym r.unchanged) h,
     )

@@ -194,7 +194,7 @@ module _ {K A : Type 0} (w : Words K A) (first : State K A) (row f : ℕ) (now :
   refused {C} why new live room r = (
     elim r.cause [
       | inl failed ↦ absurd (let e : None ≡ Some why = sym passed ∙ failed in cc)
-      | inr later ↦ later.1
+      | inr later ↦ later.1.memory
     ],
     r.unchanged,
   )

@@ -6,6 +6,3 @@ mod sweeping;
 
 pub use deleting::delete;
 pub use sweeping::sweep_all;
-
-#[cfg(test)]
-mod tests;

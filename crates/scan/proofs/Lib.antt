@@ -2,8 +2,10 @@ pub mod Agreement
 pub mod Arranged
 pub mod Commits
 pub mod Finders
+pub mod Growing
 pub mod Opening
 pub mod Scans
 pub mod Seeking
 pub mod Seen
 pub mod Visiting
+pub mod Preparing

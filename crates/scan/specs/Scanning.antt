@@ -1,5 +1,5 @@
 -- What a scan has still to find, and one visit of it.
-use Rattle.std.specs.Prelude.{◌≡◌, ℕ, ◌+◌, ◌≤◌, Bool, ◌&&◌, List, [], ◌∷◌, ◌++◌, length, map, filter, reverse}
+use Rattle.std.specs.Prelude.{◌≡◌, ◌≢◌, ◌⊎◌, ℕ, ◌+◌, ◌≤◌, Bool, ◌&&◌, List, [], ◌∷◌, ◌++◌, length, map, filter, reverse}
 use Rattle.change_list.specs.declared.item.Row.{Row}
 use Rattle.row_version.specs.Entries.{Entry, visible_at}
 use Rattle.node.specs.declared.branch.Branch.{Branch}
@@ -51,6 +51,22 @@ module _ {K : Type 0} where
     pub before : old ≡ rest ++ (record { page = page; memo = memo }) ∷ []
     pub after : new ≡ rest ++ pushed t (λ b. consistent b.key) page memo
     pub noted_is : noted ≡ seen wanted s (page_at t page).rows
+
+  -- the page that is visited next has a row to note
+  pub record NotesSome (wanted : K → Bool) (s : ℕ) (t : Tree K) (stack : List StackItem) : Type 0 where
+    pub item : StackItem
+    pub next : IsNext stack item
+    pub some : seen_on wanted s t item.page ≢ []
+
+  -- the page that is visited next is followed by something
+  pub record PushesSome (wanted : K → Bool) (t : Tree K) (stack : List StackItem) : Type 0 where
+    pub item : StackItem
+    pub next : IsNext stack item
+    pub some : pushed t (λ b. wanted b.key) item.page item.memo ≢ []
+
+  -- the next visit notes a row or pushes a page
+  abbrev pub VisitGrows : (K → Bool) → (K → Bool) → ℕ → Tree K → List StackItem → Type 0
+  VisitGrows consistent wanted s t stack = NotesSome wanted s t stack ⊎ PushesSome consistent t stack
 
   -- in a sound tree what is noted, with what is still to be found, is what was to be found before
   abbrev pub LosesNothing : (K → K → Bool) → (K → Bool) → ℕ → Tree K → List StackItem → List (Row K) → List StackItem → Type 0

@@ -5,13 +5,13 @@
 mod branch_test;
 mod key_test;
 mod laws;
+mod prepared;
 mod rows;
 mod stack;
-#[cfg(test)]
-mod tests;
 
 pub use branch_test::{BranchTest, Covering};
 pub use laws::{
     entries_follow_commits, finders_survive_steps, scans_begin_with_snapshots, scans_survive_steps,
 };
-pub use stack::{Sought, Stack, Visited};
+pub use prepared::PreparedVisit;
+pub use stack::{Sought, Stack, StackItem, Visited};

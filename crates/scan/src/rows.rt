@@ -1,4 +1,4 @@
-ghost use Rattle.std.specs.Prelude.{◌≡◌, ◌+◌, ◌≤◌, ◌++◌, length, vec_capacity, vec_len, IfOk};
+ghost use Rattle.std.specs.Prelude.{◌≡◌, ◌≢◌, ◌+◌, ◌≤◌, [], ◌++◌, length, vec_capacity, vec_len, IfOk, OnErr};
 ghost use Rattle.key_class.specs.Queries.{query_of, matches_query};
 ghost use Rattle.scan.specs.Finding.{holds};
 ghost use Rattle.scan.specs.Scanning.{is_seen, seen, row_of};
@@ -10,15 +10,18 @@ use row_version::Entry;
 use std::alloc::{AllocError, Global};
 use std::collections::VecDeque;
 
-/// The rows that are there after the first `commit` commits and match, in their order. Takes no memory where there is
-/// none.
+/// The rows that are there after the first `commit` commits and match, in their order.
+///
+/// # Errors
+/// Memory was wanting, and there is such a row.
 pub fn seen_rows<C: KeyClass>(
     alloc: Global,
     entries: &[Entry<C::Key>],
     query: &Pred<C::Atom>,
     commit: u32,
 ) -> Result<VecDeque<Row<C::Key>>, AllocError>
-    ensures { IfOk result (λ rows. rows.items ≡ seen (matches_query C.is_match (query_of query.now)) commit entries.now) }
+    ensures seen { IfOk result (λ rows. rows.items ≡ seen (matches_query C.is_match (query_of query.now)) commit entries.now) }
+    ensures memory { OnErr result (seen (matches_query C.is_match (query_of query.now)) commit entries.now ≢ []) }
 {
     match query {
         Pred::Atom(atom) => {
@@ -29,13 +32,17 @@ pub fn seen_rows<C: KeyClass>(
 }
 
 /// The rows that are there after the first `commit` commits and pass the test.
+///
+/// # Errors
+/// Memory was wanting, and there is such a row.
 fn accepted_rows<C: KeyClass, T: KeyTest<C>>(
     alloc: Global,
     entries: &[Entry<C::Key>],
     test: &T,
     commit: u32,
 ) -> Result<VecDeque<Row<C::Key>>, AllocError>
-    ensures { IfOk result (λ rows. rows.items ≡ seen (T.accepts test.now) commit entries.now) }
+    ensures seen { IfOk result (λ rows. rows.items ≡ seen (T.accepts test.now) commit entries.now) }
+    ensures memory { OnErr result (seen (T.accepts test.now) commit entries.now ≢ []) }
 {
     let mut rows = VecDeque::new(alloc);
     for entry in entries {

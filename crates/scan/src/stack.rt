@@ -1,27 +1,32 @@
-ghost use Rattle.std.specs.Prelude.{◌≡◌, ◌<◌, ◌↔◌, ℕ, ◌+◌, ◌++◌, [], ◌∷◌, length, map, option_to_list, IfOk, OnOk, OnErr, MatchOption, IsTrue};
+ghost use Rattle.std.specs.Prelude.{◌≡◌, ◌≢◌, ◌<◌, ◌↔◌, ℕ, ◌+◌, ◌++◌, [], ◌∷◌, length, map, true, false, option_to_list, IfOk, OnOk, OnErr, MatchOption, IsTrue};
+ghost use Rattle.std.specs.Arc.{arc_value};
+ghost use Rattle.scan.specs.Prepared.{IsFresh};
+ghost use Rattle.page_table.specs.Trees.{Tree, page_at};
 ghost use Rattle.smallvec.specs.SmallVec.{HasRoomFor};
 ghost use Rattle.key_class.specs.Queries.{query_of, consistent_with_query, matches_query};
 ghost use Rattle.page_table.specs.Stacks.{IsStack};
 ghost use Rattle.scan.specs.Finding.{Seeks, SeeksLess, KeepsFinder, LacksNext};
-ghost use Rattle.scan.specs.Scanning.{IsNext, GoesOn, Visits, LosesNothing, LowersWork, child_items, seen_on};
+ghost use Rattle.scan.specs.Scanning.{IsNext, GoesOn, Visits, PushesSome, VisitGrows, LosesNothing, LowersWork, child_items, seen_on};
 
 use crate::branch_test::{BranchTest, Covering};
 use crate::key_test::OneAtom;
+use crate::prepared::PreparedVisit;
 use crate::rows::{holds_row, note_rows, seen_rows};
 use change_list::Row;
 use key_class::{KeyClass, Pred};
-use node::Branch;
+use node::{Branch, same_page};
 use page_table::PageTable;
 use smallvec::SmallVec;
 use std::alloc::{AllocError, Global};
 use std::collections::VecDeque;
 use std::marker::Model;
+use std::sync::Arc;
 
 /// A page that is still to be visited, and the counter when its number was read.
 #[derive(Clone, Copy, Default)]
-struct StackItem {
-    page: u32,
-    memo: u32,
+pub struct StackItem {
+    pub(crate) page: u32,
+    pub(crate) memo: u32,
 }
 
 impl Model for StackItem {
@@ -89,7 +94,7 @@ impl Stack {
     /// `opened` commits, and goes on to its right link and its children whose bounds are consistent with the query.
     ///
     /// # Errors
-    /// Memory was wanting; the stack is as it was.
+    /// Memory was wanting for a row to note or a page to push; the stack is as it was.
     pub fn visit<C: KeyClass>(
         &mut self,
         alloc: Global,
@@ -102,6 +107,7 @@ impl Stack {
         ensures lost_nothing { IfOk result (λ r. MatchOption r (Unit {0}) (λ v. LosesNothing C.is_cover (matches_query C.is_match (query_of query.now)) opened table.now self.old v.rows.items self.new)) }
         ensures less_work { IfOk result (λ r. MatchOption r (Unit {0}) (λ v. LowersWork C.is_cover table.now self.old self.new)) }
         ensures refused { OnErr result (self.new ≡ self.old) }
+        ensures memory { OnErr result (VisitGrows (consistent_with_query C.is_consistent (query_of query.now)) (matches_query C.is_match (query_of query.now)) opened table.now self.old) }
     {
         let Some(item) = self.last() else {
             return Ok(None);
@@ -143,11 +149,86 @@ impl Stack {
         Ok(Some(item.page))
     }
 
+    /// The visit of the last item's page, where there is one, to be worked out beside the table. Nothing is changed.
+    ///
+    /// # Errors
+    /// There are too many owners of the page or the query.
+    pub fn prepare<C: KeyClass>(
+        &self,
+        alloc: Global,
+        table: &PageTable<C::Key>,
+        query: &Arc<Pred<C::Atom>>,
+        opened: u32,
+    ) -> Result<Option<PreparedVisit<C>>, AllocError>
+        requires { IsStack table.now self.now }
+        ensures prepared { IfOk result (λ r. MatchOption r (self.now ≡ []) (IsFresh self.now table.now (query_of (arc_value query.now)) opened)) }
+        ensures refused { OnErr result (self.now ≢ []) }
+    {
+        let Some(item) = self.last() else {
+            return Ok(None);
+        };
+        let page = table.share(item.page)?;
+        let query = Arc::try_clone(query)?;
+        Ok(Some(PreparedVisit {
+            alloc,
+            item,
+            page,
+            query,
+            opened,
+            found: None,
+        }))
+    }
+
+    /// Whether the visit is that of the last item, and its page is as it was.
+    pub fn is_due<C: KeyClass>(&self, table: &PageTable<C::Key>, visit: &PreparedVisit<C>) -> bool
+        requires { IsStack table.now self.now }
+        ensures { IsTrue result ↔ (IsNext self.now visit.now.item × (page_at table.now visit.now.item.page ≡ visit.now.page)) }
+    {
+        let Some(item) = self.last() else {
+            return false;
+        };
+        item.page == visit.item.page
+            && item.memo == visit.item.memo
+            && same_page::<C>(table.page(item.page), visit.page.get())
+    }
+
+    /// Makes a visit that was worked out: as `visit` of its query and opening would.
+    ///
+    /// # Errors
+    /// Memory was wanting for a page to push; the stack is as it was.
+    pub fn visit_prepared<C: KeyClass>(
+        &mut self,
+        counter: u32,
+        visit: PreparedVisit<C>,
+    ) -> Result<Visited<C::Key>, AllocError>
+        requires next { IsNext self.old visit.item }
+        requires worked { visit.worked ≡ true }
+        ensures visited { IfOk result (λ v. (table : Tree C.Key) → table.counter ≡ counter → page_at table visit.item.page ≡ visit.page → Visits (consistent_with_query C.is_consistent visit.query) (matches_query C.is_match visit.query) visit.opened table self.old v.page v.rows.items self.new) }
+        ensures refused { OnErr result (self.new ≡ self.old) }
+        ensures memory { OnErr result ((table : Tree C.Key) → table.counter ≡ counter → page_at table visit.item.page ≡ visit.page → PushesSome (consistent_with_query C.is_consistent visit.query) table self.old) }
+    {
+        let PreparedVisit {
+            item,
+            page,
+            found,
+            ..
+        } = visit;
+        let Some(found) = found else { unreachable!() };
+        make_room(&mut self.items, found.children.len())?;
+        self.items.pop();
+        push_link(&mut self.items, page.get().followed(item.memo), item.memo);
+        push_pages(&mut self.items, &found.children, counter);
+        Ok(Visited {
+            page: item.page,
+            rows: found.rows,
+        })
+    }
+
     /// Visits the page of the last item, where there is one, for the row with that number and key: where the page doesn't
     /// hold it, goes on to its right link and its children whose bounds cover the key.
     ///
     /// # Errors
-    /// Memory was wanting, and the page lacks the row; the stack is as it was.
+    /// Memory was wanting for a page to push, and the page lacks the row; the stack is as it was.
     pub fn seek<C: KeyClass>(
         &mut self,
         table: &PageTable<C::Key>,
@@ -160,6 +241,7 @@ impl Stack {
         ensures less_work { IfOk result (λ r. MatchOption r (Unit {0}) (λ met. SeeksLess C.is_cover table.now self.old met self.new)) }
         ensures refused { OnErr result (self.new ≡ self.old) }
         ensures refused_further { OnErr result (LacksNext row table.now self.old) }
+        ensures memory { OnErr result (PushesSome (λ bound. C.is_cover bound key) table.now self.old) }
     {
         let Some(item) = self.last() else {
             return Ok(None);
@@ -193,6 +275,7 @@ impl Stack {
         requires exists { item.page < length table.now.pages }
         ensures ok { OnOk result (GoesOn (consistent_with_query C.is_consistent (query_of query.now)) table.now self.old item self.new) }
         ensures refused { OnErr result (self.new ≡ self.old) }
+        ensures memory { OnErr result (PushesSome (consistent_with_query C.is_consistent (query_of query.now)) table.now self.old) }
     {
         match query {
             Pred::Atom(atom) => {
@@ -213,15 +296,50 @@ impl Stack {
         requires exists { item.page < length table.now.pages }
         ensures ok { OnOk result (GoesOn (T.wants test.now) table.now self.old item self.new) }
         ensures refused { OnErr result (self.new ≡ self.old) }
+        ensures memory { OnErr result (PushesSome (T.wants test.now) table.now self.old) }
     {
         let page = table.page(item.page);
-        let branches = page.branches();
-        self.items.reserve(branches.len())?;
+        let branches = up_to_wanted::<C, T>(page.branches(), test);
+        make_room(&mut self.items, branches.len())?;
         self.items.pop();
         push_link(&mut self.items, page.followed(item.memo), item.memo);
         push_children::<C, T>(&mut self.items, branches, test, table.counter());
         Ok(())
     }
+}
+
+/// The branches up to the last that is wanted.
+fn up_to_wanted<'a, C: KeyClass, T: BranchTest<C>>(
+    branches: &'a [Branch<C::Key>],
+    test: &T,
+) -> &'a [Branch<C::Key>]
+    ensures same { (memo : ℕ) → child_items (T.wants test.now) memo result.now ≡ child_items (T.wants test.now) memo branches.now }
+    ensures wanted { (memo : ℕ) → 0 < length result.now → child_items (T.wants test.now) memo branches.now ≢ [] }
+{
+    let mut count = branches.len();
+    while count > 0 {
+        if test.is_wanted(branches[count - 1].key) {
+            return &branches[..count];
+        }
+        count -= 1;
+    }
+    &[]
+}
+
+/// Makes room for so many items more.
+///
+/// # Errors
+/// Memory was wanting, and there are items to come; the list is as it was.
+fn make_room(items: &mut SmallVec<StackItem, 32>, more: usize) -> Result<(), AllocError>
+    ensures items { items.new.items ≡ items.old.items }
+    ensures room { OnOk result (HasRoomFor items.new more) }
+    ensures refused { OnErr result (items.new ≡ items.old) }
+    ensures some { OnErr result (0 < more) }
+{
+    if more <= items.capacity() - items.len() {
+        return Ok(());
+    }
+    items.reserve(more)
 }
 
 /// Pushes a right link, where it is followed, with the memo of the page that has it.
@@ -232,6 +350,19 @@ fn push_link(items: &mut SmallVec<StackItem, 32>, right: Option<u32>, memo: u32)
 {
     if let Some(page) = right {
         items.push_reserved(StackItem { page, memo });
+    }
+}
+
+/// Pushes pages with a memo.
+fn push_pages(items: &mut SmallVec<StackItem, 32>, pages: &[u32], memo: u32)
+    requires { HasRoomFor items.old (length pages.now) }
+    ensures { items.new.items ≡ items.old.items ++ map (λ p. record { page = p; memo = memo }) pages.now }
+{
+    for place in 0..pages.len() {
+        items.push_reserved(StackItem {
+            page: pages[place],
+            memo,
+        });
     }
 }
 

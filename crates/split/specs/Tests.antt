@@ -4,6 +4,8 @@ use Rattle.key_class.specs.Splits.{is_left, is_right}
 use Rattle.key_class.specs.declared.sides.Side.{Side}
 use Rattle.key_class.specs.declared.refusal.Refusal.{Refusal}
 use Rattle.key_class.specs.declared.refusal.Refusal.TheVariants as refusal
+use Rattle.std.specs.List.{list_any}
+use Rattle.row_version.specs.Entries.{is_needed}
 use Rattle.node.specs.Pages.{Page, entries_of, names, is_within}
 use Rattle.page_table.specs.Trees.{Tree, page_at}
 use Rattle.split.specs.SearchTrees.{SearchTree}
@@ -73,3 +75,7 @@ module _ {K : Type 0} where
 
   abbrev pub sweep_tests : SearchTree K → ℕ → List (Bool × Refusal)
   sweep_tests s p = (not (is_leaf s.tree p), refusal.NotHere) ∷ []
+
+  -- some entry of the page isn't needed, so that a sweep takes it out
+  abbrev pub HasUnneeded : ℕ → Tree K → ℕ → Type 0
+  HasUnneeded horizon t p = list_any (λ e. not (is_needed horizon e)) (page_at t p).rows ≡ true

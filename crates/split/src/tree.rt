@@ -8,7 +8,7 @@ ghost use Rattle.page_table.specs.Keeping.{KeepsRows, EachEntry, StandsIn};
 ghost use Rattle.page_table.specs.Soundness.{IsSound};
 ghost use Rattle.split.specs.SearchTrees.{with_tree};
 ghost use Rattle.split.specs.Steps.{after_split, after_post, after_grow, after_enlarge};
-ghost use Rattle.split.specs.Tests.{first_failing, IsRefusedBy, is_leaf, is_inner, parts_well, config_tests, place_tests, enlarge_tests, split_tests, post_tests, grow_tests, sweep_tests};
+ghost use Rattle.split.specs.Tests.{first_failing, IsRefusedBy, is_leaf, is_inner, parts_well, config_tests, place_tests, enlarge_tests, split_tests, post_tests, grow_tests, sweep_tests, HasUnneeded};
 
 use crate::steps;
 use key_class::{KeyClass, Refusal, Side, Sides};
@@ -98,7 +98,7 @@ impl<C: KeyClass> SearchTree<C> {
     ///
     /// # Errors
     /// NotHere where the parent is no inner page or has no branch to the child, Uncovered where its cover doesn't cover
-    /// the key. Nothing is changed then.
+    /// the key, else want of memory. Nothing is changed then.
     pub fn enlarge(&mut self, parent: u64, child: u64, key: C::Key) -> Result<(), Refusal>
         ensures passed { OnOk result (first_failing (enlarge_tests C.is_cover self.old parent child key) ≡ None) }
         ensures enlarged { OnOk result (self.new ≡ with_tree self.old (after_enlarge C.union_of self.old.tree parent child key)) }
@@ -114,7 +114,7 @@ impl<C: KeyClass> SearchTree<C> {
         if let Some(refusal) = self.enlarge_refusal(parent, child, key) {
             return Err(refusal);
         }
-        steps::enlarge::<C>(&mut self.table, parent as u32, child as u32, key);
+        steps::enlarge::<C>(&mut self.table, parent as u32, child as u32, key)?;
         Ok(())
     }
 
@@ -230,7 +230,7 @@ impl<C: KeyClass> SearchTree<C> {
         ensures unchanged { OnErr result (self.new ≡ self.old) }
         ensures sound { IsSound C.is_cover self.new.fan self.new.tree }
     {
-        self.table.bury(leaf, row, commit);
+        self.table.bury(leaf, row, commit)?;
         Ok(())
     }
 
@@ -238,19 +238,21 @@ impl<C: KeyClass> SearchTree<C> {
     /// number.
     ///
     /// # Errors
-    /// NotHere where the page is no leaf, else want of memory. Nothing is changed then.
+    /// NotHere where the page is no leaf, else want of memory, which a sweep that takes nothing out never tells. Nothing
+    /// is changed then.
     pub fn sweep(&mut self, leaf: u64, horizon: u32) -> Result<usize, Refusal>
         ensures passed { OnOk result (first_failing (sweep_tests self.old leaf) ≡ None) }
         ensures swept { OnOk result (self.new ≡ with_tree self.old (after_rows self.old.tree leaf (filter (is_needed horizon) (page_at self.old.tree leaf).rows))) }
         ensures count { IfOk result (λ count. count + length (filter (is_needed horizon) (page_at self.old.tree leaf).rows) ≡ length (page_at self.old.tree leaf).rows) }
         ensures refused { IfErr result (IsRefusedBy (sweep_tests self.old leaf)) }
+        ensures memory { IfErr result (λ why. why ≡ Refusal.OutOfMemory → HasUnneeded horizon self.old.tree leaf) }
         ensures unchanged { OnErr result (self.new ≡ self.old) }
         ensures sound { IsSound C.is_cover self.new.fan self.new.tree }
     {
         if !self.is_leaf(leaf) {
             return Err(Refusal::NotHere);
         }
-        Ok(self.table.sweep(leaf as u32, horizon))
+        Ok(self.table.sweep(leaf as u32, horizon)?)
     }
 
     /// Whether the number is that of a leaf.

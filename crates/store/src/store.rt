@@ -3,7 +3,7 @@ ghost use Rattle.key_class.specs.Queries.{query_of, matches_query, depth_of};
 ghost use Rattle.change_list.specs.Configs.{IsWithinLimits};
 ghost use Rattle.change_list.specs.Changes.{IsLegal, status_of, snapshot, commit_at};
 ghost use Rattle.store.specs.Worlds.{HasCursor};
-ghost use Rattle.store.specs.States.{new_state, Commits, Keeps, cursor_of, IsOpened, IsBadOpening, IsFullOf, RefusesDelete, Closes, Drains, Sweeps, SweepsSome, Nexts, RefusesNext, Changes, with_asking};
+ghost use Rattle.store.specs.States.{new_state, Commits, Keeps, cursor_of, IsOpened, IsBadOpening, IsFullOf, HasNoFinderLeft, RefusesDelete, Closes, Drains, Sweeps, SweepsSome, Nexts, RefusesNext, Changes, with_asking};
 
 use crate::reading::next_item;
 use change_list::{Config, Item, Row, Status, Write};
@@ -91,8 +91,8 @@ impl<C: KeyClass> Store<C> {
     /// Deletes a row, and gives the commit's number.
     ///
     /// # Errors
-    /// `NoSuchRow` where no insert has the number, `AlreadyDeleted`, `CommitsFull`, `FindersFull` once the last finder
-    /// of the store's life was opened, and want of memory. Nothing but pages changed then.
+    /// `NoSuchRow` where no insert has the number, else `AlreadyDeleted`, else `CommitsFull`, else `FindersFull` once the
+    /// last finder of the store's life was opened, and want of memory. Nothing but pages changed then.
     pub fn delete(&mut self, row: u64) -> Result<u64, Refusal>
         ensures number { IfOk result (λ n. n ≡ length self.old.commits + 1) }
         ensures ok { OnOk result (Commits C.is_match self.old (Write.Delete row) self.new) }
@@ -101,6 +101,7 @@ impl<C: KeyClass> Store<C> {
         ensures no_such_row { (result ≡ Err Refusal.NoSuchRow) ↔ (status_of self.old.commits row ≡ Status.NeverIssued) }
         ensures already_deleted { (result ≡ Err Refusal.AlreadyDeleted) ↔ (status_of self.old.commits row ≡ Status.Dead) }
         ensures full { (result ≡ Err Refusal.CommitsFull) ↔ ((status_of self.old.commits row ≡ Status.Live) × (self.old.limit ≤ length self.old.commits)) }
+        ensures finders_full { (result ≡ Err Refusal.FindersFull) ↔ ((status_of self.old.commits row ≡ Status.Live) × (length self.old.commits < self.old.limit) × HasNoFinderLeft self.old) }
         ensures refusals { IfErr result (RefusesDelete self.old) }
         ensures finders { self.new.finders ≤ self.old.finders + 1 }
         ensures legal { IsLegal self.new.commits }

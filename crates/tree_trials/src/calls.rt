@@ -1,10 +1,11 @@
 use interval_class::{Interval, Intervals};
-use key_class::{Side, Sides};
-use node::{Page, two_branches};
+use key_class::{Refusal, Side, Sides};
+use node::{Page, same_page, two_branches};
 use page_table::{
-    PageTable, traversals_follow_chains, traversals_survive_steps, visits_lose_nothing,
+    PageTable, SharedPage, traversals_follow_chains, traversals_survive_steps, visits_lose_nothing,
 };
 use row_version::Entry;
+use std::alloc::Global;
 use std::test::Fail;
 
 fn key(lo: i64, hi: i64) -> Result<Interval, Fail> {
@@ -93,22 +94,69 @@ fn keeps_pages_by_number(rt: HostRuntime) -> Result<(), Fail> {
     let mut table = PageTable::<Interval>::new(alloc, 4)?;
     assert_eq!(rt; (table.len(), table.counter()), (1, 0));
     assert_eq!(rt; table.fresh(Page::leaf(alloc, 4)?)?, 1);
-    table.fresh_pair(Page::leaf(alloc, 4)?, Page::leaf(alloc, 4)?)?;
-    assert_eq!(rt; table.len(), 4);
-    assert_eq!(rt; table.counter(), 0);
-    assert_eq!(rt; table.count_posting(), 1);
-    assert_eq!(rt; table.len(), 4);
-    table.page_mut(3).settle(5);
-    assert_eq!(rt; table.len(), 4);
-    assert_eq!(rt; table.page(3).nsn(), 5);
-    table.place(2, Entry::new(key(1, 2)?, 1, 6))?;
-    assert_eq!(rt; table.len(), 4);
-    table.bury(2, 1, 2);
-    assert_eq!(rt; table.len(), 4);
-    assert_eq!(rt; table.sweep(2, 2), 1);
+    assert_eq!(rt; table.len(), 2);
+    table.page_mut(1)?.settle(5);
+    assert_eq!(rt; table.len(), 2);
+    assert_eq!(rt; table.page(1).nsn(), 5);
+    table.place(1, Entry::new(key(1, 2)?, 1, 6))?;
+    assert_eq!(rt; table.len(), 2);
+    table.bury(1, 1, 2)?;
+    assert_eq!(rt; table.len(), 2);
+    assert_eq!(rt; table.sweep(1, 2)?, 1);
     traversals_follow_chains::<Intervals>();
     visits_lose_nothing::<Intervals>();
     traversals_survive_steps::<Intervals>();
+    Ok(())
+}
+
+/// A root above two leaves, pages 1 and 2.
+fn raised(alloc: Global) -> Result<PageTable<Interval>, Fail> {
+    let mut table = PageTable::new(alloc, 4)?;
+    let branches = two_branches(alloc, 4, (1, None), (2, None))?;
+    if table.len() != 1 {
+        return Err(Refusal::NotHere.into());
+    }
+    if table.page(0).level() != 0 {
+        return Err(Refusal::NotHere.into());
+    }
+    table.raise(Page::leaf(alloc, 4)?, Page::leaf(alloc, 4)?, branches)?;
+    Ok(table)
+}
+
+#[test]
+fn widens_bounds(rt: HostRuntime) -> Result<(), Fail> {
+    let mut table = raised(rt.alloc())?;
+    assert_eq!(rt; table.len(), 3);
+    table.widen::<Intervals>(0, 1, key(1, 2)?)?;
+    assert_eq!(rt; table.len(), 3);
+    assert_eq!(rt; table.page(1).cover(), None);
+    Ok(())
+}
+
+#[test]
+fn posts_a_sibling(rt: HostRuntime) -> Result<(), Fail> {
+    let mut table = raised(rt.alloc())?;
+    assert_eq!(rt; table.len(), 3);
+    assert_eq!(rt; table.counter(), 0);
+    table.post(0, 1, 2)?;
+    assert_eq!(rt; table.counter(), 1);
+    Ok(())
+}
+
+#[test]
+fn shares_a_page_as_it_was(rt: HostRuntime) -> Result<(), Fail> {
+    let alloc = rt.alloc();
+    let mut table = PageTable::<Interval>::new(alloc, 4)?;
+    assert_eq!(rt; table.len(), 1);
+    let mut shared = table.share(0)?;
+    let before = shared.get().clone()?;
+    table.place(0, Entry::new(key(1, 2)?, 1, 6))?;
+    assert_eq!(rt; table.len(), 1);
+    assert!(rt; same_page::<Intervals>(shared.get(), &before));
+    assert!(rt; !same_page::<Intervals>(shared.get(), table.page(0)));
+    let twin = SharedPage::new(alloc, before)?.share()?;
+    shared.get_mut()?.settle(3);
+    assert_eq!(rt; (shared.get().nsn(), twin.get().nsn()), (3, 0));
     Ok(())
 }
 

@@ -8,6 +8,7 @@ use key_class::{Pred, Rel};
 use mailbox::{Outlet, Tray};
 use page_table::PageTable;
 use std::alloc::Global;
+use std::sync::Arc;
 use std::test::Fail;
 
 type Open = Cursor<Intervals, Tray<Interval>>;
@@ -21,6 +22,7 @@ fn opened_after(alloc: Global, commits: u32) -> Result<Open, Fail>
         operand: Interval::new(0, 9)?,
     });
     let (tray, ()) = <Tray<Interval> as Outlet<Interval>>::make(alloc, 1)?;
+    let query = Arc::new(alloc, query)?;
     Ok(Cursor::new(alloc, 1, query, commits, 0, tray))
 }
 

@@ -5,12 +5,22 @@
 #[cfg(test)]
 mod calls;
 #[cfg(test)]
+mod commits;
+#[cfg(test)]
+mod cursors;
+#[cfg(test)]
 mod finders;
 #[cfg(test)]
 mod horizons;
 #[cfg(test)]
 mod insertions;
 #[cfg(test)]
+mod limits;
+#[cfg(test)]
+mod scans;
+#[cfg(test)]
 mod surveys;
 #[cfg(test)]
 mod trace;
+#[cfg(test)]
+mod trays;

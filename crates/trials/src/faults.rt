@@ -51,6 +51,41 @@ impl Write for Stopping {
     }
 }
 
+/// A writer that keeps some bytes at a time, fails at one call, and goes on.
+#[derive(Drop)]
+struct Faltering {
+    kept: Vec<u8>,
+    at_once: usize,
+    /// How many calls are left before the one that fails.
+    before: usize,
+    kind: ErrorKind,
+    failed: bool,
+    /// How many calls came after the one that failed.
+    after: usize,
+}
+
+impl Write for Faltering {
+    fn write(&mut self, buf: &[u8]) -> io::Result<usize> {
+        if self.failed {
+            self.after = self.after.saturating_add(1);
+        } else if self.before == 0 {
+            self.failed = true;
+            return Err(self.kind.into());
+        } else {
+            self.before -= 1;
+        }
+        let count = self.at_once.min(buf.len());
+        match self.kept.extend_from_slice(&buf[..count]) {
+            Ok(()) => Ok(count),
+            Err(_) => Err(ErrorKind::OutOfMemory.into()),
+        }
+    }
+
+    fn flush(&mut self) -> io::Result<()> {
+        Ok(())
+    }
+}
+
 /// Three lines, with two commits in all.
 #[derive(Clone, Copy)]
 struct Lines {
@@ -136,6 +171,57 @@ fn writer_that_fails(rt: HostRuntime) -> Result<(), Fail> {
                 }
                 assert_eq!(rt; writer.kept.as_slice(), &all[..kept]);
                 assert_eq!(rt; ending.commits, 2);
+            }
+        }
+    }
+    Ok(())
+}
+
+#[test]
+fn nothing_is_written_after_a_fault(rt: HostRuntime) -> Result<(), Fail> {
+    for lines in [COMMANDS, EVENTS] {
+        let all = lines.answers[3].as_bytes();
+        for at_once in [1, 7, 20, 100] {
+            for before in 0..55 {
+                let mut reader = lines.input;
+                let mut writer = Faltering {
+                    kept: Vec::new(rt.alloc()),
+                    at_once,
+                    before,
+                    kind: ErrorKind::BrokenPipe,
+                    failed: false,
+                    after: 0,
+                };
+                let ending = run(rt, lines.kind, &mut reader, &mut writer)?;
+                let kept = all.len().min(at_once.saturating_mul(before));
+                assert_eq!(rt; writer.failed, kept < all.len());
+                assert_eq!(rt; ending.result.is_err(), writer.failed);
+                assert_eq!(rt; writer.kept.as_slice(), &all[..kept]);
+                assert_eq!(rt; writer.after, 0);
+            }
+        }
+    }
+    Ok(())
+}
+
+#[test]
+fn signal_is_no_fault(rt: HostRuntime) -> Result<(), Fail> {
+    for lines in [COMMANDS, EVENTS] {
+        let all = lines.answers[3].as_bytes();
+        for at_once in [1, 7, 20, 100] {
+            for before in 0..55 {
+                let mut reader = lines.input;
+                let mut writer = Faltering {
+                    kept: Vec::new(rt.alloc()),
+                    at_once,
+                    before,
+                    kind: ErrorKind::Interrupted,
+                    failed: false,
+                    after: 0,
+                };
+                let ending = run(rt, lines.kind, &mut reader, &mut writer)?;
+                assert!(rt; ending.result.is_ok());
+                assert_eq!(rt; writer.kept.as_slice(), all);
             }
         }
     }

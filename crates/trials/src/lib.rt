@@ -1,4 +1,4 @@
-//! Trials over memory: calls of a store, random calls beside a plain list, sessions and replays of lines with their answers, readers and writers that fail.
+//! Trials over memory: calls of a store, random calls beside a plain list, sessions and replays of lines with their answers, readers and writers that fail, and clients that wait.
 #![tactic(auto)]
 
 #[cfg(test)]
@@ -6,9 +6,15 @@ mod alike;
 #[cfg(test)]
 mod calls;
 #[cfg(test)]
+mod clients;
+#[cfg(test)]
+mod deletions;
+#[cfg(test)]
 mod faults;
 #[cfg(test)]
 mod growths;
+#[cfg(test)]
+mod insertions;
 #[cfg(test)]
 mod memory;
 #[cfg(test)]

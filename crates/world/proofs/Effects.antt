@@ -59,6 +59,13 @@ module _ {C O K A E : Type 0} (w : Words K A) where
   Opening old new (event.Open query room) (reply.Opened c end) = IsFresh w old new query c
   Opening old new e r = Unit {0}
 
+  -- the event is the opening of cursor c
+  pub record OpensIt (e : Event C K A) (r : Reply C O K A E) (c : ℕ) : Type 0 where
+    pub query : Pred A
+    pub room : ℕ
+    pub end : E
+    pub is : ◌≡◌ {A = Event C K A × Reply C O K A E} (e, r) (event.Open query room, reply.Opened c end)
+
   abbrev pub Closing : State K A → Event C K A → Reply C O K A E → Type 0
   Closing new (event.Close c) reply.Closed = IsShut new c
   Closing new e r = Unit {0}
@@ -94,8 +101,8 @@ module _ {C O K A E : Type 0} (w : Words K A) where
     pub within : (c : ℕ) (k : OpenCursor K A) → cursor_at new c ≡ Some k → c ≤ new.last
     -- a closed serial stays closed
     pub shut : (c : ℕ) → c ≤ old.last → cursor_at old c ≡ None → cursor_at new c ≡ None
-    -- a cursor that appears has a new serial, holds nothing and is asked for no mark
-    pub appears : (c : ℕ) (k : OpenCursor K A) → cursor_at old c ≡ None → cursor_at new c ≡ Some k → (old.last < c) × (k.unread ≡ []) × (k.asked ≡ false)
+    -- a cursor that appears has a new serial, holds nothing, is asked for no mark, and is opened by the event
+    pub appears : (c : ℕ) (k : OpenCursor K A) → cursor_at old c ≡ None → cursor_at new c ≡ Some k → (old.last < c) × (k.unread ≡ []) × (k.asked ≡ false) × OpensIt e r c
     pub takes : (c : ℕ) (item : Item K) → taken_by c (e, r) ≡ Some item → Taking old c item new
     pub opening : Opening old new e r
     pub closing : Closing new e r

@@ -12,7 +12,7 @@ use Rattle.change_list.specs.declared.item.Item.TheVariants as item
 use Rattle.change_list.specs.Changes.{IsLegal, item_at, changes}
 use Rattle.change_list.specs.Listings.{IsListing, BeginsListing, is_mark, without_marks}
 use Rattle.change_list.specs.Cursors.{Fits}
-use Rattle.change_list.proofs.Lists.{slice_get_push, slice_get_within}
+use Rattle.change_list.proofs.Lists.{slice_get_push, slice_get_before, slice_get_end, slice_get_within}
 use Rattle.change_list.proofs.Pushing.{changes_more, changes_push, snapshot_push}
 use Rattle.change_list.proofs.Fitting.{listing_push, fits_begins}
 use Rattle.cursor.specs.OpenCursors.{Words, OpenCursor, shown}
@@ -22,7 +22,7 @@ use Rattle.world.specs.declared.reply.Reply.{Reply}
 use Rattle.world.specs.declared.reply.Reply.TheVariants as reply
 use Rattle.world.specs.Stamps.{Stamp}
 use Rattle.world.specs.States.{State, cursor_at}
-use Rattle.world.specs.Traces.{written, commits_of, taken_by, taken, delivered, asks, marks_of, HasAskings, IsOpening, IsFaithful}
+use Rattle.world.specs.Traces.{Moment, Trace, written, commits_of, taken_by, taken, delivered, asks, marks_of, HasAskings, IsOpening, WasOpened, IsFaithful}
 use Rattle.world.proofs.Founds.{Founds, founds_push}
 use Rattle.world.proofs.Effects.{Effect, IsFresh, IsShut, Opening, Closing, Numbering}
 use Rattle.world.proofs.Askings.{commits_push, take_push, take_end, has_push, FullAskings, taken_push, taken_same, given_push, serve_askings}
@@ -84,14 +84,18 @@ module _ {K A : Type 0} (w : Words K A) where
   slot_begins s q n items None f = f
 
 module _ {C O K A E : Type 0} (w : Words K A) where
-  abbrev pub AskingsOf : List (Event C K A × Reply C O K A E) → State K A → ℕ → Option (OpenCursor K A) → Type 0
+  abbrev pub AskingsOf : Trace C O K A E → State K A → ℕ → Option (OpenCursor K A) → Type 0
   AskingsOf trace s c (Some k) = FullAskings trace c (marks_of (taken c trace ++ k.unread)) k.asked (length s.commits)
   AskingsOf trace s c None = HasAskings trace c
 
   -- what holds of a trace and the state that it leads to
-  pub record Inv (trace : List (Event C K A × Reply C O K A E)) (s : State K A) : Type 0 where
+  pub record Inv (trace : Trace C O K A E) (s : State K A) : Type 0 where
     pub commits : s.commits ≡ commits_of trace
     pub legal : IsLegal s.commits
+    -- an open cursor was opened, by one opening
+    pub seen : (c : ℕ) (k : OpenCursor K A) → cursor_at s c ≡ Some k → WasOpened trace c
+    pub once : (i j c : ℕ) (query other : Pred A) → IsOpening trace i c query → IsOpening trace j c other → i ≡ j
+    pub known : (j c : ℕ) (x : Item K) → slice_get trace j ≡ Some (event.Take c, reply.Taken x) → WasOpened (take j trace) c
     pub opened : (i c : ℕ) (query : Pred A) → IsOpening trace i c query → (c ≤ s.last) × SlotFits w s (query_of query) (length (commits_of (take i trace))) (taken c trace) (cursor_at s c)
     pub untaken : (c : ℕ) → s.last < c → taken c trace ≡ []
     pub taken_given : (j c : ℕ) (x : Item K) → slice_get trace j ≡ Some (event.Take c, reply.Taken x) → c ≤ s.last
@@ -105,8 +109,8 @@ module _ {C O K A E : Type 0} (w : Words K A) where
     pub numbered : (i : ℕ) (e : Event C K A) (stamp : Stamp K) → slice_get trace i ≡ Some (e, reply.Committed stamp) → stamp.number ≡ length (commits_of (take i trace)) + 1
     pub finders : Founds trace s
 
-  module _ (trace : List (Event C K A × Reply C O K A E)) (old new : State K A) (e : Event C K A) (r : Reply C O K A E) (I : Inv trace old) (E' : Effect w old e r new) where
-    longer : List (Event C K A × Reply C O K A E)
+  module _ (trace : Trace C O K A E) (old new : State K A) (e : Event C K A) (r : Reply C O K A E) (I : Inv trace old) (E' : Effect w old e r new) where
+    longer : Trace C O K A E
     longer = trace ++ (e, r) ∷ []
 
     before_push : (i : ℕ) → i ≤ length trace → commits_of (take i (trace ++ (e, r) ∷ [])) ≡ commits_of (take i trace)
@@ -174,6 +178,46 @@ module _ {C O K A E : Type 0} (w : Words K A) where
               let f = p.1 in
               let none : taken c (trace ++ (e, r) ∷ []) ≡ [] = taken_stays c (not_taken c (not_open old I.within c f.serial)) ∙ I.untaken c f.serial in
               (f.given, rw (p.0, before_end, none, f.is_open) (record { query = f.query_is; opened = f.opened; fits = rw f.unread f.fits }))
+        ]
+
+    was_opened_push : (c : ℕ) → WasOpened trace c → WasOpened (trace ++ (e, r) ∷ []) c
+    was_opened_push c h =
+        let o = h.opening in
+        record {
+          place = h.place;
+          query = h.query;
+          opening = record { room = o.room; end = o.end; is = slice_get_before trace ((e, r) ∷ []) h.place (slice_get_within trace h.place _ o.is) ∙ o.is };
+        }
+
+    seen_push : (c : ℕ) (k : OpenCursor K A) → cursor_at new c ≡ Some k → WasOpened (trace ++ (e, r) ∷ []) c
+    seen_push c k h = go (cursor_at old c) refl
+      where
+        go : (o : Option (OpenCursor K A)) → cursor_at old c ≡ o → WasOpened (trace ++ (e, r) ∷ []) c
+        go (Some before) was = was_opened_push c (I.seen c before was)
+        go None was =
+            let o = (E'.appears c k was h).3 in
+            record { place = length trace; query = o.query; opening = record { room = o.room; end = o.end; is = slice_get_end trace (e, r) ∙ ap Some o.is } }
+
+    once_push : (i j c : ℕ) (query other : Pred A) → IsOpening (trace ++ (e, r) ∷ []) i c query → IsOpening (trace ++ (e, r) ∷ []) j c other → i ≡ j
+    once_push i j c query other a b =
+        elim (opening_push i c query a) [
+          | inl p ↦ elim (opening_push j c other b) [
+            | inl q ↦ I.once i j c query other p.1 q.1
+            | inr q ↦ absurd (omega (arith, (I.opened i c query p.1).0, q.1.serial))
+          ]
+          | inr p ↦ elim (opening_push j c other b) [
+            | inl q ↦ absurd (omega (arith, (I.opened j c other q.1).0, p.1.serial))
+            | inr q ↦ p.0 ∙ sym q.0
+          ]
+        ]
+
+    known_push : (j c : ℕ) (x : Item K) → slice_get (trace ++ (e, r) ∷ []) j ≡ Some (event.Take c, reply.Taken x) → WasOpened (take j (trace ++ (e, r) ∷ [])) c
+    known_push j c x h =
+        elim (slice_get_push trace (e, r) (event.Take c, reply.Taken x) j h) [
+          | inl p ↦ rw (take_push trace (e, r) j (omega (arith, p.1))) (I.known j c x p.0)
+          | inr p ↦
+              let t = E'.takes c x (ap (λ m. taken_by c m) p.1 ∙ taken_same C O A E c x) in
+              rw (p.0, take_end trace (e, r)) (I.seen c t.before t.was_open)
         ]
 
     taken_given_push : (j c : ℕ) (x : Item K) → slice_get (trace ++ (e, r) ∷ []) j ≡ Some (event.Take c, reply.Taken x) → (c ≤ old.last) × (c ≤ new.last)
@@ -268,7 +312,7 @@ module _ {C O K A E : Type 0} (w : Words K A) where
           | inl p ↦ I.numbered i f stamp p.0 ∙ ap (λ t. length t + 1) (sym (before_push i (omega (arith, p.1))))
           | inr p ↦
               let at_end : commits_of (take i (trace ++ (e, r) ∷ [])) ≡ old.commits = ap (λ k. commits_of (take k (trace ++ (e, r) ∷ []))) p.0 ∙ before_end in
-              let number : stamp.number ≡ length old.commits + 1 = subst (λ (m : Event C K A × Reply C O K A E). Numbering w old m.1) p.1 E'.numbering in
+              let number : stamp.number ≡ length old.commits + 1 = subst (λ (m : Moment C O K A E). Numbering w old m.1) p.1 E'.numbering in
               number ∙ ap (λ t. length t + 1) (sym at_end)
         ]
 
@@ -277,6 +321,9 @@ module _ {C O K A E : Type 0} (w : Words K A) where
     Inv-push = record {
       commits = E'.commits ∙ ap (λ t. t ++ option_to_list (written (e, r))) I.commits ∙ sym (commits_push trace (e, r));
       legal = E'.legal;
+      seen = seen_push;
+      once = once_push;
+      known = known_push;
       opened = opened_push;
       untaken = λ c l.
           let old_l : old.last < c = omega (arith, l, E'.last) in
@@ -291,12 +338,14 @@ module _ {C O K A E : Type 0} (w : Words K A) where
       finders = founds_push w trace old new e r I.finders E'.finders;
     }
 
-  pub faithful : (trace : List (Event C K A × Reply C O K A E)) (s : State K A) → Inv trace s → IsFaithful w.matching trace
+  pub faithful : (trace : Trace C O K A E) (s : State K A) → Inv trace s → IsFaithful w.matching trace
   faithful trace s I = record {
     numbered = I.numbered;
     writes = I.finders.writes;
-    finders = I.finders.once;
     legal = subst (λ t. IsLegal t) I.commits I.legal;
+    finders = I.finders.once;
+    cursors = I.once;
+    opened = I.known;
     delivers = λ i c query o.
         subst (λ t. BeginsListing (matches_query w.matching (query_of query)) (length (commits_of (take i trace))) (length t) t (delivered c trace)) I.commits
         (slot_begins w s (query_of query) (length (commits_of (take i trace))) (taken c trace) (cursor_at s c) (I.opened i c query o).1);

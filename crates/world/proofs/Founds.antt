@@ -1,5 +1,5 @@
 -- Which row each finder of a trace was asked to find, and what its events wrote.
-use Rattle.std.proofs.Common.{◌≡◌, ◌<◌, ◌≤◌, ℕ, List, [], ◌∷◌, ◌++◌, length, take, Some, inl, inr, sym, ap, ◌∙◌, arith, subst}
+use Rattle.std.proofs.Common.{◌≡◌, ◌<◌, ◌≤◌, ℕ, [], ◌∷◌, ◌++◌, length, take, Some, inl, inr, sym, ap, ◌∙◌, arith, subst}
 use Rattle.std.specs.Prelude.{slice_get}
 use Rattle.change_list.proofs.Lists.{slice_get_push, slice_get_before, slice_get_end, slice_get_within}
 use Rattle.cursor.specs.OpenCursors.{Words}
@@ -10,22 +10,22 @@ use Rattle.world.specs.declared.reply.Reply.{Reply}
 use Rattle.world.specs.declared.reply.Reply.TheVariants as reply
 use Rattle.world.specs.Stamps.{Stamp}
 use Rattle.world.specs.States.{State, finder_at}
-use Rattle.world.specs.Traces.{IsFound, IsWriteOf}
+use Rattle.world.specs.Traces.{Moment, Trace, IsFound, IsWriteOf}
 use Rattle.world.proofs.Effects.{FinderEffect, Finding, Writing, WritesAs}
 use Rattle.world.proofs.Askings.{take_push, take_end}
 
 module _ {C O K A E : Type 0} where
   -- what holds of the finders of a trace and of the state that it leads to
-  pub record Founds (trace : List (Event C K A × Reply C O K A E)) (s : State K A) : Type 0 where
+  pub record Founds (trace : Trace C O K A E) (s : State K A) : Type 0 where
     pub found : (f : ℕ) (k : OpenFinder K) → finder_at s f ≡ Some k → IsFound trace f k.row
     pub given : (i f row : ℕ) → slice_get trace i ≡ Some (event.Find row, reply.Finder f) → f ≤ s.last_finder
     pub once : (i j f row other : ℕ) → slice_get trace i ≡ Some (event.Find row, reply.Finder f) → slice_get trace j ≡ Some (event.Find other, reply.Finder f) → i ≡ j
     pub writes : (i : ℕ) (e : Event C K A) (stamp : Stamp K) → slice_get trace i ≡ Some (e, reply.Committed stamp) → IsWriteOf (take i trace) e stamp.write
 
-  found_push : (trace : List (Event C K A × Reply C O K A E)) (m : Event C K A × Reply C O K A E) (f row : ℕ) → IsFound trace f row → IsFound (trace ++ m ∷ []) f row
+  found_push : (trace : Trace C O K A E) (m : Moment C O K A E) (f row : ℕ) → IsFound trace f row → IsFound (trace ++ m ∷ []) f row
   found_push trace m f row h = record { place = h.place; is = slice_get_before trace (m ∷ []) h.place (slice_get_within trace h.place _ h.is) ∙ h.is }
 
-module _ {C O K A E : Type 0} (w : Words K A) (trace : List (Event C K A × Reply C O K A E)) (old new : State K A) (e : Event C K A) (r : Reply C O K A E) (F : Founds trace old) (E' : FinderEffect w old e r new) where
+module _ {C O K A E : Type 0} (w : Words K A) (trace : Trace C O K A E) (old new : State K A) (e : Event C K A) (r : Reply C O K A E) (F : Founds trace old) (E' : FinderEffect w old e r new) where
   write_now : (stamp : Stamp K) → Founds trace old → (d : Event C K A) → WritesAs old d stamp.write → IsWriteOf trace d stamp.write
   write_now stamp F (event.Place page key tag) h = h
   write_now stamp F (event.Seek f) h = (h.0.row, F.found f h.0 h.1, h.2)
@@ -56,6 +56,6 @@ module _ {C O K A E : Type 0} (w : Words K A) (trace : List (Event C K A × Repl
     ];
     writes = λ i d stamp h. elim (slice_get_push trace (e, r) (d, reply.Committed stamp) i h) [
       | inl p ↦ rw (take_push trace (e, r) i (omega (arith, p.1))) (F.writes i d stamp p.0)
-      | inr p ↦ rw (p.0, take_end trace (e, r)) (write_now stamp F d (subst (λ (m : Event C K A × Reply C O K A E). Writing w old m.0 m.1) p.1 E'.writing))
+      | inr p ↦ rw (p.0, take_end trace (e, r)) (write_now stamp F d (subst (λ (m : Moment C O K A E). Writing w old m.0 m.1) p.1 E'.writing))
     ];
   }

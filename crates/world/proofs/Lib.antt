@@ -5,6 +5,7 @@ pub mod FinderLists
 pub mod FinderSteps
 pub mod Founds
 pub mod Handling
+pub mod HandingOut
 pub mod Meeting
 pub mod PageSteps
 pub mod Placing
@@ -17,3 +18,4 @@ pub mod Serving
 pub mod Sounding
 pub mod Stepping
 pub mod Turning
+pub mod Publishing

@@ -112,7 +112,7 @@ module _ {K A : Type 0} (is_cover : K → K → Bool) (old : State K A) (inv : I
       further_after = ap (λ ks. record old { finders = ks }) further_put
 
 module _ {K A : Type 0} (is_cover : K → K → Bool) (old : State K A) (inv : IsSoundWorld is_cover old) (f at page : ℕ) (m : Meets old f at page) where
-  meets_row : is_at_row old.search.tree m.here.value ≡ true
+  pub meets_row : is_at_row old.search.tree m.here.value ≡ true
   meets_row = finds_at_row old.search.tree m.here.value page m.finds
 
   pub meets_full : old.limit ≤ length old.commits → first_failing (finder_tests old f ++ row_tests old (finder_at old f)) ≡ Some refusal.CommitsFull

@@ -1,5 +1,5 @@
 -- The loop over a list of events.
-use Rattle.std.proofs.Common.{◌≡◌, ◌+◌, ◌<◌, ℕ, List, [], ◌∷◌, ◌++◌, length, take, get_or, refl, sym, ◌∙◌, arith, subst, length-append, length-take}
+use Rattle.std.proofs.Common.{◌≡◌, ◌+◌, ◌<◌, ℕ, zero, suc, List, [], ◌∷◌, ◌++◌, length, take, get_or, refl, sym, ◌∙◌, arith, subst, length-append, length-take}
 use Rattle.std.specs.List.{zip}
 use Rattle.std.proofs.lemmas.List.{take_more, append-nil}
 use Rattle.std.proofs.Common.{append_assoc}
@@ -17,7 +17,7 @@ use Rattle.world.specs.declared.reply.Reply.{Reply}
 use Rattle.world.specs.declared.reply.Reply.TheVariants as reply
 use Rattle.world.specs.States.{State, new_state, IsSoundWorld}
 use Rattle.world.specs.Steps.{Step, Runs, IsCopy}
-use Rattle.world.specs.Traces.{IsFaithful}
+use Rattle.world.specs.Traces.{Trace, IsFaithful, IsAlwaysFaithful}
 use Rattle.world.proofs.Sounding.{new_sound_world}
 use Rattle.world.proofs.Stepping.{step_leads}
 use Rattle.world.proofs.Faithful.{Inv, Inv-push, faithful}
@@ -27,6 +27,9 @@ module _ {C O K A E : Type 0} (w : Words K A) where
   inv_start config = record {
     commits = refl;
     legal = λ place write h. absurd (cc);
+    seen = λ c k h. absurd (cc);
+    once = λ i j c query other o p. let h = o.is in absurd (cc);
+    known = λ j c x h. absurd (cc);
     opened = λ i c query o. let h = o.is in absurd (cc);
     untaken = λ c l. refl;
     taken_given = λ j c x h. absurd (cc);
@@ -44,19 +47,32 @@ module _ {C O K A E : Type 0} (w : Words K A) where
     };
   }
 
-  inv_runs : WordLaws w → (done todo : List (Event C K A × Reply C O K A E)) (old new : State K A) → IsSoundWorld w.is_cover old → Inv w done old → Runs w old todo new → Inv w (done ++ todo) new
+  inv_runs : WordLaws w → (done todo : Trace C O K A E) (old new : State K A) → IsSoundWorld w.is_cover old → Inv w done old → Runs w old todo new → Inv w (done ++ todo) new
   inv_runs laws done [] old new s I h = rw (append-nil done, h) I
   inv_runs laws done (m ∷ todo) old new s I h =
       let leads = step_leads w laws 0 old s m.0 m.1 h.0 h.1 in
       let more = inv_runs laws (done ++ m ∷ []) todo h.0 new leads.sound (Inv-push w done old h.0 m.0 m.1 I leads.effect) h.2 in
       rw append_assoc at more
 
-  pub runs_faithful : WordLaws w → (config : Config) → IsWithinLimits config → (trace : List (Event C K A × Reply C O K A E)) (last : State K A) → Runs w (new_state config) trace last → IsFaithful w.matching trace
+  runs_faithful : WordLaws w → (config : Config) → IsWithinLimits config → (trace : Trace C O K A E) (last : State K A) → Runs w (new_state config) trace last → IsFaithful w.matching trace
   runs_faithful laws config limits trace last h =
       faithful w trace last (inv_runs laws [] trace (new_state config) last (new_sound_world w.is_cover config limits) (inv_start config) h)
 
+  -- a beginning of a run is a run
+  runs_take : (old new : State K A) (trace : Trace C O K A E) (count : ℕ) → Runs w old trace new → (mid : State K A) × Runs w old (take count trace) mid
+  runs_take old new trace zero h = (old, refl)
+  runs_take old new [] (suc count) h = (old, refl)
+  runs_take old new (m ∷ trace) (suc count) h =
+      let rest = runs_take h.0 new trace count h.2 in
+      (rest.0, (h.0, h.1, rest.1))
+
+  pub runs_always_faithful : WordLaws w → (config : Config) → IsWithinLimits config → (trace : Trace C O K A E) (last : State K A) → Runs w (new_state config) trace last → IsAlwaysFaithful w.matching trace
+  runs_always_faithful laws config limits trace last h count =
+      let beginning = runs_take (new_state config) last trace count h in
+      runs_faithful laws config limits (take count trace) beginning.0 beginning.1
+
   -- a run that goes on by one step
-  runs_push : (old mid new : State K A) (trace : List (Event C K A × Reply C O K A E)) (e : Event C K A) (r : Reply C O K A E) → Runs w old trace mid → Step w 0 mid e r new → Runs w old (trace ++ (e, r) ∷ []) new
+  runs_push : (old mid new : State K A) (trace : Trace C O K A E) (e : Event C K A) (r : Reply C O K A E) → Runs w old trace mid → Step w 0 mid e r new → Runs w old (trace ++ (e, r) ∷ []) new
   runs_push old mid new [] e r h d = (new, subst (λ s. Step w 0 s e r new) h d, refl)
   runs_push old mid new (m ∷ trace) e r h d = (h.0, h.1, runs_push h.0 mid new trace e r h.2 d)
 

@@ -376,8 +376,12 @@ module _ {C O K A E : Type 0} (w : Words K A) (laws : WordLaws w) (seat : ℕ) (
           appears = λ x y h g. elim (same_or_not x (old.last + 1)) [
             | inl eq ↦
                 let s : Some y ≡ Some k = sym g ∙ ap (λ n. cursor_at new n) eq ∙ put in
-                let f : y ≡ k = cc in
-                (omega (arith, eq), ap (λ (z : OpenCursor K A). z.unread) f, ap (λ (z : OpenCursor K A). z.asked) f)
+                let f : y ≡ k = cc in (
+                  omega (arith, eq),
+                  ap (λ (z : OpenCursor K A). z.unread) f,
+                  ap (λ (z : OpenCursor K A). z.asked) f,
+                  record { query = query; room = room; end = end; is = ap (λ n. (event.Open query room, reply.Opened n end)) (d.change.serial ∙ sym eq) },
+                )
             | inr n ↦ absurd (none_is_some y (cursor_at new x) (apart x n ∙ h) g)
           ];
           takes = λ x item t. absurd (cc);

@@ -54,6 +54,12 @@ module _ {C O K A E : Type 0} (w : Words K A) where
       → tree_work w new.search.tree new.commits after < tree_work w old.search.tree old.commits before
   LowersWork old e r new = Unit {0}
 
+module _ {C O K A E : Type 0} (fresh : E → Type 0) where
+  -- nothing came yet out of an end that is handed out
+  abbrev pub HandsOut : Reply C O K A E → Type 0
+  HandsOut (reply.Opened c end) = fresh end
+  HandsOut r = Unit {0}
+
 module _ {C K A : Type 0} where
   -- an event that moves entries leaves the rows under every page that was there and every memo up to the counter
   abbrev pub KeepsRowsUnder : State K A → Event C K A → State K A → Type 0

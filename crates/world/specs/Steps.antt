@@ -11,8 +11,9 @@ use Rattle.change_list.specs.declared.item.Item.{Item}
 use Rattle.row_version.specs.Entries.{is_needed}
 use Rattle.page_table.specs.Trees.{page_at, after_rows}
 use Rattle.split.specs.Steps.{after_split, after_post, after_grow, after_enlarge}
-use Rattle.split.specs.Tests.{first_failing, place_tests, enlarge_tests, split_tests, post_tests, grow_tests, sweep_tests}
+use Rattle.split.specs.Tests.{first_failing, place_tests, enlarge_tests, split_tests, post_tests, grow_tests, sweep_tests, HasUnneeded}
 use Rattle.scan.specs.LeafChanges.{after_bury, after_sweep}
+use Rattle.scan.specs.Scanning.{PushesSome}
 use Rattle.cursor.specs.declared.cursor.Turned.{Turned}
 use Rattle.cursor.specs.declared.cursor.Turned.TheVariants as turned
 use Rattle.cursor.specs.OpenCursors.{Words, OpenCursor, Turns}
@@ -25,6 +26,7 @@ use Rattle.world.specs.declared.reply.Reply.TheVariants as reply
 use Rattle.world.specs.Serials.{without}
 use Rattle.world.specs.Stamps.{Stamp}
 use Rattle.world.specs.States.{State, cursor_at, finder_at, with_pages, with_cursor, with_finder}
+use Rattle.world.specs.Traces.{Trace}
 
 module _ {K : Type 0} where
   abbrev pub is_insert : Option (Write K) → Bool
@@ -125,6 +127,13 @@ module _ {K A : Type 0} where
     pub counted : count + length (filter (is_needed horizon) (page_at old.search.tree page).rows) ≡ length (page_at old.search.tree page).rows
     pub after : new ≡ with_pages old (after_sweep old.search.tree page horizon)
 
+  -- memory was wanting, and there is something to take out
+  pub record RefusesSweep (old : State K A) (page : ℕ) (why : Refusal) : Type 0 where
+    pub memory : why ≡ refusal.OutOfMemory
+    pub horizon : ℕ
+    pub is : IsHorizon (length old.commits) old.cursors horizon
+    pub some : HasUnneeded horizon old.search.tree page
+
   pub record Opens (old : State K A) (query : Pred A) (room c : ℕ) (new : State K A) : Type 0 where
     pub serial : c ≡ old.last + 1
     pub after : new ≡ record old { cursors = old.cursors ++ opened_cursor old query room ∷ []; last = old.last + 1 }
@@ -165,6 +174,13 @@ module _ {K A : Type 0} (w : Words K A) where
     pub further : GoesFurther w.is_cover old.search.tree before page later
     pub after : new ≡ with_finder old later
 
+  -- memory was wanting, and the page that the finder visits holds its row, or something is pushed after it
+  pub record RefusesSeek (old : State K A) (f : ℕ) (why : Refusal) : Type 0 where
+    pub memory : why ≡ refusal.OutOfMemory
+    pub finder : OpenFinder K
+    pub is_open : finder_at old f ≡ Some finder
+    pub grows : (is_at_row old.search.tree finder ≡ true) ⊎ PushesSome (λ bound. w.is_cover bound finder.key) old.search.tree finder.stack
+
   pub record RefusesTurn (old : State K A) (c : ℕ) (why : Refusal) : Type 0 where
     pub cursor : OpenCursor K A
     pub is_open : cursor_at old c ≡ Some cursor
@@ -194,8 +210,9 @@ module _ {C K A : Type 0} (w : Words K A) where
   tests old (event.Take c) = cursor_tests old c ++ (w.elsewhere, refusal.NotHere) ∷ []
   tests old (event.Close c) = cursor_tests old c
 
-  -- Where all tests pass, an event that may grow is refused for want of memory alone, and a turn by its rule. Ending
-  -- a finder, asking for a mark, taking and closing are not refused.
+  -- Where all tests pass, an event that opens something or changes a page is refused for want of memory alone; so is a seek,
+  -- where it deletes its row or pushes a page, and a sweep, where it takes something out; a turn is refused by its rule.
+  -- Ending a finder, asking for a mark, taking and closing are not refused.
   abbrev pub RefusesLater : State K A → Event C K A → Refusal → Type 0
   RefusesLater old (event.Enlarge page child key) why = why ≡ refusal.OutOfMemory
   RefusesLater old (event.Place page key tag) why = why ≡ refusal.OutOfMemory
@@ -203,9 +220,9 @@ module _ {C K A : Type 0} (w : Words K A) where
   RefusesLater old (event.Post page child) why = why ≡ refusal.OutOfMemory
   RefusesLater old (event.Grow sides) why = why ≡ refusal.OutOfMemory
   RefusesLater old (event.Find row) why = why ≡ refusal.OutOfMemory
-  RefusesLater old (event.Seek f) why = why ≡ refusal.OutOfMemory
+  RefusesLater old (event.Seek f) why = RefusesSeek w old f why
   RefusesLater old (event.Unfind f) why = ⊥
-  RefusesLater old (event.Sweep page) why = why ≡ refusal.OutOfMemory
+  RefusesLater old (event.Sweep page) why = RefusesSweep old page why
   RefusesLater old (event.Open query room) why = why ≡ refusal.OutOfMemory
   RefusesLater old (event.Turn c) why = RefusesTurn w old c why
   RefusesLater old (event.AskMark c) why = ⊥
@@ -268,6 +285,6 @@ module _ {C O K A E : Type 0} (w : Words K A) where
   Step seat old event reply.Closed new = IsDone seat old event reply.Closed new
 
   -- from old, the events of a trace are answered so, one step after another, and lead to new
-  abbrev pub Runs : State K A → List (Event C K A × Reply C O K A E) → State K A → Type 0
+  abbrev pub Runs : State K A → Trace C O K A E → State K A → Type 0
   Runs old [] new = new ≡ old
   Runs old (moment ∷ trace) new = (mid : State K A) × Step 0 old moment.0 moment.1 mid × Runs mid trace new

@@ -1,4 +1,5 @@
 -- A trace: what its events committed, and what each cursor delivered. Nothing here knows a page, a link, a stack or a mailbox.
+-- K is the type of keys, A of a query's atoms, E of the other end of a mailbox; C and O stand for the class and the mailboxes.
 use Rattle.std.specs.Prelude.{◌≡◌, ℕ, suc, ◌+◌, ◌<◌, ◌≤◌, Bool, List, length, take, Option, Some, None, slice_get, nat_eq, if◌then◌else◌}
 use Rattle.std.specs.List.{filter_map}
 use Rattle.key_class.specs.Queries.{query_of, matches_query}
@@ -34,54 +35,76 @@ module _ {C K A : Type 0} where
   asks (event.Close d) c = d ≡ c
   asks event c = ⊥
 
+-- an event with its reply
+abbrev pub Moment : (C O K A E : Type 0) → Type 0
+Moment C O K A E = Event C K A × Reply C O K A E
+
+-- events with their replies, in their order
+abbrev pub Trace : (C O K A E : Type 0) → Type 0
+Trace C O K A E = List (Moment C O K A E)
+
 module _ {C O K A E : Type 0} where
+  -- at this place of the trace stands the event, and was answered so; the first place is 0
+  abbrev pub IsMoment : Trace C O K A E → ℕ → Event C K A → Reply C O K A E → Type 0
+  IsMoment trace place event reply = slice_get trace place ≡ Some (event, reply)
+
   -- the write of an answer that tells a commit
-  abbrev pub written : Event C K A × Reply C O K A E → Option (Write K)
+  abbrev pub written : Moment C O K A E → Option (Write K)
   written (event, reply.Committed stamp) = Some stamp.write
   written (event, reply) = None
 
   -- the commits of a trace, in their order
-  abbrev pub commits_of : List (Event C K A × Reply C O K A E) → List (Write K)
+  abbrev pub commits_of : Trace C O K A E → List (Write K)
   commits_of trace = filter_map written trace
 
-  abbrev pub taken_by : ℕ → Event C K A × Reply C O K A E → Option (Item K)
+  -- how many commits were made before a place of the trace
+  abbrev pub commits_before : ℕ → Trace C O K A E → ℕ
+  commits_before place trace = length (commits_of (take place trace))
+
+  abbrev pub taken_by : ℕ → Moment C O K A E → Option (Item K)
   taken_by c (event.Take d, reply.Taken item) = if nat_eq d c then Some item else None
   taken_by c (event, reply) = None
 
   -- what was taken of cursor c, in order
-  abbrev pub taken : ℕ → List (Event C K A × Reply C O K A E) → List (Item K)
+  abbrev pub taken : ℕ → Trace C O K A E → List (Item K)
   taken c trace = filter_map (taken_by c) trace
 
   -- what cursor c has delivered, in order: what was taken, marks left out
-  abbrev pub delivered : ℕ → List (Event C K A × Reply C O K A E) → List (Item K)
+  abbrev pub delivered : ℕ → Trace C O K A E → List (Item K)
   delivered c trace = without_marks (taken c trace)
 
   -- at this place of the trace a mark was asked of cursor c, and no more than n commits were made before
-  pub record IsAsking (trace : List (Event C K A × Reply C O K A E)) (c place n : ℕ) : Type 0 where
-    pub asked : slice_get trace place ≡ Some (event.AskMark c, reply.Asked)
-    pub commits : length (commits_of (take place trace)) ≤ n
+  pub record IsAsking (trace : Trace C O K A E) (c place n : ℕ) : Type 0 where
+    pub asked : IsMoment trace place (event.AskMark c) reply.Asked
+    pub commits : commits_before place trace ≤ n
 
   -- Each mark taken of cursor c has an asking of its own: before the mark was taken, after the asking of the mark before,
   -- and the mark's number is at least the number of commits at the asking.
-  pub record HasAskings (trace : List (Event C K A × Reply C O K A E)) (c : ℕ) : Type 0 where
+  pub record HasAskings (trace : Trace C O K A E) (c : ℕ) : Type 0 where
     pub places : List ℕ
     pub rising : (j first second : ℕ) → slice_get places j ≡ Some first → slice_get places (suc j) ≡ Some second → first < second
-    pub each : (i n : ℕ) → slice_get trace i ≡ Some (event.Take c, reply.Taken (item.Mark n))
+    pub each : (i n : ℕ) → IsMoment trace i (event.Take c) (reply.Taken (item.Mark n))
         → (place : ℕ) × (slice_get places (length (marks_of (taken c (take i trace)))) ≡ Some place) × (place < i) × IsAsking trace c place n
 
   -- the place of a trace at which a cursor was opened, with its query
-  pub record IsOpening (trace : List (Event C K A × Reply C O K A E)) (i c : ℕ) (query : Pred A) : Type 0 where
+  pub record IsOpening (trace : Trace C O K A E) (i c : ℕ) (query : Pred A) : Type 0 where
     pub room : ℕ
     pub end : E
-    pub is : slice_get trace i ≡ Some (event.Open query room, reply.Opened c end)
+    pub is : IsMoment trace i (event.Open query room) (reply.Opened c end)
+
+  -- cursor c was opened
+  pub record WasOpened (trace : Trace C O K A E) (c : ℕ) : Type 0 where
+    pub place : ℕ
+    pub query : Pred A
+    pub opening : IsOpening trace place c query
 
   -- a finder of the row was answered with that serial
-  pub record IsFound (trace : List (Event C K A × Reply C O K A E)) (f row : ℕ) : Type 0 where
+  pub record IsFound (trace : Trace C O K A E) (f row : ℕ) : Type 0 where
     pub place : ℕ
-    pub is : slice_get trace place ≡ Some (event.Find row, reply.Finder f)
+    pub is : IsMoment trace place (event.Find row) (reply.Finder f)
 
   -- what an event writes: a place inserts its row, and a seek deletes the row that its finder was asked to find
-  abbrev pub IsWriteOf : List (Event C K A × Reply C O K A E) → Event C K A → Write K → Type 0
+  abbrev pub IsWriteOf : Trace C O K A E → Event C K A → Write K → Type 0
   IsWriteOf before (event.Place page key tag) write = write ≡ Insert key tag
   IsWriteOf before (event.Seek f) write = (row : ℕ) × IsFound before f row × (write ≡ Delete row)
   IsWriteOf before event write = ⊥
@@ -89,18 +112,25 @@ module _ {C O K A E : Type 0} where
   -- The headline. The commits are numbered in their order, each is the write of its event, and they are a legal list. What a
   -- cursor has delivered begins a listing for its query from its opening to the last commit. A mark that was taken shows that
   -- all of it up to the mark's commit was delivered, and was asked for. A closed cursor delivers nothing more.
-  pub record IsFaithful (matching : A → K → Bool) (trace : List (Event C K A × Reply C O K A E)) : Type 0 where
-    pub numbered : (i : ℕ) (e : Event C K A) (stamp : Stamp K) → slice_get trace i ≡ Some (e, reply.Committed stamp)
-        → stamp.number ≡ length (commits_of (take i trace)) + 1
-    pub writes : (i : ℕ) (e : Event C K A) (stamp : Stamp K) → slice_get trace i ≡ Some (e, reply.Committed stamp) → IsWriteOf (take i trace) e stamp.write
-    -- no serial is given to two finders
-    pub finders : (i j f row other : ℕ) → slice_get trace i ≡ Some (event.Find row, reply.Finder f) → slice_get trace j ≡ Some (event.Find other, reply.Finder f) → i ≡ j
+  pub record IsFaithful (matching : A → K → Bool) (trace : Trace C O K A E) : Type 0 where
+    pub numbered : (i : ℕ) (e : Event C K A) (stamp : Stamp K) → IsMoment trace i e (reply.Committed stamp) → stamp.number ≡ commits_before i trace + 1
+    pub writes : (i : ℕ) (e : Event C K A) (stamp : Stamp K) → IsMoment trace i e (reply.Committed stamp) → IsWriteOf (take i trace) e stamp.write
     pub legal : IsLegal (commits_of trace)
+    -- no serial is given to two finders
+    pub finders : (i j f row other : ℕ) → IsMoment trace i (event.Find row) (reply.Finder f) → IsMoment trace j (event.Find other) (reply.Finder f) → i ≡ j
+    -- no serial is given to two cursors
+    pub cursors : (i j c : ℕ) (query other : Pred A) → IsOpening trace i c query → IsOpening trace j c other → i ≡ j
+    -- what is taken of a cursor is taken after its opening
+    pub opened : (j c : ℕ) (x : Item K) → IsMoment trace j (event.Take c) (reply.Taken x) → WasOpened (take j trace) c
     pub delivers : (i c : ℕ) (query : Pred A) → IsOpening trace i c query
-        → BeginsListing (matches_query matching (query_of query)) (length (commits_of (take i trace))) (length (commits_of trace)) (commits_of trace) (delivered c trace)
-    pub marks : (i j c n : ℕ) (query : Pred A) → IsOpening trace i c query → slice_get trace j ≡ Some (event.Take c, reply.Taken (item.Mark n))
-        → IsListing (matches_query matching (query_of query)) (length (commits_of (take i trace))) n (commits_of trace) (delivered c (take j trace))
+        → BeginsListing (matches_query matching (query_of query)) (commits_before i trace) (length (commits_of trace)) (commits_of trace) (delivered c trace)
+    pub marks : (i j c n : ℕ) (query : Pred A) → IsOpening trace i c query → IsMoment trace j (event.Take c) (reply.Taken (item.Mark n))
+        → IsListing (matches_query matching (query_of query)) (commits_before i trace) n (commits_of trace) (delivered c (take j trace))
     pub askings : (c : ℕ) → HasAskings trace c
-    pub closed : (i j c : ℕ) (later : Event C K A) (answer : Reply C O K A E)
-        → slice_get trace i ≡ Some (event.Close c, reply.Closed) → i < j → slice_get trace j ≡ Some (later, answer) → asks later c
+    pub closed : (i j c : ℕ) (later : Event C K A) (answer : Reply C O K A E) → IsMoment trace i (event.Close c) reply.Closed → i < j → IsMoment trace j later answer → asks later c
         → answer ≡ reply.Refused refusal.CursorClosed
+
+  -- So it is at every moment: each beginning of the trace is faithful. Hence the number of a mark is at most the number of
+  -- commits at the moment when it is taken.
+  abbrev pub IsAlwaysFaithful : (A → K → Bool) → Trace C O K A E → Type 0
+  IsAlwaysFaithful matching trace = (count : ℕ) → IsFaithful matching (take count trace)

@@ -4,12 +4,14 @@ ghost use Rattle.cursor.specs.OpenCursors.{words};
 ghost use Rattle.world.specs.declared.event.Event.TheVariants as event;
 ghost use Rattle.split.specs.Tests.{first_failing};
 ghost use Rattle.world.specs.Steps.{Step, open_tests};
+ghost use Rattle.world.specs.Promises.{HandsOut};
 
 use crate::reply::Reply;
 use crate::world::World;
 use cursor::{Cursor, Turned};
 use key_class::{KeyClass, Pred, Refusal};
 use mailbox::{Outlet, Taken};
+use std::sync::Arc;
 
 impl<C: KeyClass, O: Outlet<C::Key>> World<C, O> {
     /// Why a cursor with the query and the room can't be opened.
@@ -26,12 +28,16 @@ impl<C: KeyClass, O: Outlet<C::Key>> World<C, O> {
     }
 
     pub(crate) fn open(&mut self, query: Pred<C::Atom>, room: u64) -> Reply<C, O>
-        ensures { (seat : ℕ) → Step (words C.is_match C.is_consistent C.is_cover C.union_of O.may_take O.may_refuse O.is_emptied_elsewhere) seat self.old (event.Open query room) result self.new }
+        ensures step { (seat : ℕ) → Step (words C.is_match C.is_consistent C.is_cover C.union_of O.may_take O.may_refuse O.is_emptied_elsewhere) seat self.old (event.Open query room) result self.new }
+        ensures fresh { HandsOut O.fresh result }
     {
         if let Some(refusal) = self.open_refusal(&query, room) {
             return Reply::Refused(refusal);
         }
         let Ok((outlet, end)) = O::make(self.alloc, room as u32) else {
+            return Reply::Refused(Refusal::OutOfMemory);
+        };
+        let Ok(query) = Arc::new(self.alloc, query) else {
             return Reply::Refused(Refusal::OutOfMemory);
         };
         let opened = self.changes.len() as u32;

@@ -7,10 +7,12 @@ mod finders;
 mod nodes;
 mod places;
 mod reply;
+mod tasks;
 mod trace;
 mod world;
 
 pub use event::Event;
 pub use reply::{Reply, Stamped};
-pub use trace::{Trace, run};
+pub use tasks::{SplitTask, VisitTask};
+pub use trace::run;
 pub use world::World;

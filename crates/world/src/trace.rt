@@ -5,7 +5,7 @@ ghost use Rattle.change_list.specs.Configs.{IsWithinLimits};
 ghost use Rattle.cursor.specs.OpenCursors.{words};
 ghost use Rattle.world.specs.States.{State, new_state};
 ghost use Rattle.world.specs.Steps.{Runs};
-ghost use Rattle.world.specs.Traces.{IsFaithful};
+ghost use Rattle.world.specs.Traces.{IsAlwaysFaithful};
 
 use crate::event::Event;
 use crate::reply::Reply;
@@ -15,18 +15,11 @@ use key_class::{KeyClass, Refusal};
 use mailbox::Tray;
 use std::alloc::Global;
 
-/// What became of a list of events.
-#[derive(Drop)]
-pub struct Trace<C: KeyClass> {
-    /// One reply an event, in their order.
-    pub replies: Vec<Reply<C, Tray<C::Key>>>,
-}
-
-/// Gives a new world these events, one after the other.
+/// Gives a new world these events, one after the other, and tells its replies, one an event.
 ///
-/// Whatever they are, the commits of the trace are a legal list, numbered in their order; what each cursor has delivered
-/// begins a listing for its query from its opening to the last commit; each mark that was taken shows that all up to its
-/// commit was delivered, and has an asking of its own; and a closed cursor delivers nothing more.
+/// Whatever they are, at each moment of their trace: the commits are a legal list, numbered in their order; what each
+/// cursor has delivered begins a listing for its query from its opening to the last commit; each mark that was taken shows
+/// that all up to its commit was delivered, and has an asking of its own; and a closed cursor delivers nothing more.
 ///
 /// # Errors
 /// `BadConfig` where a limit of the configuration is out of its range, else want of memory.
@@ -34,10 +27,10 @@ pub fn run<C: KeyClass>(
     alloc: Global,
     config: Config,
     events: &[Event<C>],
-) -> Result<Trace<C>, Refusal>
-    ensures one_each { IfOk result (λ trace. length trace.replies.items ≡ length events.now) }
-    ensures steps { IfOk result (λ trace. (last : State C.Key C.Atom) × Runs (words C.is_match C.is_consistent C.is_cover C.union_of (λ room count. nat_lt count room) (λ room count. nat_le room count) false) (new_state config) (zip events.now trace.replies.items) last) }
-    ensures faithful { IfOk result (λ trace. IsFaithful C.is_match (zip events.now trace.replies.items)) }
+) -> Result<Vec<Reply<C, Tray<C::Key>>>, Refusal>
+    ensures one_each { IfOk result (λ replies. length replies.items ≡ length events.now) }
+    ensures steps { IfOk result (λ replies. (last : State C.Key C.Atom) × Runs (words C.is_match C.is_consistent C.is_cover C.union_of (λ room count. nat_lt count room) (λ room count. nat_le room count) false) (new_state config) (zip events.now replies.items) last) }
+    ensures faithful { IfOk result (λ replies. IsAlwaysFaithful C.is_match (zip events.now replies.items)) }
     ensures bad { (result ≡ Err Refusal.BadConfig) ↔ (¬ IsWithinLimits config) }
     ensures refusals { IfErr result (λ why. (why ≡ Refusal.BadConfig) ⊎ (why ≡ Refusal.OutOfMemory)) }
 {
@@ -47,5 +40,5 @@ pub fn run<C: KeyClass>(
         let reply = world.step(event.copy(alloc)?);
         replies.push(reply)?;
     }
-    Ok(Trace { replies })
+    Ok(replies)
 }

@@ -6,7 +6,7 @@ ghost use Rattle.split.specs.Tests.{first_failing};
 ghost use Rattle.cursor.specs.OpenCursors.{words};
 ghost use Rattle.world.specs.States.{new_state, IsSoundWorld, IsAt};
 ghost use Rattle.world.specs.Steps.{Step, cursor_tests};
-ghost use Rattle.world.specs.Promises.{ServesAll, FitsAtOpening, LowersWork, KeepsRowsUnder};
+ghost use Rattle.world.specs.Promises.{ServesAll, FitsAtOpening, LowersWork, KeepsRowsUnder, HandsOut};
 
 use crate::event::Event;
 use crate::places::place_of;
@@ -170,6 +170,7 @@ impl<C: KeyClass, O: Outlet<C::Key>> World<C, O> {
         ensures opening { FitsAtOpening (words C.is_match C.is_consistent C.is_cover C.union_of O.may_take O.may_refuse O.is_emptied_elsewhere) result self.new }
         ensures less_work { LowersWork (words C.is_match C.is_consistent C.is_cover C.union_of O.may_take O.may_refuse O.is_emptied_elsewhere) self.old event result self.new }
         ensures rows { KeepsRowsUnder self.old event self.new }
+        ensures fresh { HandsOut O.fresh result }
     {
         self.step_as(0, event)
     }
@@ -182,6 +183,7 @@ impl<C: KeyClass, O: Outlet<C::Key>> World<C, O> {
         ensures opening { FitsAtOpening (words C.is_match C.is_consistent C.is_cover C.union_of O.may_take O.may_refuse O.is_emptied_elsewhere) result self.new }
         ensures less_work { LowersWork (words C.is_match C.is_consistent C.is_cover C.union_of O.may_take O.may_refuse O.is_emptied_elsewhere) self.old event result self.new }
         ensures rows { KeepsRowsUnder self.old event self.new }
+        ensures fresh { HandsOut O.fresh result }
     {
         self.is_sound();
         self.answer(seat, event)
@@ -195,7 +197,8 @@ impl<C: KeyClass, O: Outlet<C::Key>> World<C, O> {
     }
 
     fn answer(&mut self, seat: u32, event: Event<C>) -> Reply<C, O>
-        ensures { Step (words C.is_match C.is_consistent C.is_cover C.union_of O.may_take O.may_refuse O.is_emptied_elsewhere) seat self.old event result self.new }
+        ensures step { Step (words C.is_match C.is_consistent C.is_cover C.union_of O.may_take O.may_refuse O.is_emptied_elsewhere) seat self.old event result self.new }
+        ensures fresh { HandsOut O.fresh result }
     {
         match event {
             Event::Enlarge(parent, child, key) => return self.enlarge(parent, child, key),

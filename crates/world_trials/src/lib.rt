@@ -3,6 +3,8 @@
 #![tactic(auto)]
 
 #[cfg(test)]
+mod ample_memory;
+#[cfg(test)]
 mod calls;
 #[cfg(test)]
 mod checker;
@@ -15,6 +17,10 @@ mod listings;
 #[cfg(test)]
 mod random_lists;
 #[cfg(test)]
+mod random_tasks;
+#[cfg(test)]
 mod rows;
 #[cfg(test)]
 mod steps;
+#[cfg(test)]
+mod tasks;

@@ -25,7 +25,7 @@ const EVENTS: usize = 2_000;
 
 /// What a page is named for.
 #[derive(Clone, Copy)]
-enum Use {
+pub enum Use {
     Placing,
     Splitting,
     Posting,
@@ -47,7 +47,7 @@ impl Use {
 
 /// A source of random events for a world.
 #[derive(Drop)]
-struct Source {
+pub struct Source {
     generator: Pcg32,
     /// The greatest serial that was given to a cursor.
     last_cursor: u64,
@@ -58,7 +58,7 @@ struct Source {
 }
 
 impl Source {
-    fn new(alloc: Global, seed: u64) -> Source {
+    pub fn new(alloc: Global, seed: u64) -> Source {
         Source {
             generator: Pcg32::new(seed, 0),
             last_cursor: 0,
@@ -68,7 +68,7 @@ impl Source {
     }
 
     /// Learns the serials that an answer tells.
-    fn take_in(&mut self, (ask, answer): Step) -> Result<(), Fail> {
+    pub fn take_in(&mut self, (ask, answer): Step) -> Result<(), Fail> {
         match (ask, answer) {
             (_, Answer::Opened(serial)) => self.last_cursor = serial,
             (_, Answer::Finder(serial)) => {
@@ -83,7 +83,7 @@ impl Source {
         Ok(())
     }
 
-    fn below(&mut self, bound: u64) -> u64 {
+    pub fn below(&mut self, bound: u64) -> u64 {
         u64::from(self.generator.next_u32())
             .checked_rem(bound)
             .unwrap_or(0)
@@ -110,7 +110,7 @@ impl Source {
     }
 
     /// Mostly the number of a page that fits.
-    fn page(&mut self, world: &Trial, wanted: Use) -> u64 {
+    pub fn page(&mut self, world: &Trial, wanted: Use) -> u64 {
         if self.below(5) == 0 {
             return self.any_page(world);
         }
@@ -187,7 +187,7 @@ impl Source {
     }
 
     /// The serial of a cursor that was opened, closed, or never given.
-    fn cursor(&mut self) -> u64 {
+    pub fn cursor(&mut self) -> u64 {
         match self.below(8) {
             0 => self.up_to_twice(self.last_cursor),
             1..5 => self.last_cursor,
@@ -273,7 +273,7 @@ impl Source {
         }
     }
 
-    fn ask(&mut self, world: &Trial) -> Ask {
+    pub fn ask(&mut self, world: &Trial) -> Ask {
         match self.below(32) {
             0..8 => {
                 let page = self.page(world, Use::Placing);
@@ -460,6 +460,7 @@ fn random_lists_have_no_flaw(rt: HostRuntime) -> Result<(), Fail> {
     ] {
         assert!(rt; count_word(&all, word) > 0, "{word}");
     }
+    assert_eq!(rt; count_word(&all, "OutOfMemory"), 0);
     assert!(rt; count_word(&all, "buried") >= 200);
     assert!(rt; count_word(&all, "deleted") >= 50);
     assert!(rt; count_swept(&all) >= 200);

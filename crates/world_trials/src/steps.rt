@@ -125,7 +125,7 @@ fn sides(alloc: Global, letters: &str) -> Result<Sides, Fail> {
 }
 
 /// A reply, told by plain values.
-#[derive(Clone, Copy, Debug)]
+#[derive(Clone, Copy, Debug, PartialEq, Eq)]
 pub enum Answer {
     Enlarged,
     Committed(u64, Write<Interval>),
@@ -148,7 +148,7 @@ pub enum Answer {
 }
 
 impl Answer {
-    fn of(reply: Reply<Intervals, Tray<Interval>>) -> Answer {
+    pub fn of(reply: Reply<Intervals, Tray<Interval>>) -> Answer {
         match reply {
             Reply::Enlarged => Answer::Enlarged,
             Reply::Committed(stamp) => Answer::Committed(stamp.number(), stamp.write()),
@@ -249,9 +249,9 @@ pub fn trace_of(alloc: Global, config: Config, asks: &[Ask]) -> Result<Vec<Step>
     for ask in asks {
         events.push(ask.event(alloc)?)?;
     }
-    let trace = run::<Intervals>(alloc, config, &events)?;
+    let replies = run::<Intervals>(alloc, config, &events)?;
     let mut steps = Vec::new(alloc);
-    for (ask, reply) in asks.iter().zip(trace.replies) {
+    for (ask, reply) in asks.iter().zip(replies) {
         steps.push((*ask, Answer::of(reply)))?;
     }
     Ok(steps)

@@ -1,12 +1,11 @@
 use Rattle.std.proofs.Common.{◌≤◌, length, vec_capacity}
-use Rattle.front.specs.declared.line_buffer.TheConstants.{MAX_LINE}
 use Rattle.front.specs.Lines.{HasNoFeed}
 use Rattle.front.proofs.Conversing.{Progress}
 use Rattle.front.proofs.conversation.converse.Given as goal
 
 abbrev pub invariant-reading : goal.invariant-reading
 invariant-reading g l = record {
-  capacity : MAX_LINE ≤ vec_capacity l.lexemes;
+  capacity : 4096 ≤ vec_capacity l.lexemes;
   no_feed : HasNoFeed l.lines.rest;
   progress : Progress g.S.Responder.answers (g.R.Read.remaining l.initial.reader) (g.W.Write.contents l.initial.writer) l.initial.responder
       (g.R.Read.remaining l.reader) (g.W.Write.contents l.writer) l.gathered.items l.responder l.lines;
@@ -14,7 +13,7 @@ invariant-reading g l = record {
 
 abbrev pub invariant-answering : goal.invariant-answering
 invariant-answering g l = record {
-  capacity : MAX_LINE ≤ vec_capacity l.lexemes;
+  capacity : 4096 ≤ vec_capacity l.lexemes;
   progress : Progress g.S.Responder.answers (g.R.Read.remaining l.fn.reader) (g.W.Write.contents l.fn.writer) l.fn.responder
       (g.R.Read.remaining l.reader) (g.W.Write.contents l.writer) l.gathered.items l.responder l.lines;
 }

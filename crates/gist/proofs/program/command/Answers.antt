@@ -1,9 +1,20 @@
-use Rattle.std.proofs.Common.{◌≡◌, ◌∙◌, inl, map, refl, subst, sym}
-use Rattle.clap.specs.Words.{kind_of}
+use Rattle.std.proofs.Common.{◌≡◌, ◌≢◌, ◌⊎◌, ⊎_elim, ◌∙◌, ℕ, zero, suc, ◌<◌, List, arith, inl, inr, map, refl, subst, sym}
+use Rattle.clap.specs.Words.{Text, kind_of}
 use Rattle.clap.specs.declared.error.ErrorKind.{ErrorKind}
 use Rattle.clap.specs.declared.error.ErrorKind.TheVariants.{DisplayHelp, OutOfMemory}
-use Rattle.gist.specs.CommandLine.{Refuses}
+use Rattle.gist.specs.CommandLine.{NameNothing, Refuses}
 use Rattle.gist.proofs.program.command.Goals as goal
+
+one_or_two : (n : ℕ) → n < 3 → n ≢ 0 → (n ≡ 2) ⊎ (n ≡ 1)
+one_or_two zero small some = absurd (some refl)
+one_or_two (suc zero) small some = inr refl
+one_or_two (suc (suc zero)) small some = inl refl
+one_or_two (suc (suc (suc n))) small some = absurd (omega arith)
+
+-- words that name nothing are refused, but not to show the help
+no_help : (words : List Text) (kind : ErrorKind) → (kind ≢ OutOfMemory → Refuses words kind) → NameNothing words → kind ≢ DisplayHelp
+no_help words kind refused nothing help =
+    nothing.1 (subst (λ (k : ErrorKind). Refuses words k) help (refused (λ memory. let bad : DisplayHelp ≡ OutOfMemory = sym help ∙ memory in cc)))
 
 pub returns-in-Err-clause-served : goal.returns-in-Err-clause-served
 returns-in-Err-clause-served g c = λ well.
@@ -15,3 +26,17 @@ pub returns-in-Err-clause-wrong_words : goal.returns-in-Err-clause-wrong_words
 returns-in-Err-clause-wrong_words g c = λ wrong.
     let w = c.show.ensures.wrong.0 wrong in
     (kind_of c.in-Err.error, c.in-Err.ensures.refused w.1, w.0)
+
+pub returns-in-Err-clause-refused_words : goal.returns-in-Err-clause-refused_words
+returns-in-Err-clause-refused_words g c = λ nothing.
+    let other = no_help (map (λ word. word.now) c.args.words.now) (kind_of c.in-Err.error) c.in-Err.ensures.refused nothing in
+    ⊎_elim
+    (λ two. inl two)
+    (λ one. inr (one, refl {a = c.args.reader.now}, c.show.ensures.quiet other))
+    (one_or_two c.show.result c.show.ensures.status (λ none. other (c.show.ensures.well none).0))
+
+pub returns-in-Err-clause-bad_limits : goal.returns-in-Err-clause-bad_limits
+returns-in-Err-clause-bad_limits g c = λ bad.
+    let memory : kind_of c.in-Err.error ≡ OutOfMemory = c.in-Err.ensures.taken bad.0 in
+    let other : kind_of c.in-Err.error ≢ DisplayHelp = λ help. let wrong : DisplayHelp ≡ OutOfMemory = sym help ∙ memory in cc in
+    (c.show.ensures.memory memory, refl {a = c.args.reader.now}, c.show.ensures.quiet other)

@@ -1,8 +1,9 @@
-use Rattle.query_text.proofs.Meaning.{one_query_of_text, one_place_of_text, not_both_of_text}
+use Rattle.query_text.proofs.Meaning.{some_meaning_of_text, one_query_of_text, one_place_of_text, not_both_of_text}
 use Rattle.query_text.proofs.parser.one_meaning_for_text.Goals as goal
 
 pub returns : goal.returns
 returns g c = record {
+  some_meaning = some_meaning_of_text g.C.ClassText.key_at g.C.ClassText.atom_of g.met.C.ClassText.key_leaves_fewer;
   one_query = one_query_of_text g.C.ClassText.key_at g.C.ClassText.atom_of;
   one_place = one_place_of_text g.C.ClassText.key_at g.C.ClassText.atom_of;
   not_both = not_both_of_text g.C.ClassText.key_at g.C.ClassText.atom_of;

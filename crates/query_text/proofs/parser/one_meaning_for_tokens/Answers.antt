@@ -1,8 +1,9 @@
-use Rattle.query_text.proofs.Meaning.{one_query_of, one_place_of, not_both_of}
+use Rattle.query_text.proofs.Meaning.{some_meaning_of, one_query_of, one_place_of, not_both_of}
 use Rattle.query_text.proofs.parser.one_meaning_for_tokens.Goals as goal
 
 pub returns : goal.returns
 returns g c = record {
+  some_meaning = some_meaning_of g.C.ClassText.key_at g.C.ClassText.atom_of g.met.C.ClassText.key_leaves_fewer;
   one_query = one_query_of g.C.ClassText.key_at g.C.ClassText.atom_of;
   one_place = one_place_of g.C.ClassText.key_at g.C.ClassText.atom_of;
   not_both = not_both_of g.C.ClassText.key_at g.C.ClassText.atom_of;

@@ -1,10 +1,10 @@
 use Rattle.std.proofs.Common.{◌≡◌}
-use Rattle.query_text.specs.Grammar.{too_long, refuses_tokens}
+use Rattle.query_text.specs.Grammar.{most_bytes, too_long, refuses_tokens}
 use Rattle.query_text.proofs.parser.parse.Goals as goal
 
 pub returns-then-text-gt-MAX_BYTES-clause-refuses : goal.returns-then-text-gt-MAX_BYTES-clause-refuses
 returns-then-text-gt-MAX_BYTES-clause-refuses g c = λ place e.
-    let same : 4096 ≡ place = cc in
+    let same : most_bytes ≡ place = cc in
     rw (← same) (too_long c.if-text-gt-MAX_BYTES.true)
 
 pub returns-clause-refuses : goal.returns-clause-refuses

@@ -1,7 +1,7 @@
 use Rattle.std.proofs.Common.{◌≡◌, ℕ, IsTrue, false, ◌<◌, ◌≤◌, ap, arith, length}
 use Rattle.key_class.specs.Queries.{query_of, depth_of}
 use Rattle.query_text.specs.Tokens.{placed, at, token_in}
-use Rattle.query_text.specs.Grammar.{no_spelling}
+use Rattle.query_text.specs.Grammar.{most_depth, no_spelling}
 use Rattle.query_text.proofs.ParserLaws.{refuses_empty, refuses_deep}
 use Rattle.query_text.proofs.parser.parse_tokens.Goals as goal
 
@@ -19,7 +19,7 @@ returns-else-is_within_depth-clause-refuses g c = λ place e.
     let text = c.args.text.now in
     let same : c.in-Some.first.place ≡ place = cc in
     let first = at c.in-Some.first.place (token_in text c.in-Some.first) in
-    let deep = lt-from-false (depth_of (query_of c.in-Ok.found)) 32 c.if-is_within_depth.ensures.1 in
+    let deep = lt-from-false (depth_of (query_of c.in-Ok.found)) most_depth c.if-is_within_depth.ensures.1 in
     rw (← same) (refuses_deep g.C.ClassText.key_at g.C.ClassText.atom_of (length text) (placed text c.args.lexemes.now) (placed text c.in-Some.field-0-1.now) first (query_of c.in-Ok.found) (ap (placed text) c.in-Some.ensures) c.in-Ok.ensures.spells deep)
 
 pub returns-in-Err-At-clause-refuses : goal.returns-in-Err-At-clause-refuses

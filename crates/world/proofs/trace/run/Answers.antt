@@ -4,7 +4,7 @@ use Rattle.std.proofs.lemmas.List.{take_all}
 use Rattle.key_class.specs.declared.refusal.Refusal.TheVariants as refusal
 use Rattle.cursor.specs.OpenCursors.{words}
 use Rattle.cursor.proofs.WordLaws.{WordLaws}
-use Rattle.world.proofs.Running.{has_run_none, has_run_push, runs_faithful, no_bad_config}
+use Rattle.world.proofs.Running.{has_run_none, has_run_push, runs_always_faithful, no_bad_config}
 use Rattle.world.proofs.trace.run.Goals as goal
 
 pub loop-event-init : goal.loop-event-init
@@ -13,7 +13,7 @@ loop-event-init g c = rw (c.in_ok-world.ensures.made, c.in_ok-replies.ensures.it
 pub returns-in_err-copy-clause-bad : goal.returns-in_err-copy-clause-bad
 returns-in_err-copy-clause-bad g c =
     let limits = c.in_ok-world.ensures.within in
-    let wanting : c.from_residual-in_err-copy.result ≡ Err refusal.OutOfMemory = search rules in
+    let wanting : c.from_residual-in_err-copy.result ≡ Err refusal.OutOfMemory = search (rules, c.from_residual-in_err-copy.ensures) in
     (λ e. absurd (no_bad_config c.from_residual-in_err-copy.result wanting e), λ n. absurd (n limits))
 
 pub returns-in_err-push-clause-bad : goal.returns-in_err-push-clause-bad
@@ -43,7 +43,7 @@ returns-clause-faithful g c =
       equal = g.C.Key.PartialEq.eq;
       exact = g.met.C.KeyClass.equal_keys_are_same;
     } in
-    runs_faithful (words g.C.KeyClass.is_match g.C.KeyClass.is_consistent g.C.KeyClass.is_cover g.C.KeyClass.union_of (λ room count. nat_lt count room) (λ room count. nat_le room count) false) laws c.args.config c.in_ok-world.ensures.within _ c.loop-event.world
+    runs_always_faithful (words g.C.KeyClass.is_match g.C.KeyClass.is_consistent g.C.KeyClass.is_cover g.C.KeyClass.union_of (λ room count. nat_lt count room) (λ room count. nat_le room count) false) laws c.args.config c.in_ok-world.ensures.within _ c.loop-event.world
     (rw (take_all c.loop-event.event-index c.args.events.now (omega (arith, c.loop-event-test.false))) at c.loop-event.invariant.ran)
 
 pub returns-clause-bad : goal.returns-clause-bad

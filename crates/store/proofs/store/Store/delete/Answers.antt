@@ -1,5 +1,5 @@
 use Rattle.world.specs.Trays.{tray_words}
-use Rattle.std.proofs.Common.{◌+◌, ◌∷◌, sym, subst, length}
+use Rattle.std.proofs.Common.{◌+◌, ◌≤◌, ◌∷◌, inr, ⊎_elim, ap, sym, subst, length, arith}
 use Rattle.std.proofs.lemmas.List.Sorted.{IsPermutation-refl}
 use Rattle.std.specs.Prelude.{IsPermutation}
 use Rattle.change_list.specs.declared.write.Write.TheVariants.{Delete}
@@ -17,3 +17,12 @@ pub returns-clause-err : goal.returns-clause-err
 returns-clause-err g c =
     rw (← c.self.view_is)
     (on_errs c.delete-deleted.result (λ e d. keeps (tray_words g.C.KeyClass.is_match g.C.KeyClass.is_consistent g.C.KeyClass.is_cover g.C.KeyClass.union_of) c.self.inside.world c.delete-deleted.new.world c.delete-deleted.ensures.rests e (subst (λ ds. IsPermutation (deaths c.self.inside.world.search.tree) ds) (sym d) (IsPermutation-refl (deaths c.self.inside.world.search.tree)))) c.delete-deleted.ensures.unchanged c.delete-deleted.ensures.dead_kept)
+
+pub returns-clause-finders_full : goal.returns-clause-finders_full
+returns-clause-finders_full g c =
+    let f = c.delete-deleted.ensures.finders_full in
+    let none : (64 ≤ length c.self.inside.world.finders) → ⊥ = λ h. omega (arith, h, ap length c.self.invariant.no_finder) in
+    rw (← c.self.view_is) (
+      λ e. let h = f.0 e in (h.0, h.1, ⊎_elim (λ a. absurd (none a)) (λ b. b) h.2),
+      λ h. f.1 (h.0, h.1, inr h.2),
+    )

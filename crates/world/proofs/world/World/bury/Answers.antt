@@ -5,7 +5,7 @@ use Rattle.change_list.specs.declared.write.Status.TheVariants.{Live}
 use Rattle.change_list.specs.declared.write.Write.TheVariants.{Delete}
 use Rattle.world.specs.States.{Meets}
 use Rattle.world.proofs.FinderSteps.{meets_on, row_lives, buries_sound}
-use Rattle.world.proofs.Meeting.{finder_within, finder_is, meets_full, meets_passes, bury_change}
+use Rattle.world.proofs.Meeting.{finder_within, finder_is, meets_full, meets_row, meets_passes, bury_change}
 use Rattle.world.proofs.world.World.bury.Goals as goal
 
 pub returns-then-count-self : goal.returns-then-count-self
@@ -26,7 +26,7 @@ pub returns-in-Err : goal.returns-in-Err
 returns-in-Err g c =
     let m = subst (λ s. Meets s c.args.f c.args.at c.args.page) (sym c.self.view_is) c.requires in
     rw (← c.self.view_is) (record {
-      cause = inr (meets_passes g.C.KeyClass.is_cover _ c.self.invariant c.args.f c.args.at c.args.page m (omega (arith, c.if-count-self.false, c.len-count.ensures.len)), refl);
+      cause = inr (meets_passes g.C.KeyClass.is_cover _ c.self.invariant c.args.f c.args.at c.args.page m (omega (arith, c.if-count-self.false, c.len-count.ensures.len)), record { memory = refl; finder = m.here.value; is_open = m.here.found; grows = inl (meets_row g.C.KeyClass.is_cover _ c.self.invariant c.args.f c.args.at c.args.page m) });
       unchanged = ap (λ commits. record { search = c.self.inside.search; limit = c.self.inside.limit; commits = commits; cursors = c.self.inside.cursors.items; last = c.self.inside.last; finders = c.self.inside.finders.items; last_finder = c.self.inside.last_finder }) (c.in-Err.ensures.err ∙ c.replace-changes.ensures.value);
     })
 
@@ -40,7 +40,7 @@ returns-in-Err-bury g c =
     let m = subst (λ s. Meets s c.args.f c.args.at c.args.page) (sym c.self.view_is) c.requires in
     let kept : c.into_list.result ≡ c.self.inside.changes = c.into_list.ensures ∙ c.in-Ok.ensures.ok ∙ c.replace-changes.ensures.value in
     rw (← c.self.view_is) (record {
-      cause = inr (meets_passes g.C.KeyClass.is_cover _ c.self.invariant c.args.f c.args.at c.args.page m (omega (arith, c.if-count-self.false, c.len-count.ensures.len)), c.in-Err-bury.ensures.refused);
+      cause = inr (meets_passes g.C.KeyClass.is_cover _ c.self.invariant c.args.f c.args.at c.args.page m (omega (arith, c.if-count-self.false, c.len-count.ensures.len)), record { memory = c.in-Err-bury.ensures.refused; finder = m.here.value; is_open = m.here.found; grows = inl (meets_row g.C.KeyClass.is_cover _ c.self.invariant c.args.f c.args.at c.args.page m) });
       unchanged = ap (λ search. record { search = search; limit = c.self.inside.limit; commits = c.into_list.result; cursors = c.self.inside.cursors.items; last = c.self.inside.last; finders = c.self.inside.finders.items; last_finder = c.self.inside.last_finder }) c.in-Err-bury.ensures.unchanged
           ∙ ap (λ commits. record { search = c.self.inside.search; limit = c.self.inside.limit; commits = commits; cursors = c.self.inside.cursors.items; last = c.self.inside.last; finders = c.self.inside.finders.items; last_finder = c.self.inside.last_finder }) kept;
     })

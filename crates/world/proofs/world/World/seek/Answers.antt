@@ -99,6 +99,9 @@ returns-in-Err g c =
     let before = finder_is g.C.KeyClass.is_cover _ c.self.invariant c.args.f c.in-Some.at a c.index_mut.result.now c.index_mut.ensures.value in
     let kept = finder_same g.C.KeyClass.is_cover _ c.self.invariant c.args.f c.in-Some.at a c.index_mut.result.now c.seek.new.self c.index_mut.ensures.value c.in-Err.ensures.refused in
     rw (← c.self.view_is) (record {
-      cause = inr (passes_further g.C.KeyClass.is_cover _ c.self.invariant c.args.f c.in-Some.at a c.index_mut.result.now before alive (rw c.pages.ensures.table at c.in-Err.ensures.refused_further), refl);
+      cause = inr (
+        passes_further g.C.KeyClass.is_cover _ c.self.invariant c.args.f c.in-Some.at a c.index_mut.result.now before alive (rw c.pages.ensures.table at c.in-Err.ensures.refused_further),
+        record { memory = refl; finder = c.index_mut.result.now; is_open = a.found ∙ ap Some before; grows = inr (rw c.pages.ensures.table at c.in-Err.ensures.memory) },
+      );
       unchanged = ap (λ finders. record { search = c.self.inside.search; limit = c.self.inside.limit; commits = c.self.inside.changes; cursors = c.self.inside.cursors.items; last = c.self.inside.last; finders = finders; last_finder = c.self.inside.last_finder }) kept;
     })

@@ -11,7 +11,7 @@ returns-clause-sound g c =
       equal = g.C.Key.PartialEq.eq;
       exact = g.met.C.KeyClass.equal_keys_are_same;
     } in
-    step_sound (words g.C.KeyClass.is_match g.C.KeyClass.is_consistent g.C.KeyClass.is_cover g.C.KeyClass.union_of g.O.Outlet.may_take g.O.Outlet.may_refuse g.O.Outlet.is_emptied_elsewhere) laws c.args.seat c.args.self.now c.is_sound.ensures c.args.event c.answer.result c.answer.new.self c.answer.ensures
+    step_sound (words g.C.KeyClass.is_match g.C.KeyClass.is_consistent g.C.KeyClass.is_cover g.C.KeyClass.union_of g.O.Outlet.may_take g.O.Outlet.may_refuse g.O.Outlet.is_emptied_elsewhere) laws c.args.seat c.args.self.now c.is_sound.ensures c.args.event c.answer.result c.answer.new.self c.answer.ensures.step
 
 pub returns-clause-serves : goal.returns-clause-serves
 returns-clause-serves g c =
@@ -21,7 +21,7 @@ returns-clause-serves g c =
       equal = g.C.Key.PartialEq.eq;
       exact = g.met.C.KeyClass.equal_keys_are_same;
     } in
-    step_serves (words g.C.KeyClass.is_match g.C.KeyClass.is_consistent g.C.KeyClass.is_cover g.C.KeyClass.union_of g.O.Outlet.may_take g.O.Outlet.may_refuse g.O.Outlet.is_emptied_elsewhere) laws c.args.seat c.args.self.now c.is_sound.ensures c.args.event c.answer.result c.answer.new.self c.answer.ensures
+    step_serves (words g.C.KeyClass.is_match g.C.KeyClass.is_consistent g.C.KeyClass.is_cover g.C.KeyClass.union_of g.O.Outlet.may_take g.O.Outlet.may_refuse g.O.Outlet.is_emptied_elsewhere) laws c.args.seat c.args.self.now c.is_sound.ensures c.args.event c.answer.result c.answer.new.self c.answer.ensures.step
 
 pub returns-clause-opening : goal.returns-clause-opening
 returns-clause-opening g c =
@@ -31,7 +31,7 @@ returns-clause-opening g c =
       equal = g.C.Key.PartialEq.eq;
       exact = g.met.C.KeyClass.equal_keys_are_same;
     } in
-    step_opens (words g.C.KeyClass.is_match g.C.KeyClass.is_consistent g.C.KeyClass.is_cover g.C.KeyClass.union_of g.O.Outlet.may_take g.O.Outlet.may_refuse g.O.Outlet.is_emptied_elsewhere) laws c.args.seat c.args.self.now c.is_sound.ensures c.args.event c.answer.result c.answer.new.self c.answer.ensures
+    step_opens (words g.C.KeyClass.is_match g.C.KeyClass.is_consistent g.C.KeyClass.is_cover g.C.KeyClass.union_of g.O.Outlet.may_take g.O.Outlet.may_refuse g.O.Outlet.is_emptied_elsewhere) laws c.args.seat c.args.self.now c.is_sound.ensures c.args.event c.answer.result c.answer.new.self c.answer.ensures.step
 
 pub returns-clause-less_work : goal.returns-clause-less_work
 returns-clause-less_work g c =
@@ -41,7 +41,7 @@ returns-clause-less_work g c =
       equal = g.C.Key.PartialEq.eq;
       exact = g.met.C.KeyClass.equal_keys_are_same;
     } in
-    step_lowers (words g.C.KeyClass.is_match g.C.KeyClass.is_consistent g.C.KeyClass.is_cover g.C.KeyClass.union_of g.O.Outlet.may_take g.O.Outlet.may_refuse g.O.Outlet.is_emptied_elsewhere) laws c.args.seat c.args.self.now c.is_sound.ensures c.args.event c.answer.result c.answer.new.self c.answer.ensures
+    step_lowers (words g.C.KeyClass.is_match g.C.KeyClass.is_consistent g.C.KeyClass.is_cover g.C.KeyClass.union_of g.O.Outlet.may_take g.O.Outlet.may_refuse g.O.Outlet.is_emptied_elsewhere) laws c.args.seat c.args.self.now c.is_sound.ensures c.args.event c.answer.result c.answer.new.self c.answer.ensures.step
 
 pub returns-clause-rows : goal.returns-clause-rows
 returns-clause-rows g c =
@@ -51,4 +51,4 @@ returns-clause-rows g c =
       equal = g.C.Key.PartialEq.eq;
       exact = g.met.C.KeyClass.equal_keys_are_same;
     } in
-    step_keeps_rows (words g.C.KeyClass.is_match g.C.KeyClass.is_consistent g.C.KeyClass.is_cover g.C.KeyClass.union_of g.O.Outlet.may_take g.O.Outlet.may_refuse g.O.Outlet.is_emptied_elsewhere) laws c.args.seat c.args.self.now c.is_sound.ensures c.args.event c.answer.result c.answer.new.self c.answer.ensures
+    step_keeps_rows (words g.C.KeyClass.is_match g.C.KeyClass.is_consistent g.C.KeyClass.is_cover g.C.KeyClass.union_of g.O.Outlet.may_take g.O.Outlet.may_refuse g.O.Outlet.is_emptied_elsewhere) laws c.args.seat c.args.self.now c.is_sound.ensures c.args.event c.answer.result c.answer.new.self c.answer.ensures.step

@@ -1,4 +1,4 @@
-use Rattle.std.proofs.Common.{ap, length}
+use Rattle.std.proofs.Common.{ap, length, inl, inr}
 use Rattle.collector.specs.Horizons.{IsHorizon}
 use Rattle.world.proofs.FinderSteps.{sweeps_call_sound}
 use Rattle.world.proofs.world.World.sweep.Goals as goal
@@ -21,6 +21,9 @@ returns-in-Ok g c = λ seat.
 
 pub returns-in-Err : goal.returns-in-Err
 returns-in-Err g c = λ seat. rw (← c.self.view_is) (record {
-  cause = c.in-Err.ensures.refused;
+  cause = elim c.in-Err.ensures.refused [
+    | inl failed ↦ inl failed
+    | inr wanting ↦ inr (wanting.0, record { memory = wanting.1; horizon = c.horizon-horizon.result; is = rw (c.as_slice.ensures.value, c.len.ensures.len) at c.horizon-horizon.ensures; some = c.in-Err.ensures.memory wanting.1 })
+  ];
   unchanged = ap (λ search. record { search = search; limit = c.self.inside.limit; commits = c.self.inside.changes; cursors = c.self.inside.cursors.items; last = c.self.inside.last; finders = c.self.inside.finders.items; last_finder = c.self.inside.last_finder }) c.in-Err.ensures.unchanged;
 })

@@ -1,0 +1,19 @@
+//! Trials of key classes: refusals, sides and queries, three classes against vectors, and the texts of their keys and queries.
+#![tactic(auto)]
+
+#[cfg(test)]
+mod boxes;
+#[cfg(test)]
+mod groupings;
+#[cfg(test)]
+mod intervals;
+#[cfg(test)]
+mod queries;
+#[cfg(test)]
+mod refusals;
+#[cfg(test)]
+mod sets;
+#[cfg(test)]
+mod sides;
+#[cfg(test)]
+mod texts;

@@ -1,0 +1,75 @@
+ghost use Rattle.std.specs.Prelude.{max, nat_eq, nat_le};
+
+use key_class::{KeyClass, Refusal, Sides};
+use std::alloc::Global;
+
+/// Numbers, each of which covers itself and every lesser one. An atom matches the number that it is.
+#[derive(Clone, Copy)]
+pub struct Limits;
+
+impl KeyClass for Limits {
+    type Key = u8;
+
+    type Atom = u8;
+
+    ghost is_match = { nat_eq };
+
+    ghost is_consistent = { nat_le };
+
+    ghost union_of = { max };
+
+    ghost is_cover = { λ bound key. nat_le key bound };
+
+    ghost size_of = { λ key. key };
+
+    fn matches(atom: &u8, key: u8) -> bool {
+        *atom == key
+    }
+
+    fn consistent(atom: &u8, bound: u8) -> bool {
+        *atom <= bound
+    }
+
+    fn union(a: u8, b: u8) -> u8 {
+        a.max(b)
+    }
+
+    fn covers(bound: u8, key: u8) -> bool {
+        key <= bound
+    }
+
+    fn size(key: u8) -> u128 {
+        u128::from(key)
+    }
+
+    fn penalty(bound: u8, key: u8) -> u128 {
+        u128::from(bound.max(key) - bound)
+    }
+
+    /// No page is split here.
+    fn pick_split(_: Global, keys: &[u8], least: usize) -> Result<Sides, Refusal> {
+        if keys.len() / 2 < least {
+            Err(Refusal::TooFew)
+        } else {
+            Err(Refusal::OutOfMemory)
+        }
+    }
+
+    ghost use Rattle.std.proofs.Common.{rules};
+
+    ghost covers_itself = { Prim.search rules };
+
+    ghost covers_through = { Prim.search rules };
+
+    ghost union_covers_left = { Prim.search rules };
+
+    ghost union_covers_right = { Prim.search rules };
+
+    ghost union_is_least = { Prim.search rules };
+
+    ghost consistent_above_match = { Prim.search rules };
+
+    ghost equal_keys_are_same = { Prim.search rules };
+
+    ghost equal_atoms_are_same = { Prim.search rules };
+}

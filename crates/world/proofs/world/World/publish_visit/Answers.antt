@@ -1,0 +1,11 @@
+use Rattle.std.proofs.Common.{◌≡◌, Some, sym, ap, subst, ◌∙◌}
+use Rattle.split.specs.Tests.{first_failing}
+use Rattle.world.specs.Steps.{cursor_tests}
+use Rattle.world.proofs.Publishing.{visited_is_open, none_is_not_some}
+use Rattle.world.proofs.world.World.publish_visit.Goals as goal
+
+pub returns-in-Err-clause-step : goal.returns-in-Err-clause-step
+returns-in-Err-clause-step g c = λ h worked.
+    let refused : first_failing (cursor_tests c.args.self.now c.task.inside.cursor) ≡ Some c.in-Err.field-0 = c.in-Err.ensures.refused in
+    let same = subst (λ n. first_failing (cursor_tests c.args.self.now n) ≡ Some c.in-Err.field-0) (ap (λ t. t.cursor) c.task.view_is) refused in
+    absurd (none_is_not_some c.in-Err.field-0 (sym (visited_is_open g.C.KeyClass.is_cover c.args.self.now c.is_sound.ensures c.args.task.cursor c.args.task.visit h) ∙ same))

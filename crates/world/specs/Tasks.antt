@@ -1,0 +1,45 @@
+-- Work on a page beside the world, and what its publication is.
+use Rattle.std.specs.Prelude.{◌≡◌, ◌⊎◌, ℕ, ◌<◌, Bool, ◌||◌, nat_eq, nat_le, List, [], ◌∷◌, length, Option, Some}
+use Rattle.key_class.specs.declared.refusal.Refusal.{Refusal}
+use Rattle.key_class.specs.declared.refusal.Refusal.TheVariants as refusal
+use Rattle.key_class.specs.declared.sides.Side.{Side}
+use Rattle.node.specs.Pages.{Page}
+use Rattle.page_table.specs.Trees.{page_at}
+use Rattle.scan.specs.Prepared.{PreparedVisit}
+use Rattle.cursor.specs.OpenCursors.{OpenCursor}
+use Rattle.cursor.specs.Preparing.{IsDue, RefusesVisit}
+use Rattle.split.specs.Tests.{first_failing}
+use Rattle.world.specs.States.{State, cursor_at}
+use Rattle.world.specs.Steps.{cursor_tests}
+
+-- a page that is to be split, with the sides once they were worked out
+pub record SplitTask (K : Type 0) : Type 0 where
+  pub number : ℕ
+  pub page : Page K
+  -- how many entries each side gets at the fewest
+  pub least : ℕ
+  pub sides : Option (List Side)
+
+-- the next visit of a cursor
+pub record VisitTask (K A : Type 0) : Type 0 where
+  pub cursor : ℕ
+  pub visit : PreparedVisit K A
+
+module _ {K A : Type 0} where
+  -- the page that a task has is in the world, with an equal value
+  pub record HasPage (s : State K A) (number : ℕ) (page : Page K) : Type 0 where
+    pub exists : number < length s.search.tree.pages
+    pub same : page_at s.search.tree number ≡ page
+
+  abbrev pub prepare_split_tests : State K A → ℕ → List (Bool × Refusal)
+  prepare_split_tests s p = (nat_eq p 0 || nat_le (length s.search.tree.pages) p, refusal.NotHere) ∷ []
+
+  -- the cursor is open, and its next turn makes the visit
+  pub record HasVisit (s : State K A) (c : ℕ) (visit : PreparedVisit K A) : Type 0 where
+    pub cursor : OpenCursor K A
+    pub is_open : cursor_at s c ≡ Some cursor
+    pub due : IsDue s.search.tree cursor visit
+
+  -- why no visit of a cursor is prepared: it isn't open, its next turn is no visit, or memory is wanting
+  abbrev pub RefusesPreparing : State K A → ℕ → Refusal → Type 0
+  RefusesPreparing s c why = (first_failing (cursor_tests s c) ≡ Some why) ⊎ ((k : OpenCursor K A) × (cursor_at s c ≡ Some k) × RefusesVisit k why)

@@ -1,0 +1,213 @@
+//! Work on a page beside the world: a task is prepared in one visit to the world, worked on without it, and published in
+//! another.
+ghost use Rattle.std.specs.Prelude.{◌≡◌, ◌≢◌, ◌⊎◌, ◌<◌, [], ◌*◌, ℕ, List, true, false, Some, None, length, IfOk, IfErr, OnOk, OnErr, IsTrue, ◌↔◌};
+ghost use Rattle.key_class.specs.Splits.{IsSplit};
+ghost use Rattle.key_class.specs.declared.sides.Side.{Side};
+ghost use Rattle.node.specs.Pages.{Page, entries_of};
+ghost use Rattle.page_table.specs.Trees.{page_at};
+ghost use Rattle.split.specs.Tests.{IsRefusedBy, first_failing};
+ghost use Rattle.cursor.specs.OpenCursors.{words, OpenCursor};
+ghost use Rattle.world.specs.declared.event.Event.TheVariants as event;
+ghost use Rattle.world.specs.declared.reply.Reply.TheVariants as reply;
+ghost use Rattle.world.specs.States.{IsAt, cursor_at};
+ghost use Rattle.world.specs.Steps.{Step, cursor_tests};
+ghost use Rattle.world.specs.Tasks as model;
+ghost use Rattle.world.specs.Tasks.{HasPage, HasVisit, RefusesPreparing, prepare_split_tests};
+
+use crate::event::Event;
+use crate::reply::Reply;
+use crate::world::World;
+use cursor::Turned;
+use descent::keys_of;
+use key_class::{KeyClass, Refusal, Sides};
+use mailbox::Outlet;
+use node::{Page, same_page};
+use page_table::SharedPage;
+use scan::PreparedVisit;
+use std::alloc::Global;
+use std::marker::Model;
+
+/// A page that is to be split, and its sides once they were worked out.
+#[derive(Drop)]
+pub struct SplitTask<C: KeyClass> {
+    alloc: Global,
+    number: u64,
+    page: SharedPage<C::Key>,
+    least: usize,
+    sides: Option<Sides>,
+}
+
+impl<C: KeyClass> Model for SplitTask<C> {
+    ghost use Rattle.std.specs.Prelude.{◌≤◌};
+    ghost use Rattle.world.specs.Tasks as model;
+
+    ghost Value = { model.SplitTask C.Key };
+
+    ghost view = { λ t. record { number = t.number; page = t.page; least = t.least; sides = t.sides } };
+
+    ghost invariant = { λ t. 1 ≤ t.least };
+}
+
+impl<C: KeyClass> SplitTask<C> {
+    /// Works out the sides, by the class.
+    ///
+    /// # Errors
+    /// TooFew where the page has too few entries, else want of memory; the task is as it was.
+    pub fn work(&mut self) -> Result<(), Refusal>
+        ensures worked { OnOk result ((sides : List Side) × IsSplit (entries_of self.old.page) self.old.least sides × (self.new ≡ record self.old { sides = Some sides })) }
+        ensures too_few { IfErr result (λ why. ((why ≡ Refusal.TooFew) × (entries_of self.old.page < 2 * self.old.least)) ⊎ (why ≡ Refusal.OutOfMemory)) }
+        ensures unchanged { OnErr result (self.new ≡ self.old) }
+    {
+        let keys = keys_of(self.alloc, self.page.get())?;
+        let sides = C::pick_split(self.alloc, &keys, self.least)?;
+        self.sides = Some(sides);
+        Ok(())
+    }
+}
+
+/// The next visit of a cursor.
+#[derive(Drop)]
+pub struct VisitTask<C: KeyClass> {
+    cursor: u64,
+    visit: PreparedVisit<C>,
+}
+
+impl<C: KeyClass> Model for VisitTask<C> {
+    ghost use Rattle.key_class.specs.QueryCodes.{query_code};
+    ghost use Rattle.std.specs.Coded.{codes};
+    ghost use Rattle.world.specs.Tasks as model;
+
+    ghost Value = { model.VisitTask C.Key C.Atom };
+
+    ghost coded = { Prim.hlevel (codes, query_code) };
+
+    ghost view = { λ t. record { cursor = t.cursor; visit = t.visit } };
+}
+
+impl<C: KeyClass> VisitTask<C> {
+    /// Works out what the visit notes and where it goes on.
+    ///
+    /// # Errors
+    /// Memory was wanting; the task is as it was.
+    pub fn work(&mut self) -> Result<(), Refusal>
+        ensures worked { OnOk result (self.new ≡ record self.old { visit = record self.old.visit { worked = true } }) }
+        ensures refused { IfErr result (λ why. why ≡ Refusal.OutOfMemory) }
+        ensures unchanged { OnErr result (self.new ≡ self.old) }
+    {
+        self.visit.work()?;
+        Ok(())
+    }
+}
+
+impl<C: KeyClass, O: Outlet<C::Key>> World<C, O> {
+    /// The next visit of a cursor, to be worked out beside the world.
+    ///
+    /// # Errors
+    /// NoSuchCursor, CursorClosed, NotHere where a row is to be offered or no page is left, else there are too many
+    /// owners of the page or the query.
+    pub fn prepare_visit(&self, c: u64) -> Result<VisitTask<C>, Refusal>
+        ensures prepared { IfOk result (λ task. (task.cursor ≡ c) × HasVisit self.now c task.visit × (task.visit.worked ≡ false)) }
+        ensures refused { IfErr result (RefusesPreparing self.now c) }
+    {
+        let at = self.place_of(c)?;
+        let visit = self.cursors[at].prepare(self.alloc, self.search.pages())?;
+        Ok(VisitTask { cursor: c, visit })
+    }
+
+    /// A page that may be split, to be worked on beside the world.
+    ///
+    /// # Errors
+    /// NotHere where there is no such page or it is the root, else there are too many owners of it.
+    pub fn prepare_split(&self, p: u64) -> Result<SplitTask<C>, Refusal>
+        ensures prepared { IfOk result (λ task. HasPage self.now p task.page × (task ≡ record { number = p; page = page_at self.now.search.tree p; least = self.now.search.least; sides = None })) }
+        ensures refused { IfErr result (IsRefusedBy (prepare_split_tests self.now p)) }
+    {
+        let pages = self.search.pages();
+        if p == 0 || p >= pages.len() as u64 {
+            return Err(Refusal::NotHere);
+        }
+        let page = pages.share(p as u32)?;
+        let least = self.search.least();
+        Ok(SplitTask {
+            alloc: self.alloc,
+            number: p,
+            page,
+            least,
+            sides: None,
+        })
+    }
+
+    /// Splits the page of a task by its sides: the event Split, where the page is as the task has it.
+    ///
+    /// Else, and where the task was not worked on, it is refused NotHere, and nothing changes.
+    pub fn publish_split(&mut self, seat: u32, task: SplitTask<C>) -> Reply<C, O>
+        ensures step { (sides : List Side) → task.sides ≡ Some sides → HasPage self.old task.number task.page → Step (words C.is_match C.is_consistent C.is_cover C.union_of O.may_take O.may_refuse O.is_emptied_elsewhere) seat self.old (event.Split task.number sides) result self.new }
+        ensures stale { (task.sides ≡ None) ⊎ (¬ HasPage self.old task.number task.page) → (result ≡ reply.Refused Refusal.NotHere) × (self.new ≡ self.old) }
+    {
+        let SplitTask {
+            number,
+            page,
+            sides,
+            ..
+        } = task;
+        let Some(sides) = sides else {
+            return Reply::Refused(Refusal::NotHere);
+        };
+        if !self.has_page(number, page.get()) {
+            return Reply::Refused(Refusal::NotHere);
+        }
+        // The page is let go first, so that the world changes its own in place.
+        drop(page);
+        self.step_as(seat, Event::Split(number, sides))
+    }
+
+    /// Makes the visit of a task: the event Turn, where the visit is what the cursor's turn makes.
+    ///
+    /// Else, and where the task was not worked on, it is refused NotHere, and nothing changes.
+    pub fn publish_visit(&mut self, seat: u32, task: VisitTask<C>) -> Reply<C, O>
+        ensures step { HasVisit self.old task.cursor task.visit → task.visit.worked ≡ true → Step (words C.is_match C.is_consistent C.is_cover C.union_of O.may_take O.may_refuse O.is_emptied_elsewhere) seat self.old (event.Turn task.cursor) result self.new }
+        ensures stale { (task.visit.worked ≡ false) ⊎ (¬ HasVisit self.old task.cursor task.visit) → (result ≡ reply.Refused Refusal.NotHere) × (self.new ≡ self.old) }
+    {
+        self.is_sound();
+        let VisitTask { cursor, visit } = task;
+        let at = match self.place_of(cursor) {
+            Ok(at) => at,
+            Err(_) => return Reply::Refused(Refusal::NotHere),
+        };
+        if !visit.is_worked() || !self.is_due(cursor, at, &visit) {
+            return Reply::Refused(Refusal::NotHere);
+        }
+        self.publish_due(cursor, at, visit)
+    }
+
+    /// Makes a visit that is what the cursor's turn makes.
+    fn publish_due(&mut self, c: u64, at: usize, visit: PreparedVisit<C>) -> Reply<C, O>
+        requires found { IsAt self.old c at }
+        requires due { HasVisit self.old c visit }
+        requires worked { visit.worked ≡ true }
+        ensures { (seat : ℕ) → Step (words C.is_match C.is_consistent C.is_cover C.union_of O.may_take O.may_refuse O.is_emptied_elsewhere) seat self.old (event.Turn c) result self.new }
+    {
+        match self.cursors[at].turn_prepared(self.search.pages(), visit) {
+            Ok(Turned::Offered) => return Reply::Offered,
+            Ok(Turned::Visited(page)) => return Reply::Visited(page),
+            Ok(Turned::Passed(commit)) => return Reply::Passed(commit),
+            Err(refusal) => return Reply::Refused(refusal),
+        }
+    }
+
+    /// Whether the cursor at a place is due to make the visit.
+    fn is_due(&self, c: u64, at: usize, visit: &PreparedVisit<C>) -> bool
+        requires { IsAt self.now c at }
+        ensures { IsTrue result ↔ HasVisit self.now c visit.now }
+    {
+        self.cursors[at].is_due(self.search.pages(), visit)
+    }
+
+    /// Whether the page with a number has that value.
+    fn has_page(&self, number: u64, page: &Page<C::Key>) -> bool
+        ensures { IsTrue result ↔ HasPage self.now number page.now }
+    {
+        let pages = self.search.pages();
+        number < pages.len() as u64 && same_page::<C>(pages.page(number as u32), page)
+    }
+}

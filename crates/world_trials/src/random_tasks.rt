@@ -1,0 +1,227 @@
+//! Random events, with splits and visits that are prepared, worked on and published at later times, beside a world that is
+//! given events alone.
+use super::checker::first_flaw;
+use super::random_lists::{Source, Use};
+use super::steps::{Answer, Ask, Step, Trial, answer_of};
+use change_list::Config;
+use interval_class::{Interval, Intervals};
+use key_class::{KeyClass, Refusal};
+use node::{Page, same_page};
+use std::alloc::Global;
+use std::process::Abort;
+use std::test::Fail;
+use world::{Event, SplitTask, VisitTask};
+
+const CONFIG: Config = Config {
+    fan: 4,
+    least: 2,
+    pages: 64,
+    commits: 400,
+};
+
+/// How many lists there are, each from a seed of its own.
+const SEEDS: u64 = 16;
+
+/// How many events and publications a list has.
+const EVENTS: usize = 2_000;
+
+/// A split that is to be published.
+#[derive(Drop)]
+struct Parting {
+    number: u64,
+    /// The page as it was when the task was prepared.
+    page: Page<Interval>,
+    is_worked: bool,
+    task: SplitTask<Intervals>,
+}
+
+/// A visit that is to be published.
+#[derive(Drop)]
+struct Visiting {
+    cursor: u64,
+    is_worked: bool,
+    /// How many steps there were when it was prepared.
+    prepared_at: usize,
+    task: VisitTask<Intervals>,
+}
+
+/// A world with tasks, and one that answers events alone.
+#[derive(Drop)]
+struct Pair {
+    world: Trial,
+    twin: Trial,
+    source: Source,
+    steps: Vec<Step>,
+    partings: Vec<Parting>,
+    visits: Vec<Visiting>,
+    /// How many publications were carried out, and how many were not.
+    published: u64,
+    stale: u64,
+}
+
+impl Pair {
+    fn new(alloc: Global, seed: u64) -> Result<Pair, Fail> {
+        Ok(Pair {
+            world: Trial::new(alloc, CONFIG)?,
+            twin: Trial::new(alloc, CONFIG)?,
+            source: Source::new(alloc, seed),
+            steps: Vec::new(alloc),
+            partings: Vec::new(alloc),
+            visits: Vec::new(alloc),
+            published: 0,
+            stale: 0,
+        })
+    }
+
+    fn go_on(&mut self, rt: &impl Abort, alloc: Global) -> Result<(), Fail> {
+        match self.source.below(16) {
+            0 => self.prepare_split(),
+            1..3 => self.prepare_visit(),
+            3 => self.publish_split(rt, alloc),
+            4..6 => self.publish_visit(rt),
+            _ => {
+                let ask = self.source.ask(&self.world);
+                let answer = answer_of(alloc, &mut self.world, ask)?;
+                let other = answer_of(alloc, &mut self.twin, ask)?;
+                assert_eq!(rt; answer, other, "{ask:?}");
+                self.note((ask, answer))
+            }
+        }
+    }
+
+    fn note(&mut self, step: Step) -> Result<(), Fail> {
+        self.source.take_in(step)?;
+        self.steps.push(step)?;
+        Ok(())
+    }
+
+    fn prepare_split(&mut self) -> Result<(), Fail> {
+        let number = self.source.page(&self.world, Use::Splitting);
+        let Ok(mut task) = self.world.prepare_split(number) else {
+            return Ok(());
+        };
+        let Some(page) = self.world.page(number) else {
+            return Ok(());
+        };
+        let page = page.clone()?;
+        let is_worked = self.source.below(8) != 0 && task.work().is_ok();
+        if self.partings.len() < 4 {
+            self.partings.push(Parting {
+                number,
+                page,
+                is_worked,
+                task,
+            })?;
+        }
+        Ok(())
+    }
+
+    fn prepare_visit(&mut self) -> Result<(), Fail> {
+        let cursor = self.source.cursor();
+        let Ok(mut task) = self.world.prepare_visit(cursor) else {
+            return Ok(());
+        };
+        let is_worked = self.source.below(8) != 0 && task.work().is_ok();
+        if self.visits.len() < 4 {
+            self.visits.push(Visiting {
+                cursor,
+                is_worked,
+                prepared_at: self.steps.len(),
+                task,
+            })?;
+        }
+        Ok(())
+    }
+
+    fn publish_split(&mut self, rt: &impl Abort, alloc: Global) -> Result<(), Fail> {
+        let Some(parting) = self.partings.pop() else {
+            return Ok(());
+        };
+        let Parting {
+            number,
+            page,
+            is_worked,
+            task,
+        } = parting;
+        let is_due = is_worked
+            && self
+                .world
+                .page(number)
+                .is_some_and(|present| same_page::<Intervals>(present, &page));
+        let answer = Answer::of(self.world.publish_split(0, task));
+        if !is_due {
+            assert_eq!(rt; answer, Answer::Refused(Refusal::NotHere));
+            self.stale = self.stale.saturating_add(1);
+            return self.compare(rt);
+        }
+        let mut keys = Vec::new(alloc);
+        for entry in page.rows() {
+            keys.push(entry.key())?;
+        }
+        for branch in page.branches() {
+            keys.push(branch.key)?;
+        }
+        let sides = Intervals::pick_split(alloc, &keys, 2)?;
+        let other = Answer::of(self.twin.step(Event::Split(number, sides)));
+        assert_eq!(rt; answer, other);
+        self.published = self.published.saturating_add(1);
+        self.note((Ask::Split(number, ""), answer))
+    }
+
+    fn publish_visit(&mut self, rt: &impl Abort) -> Result<(), Fail> {
+        let Some(visiting) = self.visits.pop() else {
+            return Ok(());
+        };
+        let Visiting {
+            cursor,
+            is_worked,
+            prepared_at,
+            task,
+        } = visiting;
+        let is_fresh = prepared_at == self.steps.len();
+        let answer = Answer::of(self.world.publish_visit(0, task));
+        if let Answer::Refused(Refusal::NotHere) = answer {
+            assert!(rt; !is_worked || !is_fresh);
+            self.stale = self.stale.saturating_add(1);
+            return self.compare(rt);
+        }
+        let other = Answer::of(self.twin.step(Event::Turn(cursor)));
+        assert!(rt; is_worked);
+        assert_eq!(rt; answer, other);
+        self.published = self.published.saturating_add(1);
+        self.note((Ask::Turn(cursor), answer))
+    }
+
+    /// Both worlds have the same pages and as many commits.
+    fn compare(&self, rt: &impl Abort) -> Result<(), Fail> {
+        assert_eq!(rt; self.world.commits(), self.twin.commits());
+        assert_eq!(rt; self.world.pages(), self.twin.pages());
+        for number in 0..self.world.pages() {
+            let is_same = match (self.world.page(number), self.twin.page(number)) {
+                (Some(page), Some(other)) => same_page::<Intervals>(page, other),
+                _ => false,
+            };
+            assert!(rt; is_same, "page {number}");
+        }
+        Ok(())
+    }
+}
+
+#[test]
+fn tasks_do_what_their_events_do(rt: HostRuntime) -> Result<(), Fail> {
+    let alloc = rt.alloc();
+    let mut published = 0;
+    let mut stale = 0;
+    for seed in 1..=SEEDS {
+        let mut pair = Pair::new(alloc, seed)?;
+        for _ in 0..EVENTS {
+            pair.go_on(&rt, alloc)?;
+        }
+        pair.compare(&rt)?;
+        assert_eq!(rt; first_flaw(alloc, &pair.steps)?, None, "seed {seed}");
+        published = u64::saturating_add(published, pair.published);
+        stale = u64::saturating_add(stale, pair.stale);
+    }
+    assert!(rt; published > 100 && stale > 100, "{published} {stale}");
+    Ok(())
+}
