@@ -58,11 +58,12 @@ module _ {K A : Type 0} where
     told_opened query c new o = record {
       limit = t.limit ∙ sym (ap (λ (s : State K A). s.limit) o.after);
       commits = t.commits ∙ sym commits;
+      page_limit = t.page_limit ∙ sym (ap (λ (s : State K A). s.page_limit) o.after);
       cursors = λ d. go d (nat_eq d c) refl;
       open_cursors = omega (arith, t.open_cursors, ap (λ (s : State K A). length s.cursors) o.after, length-append old.cursors (o.cursor ∷ []));
       last = sym (ap (λ (s : State K A). s.last) o.after);
       dead = subst (λ (s : State K A). IsPermutation told.dead s.dead) (sym o.after) t.dead;
-      deletes = omega (arith, t.deletes, ap (λ (s : State K A). s.finders) o.after);
+      finders = omega (arith, t.finders, ap (λ (s : State K A). s.finders) o.after);
     }
       where
         commits : new.commits ≡ old.commits
@@ -89,11 +90,12 @@ module _ {K A : Type 0} where
           record {
             limit = t.limit ∙ sym (ap (λ (s : State K A). s.limit) h.is);
             commits = t.commits ∙ sym (ap (λ (s : State K A). s.commits) h.is);
+            page_limit = t.page_limit ∙ sym (ap (λ (s : State K A). s.page_limit) h.is);
             cursors = λ d. subst (λ (s : State K A). AreSame matching s.commits (cursor_of s d) (with_cursor told.cursors c (Err refusal.CursorClosed) d)) (sym h.is) (go d (nat_eq d c) refl);
             open_cursors = omega (arith, t.open_cursors, h.one_less);
             last = t.last ∙ sym (ap (λ (s : State K A). s.last) h.is);
             dead = subst (λ (s : State K A). IsPermutation told.dead s.dead) (sym h.is) t.dead;
-            deletes = omega (arith, t.deletes, ap (λ (s : State K A). s.finders) h.is);
+            finders = omega (arith, t.finders, ap (λ (s : State K A). s.finders) h.is);
           },
         )
       where

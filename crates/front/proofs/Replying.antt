@@ -1,5 +1,5 @@
 -- Replies of the store's calls that commit, open and sweep.
-use Rattle.std.proofs.Common.{◌≡◌, ◌+◌, ◌-◌, ◌<◌, ◌≤◌, ℕ, Bool, true, not, [], ◌∷◌, ◌++◌, length, filter, Some, None, Result, Ok, Err, ◌⊎◌, inl, inr, ⊎_elim, refl, sym, ap, ◌∙◌, arith, subst, length-append}
+use Rattle.std.proofs.Common.{◌≡◌, ◌≢◌, ◌+◌, ◌-◌, ◌<◌, ◌≤◌, ℕ, Bool, true, not, [], ◌∷◌, ◌++◌, length, filter, Some, None, Result, Ok, Err, ◌⊎◌, inl, inr, ⊎_elim, refl, sym, ap, ◌∙◌, arith, subst, length-append}
 use Rattle.std.specs.Prelude.{◌↔◌, IsPermutation}
 use Rattle.std.proofs.lemmas.List.Sorted.{IsPermutation-trans, IsPermutation-append_comm, IsPermutation-append_right, IsPermutation-filter_both, length_permutation}
 use Rattle.key_class.specs.Queries.{Query, depth_of}
@@ -12,7 +12,7 @@ use Rattle.change_list.specs.declared.write.Status.TheVariants.{NeverIssued, Liv
 use Rattle.change_list.specs.Changes.{status_of}
 use Rattle.store.specs.States.{State, DeadRow, Commits, Keeps, IsOpened, IsBadOpening, IsFullOf, RefusesDelete, Sweeps, SweepsSome, is_needed, Nexts, RefusesNext, Changes, with_asking, Closes}
 use Rattle.front.specs.declared.reply.Reply.TheVariants as reply
-use Rattle.front.specs.Told.{Told, with_cursor, IsFull, HasNoCursorLeft, IsBadRoom, RepliesInsert, RepliesDelete, RepliesOpen, RepliesNext, RepliesMark, RepliesSweep, RepliesClose}
+use Rattle.front.specs.Told.{Told, with_cursor, IsFull, HasNoCursorLeft, MayLackPages, IsBadRoom, RepliesInsert, RepliesDelete, RepliesOpen, RepliesNext, RepliesMark, RepliesSweep, RepliesClose}
 use Rattle.front.specs.AsTold.{IsAsTold}
 use Rattle.front.proofs.Telling.{told_insert, told_delete, told_kept, told_swept, told_given, told_empty, told_wanting, told_asked, told_refusal, each_needed}
 use Rattle.front.proofs.Opening.{told_opened, told_closed}
@@ -23,7 +23,7 @@ module _ {K A : Type 0} (matching : A → K → Bool) (old new : State K A) (tol
 
   pub insert_committed : (key : K) (tag n : ℕ) (r : Result ℕ Refusal) → r ≡ Ok n → n ≡ length old.commits + 1 → ((r ≡ Err refusal.CommitsFull) ↔ (old.limit ≤ length old.commits))
       → Commits matching old (write.Insert key tag) new → IsPermutation old.dead new.dead → new.finders ≡ old.finders
-      → (after : Told K A) × RepliesInsert new.pages_left told key tag (reply.Committed n) after × IsAsTold matching new after
+      → (after : Told K A) × RepliesInsert told key tag (reply.Committed n) after × IsAsTold matching new after
   insert_committed key tag n r e m f c d w = (
     record told { commits = told.commits ++ write.Insert key tag ∷ [] },
     (λ h. let x : r ≡ Err refusal.CommitsFull = f.1 (full_told.1 h) in let y : Ok n ≡ Err refusal.CommitsFull = sym e ∙ x in absurd (cc), omega (arith, m, ap length t.commits), refl),
@@ -32,16 +32,19 @@ module _ {K A : Type 0} (matching : A → K → Bool) (old new : State K A) (tol
 
   pub insert_refused : (key : K) (tag : ℕ) (why : Refusal) (r : Result ℕ Refusal) → r ≡ Err why → ((r ≡ Err refusal.CommitsFull) ↔ (old.limit ≤ length old.commits))
       → (why ≡ refusal.OutOfMemory) ⊎ (why ≡ refusal.CommitsFull) ⊎ ((why ≡ refusal.PagesFull) × (new.pages_left < 2)) → Keeps matching old new → new.finders ≡ old.finders
-      → (after : Told K A) × RepliesInsert new.pages_left told key tag (reply.Refused why) after × IsAsTold matching new after
-  insert_refused key tag why r e f w k n = (told, says why e w, told_kept matching old told t new told.deletes k (omega (arith, t.deletes, n)))
+      → new.page_limit ≤ new.pages_left + length new.commits + 1 → (after : Told K A) × RepliesInsert told key tag (reply.Refused why) after × IsAsTold matching new after
+  insert_refused key tag why r e f w k n few = (told, says why e w, told_kept matching old told t new told.finders k (omega (arith, t.finders, n)))
     where
       not_full : (x : Refusal) → r ≡ Err x → (x ≡ refusal.CommitsFull → ⊥) → IsFull told → ⊥
       not_full x p d h = let y : r ≡ Err refusal.CommitsFull = f.1 (full_told.1 h) in let z : Err x ≡ Err refusal.CommitsFull = sym p ∙ y in d (cc)
 
-      says : (x : Refusal) → r ≡ Err x → (x ≡ refusal.OutOfMemory) ⊎ (x ≡ refusal.CommitsFull) ⊎ ((x ≡ refusal.PagesFull) × (new.pages_left < 2)) → RepliesInsert new.pages_left told key tag (reply.Refused x) told
-      says x p (inl a) = subst (λ y. RepliesInsert new.pages_left told key tag (reply.Refused y) told) (sym a) (not_full refusal.OutOfMemory (p ∙ ap Err a) (λ q. cc), refl)
-      says x p (inr (inl a)) = subst (λ y. RepliesInsert new.pages_left told key tag (reply.Refused y) told) (sym a) (full_told.0 (f.0 (p ∙ ap Err a)), refl)
-      says x p (inr (inr a)) = subst (λ y. RepliesInsert new.pages_left told key tag (reply.Refused y) told) (sym a.0) (not_full refusal.PagesFull (p ∙ ap Err a.0) (λ q. cc), a.1, refl)
+      lacking : new.pages_left < 2 → MayLackPages told
+      lacking less = omega (arith, less, few, k.page_limit, t.page_limit, ap length k.commits, ap length t.commits)
+
+      says : (x : Refusal) → r ≡ Err x → (x ≡ refusal.OutOfMemory) ⊎ (x ≡ refusal.CommitsFull) ⊎ ((x ≡ refusal.PagesFull) × (new.pages_left < 2)) → RepliesInsert told key tag (reply.Refused x) told
+      says x p (inl a) = subst (λ y. RepliesInsert told key tag (reply.Refused y) told) (sym a) (not_full refusal.OutOfMemory (p ∙ ap Err a) (λ q. cc), refl)
+      says x p (inr (inl a)) = subst (λ y. RepliesInsert told key tag (reply.Refused y) told) (sym a) (full_told.0 (f.0 (p ∙ ap Err a)), refl)
+      says x p (inr (inr a)) = subst (λ y. RepliesInsert told key tag (reply.Refused y) told) (sym a.0) (not_full refusal.PagesFull (p ∙ ap Err a.0) (λ q. cc), lacking a.1, refl)
 
   -- the clauses of a delete's refusals
   pub record DeleteRefusals (row : ℕ) (r : Result ℕ Refusal) : Type 0 where
@@ -66,36 +69,35 @@ module _ {K A : Type 0} (matching : A → K → Bool) (old new : State K A) (tol
       → (after : Told K A) × RepliesDelete told row (reply.Committed n) after × IsAsTold matching new after
   delete_committed row n r e m d c p w =
       let l = lives row r d (λ x. let y : Ok n ≡ Err refusal.NoSuchRow = sym e ∙ x in cc) (λ x. let y : Ok n ≡ Err refusal.AlreadyDeleted = sym e ∙ x in cc) in (
-        record told { commits = told.commits ++ write.Delete row ∷ []; dead = (record { row = row; died = n }) ∷ told.dead; deletes = told.deletes + 1 },
+        record told { commits = told.commits ++ write.Delete row ∷ []; dead = (record { row = row; died = n }) ∷ told.dead; finders = told.finders + 1 },
         (l, room_left row r d l (λ x. let y : Ok n ≡ Err refusal.CommitsFull = sym e ∙ x in cc), omega (arith, m, ap length t.commits), refl),
         told_delete matching old told t row n new c m p w,
       )
 
-  pub delete_refused : (row : ℕ) (why : Refusal) (r : Result ℕ Refusal) → r ≡ Err why → DeleteRefusals row r → RefusesDelete old why → Keeps matching old new → new.finders ≤ old.finders + 1
+  pub delete_refused : (row : ℕ) (why : Refusal) (r : Result ℕ Refusal) → r ≡ Err why → DeleteRefusals row r → RefusesDelete old why → Keeps matching old new → (why ≢ refusal.OutOfMemory → new ≡ old) → new.finders ≤ old.finders + 1
       → (after : Told K A) × RepliesDelete told row (reply.Refused why) after × IsAsTold matching new after
-  delete_refused row why r e d w k n =
-      (record told { deletes = told.deletes + 1 }, says why e w, told_kept matching old told t new (told.deletes + 1) k (omega (arith, t.deletes, n)))
+  delete_refused row why r e d w k u n = says w
     where
-      after : Told K A
-      after = record told { deletes = told.deletes + 1 }
+      -- refused so, it leaves the store as it was
+      alike : (x : Refusal) → why ≡ x → (x ≡ refusal.OutOfMemory → ⊥) → RepliesDelete told row (reply.Refused x) told → (after : Told K A) × RepliesDelete told row (reply.Refused why) after × IsAsTold matching new after
+      alike x a q said = (told, subst (λ y. RepliesDelete told row (reply.Refused y) told) (sym a) said, subst (λ (s : State K A). IsAsTold matching s told) (sym (u (λ z. q (sym a ∙ z)))) t)
 
-      other : (x y : Refusal) → r ≡ Err x → (x ≡ y → ⊥) → r ≡ Err y → ⊥
-      other x y p q s = let z : Err x ≡ Err y = sym p ∙ s in q (cc)
+      other : (x y : Refusal) → why ≡ x → (x ≡ y → ⊥) → r ≡ Err y → ⊥
+      other x y a q s = let z : Err why ≡ Err y = sym e ∙ s in let f : why ≡ y = cc in q (sym a ∙ f)
 
-      says : (x : Refusal) → r ≡ Err x → RefusesDelete old x → RepliesDelete told row (reply.Refused x) after
-      says x p (inl a) = subst (λ y. RepliesDelete told row (reply.Refused y) after) (sym a) (ap (λ l. status_of l row) t.commits ∙ d.never.0 (p ∙ ap Err a), refl)
-      says x p (inr (inl a)) = subst (λ y. RepliesDelete told row (reply.Refused y) after) (sym a) (ap (λ l. status_of l row) t.commits ∙ d.already.0 (p ∙ ap Err a), refl)
-      says x p (inr (inr (inl a))) =
-          let h = d.full.0 (p ∙ ap Err a) in
-          subst (λ y. RepliesDelete told row (reply.Refused y) after) (sym a) (ap (λ l. status_of l row) t.commits ∙ h.0, full_told.0 h.1, refl)
-      says x p (inr (inr (inr (inl a)))) =
-          let q = p ∙ ap Err a in
-          let l = lives row r d (other refusal.OutOfMemory refusal.NoSuchRow q (λ z. cc)) (other refusal.OutOfMemory refusal.AlreadyDeleted q (λ z. cc)) in
-          subst (λ y. RepliesDelete told row (reply.Refused y) after) (sym a) (l, room_left row r d l (other refusal.OutOfMemory refusal.CommitsFull q (λ z. cc)), refl)
-      says x p (inr (inr (inr (inr a)))) =
-          let q = p ∙ ap Err a.0 in
-          let l = lives row r d (other refusal.FindersFull refusal.NoSuchRow q (λ z. cc)) (other refusal.FindersFull refusal.AlreadyDeleted q (λ z. cc)) in
-          subst (λ y. RepliesDelete told row (reply.Refused y) after) (sym a.0) (l, room_left row r d l (other refusal.FindersFull refusal.CommitsFull q (λ z. cc)), omega (arith, t.deletes, a.1), refl)
+      says : RefusesDelete old why → (after : Told K A) × RepliesDelete told row (reply.Refused why) after × IsAsTold matching new after
+      says (inl a) = alike refusal.NoSuchRow a (λ z. cc) (ap (λ l. status_of l row) t.commits ∙ d.never.0 (e ∙ ap Err a), refl)
+      says (inr (inl a)) = alike refusal.AlreadyDeleted a (λ z. cc) (ap (λ l. status_of l row) t.commits ∙ d.already.0 (e ∙ ap Err a), refl)
+      says (inr (inr (inl a))) = let h = d.full.0 (e ∙ ap Err a) in alike refusal.CommitsFull a (λ z. cc) (ap (λ l. status_of l row) t.commits ∙ h.0, full_told.0 h.1, refl)
+      says (inr (inr (inr (inl a)))) =
+          let l = lives row r d (other refusal.OutOfMemory refusal.NoSuchRow a (λ z. cc)) (other refusal.OutOfMemory refusal.AlreadyDeleted a (λ z. cc)) in (
+            record told { finders = told.finders + 1 },
+            subst (λ y. RepliesDelete told row (reply.Refused y) (record told { finders = told.finders + 1 })) (sym a) (l, room_left row r d l (other refusal.OutOfMemory refusal.CommitsFull a (λ z. cc)), refl),
+            told_kept matching old told t new (told.finders + 1) k (omega (arith, t.finders, n)),
+          )
+      says (inr (inr (inr (inr a)))) =
+          let l = lives row r d (other refusal.FindersFull refusal.NoSuchRow a.0 (λ z. cc)) (other refusal.FindersFull refusal.AlreadyDeleted a.0 (λ z. cc)) in
+          alike refusal.FindersFull a.0 (λ z. cc) (l, room_left row r d l (other refusal.FindersFull refusal.CommitsFull a.0 (λ z. cc)), omega (arith, t.finders, a.1), refl)
 
   -- the clauses of an opening's refusals, for a query that is not too deep
   bad_room : (query : Query A) (room : ℕ) → depth_of query ≤ 32 → IsBadOpening query room ↔ IsBadRoom room

@@ -36,36 +36,39 @@ module _ {K A : Type 0} (matching : A → K → Bool) where
     told_insert key tag new c d f = record {
       limit = t.limit ∙ sym c.limit;
       commits = ap (λ l. l ++ Insert key tag ∷ []) t.commits ∙ sym c.commits;
+      page_limit = t.page_limit ∙ sym c.page_limit;
       cursors = λ n. stays_same old.commits new.commits (cursor_of old n) (cursor_of new n) (told.cursors n) (c.cursors n) (t.cursors n);
       open_cursors = t.open_cursors ∙ sym c.as_many;
       last = t.last ∙ sym c.last;
       dead = IsPermutation-trans _ _ _ t.dead d;
-      deletes = omega (arith, t.deletes, f);
+      finders = omega (arith, t.finders, f);
     }
 
     pub told_delete : (row number : ℕ) (new : State K A) → Commits matching old (Delete row) new → number ≡ length old.commits + 1
         → IsPermutation ((record { row = row; died = length old.commits + 1 }) ∷ old.dead) new.dead → new.finders ≤ old.finders + 1
-        → IsAsTold matching new (record told { commits = told.commits ++ Delete row ∷ []; dead = (record { row = row; died = number }) ∷ told.dead; deletes = told.deletes + 1 })
+        → IsAsTold matching new (record told { commits = told.commits ++ Delete row ∷ []; dead = (record { row = row; died = number }) ∷ told.dead; finders = told.finders + 1 })
     told_delete row number new c n d f = record {
       limit = t.limit ∙ sym c.limit;
       commits = ap (λ l. l ++ Delete row ∷ []) t.commits ∙ sym c.commits;
+      page_limit = t.page_limit ∙ sym c.page_limit;
       cursors = λ n. stays_same old.commits new.commits (cursor_of old n) (cursor_of new n) (told.cursors n) (c.cursors n) (t.cursors n);
       open_cursors = t.open_cursors ∙ sym c.as_many;
       last = t.last ∙ sym c.last;
       dead = rw n (IsPermutation-trans _ _ _ (IsPermutation-cons _ _ _ t.dead) d);
-      deletes = omega (arith, t.deletes, f);
+      finders = omega (arith, t.finders, f);
     }
 
-    -- a refused insert or delete
-    pub told_kept : (new : State K A) (deletes : ℕ) → Keeps matching old new → new.finders ≤ deletes → IsAsTold matching new (record told { deletes = deletes })
-    told_kept new deletes c f = record {
+    -- an insert or a delete that was refused
+    pub told_kept : (new : State K A) (finders : ℕ) → Keeps matching old new → new.finders ≤ finders → IsAsTold matching new (record told { finders = finders })
+    told_kept new finders c f = record {
       limit = t.limit ∙ sym c.limit;
       commits = t.commits ∙ sym c.commits;
+      page_limit = t.page_limit ∙ sym c.page_limit;
       cursors = λ n. stays_same old.commits new.commits (cursor_of old n) (cursor_of new n) (told.cursors n) (c.cursors n) (t.cursors n);
       open_cursors = t.open_cursors ∙ sym c.as_many;
       last = t.last ∙ sym c.last;
       dead = IsPermutation-trans _ _ _ t.dead c.dead;
-      deletes = f;
+      finders = f;
     }
 
     -- a sweep left these dead rows
@@ -73,11 +76,12 @@ module _ {K A : Type 0} (matching : A → K → Bool) where
     told_swept new c = record {
       limit = t.limit ∙ sym c.limit;
       commits = t.commits ∙ sym c.commits;
+      page_limit = t.page_limit ∙ sym c.page_limit;
       cursors = λ n. stays_same old.commits new.commits (cursor_of old n) (cursor_of new n) (told.cursors n) (c.cursors n) (t.cursors n);
       open_cursors = t.open_cursors ∙ sym c.as_many;
       last = t.last ∙ sym c.last;
       dead = IsPermutation-refl new.dead;
-      deletes = omega (arith, t.deletes, c.finders);
+      finders = omega (arith, t.finders, c.finders);
     }
 
     pub needed_told : (d : DeadRow) → IsNeededBy old d → DiedAfterOpening told d
@@ -130,11 +134,12 @@ module _ {K A : Type 0} (matching : A → K → Bool) where
     told_changed c before after f new o s a e = subst (λ (n : State K A). IsAsTold matching n (record told { cursors = with_cursor told.cursors c (Ok f) })) (sym e) (record {
       limit = t.limit;
       commits = t.commits;
+      page_limit = t.page_limit;
       cursors = changed c before after f o s a;
       open_cursors = t.open_cursors ∙ sym (as_many old.cursors after);
       last = t.last;
       dead = t.dead;
-      deletes = t.deletes;
+      finders = t.finders;
     })
       where
         as_many : (ks : List (CursorState K A)) (k : CursorState K A) → length (states.replaced k ks) ≡ length ks
@@ -150,7 +155,7 @@ module _ {K A : Type 0} (matching : A → K → Bool) where
         → told.cursors c ≡ Ok f → new ≡ states.with_cursor old after → IsAsTold matching new told
     told_unchanged c before after f new o s a i e =
         let h = told_changed c before after f new o s a e in
-        record { limit = h.limit; commits = h.commits; cursors = λ d. back d (nat_eq d c) refl (h.cursors d); open_cursors = h.open_cursors; last = h.last; dead = h.dead; deletes = h.deletes }
+        record { limit = h.limit; commits = h.commits; page_limit = h.page_limit; cursors = λ d. back d (nat_eq d c) refl (h.cursors d); open_cursors = h.open_cursors; last = h.last; dead = h.dead; finders = h.finders }
       where
         back : (d : ℕ) (b : Bool) → nat_eq d c ≡ b → AreSame matching new.commits (cursor_of new d) (if nat_eq d c then Ok f else told.cursors d) → AreSame matching new.commits (cursor_of new d) (told.cursors d)
         back d true e h =

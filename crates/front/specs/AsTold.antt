@@ -22,8 +22,9 @@ module _ {K A : Type 0} (matching : A → K → Bool) where
   pub record IsAsTold (state : State K A) (told : Told K A) : Type 0 where
     pub limit : told.limit ≡ state.limit
     pub commits : told.commits ≡ state.commits
+    pub page_limit : told.page_limit ≡ state.page_limit
     pub cursors : (c : ℕ) → AreSame state.commits (cursor_of state c) (told.cursors c)
     pub open_cursors : told.open_cursors ≡ length state.cursors
     pub last : told.last ≡ state.last
     pub dead : IsPermutation told.dead state.dead
-    pub deletes : state.finders ≤ told.deletes
+    pub finders : state.finders ≤ told.finders

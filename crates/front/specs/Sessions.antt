@@ -30,10 +30,10 @@ module _ {K A : Type 0} (key_at : ℕ → List Placed → Reading K) (atom_of : 
       ⊎ ((place : ℕ) × RefusesTokens key_at atom_of len ts place × (said ≡ reply.Refused (refusal.QueryText place)) × (new ≡ old))
       ⊎ ((said ≡ reply.Refused refusal.OutOfMemory) × (new ≡ old))
 
-  module _ (matching : A → K → Bool) (pages : ℕ) where
+  module _ (matching : A → K → Bool) where
     -- the reply may answer what a line of so many bytes asks
     abbrev pub RepliesTo : ℕ → Told K A → Command K → Reply K → Told K A → Type 0
-    RepliesTo len old (insert_row key tag) said new = RepliesInsert pages old key tag said new
+    RepliesTo len old (insert_row key tag) said new = RepliesInsert old key tag said new
     RepliesTo len old (delete_row row) said new = RepliesDelete old row said new
     RepliesTo len old (open_cursor room ts) said new = WithQuery len ts (λ q. RepliesOpen old room q said new) old said new
     RepliesTo len old (next_item c) said new = RepliesNext matching old c said new
@@ -67,7 +67,7 @@ module _ {K A : Type 0} (key_at : ℕ → List Placed → Reading K) (atom_of : 
 
       -- The bytes that were read are lines and a last one without a line feed; what was written answers them all, and
       -- the store is as was told.
-      pub record AnsweredAll (before after : Option (List ℕ)) (held written : Option (List ℕ)) (limit : ℕ) (store : State K A) : Type 0 where
+      pub record AnsweredAll (before after : Option (List ℕ)) (held written : Option (List ℕ)) (old new : State K A) : Type 0 where
         pub bytes : List ℕ
         pub lines : List (List ℕ)
         pub rest : List ℕ
@@ -75,13 +75,13 @@ module _ {K A : Type 0} (key_at : ℕ → List Placed → Reading K) (atom_of : 
         pub told : Told K A
         pub read : Consumes before after bytes
         pub are_lines : AreLines bytes lines rest
-        pub answers : Answers (nothing_told limit) (lines ++ rest ∷ []) text told
+        pub answers : Answers (nothing_told old.limit old.page_limit) (lines ++ rest ∷ []) text told
         pub wrote : Appends held written text
-        pub as_told : IsAsTold matching store told
+        pub as_told : IsAsTold matching new told
 
       -- The bytes that were read are lines and the beginning of another; what was written answers the lines, and the
       -- store is as was told.
-      pub record AnsweredWhole (before after : Option (List ℕ)) (held written : Option (List ℕ)) (limit : ℕ) (store : State K A) : Type 0 where
+      pub record AnsweredWhole (before after : Option (List ℕ)) (held written : Option (List ℕ)) (old new : State K A) : Type 0 where
         pub bytes : List ℕ
         pub lines : List (List ℕ)
         pub rest : List ℕ
@@ -89,12 +89,12 @@ module _ {K A : Type 0} (key_at : ℕ → List Placed → Reading K) (atom_of : 
         pub told : Told K A
         pub read : Consumes before after bytes
         pub are_lines : AreLines bytes lines rest
-        pub answers : Answers (nothing_told limit) lines text told
+        pub answers : Answers (nothing_told old.limit old.page_limit) lines text told
         pub wrote : Appends held written text
-        pub as_told : IsAsTold matching store told
+        pub as_told : IsAsTold matching new told
 
       -- The store is as the answers to some first lines of what was read tell, and a beginning of them was written.
-      pub record Stands (before after : Option (List ℕ)) (held written : Option (List ℕ)) (limit : ℕ) (store : State K A) : Type 0 where
+      pub record Stands (before after : Option (List ℕ)) (held written : Option (List ℕ)) (old new : State K A) : Type 0 where
         pub bytes : List ℕ
         pub lines : List (List ℕ)
         pub rest : List ℕ
@@ -105,9 +105,9 @@ module _ {K A : Type 0} (key_at : ℕ → List Placed → Reading K) (atom_of : 
         pub read : Consumes before after bytes
         pub are_lines : AreLines bytes lines rest
         pub parted : lines ++ rest ∷ [] ≡ first ++ others
-        pub answers : Answers (nothing_told limit) first text told
+        pub answers : Answers (nothing_told old.limit old.page_limit) first text told
         pub wrote : WritesBeginning held written text
-        pub as_told : IsAsTold matching store told
+        pub as_told : IsAsTold matching new told
 
 module _ {K A : Type 0} (key_at : ℕ → List Placed → Reading K) (atom_of : Rel → K → A) (matching : A → K → Bool) (key_text : K → List ℕ) where
   -- The text answers the tokens of a line with so many bytes: it is one that may, whatever was told that the store is
@@ -115,5 +115,4 @@ module _ {K A : Type 0} (key_at : ℕ → List Placed → Reading K) (atom_of : 
   pub record AnswersTokens (len : ℕ) (old : State K A) (ts : List Placed) (text : List ℕ) (new : State K A) : Type 0 where
     pub said : Option (Reply K)
     pub is_text : text ≡ text_of_answer key_text said
-    pub pages : new.pages_left ≤ old.pages_left
-    pub replies : (told : Told K A) → IsAsTold matching old told → (after : Told K A) × RepliesTokens key_at atom_of matching new.pages_left len told ts said after × IsAsTold matching new after
+    pub replies : (told : Told K A) → IsAsTold matching old told → (after : Told K A) × RepliesTokens key_at atom_of matching len told ts said after × IsAsTold matching new after

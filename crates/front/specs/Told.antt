@@ -29,6 +29,8 @@ pub record Told (K A : Type 0) : Type 0 where
   -- the greatest number of commits
   pub limit : ℕ
   pub commits : List (Write K)
+  -- the greatest number of pages
+  pub page_limit : ℕ
   -- for each serial the open cursor, or why there is none
   pub cursors : ℕ → Result (Following K A) Refusal
   -- how many cursors are open
@@ -37,16 +39,16 @@ pub record Told (K A : Type 0) : Type 0 where
   pub last : ℕ
   -- a collection: the dead rows that no sweep removed
   pub dead : List DeadRow
-  -- how many deletes were tried
-  pub deletes : ℕ
+  -- the most finders that can have been opened
+  pub finders : ℕ
 
 abbrev pub IsBadRoom : ℕ → Type 0
 IsBadRoom room = (room ≡ 0) ⊎ (4096 < room)
 
 module _ {K A : Type 0} where
   -- before the first line
-  abbrev pub nothing_told : ℕ → Told K A
-  nothing_told limit = record { limit = limit; commits = []; cursors = λ c. Err refusal.NoSuchCursor; open_cursors = 0; last = 0; dead = []; deletes = 0 }
+  abbrev pub nothing_told : ℕ → ℕ → Told K A
+  nothing_told limit page_limit = record { limit = limit; commits = []; page_limit = page_limit; cursors = λ c. Err refusal.NoSuchCursor; open_cursors = 0; last = 0; dead = []; finders = 0 }
 
   -- the serial has this cursor, or none for this reason, and the others what they had
   abbrev pub with_cursor : (ℕ → Result (Following K A) Refusal) → ℕ → Result (Following K A) Refusal → ℕ → Result (Following K A) Refusal
@@ -58,25 +60,31 @@ module _ {K A : Type 0} where
   abbrev pub HasNoCursorLeft : Told K A → Type 0
   HasNoCursorLeft told = (256 ≤ told.open_cursors) ⊎ (4294967295 ≤ told.last)
 
-  -- pages: how many more pages may be made when the session is over
-  abbrev pub RepliesInsert : ℕ → Told K A → K → ℕ → Reply K → Told K A → Type 0
-  RepliesInsert pages old key tag (reply.Committed n) new =
+  -- no finder may be left
+  abbrev pub MayLackFinders : Told K A → Type 0
+  MayLackFinders told = 4294967295 ≤ told.finders
+
+  -- fewer than two pages may be left: at most one more was made than there are commits
+  abbrev pub MayLackPages : Told K A → Type 0
+  MayLackPages told = told.page_limit < (length told.commits + 1) + 2
+
+  abbrev pub RepliesInsert : Told K A → K → ℕ → Reply K → Told K A → Type 0
+  RepliesInsert old key tag (reply.Committed n) new =
       (¬ IsFull old) × (n ≡ length old.commits + 1) × (new ≡ record old { commits = old.commits ++ write.Insert key tag ∷ [] })
-  RepliesInsert pages old key tag (reply.Refused refusal.CommitsFull) new = IsFull old × (new ≡ old)
-  RepliesInsert pages old key tag (reply.Refused refusal.PagesFull) new = (¬ IsFull old) × (pages < 2) × (new ≡ old)
-  RepliesInsert pages old key tag (reply.Refused refusal.OutOfMemory) new = (¬ IsFull old) × (new ≡ old)
-  RepliesInsert pages old key tag _ new = ⊥
+  RepliesInsert old key tag (reply.Refused refusal.CommitsFull) new = IsFull old × (new ≡ old)
+  RepliesInsert old key tag (reply.Refused refusal.PagesFull) new = (¬ IsFull old) × MayLackPages old × (new ≡ old)
+  RepliesInsert old key tag (reply.Refused refusal.OutOfMemory) new = (¬ IsFull old) × (new ≡ old)
+  RepliesInsert old key tag _ new = ⊥
 
   abbrev pub RepliesDelete : Told K A → ℕ → Reply K → Told K A → Type 0
   RepliesDelete old row (reply.Committed n) new =
       (status_of old.commits row ≡ status.Live) × (¬ IsFull old) × (n ≡ length old.commits + 1)
-      × (new ≡ record old { commits = old.commits ++ write.Delete row ∷ []; dead = (record { row = row; died = n }) ∷ old.dead; deletes = old.deletes + 1 })
-  RepliesDelete old row (reply.Refused refusal.NoSuchRow) new = (status_of old.commits row ≡ status.NeverIssued) × (new ≡ record old { deletes = old.deletes + 1 })
-  RepliesDelete old row (reply.Refused refusal.AlreadyDeleted) new = (status_of old.commits row ≡ status.Dead) × (new ≡ record old { deletes = old.deletes + 1 })
-  RepliesDelete old row (reply.Refused refusal.CommitsFull) new = (status_of old.commits row ≡ status.Live) × IsFull old × (new ≡ record old { deletes = old.deletes + 1 })
-  RepliesDelete old row (reply.Refused refusal.OutOfMemory) new = (status_of old.commits row ≡ status.Live) × (¬ IsFull old) × (new ≡ record old { deletes = old.deletes + 1 })
-  RepliesDelete old row (reply.Refused refusal.FindersFull) new =
-      (status_of old.commits row ≡ status.Live) × (¬ IsFull old) × (4294967295 ≤ old.deletes) × (new ≡ record old { deletes = old.deletes + 1 })
+      × (new ≡ record old { commits = old.commits ++ write.Delete row ∷ []; dead = (record { row = row; died = n }) ∷ old.dead; finders = old.finders + 1 })
+  RepliesDelete old row (reply.Refused refusal.NoSuchRow) new = (status_of old.commits row ≡ status.NeverIssued) × (new ≡ old)
+  RepliesDelete old row (reply.Refused refusal.AlreadyDeleted) new = (status_of old.commits row ≡ status.Dead) × (new ≡ old)
+  RepliesDelete old row (reply.Refused refusal.CommitsFull) new = (status_of old.commits row ≡ status.Live) × IsFull old × (new ≡ old)
+  RepliesDelete old row (reply.Refused refusal.OutOfMemory) new = (status_of old.commits row ≡ status.Live) × (¬ IsFull old) × (new ≡ record old { finders = old.finders + 1 })
+  RepliesDelete old row (reply.Refused refusal.FindersFull) new = (status_of old.commits row ≡ status.Live) × (¬ IsFull old) × MayLackFinders old × (new ≡ old)
   RepliesDelete old row _ new = ⊥
 
   abbrev pub RepliesOpen : Told K A → ℕ → Query A → Reply K → Told K A → Type 0

@@ -42,9 +42,9 @@ limits_of options = record { fan = options.fan; least = options.least; pages = 6
 -- `before` and `after` are what the reader had and has, `held` and `written` what the writer had and has.
 module _ (before after held written : Option (List ℕ)) where
   -- All bytes of the reader were lines of a session over this store, and what was written answers them. At the end the
-  -- store is as the answers tell, and has fewer than two pages left if one of them told that pages are wanting.
+  -- store is as the answers tell.
   abbrev pub AnsweredOver : {K A : Type 0} → (ℕ → List Placed → Reading K) → (Rel → K → A) → (A → K → Bool) → (K → List ℕ) → State K A → Type 0
-  AnsweredOver {K} {A} key_at atom_of matching key_text store = (last : State K A) × AnsweredAll key_at atom_of matching last.pages_left key_text before after held written store.limit last
+  AnsweredOver {K} {A} key_at atom_of matching key_text store = (last : State K A) × AnsweredAll key_at atom_of matching key_text before after held written store last
 
   -- the same of a store of the class that is new with these limits
   abbrev pub AnswersSession : Class → Config → Type 0

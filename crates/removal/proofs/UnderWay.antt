@@ -162,7 +162,7 @@ module _ {K A : Type 0} (w : Words K A) (first : State K A) (row f : ℕ) (now :
         ∙ ap (λ n. without (λ x. x.serial) n now.finders) u.number
         ∙ ap (λ s. without (λ x. x.serial) (first.last_finder + 1) s.finders) u.looks.is
         ∙ looking_without w.is_cover first k u.looks.serial there;
-    last_finder = let e : new.last_finder ≡ first.last_finder + 1 = ap (λ s. s.last_finder) b.after ∙ ap (λ s. s.last_finder) u.looks.is in omega (arith, e);
+    last_finder = ap (λ s. s.last_finder) b.after ∙ ap (λ s. s.last_finder) u.looks.is;
   }
     where
       finder_is : b.finder ≡ k

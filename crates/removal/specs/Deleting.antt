@@ -29,4 +29,4 @@ module _ {K A : Type 0} (w : Words K A) where
     pub dead : IsPermutation ((row, length old.commits + 1) ∷ deaths old.search.tree) (deaths new.search.tree)
     pub pages : length new.search.tree.pages ≡ length old.search.tree.pages
     pub finders : new.finders ≡ old.finders
-    pub last_finder : new.last_finder ≤ old.last_finder + 1
+    pub last_finder : new.last_finder ≡ old.last_finder + 1

@@ -1,4 +1,4 @@
-ghost use Rattle.std.specs.Prelude.{◌≡◌, ◌↔◌, ◌⊎◌, ◌<◌, ◌≤◌, ◌+◌, ◌++◌, ◌∷◌, [], length, IsPermutation, IfOk, IfErr, OnOk, OnErr};
+ghost use Rattle.std.specs.Prelude.{◌≡◌, ◌≢◌, ◌↔◌, ◌⊎◌, ◌<◌, ◌≤◌, ◌+◌, ◌++◌, ◌∷◌, [], length, IsPermutation, IfOk, IfErr, OnOk, OnErr};
 ghost use Rattle.change_list.specs.Changes.{status_of};
 ghost use Rattle.cursor.specs.OpenCursors.{words};
 ghost use Rattle.removal.specs.Deleting.{Deletes, Leaves};
@@ -14,7 +14,8 @@ use world::{Event, Reply, World};
 ///
 /// # Errors
 /// `NoSuchRow` where no insert has the number, else `AlreadyDeleted`, else `CommitsFull`, else `FindersFull` where 64
-/// finders are open or the last serial was given, and want of memory. Then no row is deleted.
+/// finders are open or the last serial was given, and want of memory. Nothing is changed then, but that want of memory may
+/// have used up a finder's serial.
 pub fn delete<C: KeyClass, O: Outlet<C::Key>>(
     world: &mut World<C, O>,
     row: u64,
@@ -32,6 +33,8 @@ pub fn delete<C: KeyClass, O: Outlet<C::Key>>(
     ensures refusals { IfErr result (λ why. (why ≡ Refusal.NoSuchRow) ⊎ (why ≡ Refusal.AlreadyDeleted) ⊎ (why ≡ Refusal.CommitsFull) ⊎ (why ≡ Refusal.OutOfMemory) ⊎ ((why ≡ Refusal.FindersFull) × ((64 ≤ length world.old.finders) ⊎ (4294967295 ≤ world.old.last_finder)))) }
     ensures finders_full { (result ≡ Err Refusal.FindersFull) ↔ ((status_of world.old.commits row ≡ Status.Live) × (length world.old.commits < world.old.limit) × ((64 ≤ length world.old.finders) ⊎ (4294967295 ≤ world.old.last_finder))) }
     ensures finders { world.new.finders ≡ world.old.finders }
+    ensures found { OnOk result (world.new.last_finder ≡ world.old.last_finder + 1) }
+    ensures unfound { IfErr result (λ why. why ≢ Refusal.OutOfMemory → world.new ≡ world.old) }
     ensures last_finder { world.new.last_finder ≤ world.old.last_finder + 1 }
 {
     match world.status(row) {
@@ -54,6 +57,7 @@ fn find_and_bury<C: KeyClass, O: Outlet<C::Key>>(
     requires room { length world.old.commits < world.old.limit }
     ensures deleted { IfOk result (λ number. Deletes (words C.is_match C.is_consistent C.is_cover C.union_of O.may_take O.may_refuse O.is_emptied_elsewhere) world.old row number world.new) }
     ensures left { OnErr result (Leaves world.old world.new) }
+    ensures unfound { IfErr result (λ why. why ≢ Refusal.OutOfMemory → world.new ≡ world.old) }
     ensures full { (result ≡ Err Refusal.FindersFull) ↔ ((64 ≤ length world.old.finders) ⊎ (4294967295 ≤ world.old.last_finder)) }
     ensures refusals { IfErr result (λ why. (why ≡ Refusal.OutOfMemory) ⊎ ((why ≡ Refusal.FindersFull) × ((64 ≤ length world.old.finders) ⊎ (4294967295 ≤ world.old.last_finder)))) }
 {

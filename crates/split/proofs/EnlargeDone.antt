@@ -14,6 +14,7 @@ use Rattle.split.proofs.Passing.{all_pass, not_false}
 use Rattle.split.proofs.Naming.{names_naming, within_is}
 use Rattle.split.proofs.EnlargeSound.{enlarge_sound, enlarge_length, enlarge_rows}
 use Rattle.split.proofs.StepsKeep.{enlarge_keeps, enlarge_entries}
+use Rattle.split.proofs.Potential.{enlarge_potential}
 use Rattle.split.proofs.Done.{IsDone, done_as}
 
 module _ {K : Type 0} (is_cover : K → K → Bool) (s : SearchTree K) (inv : IsSearchTree is_cover s.tree s.fan s.least s.limit) (p c : ℕ) (key : K) (passed : first_failing (enlarge_tests is_cover s p c key) ≡ None) where
@@ -55,6 +56,7 @@ module _ {K : Type 0} (is_cover : K → K → Bool) (s : SearchTree K) (inv : Is
     };
     kept = enlarge_keeps is_cover union s.tree s.fan inv.sound laws p c key d.exists d.named d.covered;
     moved = enlarge_entries is_cover union s.tree s.fan inv.sound laws p c key d.exists d.named d.covered (λ e. StandsIn s.tree e) (entries_stay s.tree);
+    no_higher = enlarge_potential is_cover union laws s.tree s.fan inv.sound p c key d.exists d.named d.covered;
   }
 
   -- the very lists

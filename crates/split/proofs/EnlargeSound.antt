@@ -73,9 +73,9 @@ module _ {K : Type 0} (is_cover : K → K → Bool) (union : K → K → K) (law
       (λ q l d. replaced_pages t c child (λ x page. ((x ≡ p) → ⊥) → P x page) child_falls.0 (λ d. at_c) (λ q l f d. other q l d f) q (subst (λ m. q < m) e l) d)
       q (subst (λ m. q < m) (sym e) l)
 
-  total : (f : Page K → ℕ) → f parent ≡ f (page_at t p) → f child ≡ f (page_at t c) → weigh f t'.pages ≡ weigh f t.pages
+  pub enlarge_total : (f : Page K → ℕ) → f parent ≡ f (page_at t p) → f child ≡ f (page_at t c) → weigh f t'.pages ≡ weigh f t.pages
   unfolding after_enlarge
-  total f ep ec =
+  enlarge_total f ep ec =
       let t1 : Tree K = replaced t c child in
       let e1 : weigh f t1.pages + f (page_at t c) ≡ weigh f t.pages + f child = weigh-set f t.pages c child no_page child_falls.0 in
       let e2 : weigh f (replaced t1 p parent).pages + f (page_at t1 p) ≡ weigh f t1.pages + f parent = weigh-set f t1.pages p parent no_page (subst (λ m. p < m) (sym (replaced-length t c child)) lp) in
@@ -196,10 +196,10 @@ module _ {K : Type 0} (is_cover : K → K → Bool) (union : K → K → K) (law
   reached_kept : (q : ℕ) → q < n → (page : Page K) → page.hung ≡ (page_at t q).hung → page.owed ≡ (page_at t q).owed → IsReached t' q page
   unfolding after_enlarge
   reached_kept q k page eh eo = let w : IsReached t q (page_at t q) = sound.reached q k in record {
-    named = ap (λ x. x + one_if_equal q 0) (total (λ page. naming q page.branches) (naming_parent q) refl) ∙ w.named ∙ ap (λ b. cond b 1 0) (sym eh);
-    owed_by = total (λ page. owing q page) refl refl ∙ w.owed_by ∙ ap (λ b. cond b 0 1) (sym eh);
+    named = ap (λ x. x + one_if_equal q 0) (enlarge_total (λ page. naming q page.branches) (naming_parent q) refl) ∙ w.named ∙ ap (λ b. cond b 1 0) (sym eh);
+    owed_by = enlarge_total (λ page. owing q page) refl refl ∙ w.owed_by ∙ ap (λ b. cond b 0 1) (sym eh);
     settled = λ e. eo ∙ w.settled (sym eh ∙ e);
-    linked_by = λ e. total (λ page. linking q page) refl refl ∙ w.linked_by (sym eh ∙ e);
+    linked_by = λ e. enlarge_total (λ page. linking q page) refl refl ∙ w.linked_by (sym eh ∙ e);
     once = ap (weigh (λ x. one_if_equal x q)) (enlarge_pages 0 t.counter) ∙ w.once;
   }
 
@@ -253,7 +253,7 @@ module _ {K : Type 0} (is_cover : K → K → Bool) (union : K → K → K) (law
 
   posted_kept : weigh (λ page. cond page.hung 0 1) t'.pages + t'.counter < length t'.pages
   unfolding after_enlarge
-  posted_kept = omega (arith, total (λ page. cond page.hung 0 1) refl refl, enlarge_length, sound.posted)
+  posted_kept = omega (arith, enlarge_total (λ page. cond page.hung 0 1) refl refl, enlarge_length, sound.posted)
 
   pub enlarge_sound : IsSound is_cover fan t'
   enlarge_sound = record {
@@ -271,7 +271,7 @@ module _ {K : Type 0} (is_cover : K → K → Bool) (union : K → K → K) (law
         (λ e. let w : IsRoot (page_at t p) = subst (λ x. IsRoot (page_at t x)) (sym e) sound.root in record { number = w.number; no_right = w.no_right; not_owed = w.not_owed; hung = w.hung; no_cover = w.no_cover })
         (λ e. absurd (root_not_child e))
         (λ x k a b e. subst (λ x. IsRoot (page_at t x)) (sym e) sound.root) 0 sound.root_exists refl;
-    no_link_to_root = total (λ page. linking 0 page) refl refl ∙ sound.no_link_to_root;
+    no_link_to_root = enlarge_total (λ page. linking 0 page) refl refl ∙ sound.no_link_to_root;
     posted = posted_kept;
     shape = λ q h. each_page (λ q page. IsShaped t' fan page) parent_shape child_shape (λ q k a b. shape_kept q k) q (subst (λ m. q < m) enlarge_length h);
     reached = λ q h. each_page (λ q page. IsReached t' q page) (reached_kept p lp parent refl refl) (reached_kept c child_falls.0 child refl refl) (λ q k a b. reached_kept q k (page_at t q) refl refl) q (subst (λ m. q < m) enlarge_length h);

@@ -18,6 +18,7 @@ use Rattle.split.proofs.Grow.{grow-length}
 use Rattle.split.proofs.GrowRows.{grow_rows, can_grow}
 use Rattle.split.proofs.GrowSound.{grow_sound}
 use Rattle.split.proofs.StepsKeep.{grow_keeps, grow_entries}
+use Rattle.split.proofs.Potential.{grow_potential}
 use Rattle.split.proofs.Done.{IsDone, done_as}
 
 module _ {K : Type 0} (is_cover : K → K → Bool) (s : SearchTree K) (inv : IsSearchTree is_cover s.tree s.fan s.least s.limit) (sides : List Side) (passed : first_failing (grow_tests s sides) ≡ None) where
@@ -59,6 +60,7 @@ module _ {K : Type 0} (is_cover : K → K → Bool) (s : SearchTree K) (inv : Is
     };
     kept = grow_keeps is_cover union s.tree s.fan inv.sound sides part;
     moved = grow_entries is_cover union s.tree s.fan inv.sound sides part (λ e. StandsIn s.tree e) (entries_stay s.tree);
+    no_higher = let d = all_passed in grow_potential union s.tree s.fan s.least inv.two_least sides is_cover inv.sound part inv.two_parts d.full d.one_a_place d.enough_left d.enough_right;
   }
 
   -- at every memo

@@ -41,20 +41,22 @@ some_branch rows branches none some = omega (arith, length-keys_of rows branches
 leaf_or_inner : (level : ℕ) → (level ≡ 0) ⊎ (0 < level)
 leaf_or_inner level = grind arith
 
-pub halves : {K : Type 0} (t : Tree K) (fan : ℕ) (page : Page K) (sides : List Side) → IsShaped t fan page → length sides ≡ entries_of page → 1 ≤ count_by is_left sides → 1 ≤ count_by is_right sides → SidesPart page sides
-halves {K} t fan page sides shape n l r = elim (leaf_or_inner page.level) [
+-- each part has an entry for each side that gives it one
+pub part_lengths : {K : Type 0} (t : Tree K) (fan : ℕ) (page : Page K) (sides : List Side) → IsShaped t fan page → length sides ≡ entries_of page
+    → (count_by is_left sides ≤ length (left_part sides page.rows) + length (left_part sides page.branches)) × (count_by is_right sides ≤ length (right_part sides page.rows) + length (right_part sides page.branches))
+part_lengths {K} t fan page sides shape n = elim (leaf_or_inner page.level) [
   | inl e ↦ (let none : length page.branches ≡ 0 = ap length (shape.leaf e) in
       let a = length-left_part sides page.rows (omega arith) in
       let b = length-right_part sides page.rows (omega arith) in
-      record {
-        some_left = omega (arith, a, length-keys_of (left_part sides page.rows) (left_part sides page.branches));
-        some_right = omega (arith, b, length-keys_of (right_part sides page.rows) (right_part sides page.branches));
-      })
+      (omega (arith, a), omega (arith, b)))
   | inr k ↦ (let none : length page.rows ≡ 0 = ap length (shape.inner k) in
       let a = length-left_part sides page.branches (omega arith) in
       let b = length-right_part sides page.branches (omega arith) in
-      record {
-        some_left = omega (arith, a, length-keys_of (left_part sides page.rows) (left_part sides page.branches));
-        some_right = omega (arith, b, length-keys_of (right_part sides page.rows) (right_part sides page.branches));
-      })
+      (omega (arith, a), omega (arith, b)))
 ]
+
+pub halves : {K : Type 0} (t : Tree K) (fan : ℕ) (page : Page K) (sides : List Side) → IsShaped t fan page → length sides ≡ entries_of page → 1 ≤ count_by is_left sides → 1 ≤ count_by is_right sides → SidesPart page sides
+halves {K} t fan page sides shape n l r = let lengths = part_lengths t fan page sides shape n in record {
+  some_left = omega (arith, l, lengths.0, length-keys_of (left_part sides page.rows) (left_part sides page.branches));
+  some_right = omega (arith, r, lengths.1, length-keys_of (right_part sides page.rows) (right_part sides page.branches));
+}

@@ -17,6 +17,7 @@ pub mod Post
 pub mod PostDone
 pub mod PostSound
 pub mod PostUnder
+pub mod Potential
 pub mod RowsDone
 pub mod Split
 pub mod SplitDone

@@ -16,6 +16,7 @@ use Rattle.split.proofs.PostUnder.{child_not_parent, sibling_not_parent, sibling
 use Rattle.split.proofs.CanPost.{can_post}
 use Rattle.split.proofs.PostSound.{post_sound}
 use Rattle.split.proofs.StepsKeep.{post_keeps, post_entries}
+use Rattle.split.proofs.Potential.{post_potential}
 use Rattle.split.proofs.Done.{IsDone, done_as}
 
 module _ {K : Type 0} (is_cover : K → K → Bool) (s : SearchTree K) (inv : IsSearchTree is_cover s.tree s.fan s.least s.limit) (p c : ℕ) (passed : first_failing (post_tests s p c) ≡ None) where
@@ -67,6 +68,7 @@ module _ {K : Type 0} (is_cover : K → K → Bool) (s : SearchTree K) (inv : Is
       };
       kept = post_keeps is_cover union s.tree s.fan inv.sound p c r can;
       moved = post_entries is_cover union s.tree s.fan inv.sound p c r can (λ e. StandsIn s.tree e) (entries_stay s.tree);
+      no_higher = let d = all_passed in post_potential is_cover union laws s.tree s.fan inv.sound p c r can d.room;
     }
 
 module _ {K : Type 0} (is_cover : K → K → Bool) (union : K → K → K) (table table' : Tree K) (fan least limit : ℕ) (old : SearchTree K) (view : record { tree = table; fan = fan; least = least; limit = limit } ≡ old)

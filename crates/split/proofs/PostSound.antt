@@ -52,7 +52,7 @@ module _ {K : Type 0} (is_cover : K → K → Bool) (union : K → K → K) (law
   ls : s < n
   ls = (sibling_falls t rank r p c s can).0
 
-  settled : Settled is_cover t fan sound s
+  pub settled : Settled is_cover t fan sound s
   settled = sibling_settled is_cover t fan sound c s lc can.child_owed can.sibling
 
   c_p : (c ≡ p) → ⊥
@@ -64,7 +64,7 @@ module _ {K : Type 0} (is_cover : K → K → Bool) (union : K → K → K) (law
   s_c : (s ≡ c) → ⊥
   s_c = sibling_not_child t rank r p c s can (λ x. x)
 
-  post_total : (f : Page K → ℕ) → weigh f t'.pages + (f (page_at t p) + (f (page_at t c) + f (page_at t s))) ≡ weigh f t.pages + (f parent + (f child + f sibling))
+  pub post_total : (f : Page K → ℕ) → weigh f t'.pages + (f (page_at t p) + (f (page_at t c) + f (page_at t s))) ≡ weigh f t.pages + (f parent + (f child + f sibling))
   unfolding after_post
   post_total f =
       let t1 : Tree K = replaced t s sibling in

@@ -1,6 +1,6 @@
 -- A split whose tests pass keeps the tree sound and its rows.
 use Rattle.std.proofs.Common.{◌≡◌, ℕ, ◌<◌, ◌≤◌, Bool, true, false, ◌&&◌, leb, eqb, List, length, None, count_by, sym, subst, arith}
-use Rattle.std.proofs.lemmas.Bool.{leb-false, eqb-false, leb-true, eqb-true, and_parts}
+use Rattle.std.proofs.lemmas.Bool.{ltb-false, leb-false, eqb-false, leb-true, eqb-true, and_parts}
 use Rattle.key_class.specs.Splits.{is_left, is_right}
 use Rattle.key_class.specs.declared.sides.Side.{Side}
 use Rattle.node.specs.Pages.{entries_of}
@@ -18,6 +18,7 @@ use Rattle.split.proofs.Split.{split-length}
 use Rattle.split.proofs.SplitUnder.{split_rows}
 use Rattle.split.proofs.SplitSound.{split_sound}
 use Rattle.split.proofs.StepsKeep.{split_keeps, split_entries}
+use Rattle.split.proofs.Potential.{split_potential}
 use Rattle.split.proofs.Done.{IsDone, done_as}
 
 module _ {K : Type 0} (is_cover : K → K → Bool) (s : SearchTree K) (inv : IsSearchTree is_cover s.tree s.fan s.least s.limit) (p : ℕ) (sides : List Side) (passed : first_failing (split_tests s p sides) ≡ None) where
@@ -27,6 +28,7 @@ module _ {K : Type 0} (is_cover : K → K → Bool) (s : SearchTree K) (inv : Is
     pub exists : p < length s.tree.pages
     pub not_owed : (page_at s.tree p).owed ≡ false
     pub hung : (page_at s.tree p).hung ≡ true
+    pub full : s.fan ≤ entries_of (page_at s.tree p)
     pub one_a_place : length sides ≡ entries_of (page_at s.tree p)
     pub enough_left : s.least ≤ count_by is_left sides
     pub enough_right : s.least ≤ count_by is_right sides
@@ -43,6 +45,7 @@ module _ {K : Type 0} (is_cover : K → K → Bool) (s : SearchTree K) (inv : Is
         exists = leb-false (length s.tree.pages) p here.1;
         not_owed = h.1.0;
         hung = not_false (page_at s.tree p).hung h.1.1.0;
+        full = ltb-false (entries_of (page_at s.tree p)) s.fan h.1.1.1.0;
         one_a_place = eqb-true (length sides) (entries_of (page_at s.tree p)) parts.0;
         enough_left = leb-true s.least (count_by is_left sides) both.0;
         enough_right = leb-true s.least (count_by is_right sides) both.1;
@@ -67,6 +70,7 @@ module _ {K : Type 0} (is_cover : K → K → Bool) (s : SearchTree K) (inv : Is
     };
     kept = split_keeps is_cover union s.tree s.fan inv.sound p sides can;
     moved = split_entries is_cover union s.tree s.fan inv.sound p sides can (λ e. StandsIn s.tree e) (entries_stay s.tree);
+    no_higher = let d = all_passed in split_potential union s.tree s.fan s.least inv.two_least sides p d.exists (inv.sound.shape p d.exists) d.full d.one_a_place d.enough_left d.enough_right;
   }
 
   -- at every memo

@@ -1,3 +1,4 @@
+pub mod Potential
 pub mod SearchTrees
 pub mod Steps
 pub mod Tests

@@ -94,11 +94,12 @@ module _ {K A : Type 0} (w : Words K A) (old new : world.State K A) (rests : Res
   fewer_left = omega (arith, rests.pages, rests.page_limit)
 
   pub commits_write : (write : Write K) → new.commits ≡ old.commits ++ write ∷ [] → Commits w.matching (store_state w old) write (store_state w new)
-  commits_write write e = record { limit = rests.limit; commits = e; last = rests.last; cursors = keeps_cursors; as_many = as_many; pages = fewer_left }
+  commits_write write e = record { limit = rests.limit; page_limit = rests.page_limit; commits = e; last = rests.last; cursors = keeps_cursors; as_many = as_many; pages = fewer_left }
 
   pub keeps : new.commits ≡ old.commits → IsPermutation (deaths old.search.tree) (deaths new.search.tree) → Keeps w.matching (store_state w old) (store_state w new)
   keeps e dead = record {
     limit = rests.limit;
+    page_limit = rests.page_limit;
     commits = e;
     last = rests.last;
     dead = dead_rows_permuted (deaths old.search.tree) (deaths new.search.tree) dead;

@@ -144,6 +144,7 @@ module _ {K A : Type 0} (w : Words K A) (old new : world.State K A) (sound : wor
   keeps_living : KeepsLiving w.matching (store_state w old) (store_state w new)
   keeps_living = record {
     limit = rests.limit;
+    page_limit = rests.page_limit;
     commits = commits;
     last = rests.last;
     cursors = keeps_cursors w old new rests;

@@ -19,6 +19,8 @@ pub record State (K A : Type 0) : Type 0 where
   -- the greatest number of commits
   pub limit : ℕ
   pub commits : List (Write K)
+  -- the greatest number of pages
+  pub page_limit : ℕ
   -- the open cursors
   pub cursors : List (CursorState K A)
   -- the last serial that was given
@@ -32,7 +34,7 @@ pub record State (K A : Type 0) : Type 0 where
 
 -- an empty store; one page is made with it
 abbrev pub new_state : {K A : Type 0} → Config → State K A
-new_state config = record { limit = config.commits; commits = []; cursors = []; last = 0; dead = []; pages_left = config.pages - 1; finders = 0 }
+new_state config = record { limit = config.commits; commits = []; page_limit = config.pages; cursors = []; last = 0; dead = []; pages_left = config.pages - 1; finders = 0 }
 
 module _ {K A : Type 0} where
   abbrev pub open_or_closed : Option (CursorState K A) → Result (CursorState K A) Refusal
@@ -103,6 +105,7 @@ module _ {K A : Type 0} (matching : A → K → Bool) where
   -- one commit more, and nothing else but pages
   pub record Commits (old : State K A) (write : Write K) (new : State K A) : Type 0 where
     pub limit : new.limit ≡ old.limit
+    pub page_limit : new.page_limit ≡ old.page_limit
     pub commits : new.commits ≡ old.commits ++ write ∷ []
     pub last : new.last ≡ old.last
     pub cursors : KeepsCursors old new
@@ -112,6 +115,7 @@ module _ {K A : Type 0} (matching : A → K → Bool) where
   -- nothing but pages
   pub record Keeps (old new : State K A) : Type 0 where
     pub limit : new.limit ≡ old.limit
+    pub page_limit : new.page_limit ≡ old.page_limit
     pub commits : new.commits ≡ old.commits
     pub last : new.last ≡ old.last
     pub dead : IsPermutation old.dead new.dead
@@ -193,6 +197,7 @@ module _ {K A : Type 0} (matching : A → K → Bool) where
   -- nothing but dead rows
   pub record KeepsLiving (old new : State K A) : Type 0 where
     pub limit : new.limit ≡ old.limit
+    pub page_limit : new.page_limit ≡ old.page_limit
     pub commits : new.commits ≡ old.commits
     pub last : new.last ≡ old.last
     pub cursors : KeepsCursors old new

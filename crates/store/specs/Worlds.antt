@@ -15,6 +15,7 @@ module _ {K A : Type 0} where
   store_state w s = record {
     limit = s.limit;
     commits = s.commits;
+    page_limit = s.search.limit;
     cursors = map (shown w s.search.tree) s.cursors;
     last = s.last;
     dead = map dead_row (deaths s.search.tree);

@@ -1,4 +1,4 @@
-ghost use Rattle.std.specs.Prelude.{◌≡◌, ◌+◌, ◌≤◌, ◌<◌, ◌↔◌, ◌⊎◌, List, [], ◌∷◌, ◌++◌, length, IfOk, IfErr, OnOk, OnErr, Ok, Err, IsPermutation};
+ghost use Rattle.std.specs.Prelude.{◌≡◌, ◌≢◌, ◌+◌, ◌≤◌, ◌<◌, ◌↔◌, ◌⊎◌, List, [], ◌∷◌, ◌++◌, length, IfOk, IfErr, OnOk, OnErr, Ok, Err, IsPermutation};
 ghost use Rattle.key_class.specs.Queries.{query_of, matches_query, depth_of};
 ghost use Rattle.change_list.specs.Configs.{IsWithinLimits};
 ghost use Rattle.change_list.specs.Changes.{IsLegal, status_of, snapshot, commit_at};
@@ -54,13 +54,18 @@ impl<C: KeyClass> Store<C> {
     pub fn commits(&self) -> u64
         ensures number { result ≡ length self.now.commits }
         ensures legal { IsLegal self.now.commits }
+
+        // At most one page more was made than there are commits.
+        ensures few_pages { self.now.page_limit ≤ self.now.pages_left + length self.now.commits + 1 }
     {
+        self.world.is_sound();
         self.world.commits()
     }
 
-    /// Nothing is done. The clause states what holds of every store.
-    fn is_legal(&self)
-        ensures { IsLegal self.now.commits }
+    /// Nothing is done. The clauses state what holds of every store.
+    fn is_sound(&self)
+        ensures legal { IsLegal self.now.commits }
+        ensures few_pages { self.now.page_limit ≤ self.now.pages_left + length self.now.commits + 1 }
     {
         let _commits = self.commits();
     }
@@ -82,9 +87,10 @@ impl<C: KeyClass> Store<C> {
         ensures full { (result ≡ Err Refusal.CommitsFull) ↔ (self.old.limit ≤ length self.old.commits) }
         ensures refusals { IfErr result (λ e. (e ≡ Refusal.OutOfMemory) ⊎ (e ≡ Refusal.CommitsFull) ⊎ ((e ≡ Refusal.PagesFull) × (self.new.pages_left < 2))) }
         ensures legal { IsLegal self.new.commits }
+        ensures few_pages { self.new.page_limit ≤ self.new.pages_left + length self.new.commits + 1 }
     {
         let inserted = insertion::insert(self.alloc, &mut self.world, key, tag);
-        self.is_legal();
+        self.is_sound();
         inserted
     }
 
@@ -92,7 +98,8 @@ impl<C: KeyClass> Store<C> {
     ///
     /// # Errors
     /// `NoSuchRow` where no insert has the number, else `AlreadyDeleted`, else `CommitsFull`, else `FindersFull` once the
-    /// last finder of the store's life was opened, and want of memory. Nothing but pages changed then.
+    /// last finder of the store's life was opened, and want of memory. Nothing is changed then, but that want of memory may
+    /// have used up a finder.
     pub fn delete(&mut self, row: u64) -> Result<u64, Refusal>
         ensures number { IfOk result (λ n. n ≡ length self.old.commits + 1) }
         ensures ok { OnOk result (Commits C.is_match self.old (Write.Delete row) self.new) }
@@ -103,11 +110,14 @@ impl<C: KeyClass> Store<C> {
         ensures full { (result ≡ Err Refusal.CommitsFull) ↔ ((status_of self.old.commits row ≡ Status.Live) × (self.old.limit ≤ length self.old.commits)) }
         ensures finders_full { (result ≡ Err Refusal.FindersFull) ↔ ((status_of self.old.commits row ≡ Status.Live) × (length self.old.commits < self.old.limit) × HasNoFinderLeft self.old) }
         ensures refusals { IfErr result (RefusesDelete self.old) }
+        ensures found { OnOk result (self.new.finders ≡ self.old.finders + 1) }
+        ensures unfound { IfErr result (λ why. why ≢ Refusal.OutOfMemory → self.new ≡ self.old) }
         ensures finders { self.new.finders ≤ self.old.finders + 1 }
         ensures legal { IsLegal self.new.commits }
+        ensures few_pages { self.new.page_limit ≤ self.new.pages_left + length self.new.commits + 1 }
     {
         let deleted = removal::delete(&mut self.world, row);
-        self.is_legal();
+        self.is_sound();
         deleted
     }
 

@@ -1,6 +1,8 @@
 -- Every change of an event keeps a world sound.
 use Rattle.std.proofs.Common.{◌≡◌, ◌+◌, ◌<◌, ◌≤◌, ℕ, Bool, map, filter, List, [], ◌∷◌, ◌++◌, length, None, refl, sym, arith, subst, All, length-append}
+use Rattle.std.proofs.lemmas.List.{length-map}
 use Rattle.std.proofs.lemmas.List.Elements.{All-nil}
+use Rattle.std.proofs.lemmas.List.Sums.{length-filter, count_by-le-length}
 use Rattle.change_list.specs.declared.config.Config.{Config}
 use Rattle.change_list.specs.Configs.{IsWithinLimits}
 use Rattle.change_list.specs.declared.write.Write.TheVariants.{Insert, Delete}
@@ -12,6 +14,7 @@ use Rattle.page_table.specs.Trees.{Tree, page_at, after_rows, new_tree}
 use Rattle.page_table.specs.Weights.{weigh}
 use Rattle.split.specs.SearchTrees.{SearchTree}
 use Rattle.split.specs.SearchTrees.{IsSearchTree, with_tree}
+use Rattle.split.proofs.Potential.{few_pages, new_potential, rows_potential}
 use Rattle.split.proofs.Done.{IsDone}
 use Rattle.std.proofs.Common.{Result, Ok, Err}
 use Rattle.std.specs.Prelude.{OnOk, OnErr}
@@ -43,6 +46,7 @@ module _ {K A : Type 0} (is_cover : K → K → Bool) where
       agrees = keeps_agrees old.search.tree tree old.commits d.kept d.moved s.agrees;
       at_work = all_kept (λ k. IsAtWork old.search.tree old.commits k) (λ k. IsAtWork tree old.commits k) (λ k h. record { stack = keeps_stack old.search.tree tree k.stack d.kept h.stack; from_opening = h.from_opening; within = h.within }) old.cursors s.at_work;
       serials = s.serials;
+      grown = omega (arith, s.grown, d.no_higher);
       few_commits = s.few_commits;
       commit_limit = s.commit_limit;
       few_cursors = s.few_cursors;
@@ -72,6 +76,7 @@ module _ {K A : Type 0} (is_cover : K → K → Bool) where
           agrees = place_agrees is_cover old.search.tree old.search.fan s.tree.sound old.commits s.legal s.agrees p l key tag;
           at_work = all_kept (λ k. IsAtWork old.search.tree old.commits k) (λ k. IsAtWork (after_rows old.search.tree p rows) (old.commits ++ Insert key tag ∷ []) k) (λ k h. record { stack = rows_stack old.search.tree p rows k.stack h.stack; from_opening = h.from_opening; within = omega (arith, h.within, n) }) old.cursors s.at_work;
           serials = s.serials;
+          grown = omega (arith, s.grown, n, rows_potential old.search.fan old.search.tree p rows 1 l (omega (arith, length-append (page_at old.search.tree p).rows ((record { key = key; row = length old.commits + 1; tag = tag; died = None }) ∷ []))));
           few_commits = omega (arith, n, room);
           commit_limit = s.commit_limit;
           few_cursors = s.few_cursors;
@@ -99,6 +104,7 @@ module _ {K A : Type 0} (is_cover : K → K → Bool) where
           agrees = bury_agrees is_cover old.search.tree old.search.fan s.tree.sound old.commits s.legal s.agrees p l row live there;
           at_work = all_kept (λ k. IsAtWork old.search.tree old.commits k) (λ k. IsAtWork (after_rows old.search.tree p rows) (old.commits ++ Delete row ∷ []) k) (λ k h. record { stack = rows_stack old.search.tree p rows k.stack h.stack; from_opening = h.from_opening; within = omega (arith, h.within, n) }) old.cursors s.at_work;
           serials = s.serials;
+          grown = omega (arith, s.grown, n, rows_potential old.search.fan old.search.tree p rows 0 l (omega (arith, length-map (page_at old.search.tree p).rows (marked row (length old.commits + 1)))));
           few_commits = omega (arith, n, room);
           commit_limit = s.commit_limit;
           few_cursors = s.few_cursors;
@@ -117,6 +123,7 @@ module _ {K A : Type 0} (is_cover : K → K → Bool) where
           agrees = sweep_agrees is_cover old.search.tree old.search.fan s.tree.sound old.commits s.agrees p l horizon;
           at_work = all_kept (λ k. IsAtWork old.search.tree old.commits k) (λ k. IsAtWork (after_rows old.search.tree p rows) old.commits k) (λ k h. record { stack = rows_stack old.search.tree p rows k.stack h.stack; from_opening = h.from_opening; within = h.within }) old.cursors s.at_work;
           serials = s.serials;
+          grown = omega (arith, s.grown, rows_potential old.search.fan old.search.tree p rows 0 l (omega (arith, length-filter (is_needed horizon) (page_at old.search.tree p).rows, count_by-le-length (is_needed horizon) (page_at old.search.tree p).rows)));
           few_commits = s.few_commits;
           commit_limit = s.commit_limit;
           few_cursors = s.few_cursors;
@@ -133,6 +140,7 @@ module _ {K A : Type 0} (is_cover : K → K → Bool) where
       agrees = s.agrees;
       at_work = s.at_work;
       serials = s.serials;
+      grown = s.grown;
       few_commits = s.few_commits;
       commit_limit = s.commit_limit;
       few_cursors = s.few_cursors;
@@ -148,6 +156,7 @@ module _ {K A : Type 0} (is_cover : K → K → Bool) where
       agrees = s.agrees;
       at_work = all_push (λ x. x.serial) (λ k. IsAtWork old.search.tree old.commits k) k old.cursors h s.at_work;
       serials = subst (λ n. Rise (λ x. x.serial) 0 n (old.cursors ++ k ∷ [])) e (rise_push (λ x. x.serial) 0 old.last old.cursors k (omega (arith, e)) s.serials);
+      grown = s.grown;
       few_commits = s.few_commits;
       commit_limit = s.commit_limit;
       few_cursors = omega (arith, few, length-append old.cursors (k ∷ []));
@@ -162,6 +171,7 @@ module _ {K A : Type 0} (is_cover : K → K → Bool) where
       agrees = s.agrees;
       at_work = all_put (λ x. x.serial) (λ k. IsAtWork old.search.tree old.commits k) k old.cursors h s.at_work;
       serials = rise_put (λ x. x.serial) k 0 old.last old.cursors s.serials;
+      grown = s.grown;
       few_commits = s.few_commits;
       commit_limit = s.commit_limit;
       few_cursors = omega (arith, s.few_cursors, length_put (λ (x : OpenCursor K A). x.serial) k old.cursors);
@@ -176,6 +186,7 @@ module _ {K A : Type 0} (is_cover : K → K → Bool) where
       agrees = s.agrees;
       at_work = all_without (λ x. x.serial) (λ k. IsAtWork old.search.tree old.commits k) c old.cursors s.at_work;
       serials = rise_without (λ x. x.serial) c 0 old.last old.cursors s.serials;
+      grown = s.grown;
       few_commits = s.few_commits;
       commit_limit = s.commit_limit;
       few_cursors = omega (arith, s.few_cursors, length_without (λ (x : OpenCursor K A). x.serial) c old.cursors);
@@ -185,18 +196,23 @@ module _ {K A : Type 0} (is_cover : K → K → Bool) where
 
 -- a new world is sound
 pub new_sound_world : {K A : Type 0} (is_cover : K → K → Bool) (config : Config) → IsWithinLimits config → IsSoundWorld is_cover (new_state {K = K} {A = A} config)
-new_sound_world is_cover config limits = record {
+new_sound_world {K} is_cover config limits = record {
   tree = new_search_tree is_cover new_tree config.fan config.least config.pages refl limits.fan.below limits.least.above limits.least.below limits.pages.above limits.pages.below;
   legal = λ place write h. absurd (cc);
   agrees = new_agrees;
   at_work = All-nil (λ k. IsAtWork new_tree [] k);
   serials = omega arith;
+  grown = new_potential K config.fan (omega (arith, limits.fan.above));
   few_commits = omega arith;
   commit_limit = limits.commits.below;
   few_cursors = omega arith;
   last_serial = omega arith;
   finders = record { seeking = All-nil (λ k. IsSeeking new_tree [] k); serials = omega arith; few = omega arith; last_serial = omega arith };
 }
+
+-- there is at most one page more than there were commits
+pub grown_pages : {K A : Type 0} (is_cover : K → K → Bool) (s : State K A) → IsSoundWorld is_cover s → length s.search.tree.pages ≤ length s.commits + 1
+grown_pages is_cover s inv = omega (arith, few_pages s.search.fan s.search.tree, inv.grown)
 
 -- a cursor at the present commits whose scan begins at the root
 pub fresh_at_work : {K A : Type 0} (is_cover : K → K → Bool) (s : State K A) → IsSoundWorld is_cover s → (k : OpenCursor K A) (opened counter : ℕ) → opened ≡ length s.commits → counter ≡ s.search.tree.counter

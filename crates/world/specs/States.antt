@@ -1,10 +1,11 @@
 -- What contracts see of a world.
-use Rattle.std.specs.Prelude.{◌≡◌, ℕ, ◌≤◌, Bool, List, [], length, false, Option, All}
+use Rattle.std.specs.Prelude.{◌≡◌, ℕ, ◌+◌, ◌≤◌, Bool, List, [], length, false, Option, All}
 use Rattle.change_list.specs.declared.config.Config.{Config}
 use Rattle.change_list.specs.declared.write.Write.{Write}
 use Rattle.change_list.specs.Changes.{IsLegal, is_deleted}
 use Rattle.page_table.specs.Trees.{Tree, new_tree}
 use Rattle.page_table.specs.Stacks.{IsStack}
+use Rattle.split.specs.Potential.{potential}
 use Rattle.split.specs.SearchTrees.{SearchTree, IsSearchTree, with_tree}
 use Rattle.scan.specs.Agreement.{Agrees}
 use Rattle.cursor.specs.OpenCursors.{OpenCursor}
@@ -78,6 +79,8 @@ module _ {K A : Type 0} where
     pub agrees : Agrees s.search.tree s.commits
     pub at_work : All (λ k. IsAtWork s.search.tree s.commits k) s.cursors
     pub serials : Rise (λ k. k.serial) 0 s.last s.cursors
+    -- the tree's potential bounds the number of its pages
+    pub grown : potential s.search.fan s.search.tree ≤ length s.commits + 1
     pub few_commits : length s.commits ≤ s.limit
     pub commit_limit : s.limit ≤ 16777216
     pub few_cursors : length s.cursors ≤ 256

@@ -1,4 +1,4 @@
-ghost use Rattle.std.specs.Prelude.{◌≡◌, ◌≢◌, ◌↔◌, ◌⊎◌, ◌<◌, ◌≤◌, ℕ, suc, None, Some, length, IfOk, OnOk, IfErr, IfSome, is_some, nat_lt};
+ghost use Rattle.std.specs.Prelude.{◌≡◌, ◌≢◌, ◌↔◌, ◌⊎◌, ◌+◌, ◌<◌, ◌≤◌, ℕ, suc, None, Some, length, IfOk, OnOk, IfErr, IfSome, is_some, nat_lt};
 ghost use Rattle.change_list.specs.Configs.{IsWithinLimits};
 ghost use Rattle.change_list.specs.Changes.{commit_at, status_of, IsLegal};
 ghost use Rattle.page_table.specs.Trees.{page_at};
@@ -119,6 +119,7 @@ impl<C: KeyClass, O: Outlet<C::Key>> World<C, O> {
     /// How many pages there are.
     pub fn pages(&self) -> u64
         ensures number { result ≡ length self.now.search.tree.pages }
+        ensures few { result ≤ length self.now.commits + 1 }
         ensures sound { IsSoundWorld C.is_cover self.now }
     {
         self.search.pages().len() as u64

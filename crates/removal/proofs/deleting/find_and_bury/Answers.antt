@@ -36,6 +36,11 @@ returns-in-Refused-step-clause-refusals g c =
     inl (refused (words g.C.KeyClass.is_match g.C.KeyClass.is_consistent g.C.KeyClass.is_cover g.C.KeyClass.union_of g.O.Outlet.may_take g.O.Outlet.may_refuse g.O.Outlet.is_emptied_elsewhere) c.args.world.now c.args.row c.in-Finder.finder c.seeking.world c.seeking.invariant
     c.in-Refused-step.why c.step-in-seeking.new.self c.requires.live c.requires.room c.in-Refused-step.ensures.step).0
 
+pub returns-in-Refused-step-clause-unfound : goal.returns-in-Refused-step-clause-unfound
+returns-in-Refused-step-clause-unfound g c other =
+    absurd (other (refused (words g.C.KeyClass.is_match g.C.KeyClass.is_consistent g.C.KeyClass.is_cover g.C.KeyClass.union_of g.O.Outlet.may_take g.O.Outlet.may_refuse g.O.Outlet.is_emptied_elsewhere) c.args.world.now c.args.row c.in-Finder.finder c.seeking.world c.seeking.invariant
+    c.in-Refused-step.why c.step-in-seeking.new.self c.requires.live c.requires.room c.in-Refused-step.ensures.step).0)
+
 pub returns-in-Refused-clause-full : goal.returns-in-Refused-clause-full
 returns-in-Refused-clause-full g c =
     let why = refused_finder (words g.C.KeyClass.is_match g.C.KeyClass.is_consistent g.C.KeyClass.is_cover g.C.KeyClass.union_of g.O.Outlet.may_take g.O.Outlet.may_refuse g.O.Outlet.is_emptied_elsewhere) c.args.world.now c.args.row c.in-Refused.why c.step.new.self c.requires.live c.in-Refused.ensures.step in

@@ -5,9 +5,9 @@ use Rattle.front.proofs.serve.StoreResponder.answer.Goals as goal
 
 pub returns-in-None-clause-answers : goal.returns-in-None-clause-answers
 returns-in-None-clause-answers g c =
-    let told = rw c.in-None.is at c.reply_to_tokens.ensures.replies in
+    let told = rw c.in-None.is at c.reply_to_tokens.ensures in
     let gathered = c.args.gathered.now.items in (
       [],
-      record { said = None; is_text = refl; pages = c.reply_to_tokens.ensures.pages; replies = told },
+      record { said = None; is_text = refl; replies = told },
       gathers (g.W.Write.contents c.args.writer.now) gathered gathered [] (sym (append-nil gathered)),
     )
