@@ -267,7 +267,7 @@ fn keys_are_read_and_written(rt: HostRuntime) -> Result<(), Fail> {
             assert_eq!(rt; read.0.lo, -5);
             assert_eq!(rt; read.0.hi, 5);
             assert_eq!(rt; read.1.len(), 1);
-            Intervals::write_key(read.0, &mut written)?;
+            written.extend_from_slice(Intervals::text(read.0).as_slice())?;
             let parts = Intervals::parts(&Intervals::atom(Rel::Holds, read.0));
             assert!(rt; parts.0 == Rel::Holds && parts.1 == read.0);
         }
@@ -277,7 +277,7 @@ fn keys_are_read_and_written(rt: HostRuntime) -> Result<(), Fail> {
     match Boxes::read_key(b"(1 2 3 4)", &lexemes) {
         Ok(read) => {
             assert_eq!(rt; read.0.x2, 3);
-            Boxes::write_key(read.0, &mut written)?;
+            written.extend_from_slice(Boxes::text(read.0).as_slice())?;
             let parts = Boxes::parts(&Boxes::atom(Rel::Same, read.0));
             assert!(rt; parts.0 == Rel::Same && parts.1 == read.0);
         }
@@ -287,7 +287,7 @@ fn keys_are_read_and_written(rt: HostRuntime) -> Result<(), Fail> {
     match Sets::read_key(b"{9 1}", &lexemes) {
         Ok(read) => {
             assert_eq!(rt; read.0.mask, 514);
-            Sets::write_key(read.0, &mut written)?;
+            written.extend_from_slice(Sets::text(read.0).as_slice())?;
             let parts = Sets::parts(&Sets::atom(Rel::Within, read.0));
             assert!(rt; parts.0 == Rel::Within && parts.1 == read.0);
         }

@@ -60,18 +60,18 @@ pub failed : {E : Type 0} (r : Result (Unit {0}) E) (w0 w1 : Option (List ℕ)) 
 failed (Ok done) w0 w1 g0 g1 text e h = absurd (cc)
 failed (Err fault) w0 w1 g0 g1 text e h = h
 
+-- the text was written, and then more, or not all of it
+pub then_more : {E : Type 0} (r : Result (Unit {0}) E) (w0 w1 w2 : Option (List ℕ)) (g0 g1 g2 text more : List ℕ) → Writes w0 g0 w1 g1 text → WritesOrFails r w1 g1 w2 g2 more → WritesOrFails r w0 g0 w2 g2 (text ++ more)
+then_more (Ok done) w0 w1 w2 g0 g1 g2 text more a h = writes_both w0 w1 w2 g0 g1 g2 text more a h
+then_more (Err fault) w0 w1 w2 g0 g1 g2 text more a h = fails_behind w0 w1 w2 g0 g1 text more a h
+
 -- the text was gathered, and then what was gathered was sent, or not all of it
 pub then_sent : {E : Type 0} (r : Result (Unit {0}) E) (w0 w1 w2 : Option (List ℕ)) (g0 g1 g2 text : List ℕ) → Writes w0 g0 w1 g1 text → WritesOrFails r w1 g1 w2 g2 [] → WritesOrFails r w0 g0 w2 g2 text
-then_sent (Ok done) w0 w1 w2 g0 g1 g2 text a h = writes_then_nothing w0 w1 w2 g0 g1 g2 text a h
-then_sent (Err fault) w0 w1 w2 g0 g1 g2 text a h = fails_in w0 w1 w2 g0 g1 text a h
+then_sent r w0 w1 w2 g0 g1 g2 text a h = subst (λ t. WritesOrFails r w0 g0 w2 g2 t) (append-nil text) (then_more r w0 w1 w2 g0 g1 g2 text [] a h)
 
 -- a beginning of what was gathered is one of it and more
 pub more_fails : (w0 w1 : Option (List ℕ)) (g more : List ℕ) → WritesBeginning w0 w1 (g ++ []) → WritesBeginning w0 w1 (g ++ more)
 more_fails w0 w1 g more h = subst (λ l. WritesBeginning w0 w1 (l ++ more)) (append-nil g) (beginning_of w0 w1 (g ++ []) more h)
-
--- the text was not gathered
-pub nothing_taken : (w : Option (List ℕ)) (bytes : List ℕ) → WritesBeginning w w bytes
-nothing_taken w bytes = (bytes, none_written w bytes)
 
 pub flat_map_next : {X : Type 0} (f : X → List ℕ) (xs : List X) (i : ℕ) (x : X) → i < length xs → x ≡ get_or xs i x → flat_map f (take (i + 1) xs) ≡ flat_map f (take i xs) ++ f x
 flat_map_next f [] i x l e = absurd (omega (arith, l))

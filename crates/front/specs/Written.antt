@@ -1,6 +1,10 @@
 -- What a session writes: some of it its writer took, the rest is gathered for the writer.
-use Rattle.std.specs.Prelude.{◌≡◌, ℕ, List, ◌++◌, Option, Result, Ok, Err}
+use Rattle.std.specs.Prelude.{◌≡◌, ℕ, ◌<◌, List, ◌++◌, length, Option, Result, Ok, Err}
 use Rattle.std.specs.Io.KnownBytes.{Appends}
+
+-- behind what is gathered there is room for a line
+abbrev pub HasRoom : List ℕ → Type 0
+HasRoom gathered = length gathered < 512
 
 -- the writer took these bytes in their order, all but the rest
 abbrev pub WritesAllBut : Option (List ℕ) → Option (List ℕ) → List ℕ → List ℕ → Type 0

@@ -1,21 +1,25 @@
-ghost use Rattle.std.specs.Prelude.{◌≡◌, ℕ, ◌+◌, ◌<◌, ◌≤◌, List, [], ◌++◌, length, codes, OnOk, IfErr, OnErr};
+ghost use Rattle.std.specs.Prelude.{◌≡◌, ℕ, ◌+◌, ◌≤◌, List, [], ◌++◌, length, codes, OnOk, IfErr, OnErr};
 ghost use Rattle.std.specs.List.{flat_map};
 ghost use Rattle.std.specs.Fmt.{decimal};
 ghost use Rattle.front.specs.Replies.{row_text, row_line, item_line, refusal_line, first_line, listed, text_of};
 ghost use Rattle.std.specs.Io.KnownBytes.{Appends};
-ghost use Rattle.front.specs.Written.{WritesBeginning, WritesOrFails};
+ghost use Rattle.front.specs.Written.{HasRoom, WritesBeginning, WritesOrFails};
 
 use crate::reply::Reply;
+use arrayvec::ArrayVec;
 use change_list::{Item, Row};
 use key_class::{Fault, Refusal};
-use query_text::ClassText;
-use std::io::{self, ErrorKind, Write};
+use query_text::{ClassText, append, append_number};
+use std::io::{ErrorKind, Write};
 
 /// How many bytes of answers are gathered before they are written.
 const GATHERED: usize = 512;
 
-/// The room for gathered answers and one line more, which has at most 443 bytes.
-pub const ANSWERS: usize = 1_024;
+/// The room for fewer bytes than are written at once, and for one line more, which has at most 455.
+const ROOM: usize = 1_024;
+
+/// Answers that are gathered, in an array: no memory is asked for them.
+pub type Gathered = ArrayVec<u8, ROOM>;
 
 /// Writes bytes, and goes on where a signal came between.
 ///
@@ -48,7 +52,7 @@ fn write_out<W: Write>(writer: &mut W, bytes: &[u8]) -> Result<(), Fault>
 ///
 /// # Errors
 /// `Write` where the writer failed. It took a beginning, and is given no more.
-pub fn send<W: Write>(writer: &mut W, gathered: &mut Vec<u8>) -> Result<(), Fault>
+pub fn send<W: Write>(writer: &mut W, gathered: &mut Gathered) -> Result<(), Fault>
     ensures written { WritesOrFails result (W.contents writer.old) gathered.old.items (W.contents writer.new) gathered.new.items [] }
     ensures empty { OnOk result (gathered.new.items ≡ []) }
     ensures err { IfErr result (λ e. e ≡ Fault.Write) }
@@ -58,9 +62,13 @@ pub fn send<W: Write>(writer: &mut W, gathered: &mut Vec<u8>) -> Result<(), Faul
     Ok(())
 }
 
-/// Writes what was gathered, once it is enough.
-pub fn send_enough<W: Write>(writer: &mut W, gathered: &mut Vec<u8>) -> Result<(), Fault>
+/// Writes what was gathered, once it is enough. Then there is room for a line.
+///
+/// # Errors
+/// `Write` where the writer failed. It took a beginning, and is given no more.
+pub fn send_enough<W: Write>(writer: &mut W, gathered: &mut Gathered) -> Result<(), Fault>
     ensures written { WritesOrFails result (W.contents writer.old) gathered.old.items (W.contents writer.new) gathered.new.items [] }
+    ensures room { OnOk result (HasRoom gathered.new.items) }
     ensures err { IfErr result (λ e. e ≡ Fault.Write) }
 {
     if gathered.len() < GATHERED {
@@ -69,105 +77,114 @@ pub fn send_enough<W: Write>(writer: &mut W, gathered: &mut Vec<u8>) -> Result<(
     send(writer, gathered)
 }
 
-/// A row's number, key and tag.
-fn write_row<C: ClassText, W: Write>(row: &Row<C::Key>, writer: &mut W) -> io::Result<()>
-    ensures { OnOk result (Appends (W.contents writer.old) (W.contents writer.new) (row_text C.key_text row.now)) }
+/// Appends a line of some words and a number.
+pub fn append_numbered(gathered: &mut Gathered, words: &[u8], number: u64)
+    requires room { length gathered.old.items + (length words.now + 21) ≤ 1024 }
+    ensures { gathered.new.items ≡ gathered.old.items ++ (words.now ++ (decimal number ++ codes "\n")) }
 {
-    let number = row.row;
-    write!(writer, "{number} ")?;
-    C::write_key(row.key, writer)?;
-    let tag = row.tag;
-    write!(writer, " {tag}")
+    append(gathered, words);
+    append_number(gathered, number);
+    append(gathered, b"\n");
 }
 
-/// Writes the line of an item.
-pub fn write_item<C: ClassText, W: Write>(item: &Item<C::Key>, writer: &mut W) -> io::Result<()>
-    ensures { OnOk result (Appends (W.contents writer.old) (W.contents writer.new) (item_line C.key_text item.now)) }
+/// Appends a line of some words and two numbers.
+pub fn append_pair(gathered: &mut Gathered, words: &[u8], first: u64, second: u64)
+    requires room { length gathered.old.items + (length words.now + 42) ≤ 1024 }
+    ensures { gathered.new.items ≡ gathered.old.items ++ (words.now ++ (decimal first ++ (codes " " ++ (decimal second ++ codes "\n")))) }
+{
+    append(gathered, words);
+    append_number(gathered, first);
+    append_numbered(gathered, b" ", second);
+}
+
+/// Appends a row's number, key and tag.
+fn append_row<C: ClassText>(gathered: &mut Gathered, row: &Row<C::Key>)
+    requires room { length gathered.old.items + 445 ≤ 1024 }
+    ensures text { gathered.new.items ≡ gathered.old.items ++ row_text C.key_text row.now }
+    ensures short { length gathered.new.items ≤ length gathered.old.items + 445 }
+{
+    append_number(gathered, row.row);
+    append(gathered, b" ");
+    append(gathered, C::text(row.key).as_slice());
+    append(gathered, b" ");
+    append_number(gathered, row.tag);
+}
+
+/// Appends the line of a row.
+fn append_row_line<C: ClassText>(gathered: &mut Gathered, row: &Row<C::Key>)
+    requires room { HasRoom gathered.old.items }
+    ensures { gathered.new.items ≡ gathered.old.items ++ row_line C.key_text row.now }
+{
+    append(gathered, b"row ");
+    append_row::<C>(gathered, row);
+    append(gathered, b"\n");
+}
+
+/// Appends the line of an item.
+pub fn append_item<C: ClassText>(gathered: &mut Gathered, item: &Item<C::Key>)
+    requires room { HasRoom gathered.old.items }
+    ensures { gathered.new.items ≡ gathered.old.items ++ item_line C.key_text item.now }
 {
     match item {
-        Item::Row(row) => {
-            writer.write_all(b"row ")?;
-            write_row::<C, W>(row, writer)?;
-            writer.write_all(b"\n")
-        }
+        Item::Row(row) => append_row_line::<C>(gathered, row),
         Item::Inserted(row) => {
-            writer.write_all(b"inserted ")?;
-            write_row::<C, W>(row, writer)?;
-            writer.write_all(b"\n")
+            append(gathered, b"inserted ");
+            append_row::<C>(gathered, row);
+            append(gathered, b"\n");
         }
-        Item::Deleted(number, row) => writeln!(writer, "deleted {number} {row}"),
-        Item::Mark(number) => writeln!(writer, "mark {number}"),
+        Item::Deleted(number, row) => append_pair(gathered, b"deleted ", *number, *row),
+        Item::Mark(number) => append_numbered(gathered, b"mark ", *number),
     }
 }
 
-fn write_row_line<C: ClassText, W: Write>(row: &Row<C::Key>, writer: &mut W) -> io::Result<()>
-    ensures { OnOk result (Appends (W.contents writer.old) (W.contents writer.new) (row_line C.key_text row.now)) }
+/// Appends the line of a refusal.
+pub fn append_refusal(gathered: &mut Gathered, why: Refusal)
+    requires room { HasRoom gathered.old.items }
+    ensures { gathered.new.items ≡ gathered.old.items ++ refusal_line why }
 {
-    writer.write_all(b"row ")?;
-    write_row::<C, W>(row, writer)?;
-    writer.write_all(b"\n")
-}
-
-/// Writes a line for each row.
-fn write_rows<C: ClassText, W: Write>(
-    writer: &mut W,
-    gathered: &mut Vec<u8>,
-    rows: &[Row<C::Key>],
-) -> Result<(), Fault>
-    ensures written { WritesOrFails result (W.contents writer.old) gathered.old.items (W.contents writer.new) gathered.new.items (flat_map (row_line C.key_text) rows.now) }
-    ensures err { IfErr result (λ e. e ≡ Fault.Write) }
-{
-    for row in rows {
-        match write_row_line::<C, Vec<u8>>(row, gathered) {
-            Ok(()) => send_enough(writer, gathered)?,
-            Err(_) => return Err(Fault::Write),
-        }
+    append(gathered, b"refused ");
+    append_number(gathered, why.number());
+    append(gathered, b" ");
+    append(gathered, why.name().as_bytes());
+    match why {
+        Refusal::QueryText(place) | Refusal::Line(place) => append_numbered(gathered, b" ", place),
+        _ => append(gathered, b"\n"),
     }
-    Ok(())
-}
-
-/// Writes the line of a refusal.
-pub fn write_refusal<W: Write>(why: Refusal, writer: &mut W) -> io::Result<()>
-    ensures { OnOk result (Appends (W.contents writer.old) (W.contents writer.new) (refusal_line why)) }
-{
-    writeln!(writer, "refused {why}")
 }
 
 /// Writes a refusal, behind the answers that are gathered.
 ///
 /// # Errors
-/// `Write` where the writer failed, or the gathered answers found no memory. The writer took a beginning of them.
+/// `Write` where the writer failed. It took a beginning of what was gathered.
 pub fn gather_refusal<W: Write>(
     why: Refusal,
     writer: &mut W,
-    gathered: &mut Vec<u8>,
+    gathered: &mut Gathered,
 ) -> Result<(), Fault>
+    requires room { HasRoom gathered.old.items }
     ensures written { WritesOrFails result (W.contents writer.old) gathered.old.items (W.contents writer.new) gathered.new.items (refusal_line why) }
+    ensures room { OnOk result (HasRoom gathered.new.items) }
     ensures err { IfErr result (λ e. e ≡ Fault.Write) }
 {
-    match write_refusal(why, gathered) {
-        Ok(()) => send_enough(writer, gathered),
-        Err(_) => Err(Fault::Write),
-    }
+    append_refusal(gathered, why);
+    send_enough(writer, gathered)
 }
 
-/// Writes a reply of one line.
-fn write_line<C: ClassText, W: Write>(reply: &Reply<C::Key>, writer: &mut W) -> io::Result<()>
-    ensures { OnOk result (Appends (W.contents writer.old) (W.contents writer.new) (first_line C.key_text reply.now)) }
+/// Appends the first line of a reply.
+fn append_line<C: ClassText>(gathered: &mut Gathered, reply: &Reply<C::Key>)
+    requires room { HasRoom gathered.old.items }
+    ensures { gathered.new.items ≡ gathered.old.items ++ first_line C.key_text reply.now }
 {
     match reply {
-        Reply::Committed(number) => writeln!(writer, "committed {number}"),
-        Reply::Opened(cursor) => writeln!(writer, "opened {cursor}"),
-        Reply::Given(item) => write_item::<C, W>(item, writer),
-        Reply::Empty => writer.write_all(b"empty\n"),
-        Reply::Asked => writer.write_all(b"asked\n"),
-        Reply::Found(rows) => {
-            let count = rows.len();
-            writeln!(writer, "found {count}")
-        }
-        Reply::Swept(number) => writeln!(writer, "swept {number}"),
-        Reply::Closed => writer.write_all(b"closed\n"),
-        Reply::Refused(why) => write_refusal(*why, writer),
+        Reply::Committed(number) => append_numbered(gathered, b"committed ", *number),
+        Reply::Opened(cursor) => append_numbered(gathered, b"opened ", *cursor),
+        Reply::Given(item) => append_item::<C>(gathered, item),
+        Reply::Empty => append(gathered, b"empty\n"),
+        Reply::Asked => append(gathered, b"asked\n"),
+        Reply::Found(rows) => append_numbered(gathered, b"found ", rows.len() as u64),
+        Reply::Swept(number) => append_numbered(gathered, b"swept ", *number),
+        Reply::Closed => append(gathered, b"closed\n"),
+        Reply::Refused(why) => append_refusal(gathered, *why),
     }
 }
 
@@ -181,22 +198,42 @@ fn rows_of<K>(reply: &Reply<K>) -> &[Row<K>]
     }
 }
 
+/// Writes a line for each row, behind the answers that are gathered.
+///
+/// # Errors
+/// `Write` where the writer failed. It took a beginning of what was gathered.
+fn write_rows<C: ClassText, W: Write>(
+    writer: &mut W,
+    gathered: &mut Gathered,
+    rows: &[Row<C::Key>],
+) -> Result<(), Fault>
+    requires room { HasRoom gathered.old.items }
+    ensures written { WritesOrFails result (W.contents writer.old) gathered.old.items (W.contents writer.new) gathered.new.items (flat_map (row_line C.key_text) rows.now) }
+    ensures room { OnOk result (HasRoom gathered.new.items) }
+    ensures err { IfErr result (λ e. e ≡ Fault.Write) }
+{
+    for row in rows {
+        append_row_line::<C>(gathered, row);
+        send_enough(writer, gathered)?;
+    }
+    Ok(())
+}
+
 /// Writes the lines of a reply, behind the answers that are gathered.
 ///
 /// # Errors
-/// `Write` where the writer failed, or the gathered answers found no memory. The writer took a beginning of them.
+/// `Write` where the writer failed. It took a beginning of what was gathered.
 pub fn write_reply<C: ClassText, W: Write>(
     writer: &mut W,
-    gathered: &mut Vec<u8>,
+    gathered: &mut Gathered,
     reply: &Reply<C::Key>,
 ) -> Result<(), Fault>
+    requires room { HasRoom gathered.old.items }
     ensures written { WritesOrFails result (W.contents writer.old) gathered.old.items (W.contents writer.new) gathered.new.items (text_of C.key_text reply.now) }
+    ensures room { OnOk result (HasRoom gathered.new.items) }
     ensures err { IfErr result (λ e. e ≡ Fault.Write) }
 {
-    match write_line::<C, Vec<u8>>(reply, gathered) {
-        Ok(()) => {}
-        Err(_) => return Err(Fault::Write),
-    }
-    write_rows::<C, W>(writer, gathered, rows_of(reply))?;
-    send_enough(writer, gathered)
+    append_line::<C>(gathered, reply);
+    send_enough(writer, gathered)?;
+    write_rows::<C, W>(writer, gathered, rows_of(reply))
 }

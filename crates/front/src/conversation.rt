@@ -4,9 +4,9 @@ ghost use Rattle.std.specs.Io.KnownBytes.{IsAtEnd};
 ghost use Rattle.query_text.specs.Tokens.{Placed, placed};
 ghost use Rattle.front.specs.Conversations.{AnswersLine, AnsweredAll, AnsweredWhole, AnsweredFirst};
 ghost use Rattle.front.specs.Held.{IsRestOf};
-ghost use Rattle.front.specs.Written.{WritesOrFails};
+ghost use Rattle.front.specs.Written.{HasRoom, WritesOrFails};
 
-use crate::answers::{ANSWERS, gather_refusal, send};
+use crate::answers::{Gathered, gather_refusal, send};
 use crate::line_buffer::{LineBuffer, MAX_LINE};
 use key_class::{Fault, Refusal};
 use query_text::{Lexeme, scan};
@@ -21,16 +21,18 @@ pub trait Responder {
     /// Answers the lexemes of a line, behind the answers that are gathered.
     ///
     /// # Errors
-    /// `Write` where the writer failed, or the gathered answers found no memory. The line is carried out all the same.
+    /// `Write` where the writer failed. The line is carried out all the same.
     fn answer<W: Write>(
         &mut self,
         alloc: Global,
         text: &[u8],
         lexemes: &[Lexeme],
         writer: &mut W,
-        gathered: &mut Vec<u8>,
+        gathered: &mut Gathered,
     ) -> Result<(), Fault>
+        requires room { HasRoom gathered.old.items }
         ensures answers { (said : List ℕ) × answers (length text.now) self.old (placed text.now lexemes.now) said self.new × WritesOrFails result (W.contents writer.old) gathered.old.items (W.contents writer.new) gathered.new.items said }
+        ensures room { OnOk result (HasRoom gathered.new.items) }
         ensures err { IfErr result (λ e. e ≡ Fault.Write) };
 }
 
@@ -42,12 +44,14 @@ fn answer_line<S: Responder, W: Write>(
     overlong: bool,
     lexemes: &mut Vec<Lexeme>,
     writer: &mut W,
-    gathered: &mut Vec<u8>,
+    gathered: &mut Gathered,
 ) -> Result<(), Fault>
-    requires { 4096 ≤ vec_capacity lexemes.old }
+    requires capacity { 4096 ≤ vec_capacity lexemes.old }
+    requires room { HasRoom gathered.old.items }
     ensures answers { (whole : List ℕ) → IsRestOf overlong whole line.now
         → (said : List ℕ) × AnswersLine S.answers responder.old whole said responder.new × WritesOrFails result (W.contents writer.old) gathered.old.items (W.contents writer.new) gathered.new.items said }
     ensures capacity { 4096 ≤ vec_capacity lexemes.new }
+    ensures room { OnOk result (HasRoom gathered.new.items) }
     ensures err { IfErr result (λ e. e ≡ Fault.Write) }
 {
     if overlong || line.len() > MAX_LINE {
@@ -85,9 +89,7 @@ pub fn converse<S: Responder, R: Read, W: Write>(
     let Ok(mut lexemes) = Vec::with_capacity(alloc, MAX_LINE) else {
         return Err(Fault::OutOfMemory);
     };
-    let Ok(mut gathered) = Vec::with_capacity(alloc, ANSWERS) else {
-        return Err(Fault::OutOfMemory);
-    };
+    let mut gathered = Gathered::new();
     'reading: for _ in 0..u64::MAX {
         send(writer, &mut gathered)?;
         if !lines.fill(reader)? {

@@ -1,62 +1,63 @@
 //! How the replies of a world are written.
-ghost use Rattle.std.specs.Prelude.{◌≡◌, OnOk, IfErr};
-ghost use Rattle.std.specs.Io.KnownBytes.{Appends};
+ghost use Rattle.std.specs.Prelude.{◌≡◌, ◌++◌, OnOk, IfErr};
 ghost use Rattle.front.specs.EventReplies.{reply_line};
-ghost use Rattle.front.specs.Written.{WritesOrFails};
+ghost use Rattle.front.specs.Written.{HasRoom, WritesOrFails};
 
-use crate::answers::{send_enough, write_item, write_refusal};
+use crate::answers::{
+    Gathered, append_item, append_numbered, append_pair, append_refusal, send_enough,
+};
 use key_class::Fault;
 use mailbox::Outlet;
-use query_text::ClassText;
-use std::io::{self, Write};
+use query_text::{ClassText, append};
+use std::io::Write;
 use world::Reply;
 
-/// Writes the line of a reply.
-fn write_line<C: ClassText, O: Outlet<C::Key>, W: Write>(
-    reply: &Reply<C, O>,
-    writer: &mut W,
-) -> io::Result<()>
-    ensures { OnOk result (Appends (W.contents writer.old) (W.contents writer.new) (reply_line C.key_text reply.now)) }
+/// Appends the line of a reply.
+fn append_line<C: ClassText, O: Outlet<C::Key>>(gathered: &mut Gathered, reply: &Reply<C, O>)
+    requires room { HasRoom gathered.old.items }
+    ensures { gathered.new.items ≡ gathered.old.items ++ reply_line C.key_text reply.now }
 {
     match reply {
-        Reply::Enlarged => writer.write_all(b"enlarged\n"),
-        Reply::Committed(stamped) => {
-            let number = stamped.number();
-            writeln!(writer, "committed {number}")
-        }
-        Reply::Split(sibling) => writeln!(writer, "split {sibling}"),
-        Reply::Posted => writer.write_all(b"posted\n"),
-        Reply::Grown(first, second) => writeln!(writer, "grown {first} {second}"),
-        Reply::Finder(finder) => writeln!(writer, "finder {finder}"),
-        Reply::Seeking => writer.write_all(b"seeking\n"),
-        Reply::Unfound => writer.write_all(b"unfound\n"),
-        Reply::Swept(count) => writeln!(writer, "swept {count}"),
-        Reply::Opened(cursor, _) => writeln!(writer, "opened {cursor}"),
-        Reply::Offered => writer.write_all(b"offered\n"),
-        Reply::Visited(page) => writeln!(writer, "visited {page}"),
-        Reply::Passed(number) => writeln!(writer, "passed {number}"),
-        Reply::Asked => writer.write_all(b"asked\n"),
-        Reply::Taken(item) => write_item::<C, W>(item, writer),
-        Reply::Nothing => writer.write_all(b"nothing\n"),
-        Reply::Closed => writer.write_all(b"closed\n"),
-        Reply::Refused(why) => write_refusal(*why, writer),
+        Reply::Enlarged => append(gathered, b"enlarged\n"),
+        Reply::Committed(stamped) => append_numbered(gathered, b"committed ", stamped.number()),
+        Reply::Split(sibling) => append_numbered(gathered, b"split ", u64::from(*sibling)),
+        Reply::Posted => append(gathered, b"posted\n"),
+        Reply::Grown(first, second) => append_pair(
+            gathered,
+            b"grown ",
+            u64::from(*first),
+            u64::from(*second),
+        ),
+        Reply::Finder(finder) => append_numbered(gathered, b"finder ", *finder),
+        Reply::Seeking => append(gathered, b"seeking\n"),
+        Reply::Unfound => append(gathered, b"unfound\n"),
+        Reply::Swept(count) => append_numbered(gathered, b"swept ", *count),
+        Reply::Opened(cursor, _) => append_numbered(gathered, b"opened ", *cursor),
+        Reply::Offered => append(gathered, b"offered\n"),
+        Reply::Visited(page) => append_numbered(gathered, b"visited ", u64::from(*page)),
+        Reply::Passed(number) => append_numbered(gathered, b"passed ", *number),
+        Reply::Asked => append(gathered, b"asked\n"),
+        Reply::Taken(item) => append_item::<C>(gathered, item),
+        Reply::Nothing => append(gathered, b"nothing\n"),
+        Reply::Closed => append(gathered, b"closed\n"),
+        Reply::Refused(why) => append_refusal(gathered, *why),
     }
 }
 
 /// Writes the line of a reply, behind the answers that are gathered.
 ///
 /// # Errors
-/// `Write` where the writer failed, or the gathered answers found no memory. The writer took a beginning of them.
+/// `Write` where the writer failed. It took a beginning of what was gathered.
 pub fn write_event_reply<C: ClassText, O: Outlet<C::Key>, W: Write>(
     writer: &mut W,
-    gathered: &mut Vec<u8>,
+    gathered: &mut Gathered,
     reply: &Reply<C, O>,
 ) -> Result<(), Fault>
+    requires room { HasRoom gathered.old.items }
     ensures written { WritesOrFails result (W.contents writer.old) gathered.old.items (W.contents writer.new) gathered.new.items (reply_line C.key_text reply.now) }
+    ensures room { OnOk result (HasRoom gathered.new.items) }
     ensures err { IfErr result (λ e. e ≡ Fault.Write) }
 {
-    match write_line::<C, O, Vec<u8>>(reply, gathered) {
-        Ok(()) => send_enough(writer, gathered),
-        Err(_) => Err(Fault::Write),
-    }
+    append_line::<C, O>(gathered, reply);
+    send_enough(writer, gathered)
 }

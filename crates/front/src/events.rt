@@ -6,7 +6,7 @@ ghost use Rattle.front.specs.Replays.{RepliesTo, AnswersTokens};
 ghost use Rattle.world.specs.Trays.{tray_words};
 ghost use Rattle.front.specs.Conversations.{AnsweredAll, AnsweredWhole, AnsweredFirst};
 
-use crate::answers::gather_refusal;
+use crate::answers::{Gathered, gather_refusal};
 use crate::conversation::{Responder, converse};
 use crate::event_answers::write_event_reply;
 use crate::event_request::{EventRequest, read_event};
@@ -100,7 +100,7 @@ impl<C: ClassText> Responder for World<C, Tray<C::Key>> {
         text: &[u8],
         lexemes: &[Lexeme],
         writer: &mut W,
-        gathered: &mut Vec<u8>,
+        gathered: &mut Gathered,
     ) -> Result<(), Fault> {
         let Some((first, rest)) = first_of(lexemes) else {
             return Ok(());

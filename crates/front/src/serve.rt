@@ -9,7 +9,7 @@ ghost use Rattle.front.specs.Sessions.{WithQuery, RepliesTo, RepliesTokens, Answ
 ghost use Rattle.store.specs.States.{new_state};
 ghost use Rattle.change_list.specs.declared.config.Config.{Config};
 
-use crate::answers::write_reply;
+use crate::answers::{Gathered, write_reply};
 use crate::commands::{close, delete, find, insert, mark, next, open, sweep};
 use crate::conversation::{Responder, converse};
 use crate::reply::Reply;
@@ -98,7 +98,7 @@ impl<C: ClassText> Responder for Store<C> {
         text: &[u8],
         lexemes: &[Lexeme],
         writer: &mut W,
-        gathered: &mut Vec<u8>,
+        gathered: &mut Gathered,
     ) -> Result<(), Fault> {
         match reply_to_tokens(alloc, self, text, lexemes) {
             Some(reply) => write_reply::<C, W>(writer, gathered, &reply),

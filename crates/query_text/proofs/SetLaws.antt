@@ -1,11 +1,12 @@
 -- A set is read from its elements, and its text is read as that set.
-use Rattle.std.proofs.Common.{◌≡◌, ◌↔◌, ⊎_elim, ℕ, zero, suc, pos, ◌+◌, ◌*◌, ◌%◌, ◌^◌, ◌<◌, ◌≤◌, max, Bool, true, false, not, ◌&&◌, ◌==◌, List, [], ◌∷◌, ◌++◌, length, Some, Ok, Err, ap, sym, refl, ◌∙◌, append_assoc, length-append, arith, one-mul, bit_or, w64, FitsSigned, cond}
+use Rattle.std.proofs.Common.{◌≡◌, ◌↔◌, ⊎_elim, ℕ, zero, suc, pos, ◌+◌, ◌-◌, ◌*◌, ◌%◌, ◌^◌, ◌<◌, ◌≤◌, min, max, Bool, true, false, not, ◌&&◌, ◌==◌, List, [], ◌∷◌, ◌++◌, length, Some, Ok, Err, ap, sym, refl, ◌∙◌, append_assoc, length-append, arith, one-mul, bit_or, w64, FitsSigned, cond}
 use Rattle.std.specs.Prelude.{codes}
 use Rattle.std.specs.Int.{bit_at}
 use Rattle.std.specs.Int.Bits.{or_zero_l, or_zero_r}
 use Rattle.std.specs.List.{flat_map, Contains}
 use Rattle.std.proofs.lemmas.List.Elements.{Contains-append_left, Contains-append_right, Contains-push, Contains-push_cases, Contains-append_cases}
 use Rattle.std.specs.Fmt.{decimal}
+use Rattle.std.proofs.lemmas.Fmt.{length-decimal-le}
 use Rattle.std.proofs.lemmas.Int.{ints}
 use Rattle.std.proofs.lemmas.List.{append-nil}
 use Rattle.std.proofs.lemmas.Grind.{flat_map-append}
@@ -86,6 +87,38 @@ still_empty n m = rw (elements_step n m) (by_test (bit_at m n == 1))
     by_test : (b : Bool) → is_empty (elements_below n m ++ cond b (n ∷ []) []) ≡ is_empty (elements_below n m) && not b
     by_test true = is_empty-append (elements_below n m) n ∙ sym (and_false (is_empty (elements_below n m)))
     by_test false = rw append-nil (sym (and-true (is_empty (elements_below n m))))
+
+-- the text's length
+
+digits_short : (n : ℕ) → n < 128 → length (decimal n) ≤ 1 + (min 1 (n - 9) + min 1 (n - 99))
+digits_short n h = ⊎_elim
+    (λ (l : n < 10). omega (arith, length-decimal-le 1 n (omega arith) (omega (arith, l)) (omega (arith, h))))
+    (λ (l : 10 ≤ n). ⊎_elim
+    (λ (k : n < 100). omega (arith, l, length-decimal-le 2 n (omega arith) (omega (arith, k)) (omega (arith, h))))
+    (λ (k : 100 ≤ n). omega (arith, k, length-decimal-le 3 n (omega arith) (omega (arith, h)) (omega (arith, h))))
+    (cases_lt n 100))
+    (cases_lt n 10)
+
+number_short : (m n : ℕ) (is_first : Bool) → length (number_text m n is_first) ≤ cond is_first 0 1 + length (decimal n)
+number_short m n is_first = by_test (bit_at m n == 1) is_first
+  where
+    by_test : (b f : Bool) → length (cond b (cond f (decimal n) (codes " " ++ decimal n)) []) ≤ cond f 0 1 + length (decimal n)
+    by_test true true = omega arith
+    by_test true false = omega arith
+    by_test false f = omega arith
+
+-- elements below 10, 100 and 128 have one, two and three digits, and each but the first a space before it
+pub elements_short : (n m : ℕ) → n ≤ 128 → length (spaced (elements_below n m)) ≤ 2 * n + (n - 10) + (n - 100) - 1
+elements_short zero m h = rw (no_elements m) (omega arith)
+elements_short (suc zero) m h =
+    rw (written_more zero m, no_elements m) (omega (arith, number_short m zero true, digits_short zero (omega arith)))
+elements_short (suc (suc n)) m h =
+    let first = is_empty (elements_below (suc n) m) in
+    omega (arith, elements_short (suc n) m (omega (arith, h)), digits_short (suc n) (omega (arith, h)), number_short m (suc n) first, space first, length-append (spaced (elements_below (suc n) m)) (number_text m (suc n) first), ap length (written_more (suc n) m))
+  where
+    space : (b : Bool) → cond b 0 1 ≤ 1
+    space true = omega arith
+    space false = omega arith
 
 -- the mask
 

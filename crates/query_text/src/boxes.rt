@@ -1,13 +1,25 @@
-ghost use Rattle.std.specs.Prelude.{◌≡◌, refl};
+ghost use Rattle.std.specs.Prelude.{◌≡◌, ◌+◌, ◌≤◌, ◌++◌, length, codes, refl};
+ghost use Rattle.std.specs.Fmt.{signed_decimal};
 ghost use Rattle.query_text.specs.BoxTexts.{box_at, box_text, atom_of};
 ghost use Rattle.query_text.specs.KeyLengths.{box_leaves_fewer};
 
 use crate::class::ClassText;
 use crate::lexeme::Lexeme;
 use crate::reader::{close_bracket, open_bracket, signed_32};
+use crate::text::{KeyText, append, append_number};
 use box_class::{Atom, BoxKey, Boxes};
 use key_class::Rel;
-use std::io::{self, Write};
+
+/// Appends the numbers of a point.
+fn append_point(text: &mut KeyText, x: i32, y: i32)
+    requires room { length text.old.items + 23 ≤ 403 }
+    ensures numbers { text.new.items ≡ text.old.items ++ (signed_decimal x ++ (codes " " ++ signed_decimal y)) }
+    ensures short { length text.new.items ≤ length text.old.items + 23 }
+{
+    append_number(text, x);
+    append(text, b" ");
+    append_number(text, y);
+}
 
 impl ClassText for Boxes {
     ghost key_at = { box_at };
@@ -34,9 +46,14 @@ impl ClassText for Boxes {
         }
     }
 
-    fn write_key<W: Write>(key: BoxKey, writer: &mut W) -> io::Result<()> {
-        let BoxKey { x1, y1, x2, y2 } = key;
-        write!(writer, "({x1} {y1} {x2} {y2})")
+    fn text(key: BoxKey) -> KeyText {
+        let mut text = KeyText::new();
+        append(&mut text, b"(");
+        append_point(&mut text, key.x1, key.y1);
+        append(&mut text, b" ");
+        append_point(&mut text, key.x2, key.y2);
+        append(&mut text, b")");
+        text
     }
 
     fn atom(rel: Rel, operand: BoxKey) -> Atom {

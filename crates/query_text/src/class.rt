@@ -1,13 +1,12 @@
-ghost use Rattle.std.specs.Prelude.{◌≡◌, ℕ, ◌<◌, true, List, Result, length, IfOk, IfErr, OnOk};
-ghost use Rattle.std.specs.Io.KnownBytes.{Appends};
+ghost use Rattle.std.specs.Prelude.{◌≡◌, ℕ, ◌<◌, true, List, length, IfOk};
 ghost use Rattle.key_class.specs.declared.sides.Rel.{Rel};
 ghost use Rattle.query_text.specs.Tokens.{Placed, placed};
 ghost use Rattle.query_text.specs.Keys.{Reading, LeavesFewer, Gives, ReadsBack};
 ghost use Rattle.query_text.specs.Printing.{begins_apart};
 
 use crate::lexeme::Lexeme;
+use crate::text::KeyText;
 use key_class::{KeyClass, Rel};
-use std::io::{self, Write};
 
 /// A class of keys that have texts.
 pub trait ClassText: KeyClass {
@@ -33,12 +32,9 @@ pub trait ClassText: KeyClass {
         ensures gives { Gives text.now result (key_at (length text.now) (placed text.now lexemes.now)) }
         ensures shorter { IfOk result (λ r. length r.1.now < length lexemes.now) };
 
-    /// Writes the key's text.
-    ///
-    /// # Errors
-    /// The writer's; the writer may hold the text's beginning.
-    fn write_key<W: Write>(key: Self::Key, writer: &mut W) -> io::Result<()>
-        ensures text { OnOk result (Appends (W.contents writer.old) (W.contents writer.new) (key_text key)) }
+    /// The key's text.
+    fn text(key: Self::Key) -> KeyText
+        ensures text { result.items ≡ key_text key }
         ensures read_back { ReadsBack key_at (key_text key) key };
 
     fn atom(rel: Rel, key: Self::Key) -> Self::Atom

@@ -5,9 +5,9 @@ ghost use Rattle.query_text.specs.KeyLengths.{interval_leaves_fewer};
 use crate::class::ClassText;
 use crate::lexeme::Lexeme;
 use crate::reader::{close_bracket, open_bracket, signed};
+use crate::text::{KeyText, append, append_number};
 use interval_class::{Atom, Interval, Intervals};
 use key_class::Rel;
-use std::io::{self, Write};
 
 impl ClassText for Intervals {
     ghost key_at = { interval_at };
@@ -32,9 +32,14 @@ impl ClassText for Intervals {
         }
     }
 
-    fn write_key<W: Write>(key: Interval, writer: &mut W) -> io::Result<()> {
-        let Interval { lo, hi } = key;
-        write!(writer, "({lo} {hi})")
+    fn text(key: Interval) -> KeyText {
+        let mut text = KeyText::new();
+        append(&mut text, b"(");
+        append_number(&mut text, key.lo);
+        append(&mut text, b" ");
+        append_number(&mut text, key.hi);
+        append(&mut text, b")");
+        text
     }
 
     fn atom(rel: Rel, operand: Interval) -> Atom {

@@ -13,6 +13,7 @@ mod reader;
 mod scanner;
 mod sets;
 mod terminal;
+mod text;
 
 pub use class::ClassText;
 pub use lexeme::{Kind, Lexeme};
@@ -21,3 +22,4 @@ pub use parser::{one_meaning_for_text, one_meaning_for_tokens, parse, parse_toke
 pub use printer::print;
 pub use scanner::{one_cut_for_text, scan};
 pub use sets::set_texts_name_their_elements;
+pub use text::{KeyText, MAX_KEY_TEXT, append, append_number};

@@ -46,7 +46,7 @@ fn write_atom<C: ClassText, W: Write>(atom: &C::Atom, writer: &mut W) -> io::Res
 {
     let (rel, operand) = C::parts(atom);
     writer.write_all(word_of(rel).as_bytes())?;
-    C::write_key(operand, writer)
+    writer.write_all(C::text(operand).as_slice())
 }
 
 /// Writes a query, in brackets or not.

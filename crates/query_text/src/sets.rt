@@ -1,6 +1,5 @@
-ghost use Rattle.std.specs.Prelude.{◌≡◌, ◌↔◌, ℕ, List, Contains, ◌<◌, ◌≤◌, length, IfSome, IfOk, OnOk, not, ◌&&◌, ◌==◌, refl};
+ghost use Rattle.std.specs.Prelude.{◌≡◌, ◌↔◌, ℕ, List, Contains, ◌<◌, ◌≤◌, length, ◌+◌, ◌++◌, IfSome, IfOk, not, ◌&&◌, ◌==◌, refl};
 ghost use Rattle.std.specs.Int.{bit_at};
-ghost use Rattle.std.specs.Io.KnownBytes.{Appends};
 ghost use Rattle.set_class.specs.Sets.{IsElementOf};
 ghost use Rattle.set_class.specs.declared.elements.Elements.{Elements};
 ghost use Rattle.query_text.specs.Tokens.{placed, token_in};
@@ -11,9 +10,9 @@ ghost use Rattle.query_text.specs.KeyLengths.{set_leaves_fewer};
 use crate::class::ClassText;
 use crate::lexeme::{Kind, Lexeme};
 use crate::reader::{first_of, open_brace};
+use crate::text::{KeyText, append, append_number};
 use key_class::Rel;
 use set_class::{Atom, Elements, Sets};
-use std::io::{self, Write};
 
 /// The element that a lexeme is.
 fn element(text: &[u8], lexeme: Lexeme) -> Option<u8>
@@ -47,26 +46,21 @@ fn elements<'a>(text: &[u8], lexemes: &'a [Lexeme]) -> Result<(Elements, &'a [Le
     }
 }
 
-/// Writes a number, where it is an element of the mask, and says whether no element was written yet.
-fn write_number<W: Write>(
-    mask: u128,
-    number: u8,
-    is_first: bool,
-    writer: &mut W,
-) -> io::Result<bool>
-    requires { number ≤ 127 }
-    ensures text { OnOk result (Appends (W.contents writer.old) (W.contents writer.new) (number_text mask number is_first)) }
-    ensures still_first { IfOk result (λ still. still ≡ (is_first && not (bit_at mask number == 1))) }
+/// Appends a number, where it is an element of the mask, and says whether no element was appended yet.
+fn append_element(mask: u128, number: u8, is_first: bool, text: &mut KeyText) -> bool
+    requires small { number ≤ 127 }
+    requires room { length text.old.items + 4 ≤ 403 }
+    ensures text { text.new.items ≡ text.old.items ++ number_text mask number is_first }
+    ensures still_first { result ≡ (is_first && not (bit_at mask number == 1)) }
 {
     if mask >> number & 1 == 0 {
-        return Ok(is_first);
+        return is_first;
     }
-    if is_first {
-        write!(writer, "{number}")?;
-    } else {
-        write!(writer, " {number}")?;
+    if !is_first {
+        append(text, b" ");
     }
-    Ok(false)
+    append_number(text, number);
+    false
 }
 
 impl ClassText for Sets {
@@ -86,14 +80,15 @@ impl ClassText for Sets {
         elements(text, rest)
     }
 
-    fn write_key<W: Write>(key: Elements, writer: &mut W) -> io::Result<()> {
-        let mask = key.mask;
-        write!(writer, "{{")?;
+    fn text(key: Elements) -> KeyText {
+        let mut text = KeyText::new();
+        append(&mut text, b"{");
         let mut is_first = true;
         for number in 0..128 {
-            is_first = write_number(mask, number, is_first, writer)?;
+            is_first = append_element(key.mask, number, is_first, &mut text);
         }
-        write!(writer, "}}")
+        append(&mut text, b"}");
+        text
     }
 
     fn atom(rel: Rel, operand: Elements) -> Atom {

@@ -1,6 +1,7 @@
 use super::memory::REFUSED;
-use super::rows::{CURSORS_AND_SWEEPS, INSERTS_AND_FINDS, Lines, REFUSED_LINES, end_of};
+use super::rows::{CURSORS_AND_SWEEPS, INSERTS_AND_FINDS, Options, REFUSED_LINES, SETS, end_of};
 use key_class::Fault;
+use std::fmt::Write;
 use std::str;
 use std::test::Fail;
 
@@ -55,7 +56,12 @@ fn input_but(rt: HostRuntime, input: &str, left_out: usize) -> Result<String, Fa
 
 /// Whether, where a growth is refused, the session ends before it reads, or one line is refused and all else is as in
 /// a session that isn't given that line.
-fn is_refused_alone(rt: HostRuntime, (options, input, output): Lines) -> Result<bool, Fail> {
+fn is_refused_alone(
+    rt: HostRuntime,
+    options: Options,
+    input: &str,
+    output: &str,
+) -> Result<bool, Fail> {
     let first = end_of(rt, options, input.as_bytes())?;
     if matches!(first.result, Err(Fault::OutOfMemory)) {
         return Ok(first.written.is_empty() && first.commits == 0);
@@ -82,9 +88,45 @@ fn refused_memory_changes_one_line_of_a_session(rt: HostRuntime) -> Result<(), F
         CURSORS_AND_SWEEPS.as_slice(),
     ] {
         for lines in rows {
-            let (_, input, _) = *lines;
-            assert!(rt; is_refused_alone(rt, *lines)?, "{input}");
+            let (options, input, output) = *lines;
+            assert!(rt; is_refused_alone(rt, options, input, output)?, "{input}");
         }
     }
+    Ok(())
+}
+
+/// The set of all elements and the greatest tag: no row has a longer text.
+fn longest_row(rt: HostRuntime) -> Result<String, Fail> {
+    let mut row = String::new(rt.alloc());
+    for element in 0..128 {
+        let before = if element == 0 { '{' } else { ' ' };
+        write!(row, "{before}{element}")?;
+    }
+    row.push_str("} 18446744073709551615")?;
+    Ok(row)
+}
+
+/// The answers are seven times as long as what is gathered of them before it is written.
+#[test]
+fn refused_memory_loses_no_long_line(rt: HostRuntime) -> Result<(), Fail> {
+    let row = longest_row(rt)?;
+    let mut input = String::new(rt.alloc());
+    let mut output = String::new(rt.alloc());
+    input.push_str("open 4 holds{}\n")?;
+    output.push_str("opened 1\n")?;
+    for number in 1..5 {
+        write!(input, "insert {row}\n")?;
+        write!(output, "committed {number}\n")?;
+    }
+    input.push_str("find holds{}\n")?;
+    output.push_str("found 4\n")?;
+    for number in 1..5 {
+        write!(output, "row {number} {row}\n")?;
+    }
+    for number in 1..5 {
+        input.push_str("next 1\n")?;
+        write!(output, "inserted {number} {row}\n")?;
+    }
+    assert!(rt; is_refused_alone(rt, SETS, input.as_str(), output.as_str())?);
     Ok(())
 }

@@ -51,7 +51,7 @@ const BOXES: Options = Options {
     least: 3,
 };
 
-const SETS: Options = Options {
+pub const SETS: Options = Options {
     class: Class::Set,
     fan: 64,
     least: 32,

@@ -1,4 +1,4 @@
-use Rattle.std.proofs.Common.{arith, ◌+◌, Bool, length, drop, subst}
+use Rattle.std.proofs.Common.{arith, ◌+◌, Bool, length, drop, ap, subst}
 use Rattle.front.specs.Held.{Fills}
 use Rattle.front.proofs.Writing.{fails_in}
 use Rattle.front.proofs.Conversing.{begin, stands_now, sent, filled, cut_short, answered, stands_after, ended_all, stands_last, no_feed_at_end, keeps_itself}
@@ -8,7 +8,7 @@ pub reading-init : goal.reading-init
 reading-init g c = record {
   capacity = omega (arith, c.in-Ok-with_capacity.ensures.capacity);
   no_feed = rw c.in-Ok.ensures tt;
-  progress = rw (c.in-Ok.ensures, c.in-Ok-with_capacity-2.ensures.items) (begin g.S.Responder.answers (g.R.Read.remaining c.args.reader.now) (g.W.Write.contents c.args.writer.now) c.args.responder.now);
+  progress = rw (c.in-Ok.ensures, c.new-gathered.ensures) (begin g.S.Responder.answers (g.R.Read.remaining c.args.reader.now) (g.W.Write.contents c.args.writer.now) c.args.responder.now);
 }
 
 pub returns-in_err-send-clause-write : goal.returns-in_err-send-clause-write
@@ -48,6 +48,7 @@ returns-in_err-send-2-clause-write g c =
 pub answering-init : goal.answering-init
 answering-init g c = record {
   capacity = c.reading.invariant.capacity;
+  room = omega (arith, ap length c.in_ok-send.ensures.empty);
   progress = filled g.S.Responder.answers (g.R.Read.remaining c.args.reader.now) (g.W.Write.contents c.args.writer.now) c.args.responder.now (g.R.Read.remaining c.reading.reader) (g.W.Write.contents c.send.new.writer) c.send.new.gathered.items c.reading.responder c.reading.lines (sent g.S.Responder.answers (g.R.Read.remaining c.args.reader.now) (g.W.Write.contents c.args.writer.now) c.args.responder.now (g.R.Read.remaining c.reading.reader) (g.W.Write.contents c.reading.writer) c.reading.gathered.items c.reading.responder c.reading.lines c.reading.invariant.progress (g.W.Write.contents c.send.new.writer) c.send.new.gathered.items c.in_ok-send.ensures.written) (g.R.Read.remaining c.fill.new.reader) c.in_ok-fill.field-0 c.fill.new.self c.reading.invariant.no_feed c.in_ok-fill.ensures.ok;
 }
 
@@ -61,6 +62,7 @@ answering-preserved g c =
     let f = rw c.is_overlong-in-Some.ensures at c.in_ok-answer_line-2.ensures.answers in
     record {
       capacity = c.answer_line-in-Some.ensures.capacity;
+      room = c.in_ok-answer_line-2.ensures.room;
       progress = rw c.pass.ensures (answered g.S.Responder.answers (g.R.Read.remaining c.args.reader.now) (g.W.Write.contents c.args.writer.now) c.args.responder.now (g.R.Read.remaining c.fill.new.reader) (g.W.Write.contents c.answering.writer) c.answering.gathered.items c.answering.responder c.answering.lines c.answering.invariant.progress c.in-Some.line.now (drop (length c.in-Some.line.now + 1) c.answering.lines.rest) c.in-Some.ensures.line.1 c.in-Some.ensures.line.0 c.answer_line-in-Some.new.responder (g.W.Write.contents c.answer_line-in-Some.new.writer) c.answer_line-in-Some.new.gathered.items f);
     }
 

@@ -1,14 +1,10 @@
-use Rattle.std.proofs.Common.{◌++◌}
 use Rattle.front.specs.EventReplies.{reply_line}
-use Rattle.front.proofs.Writing.{gathers, then_sent, nothing_taken}
+use Rattle.front.proofs.Writing.{gathers, then_sent}
 use Rattle.front.proofs.event_answers.write_event_reply.Goals as goal
 
-pub returns-in-Ok-clause-written : goal.returns-in-Ok-clause-written
-returns-in-Ok-clause-written g c =
+pub returns-clause-written : goal.returns-clause-written
+returns-clause-written g c =
     let w = g.W.Write.contents in
     let line = reply_line g.C.ClassText.key_text c.args.reply.now in
-    then_sent c.send_enough.result (w c.args.writer.now) (w c.args.writer.now) (w c.send_enough.new.writer) c.args.gathered.now.items c.write_line.new.writer.items c.send_enough.new.gathered.items line
-    (gathers (w c.args.writer.now) c.args.gathered.now.items c.write_line.new.writer.items line c.in-Ok.ensures) c.send_enough.ensures.written
-
-pub returns-in-Err-clause-written : goal.returns-in-Err-clause-written
-returns-in-Err-clause-written g c = nothing_taken (g.W.Write.contents c.args.writer.now) (c.args.gathered.now.items ++ reply_line g.C.ClassText.key_text c.args.reply.now)
+    then_sent c.send_enough.result (w c.args.writer.now) (w c.args.writer.now) (w c.send_enough.new.writer) c.args.gathered.now.items c.append_line.new.gathered.items c.send_enough.new.gathered.items line
+    (gathers (w c.args.writer.now) c.args.gathered.now.items c.append_line.new.gathered.items line c.append_line.ensures) c.send_enough.ensures.written

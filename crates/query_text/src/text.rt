@@ -1,0 +1,31 @@
+//! Texts that are put together in an array, where there is room for them.
+ghost use Rattle.std.specs.Prelude.{◌≡◌, ◌+◌, ◌≤◌, ◌++◌, length};
+
+use arrayvec::ArrayVec;
+use itoa::{Buffer, Integer};
+
+/// The most bytes that a key's text has: those of the set of all elements.
+pub const MAX_KEY_TEXT: usize = 403;
+
+/// The text of a key.
+pub type KeyText = ArrayVec<u8, MAX_KEY_TEXT>;
+
+/// Puts bytes behind a text.
+pub fn append<const ROOM: usize>(text: &mut ArrayVec<u8, ROOM>, bytes: &[u8])
+    requires room { length text.old.items + length bytes.now ≤ ROOM }
+    ensures { text.new.items ≡ text.old.items ++ bytes.now }
+{
+    match text.try_extend_from_slice(bytes) {
+        Ok(()) => {}
+        Err(_) => unreachable!(),
+    }
+}
+
+/// Puts the digits of a number behind a text.
+pub fn append_number<I: Integer, const ROOM: usize>(text: &mut ArrayVec<u8, ROOM>, number: I)
+    requires room { length text.old.items + I.MAX_STR_LEN ≤ ROOM }
+    ensures digits { text.new.items ≡ text.old.items ++ I.text number }
+    ensures short { length text.new.items ≤ length text.old.items + I.MAX_STR_LEN }
+{
+    append(text, Buffer::new().format(number).as_bytes());
+}
