@@ -30,7 +30,7 @@ use Rattle.world.specs.Traces.{taken_by}
 use Rattle.insertion.specs.PageSteps.{IsWanting, MayMove, Moves, MovesPages}
 
 -- tests before the last, none of which tells of too few pages
-abbrev NoneFull : List (Bool × Refusal) → Type 0
+abbrev pub NoneFull : List (Bool × Refusal) → Type 0
 NoneFull [] = Unit {0}
 NoneFull ((fails, why) ∷ tests) = (why ≡ refusal.PagesFull → ⊥) × NoneFull tests
 
@@ -48,7 +48,7 @@ lt_from : (a b : ℕ) → nat_lt a b ≡ true → a < b
 lt_from a b h = search (arith, h)
 
 module _ {K : Type 0} where
-  split_full : (s : SearchTree K) (p : ℕ) (sides : List Side) → first_failing (split_tests s p sides) ≡ Some refusal.PagesFull → s.limit ≤ length s.tree.pages
+  pub split_full : (s : SearchTree K) (p : ℕ) (sides : List Side) → first_failing (split_tests s p sides) ≡ Some refusal.PagesFull → s.limit ≤ length s.tree.pages
   split_full s p sides e =
       le_from s.limit (length s.tree.pages)
       (last_fails
@@ -59,7 +59,7 @@ module _ {K : Type 0} where
       ∷ (not (parts_well s.least (page_at s.tree p) sides), refusal.BadSides) ∷ [])
       (nat_le s.limit (length s.tree.pages)) ((λ h. cc), ((λ h. cc), ((λ h. cc), ((λ h. cc), ((λ h. cc), tt))))) e)
 
-  grow_full : (s : SearchTree K) (sides : List Side) → first_failing (grow_tests s sides) ≡ Some refusal.PagesFull → s.limit < length s.tree.pages + 2
+  pub grow_full : (s : SearchTree K) (sides : List Side) → first_failing (grow_tests s sides) ≡ Some refusal.PagesFull → s.limit < length s.tree.pages + 2
   grow_full s sides e =
       lt_from s.limit (length s.tree.pages + 2)
       (last_fails ((nat_lt (length (page_at s.tree 0).rows + length (page_at s.tree 0).branches) s.fan, refusal.TooFew) ∷ (not (parts_well s.least (page_at s.tree 0) sides), refusal.BadSides) ∷ [])

@@ -1,7 +1,9 @@
-//! A whole insertion of a row into a world: the way down the tree, and each step that it takes there.
+//! Insertions of a row into a world: whole, with the way down the tree and each step that it takes there, and by visits.
 #![tactic(auto)]
 
 mod page_steps;
+mod visit;
 mod way_down;
 
+pub use visit::{Way, insert_step};
 pub use way_down::insert;

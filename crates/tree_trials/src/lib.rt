@@ -17,6 +17,8 @@ mod insertions;
 #[cfg(test)]
 mod limits;
 #[cfg(test)]
+mod rings;
+#[cfg(test)]
 mod scans;
 #[cfg(test)]
 mod surveys;

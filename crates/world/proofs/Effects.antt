@@ -101,8 +101,8 @@ module _ {C O K A E : Type 0} (w : Words K A) where
     pub within : (c : ℕ) (k : OpenCursor K A) → cursor_at new c ≡ Some k → c ≤ new.last
     -- a closed serial stays closed
     pub shut : (c : ℕ) → c ≤ old.last → cursor_at old c ≡ None → cursor_at new c ≡ None
-    -- a cursor that appears has a new serial, holds nothing, is asked for no mark, and is opened by the event
-    pub appears : (c : ℕ) (k : OpenCursor K A) → cursor_at old c ≡ None → cursor_at new c ≡ Some k → (old.last < c) × (k.unread ≡ []) × (k.asked ≡ false) × OpensIt e r c
+    -- a cursor that appears has a new serial, holds nothing, is asked for no mark, is opened by the event, and nothing given fits it
+    pub appears : (c : ℕ) (k : OpenCursor K A) → cursor_at old c ≡ None → cursor_at new c ≡ Some k → (old.last < c) × (k.unread ≡ []) × (k.asked ≡ false) × OpensIt e r c × Fits w.matching new.commits (shown w new.search.tree k) []
     pub takes : (c : ℕ) (item : Item K) → taken_by c (e, r) ≡ Some item → Taking old c item new
     pub opening : Opening old new e r
     pub closing : Closing new e r

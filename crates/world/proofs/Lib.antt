@@ -6,6 +6,7 @@ pub mod FinderSteps
 pub mod Founds
 pub mod Handling
 pub mod HandingOut
+pub mod Mailboxes
 pub mod Meeting
 pub mod PageSteps
 pub mod Placing

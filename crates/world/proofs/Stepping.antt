@@ -381,6 +381,9 @@ module _ {C O K A E : Type 0} (w : Words K A) (laws : WordLaws w) (seat : ℕ) (
                   ap (λ (z : OpenCursor K A). z.unread) f,
                   ap (λ (z : OpenCursor K A). z.asked) f,
                   record { query = query; room = room; end = end; is = ap (λ n. (event.Open query room, reply.Opened n end)) (d.change.serial ∙ sym eq) },
+                  (let e : Some fresh.cursor ≡ Some y = sym fresh.is_open ∙ ap (λ n. cursor_at new n) (sym eq) ∙ g in
+                  let h : fresh.cursor ≡ y = cc in
+                  subst (λ (z : OpenCursor K A). Fits w.matching new.commits (shown w new.search.tree z) []) h fresh.fits),
                 )
             | inr n ↦ absurd (none_is_some y (cursor_at new x) (apart x n ∙ h) g)
           ];
@@ -604,6 +607,10 @@ module _ {C O K A E : Type 0} (w : Words K A) (laws : WordLaws w) (seat : ℕ) (
 
   pub step_serves : (e : Event C K A) (r : Reply C O K A E) (new : State K A) → Step w seat old e r new → ServesAll w old e r new
   step_serves e r new d = (step_leads e r new d).effect.serves
+
+  -- the commits are those that were there and the one that the reply tells
+  pub step_commits : (e : Event C K A) (r : Reply C O K A E) (new : State K A) → Step w seat old e r new → new.commits ≡ old.commits ++ option_to_list (written (e, r))
+  step_commits e r new d = (step_leads e r new d).effect.commits
 
   -- a turn that isn't refused lowers the work of its cursor
   pub step_lowers : (e : Event C K A) (r : Reply C O K A E) (new : State K A) → Step w seat old e r new → LowersWork w old e r new

@@ -1,12 +1,14 @@
-ghost use Rattle.std.specs.Prelude.{◌≡◌, ◌≢◌, ◌↔◌, ◌⊎◌, ◌+◌, ◌<◌, ◌≤◌, ℕ, suc, None, Some, length, IfOk, OnOk, IfErr, IfSome, is_some, nat_lt};
+ghost use Rattle.std.specs.Prelude.{◌≡◌, ◌≢◌, ◌↔◌, ◌⊎◌, ◌+◌, ◌<◌, ◌≤◌, ℕ, suc, true, None, Some, length, IfOk, OnOk, IfErr, IfSome, IfNone, is_some, nat_lt, ◌++◌, option_to_list};
 ghost use Rattle.change_list.specs.Configs.{IsWithinLimits};
 ghost use Rattle.change_list.specs.Changes.{commit_at, status_of, IsLegal};
 ghost use Rattle.page_table.specs.Trees.{page_at};
 ghost use Rattle.split.specs.Tests.{first_failing};
 ghost use Rattle.cursor.specs.OpenCursors.{words};
-ghost use Rattle.world.specs.States.{new_state, IsSoundWorld, IsAt};
+ghost use Rattle.descent.specs.Finders.{OpenFinder};
+ghost use Rattle.world.specs.States.{new_state, IsSoundWorld, IsAt, finder_at};
 ghost use Rattle.world.specs.Steps.{Step, cursor_tests};
-ghost use Rattle.world.specs.Promises.{ServesAll, FitsAtOpening, LowersWork, KeepsRowsUnder, HandsOut};
+ghost use Rattle.world.specs.Traces.{written};
+ghost use Rattle.world.specs.Promises.{ServesAll, FitsAtOpening, LowersWork, KeepsRowsUnder, MailboxesFit, HandsOut};
 
 use crate::event::Event;
 use crate::places::place_of;
@@ -102,6 +104,23 @@ impl<C: KeyClass, O: Outlet<C::Key>> World<C, O> {
         self.changes.status(row)
     }
 
+    /// The row for which a finder is open.
+    pub fn finder_row(&self, f: u64) -> Option<u64>
+        ensures row { IfSome result (λ row. (k : OpenFinder C.Key) × (finder_at self.now f ≡ Some k) × (k.row ≡ row)) }
+        ensures none { IfNone result (finder_at self.now f ≡ None) }
+    {
+        let at = place_of(self.finders.as_slice(), f)?;
+        Some(u64::from(self.finders[at].row()))
+    }
+
+    /// The commits alone.
+    pub fn into_commits(self) -> ChangeList<C::Key>
+        ensures { result ≡ self.commits }
+    {
+        let World { changes, .. } = self;
+        changes
+    }
+
     /// The greatest number of commits.
     pub fn limit(&self) -> u64
         ensures { result ≡ self.now.limit }
@@ -171,7 +190,9 @@ impl<C: KeyClass, O: Outlet<C::Key>> World<C, O> {
         ensures opening { FitsAtOpening (words C.is_match C.is_consistent C.is_cover C.union_of O.may_take O.may_refuse O.is_emptied_elsewhere) result self.new }
         ensures less_work { LowersWork (words C.is_match C.is_consistent C.is_cover C.union_of O.may_take O.may_refuse O.is_emptied_elsewhere) self.old event result self.new }
         ensures rows { KeepsRowsUnder self.old event self.new }
+        ensures mailboxes { O.is_emptied_elsewhere ≡ true → MailboxesFit (words C.is_match C.is_consistent C.is_cover C.union_of O.may_take O.may_refuse O.is_emptied_elsewhere) self.old → MailboxesFit (words C.is_match C.is_consistent C.is_cover C.union_of O.may_take O.may_refuse O.is_emptied_elsewhere) self.new }
         ensures fresh { HandsOut O.fresh result }
+        ensures commits { self.new.commits ≡ self.old.commits ++ option_to_list (written (event, result)) }
     {
         self.step_as(0, event)
     }
@@ -184,7 +205,9 @@ impl<C: KeyClass, O: Outlet<C::Key>> World<C, O> {
         ensures opening { FitsAtOpening (words C.is_match C.is_consistent C.is_cover C.union_of O.may_take O.may_refuse O.is_emptied_elsewhere) result self.new }
         ensures less_work { LowersWork (words C.is_match C.is_consistent C.is_cover C.union_of O.may_take O.may_refuse O.is_emptied_elsewhere) self.old event result self.new }
         ensures rows { KeepsRowsUnder self.old event self.new }
+        ensures mailboxes { O.is_emptied_elsewhere ≡ true → MailboxesFit (words C.is_match C.is_consistent C.is_cover C.union_of O.may_take O.may_refuse O.is_emptied_elsewhere) self.old → MailboxesFit (words C.is_match C.is_consistent C.is_cover C.union_of O.may_take O.may_refuse O.is_emptied_elsewhere) self.new }
         ensures fresh { HandsOut O.fresh result }
+        ensures commits { self.new.commits ≡ self.old.commits ++ option_to_list (written (event, result)) }
     {
         self.is_sound();
         self.answer(seat, event)

@@ -1,0 +1,149 @@
+//! An insertion by visits, between which others may change the world.
+ghost use Rattle.std.specs.Prelude.{◌≡◌, ◌⊎◌, ◌↔◌, ◌<◌, ◌≤◌, ℕ, true, length, Err, IfOk, IfErr, OnErr, IsTrue};
+ghost use Rattle.node.specs.Pages.{is_within};
+ghost use Rattle.page_table.specs.Trees.{page_at};
+ghost use Rattle.descent.specs.NextSteps.{HasRoom};
+ghost use Rattle.cursor.specs.OpenCursors.{words};
+ghost use Rattle.world.specs.Promises.{MailboxesFit};
+ghost use Rattle.world.specs.Visits.{IsOneEvent};
+ghost use Rattle.insertion.specs.PageSteps.{IsWanting};
+ghost use Rattle.insertion.specs.Visits.{IsForInsertion, IsNext, Goes, GoesBy};
+
+use descent::{Step, next_step};
+use key_class::{KeyClass, Refusal};
+use mailbox::Outlet;
+use split::SearchTree;
+use std::alloc::Global;
+use world::{Event, Reply, Stamped, World};
+
+/// How far an insertion has come.
+#[derive(Drop)]
+pub enum Way<K> {
+    /// Its way goes on at this page.
+    On(u32),
+    /// The row was placed.
+    Placed(Stamped<K>),
+}
+
+/// What an insertion does next.
+#[derive(Drop)]
+enum Next<C: KeyClass> {
+    /// The event, and then its way goes on at this page.
+    Make(Event<C>, u32),
+    /// Its way goes on at this page.
+    Down(u32),
+}
+
+/// Whether a way for the key may go on at the page.
+fn may_go_on<C: KeyClass>(search: &SearchTree<C>, page: u32, key: C::Key) -> bool
+    ensures exists { IsTrue result → page < length search.now.tree.pages }
+    ensures covers { IsTrue result → is_within C.is_cover (page_at search.now.tree page).cover key ≡ true }
+    ensures room { IsTrue result → HasRoom search.now page }
+{
+    let table = search.pages();
+    if page as usize >= table.len() {
+        return false;
+    }
+    let here = table.page(page);
+    if !here.covers::<C>(key) {
+        return false;
+    }
+    search.fan() > here.entry_count()
+}
+
+/// What an insertion does next that has come to the page. Where its way may not go on there any more, it begins anew at
+/// the root.
+fn next_event<C: KeyClass, O: Outlet<C::Key>>(
+    alloc: Global,
+    world: &World<C, O>,
+    page: u32,
+    key: C::Key,
+    tag: u64,
+) -> Result<Next<C>, Refusal>
+    ensures next { IfOk result (IsNext key tag) }
+    ensures refusals { IfErr result (λ why. why ≡ Refusal.OutOfMemory) }
+{
+    world.is_sound();
+    let search = world.search();
+    let from = if may_go_on(search, page, key) {
+        page
+    } else {
+        0
+    };
+    Ok(match next_step(alloc, search, from, key)? {
+        Step::Grow(sides) => Next::Make(Event::Grow(sides), 0),
+        Step::Post(parent, child) => {
+            Next::Make(Event::Post(u64::from(parent), u64::from(child)), 0)
+        }
+        Step::Split(child, sides) => Next::Make(Event::Split(u64::from(child), sides), 0),
+        Step::Enlarge(parent, child) => {
+            let wider = Event::Enlarge(u64::from(parent), u64::from(child), key);
+            Next::Make(wider, child)
+        }
+        Step::Down(child) => Next::Down(child),
+        Step::Place(leaf) => Next::Make(Event::Place(u64::from(leaf), key, tag), leaf),
+    })
+}
+
+/// Tells a refusal by want of pages or memory; after any other the way begins anew.
+fn begin_anew<K>(why: Refusal) -> Result<Way<K>, Refusal>
+    ensures anew { IfOk result (λ way. way ≡ Way.On 0) }
+    ensures told { IfErr result (λ told. told ≡ why) }
+    ensures refusals { IfErr result (λ told. (told ≡ Refusal.OutOfMemory) ⊎ (told ≡ Refusal.PagesFull)) }
+{
+    match why {
+        Refusal::OutOfMemory => Err(Refusal::OutOfMemory),
+        Refusal::PagesFull => Err(Refusal::PagesFull),
+        _ => Ok(Way::On(0)),
+    }
+}
+
+/// Makes an event of an insertion, after which its way goes on at a page.
+fn make<C: KeyClass, O: Outlet<C::Key>>(
+    world: &mut World<C, O>,
+    seat: u32,
+    event: Event<C>,
+    then: u32,
+) -> Result<Way<C::Key>, Refusal>
+    requires own { (key : C.Key) × (tag : ℕ) × IsForInsertion key tag event }
+    ensures goes { IfOk result (λ way. GoesBy world.old seat event way world.new) }
+    ensures one_event { IsOneEvent C O O.End (words C.is_match C.is_consistent C.is_cover C.union_of O.may_take O.may_refuse O.is_emptied_elsewhere) seat world.old world.new }
+    ensures mailboxes { O.is_emptied_elsewhere ≡ true → MailboxesFit (words C.is_match C.is_consistent C.is_cover C.union_of O.may_take O.may_refuse O.is_emptied_elsewhere) world.old → MailboxesFit (words C.is_match C.is_consistent C.is_cover C.union_of O.may_take O.may_refuse O.is_emptied_elsewhere) world.new }
+    ensures unchanged { OnErr result (world.new ≡ world.old) }
+    ensures refusals { IfErr result (IsWanting world.old.search) }
+{
+    match world.step_as(seat, event) {
+        Reply::Committed(stamp) => return Ok(Way::Placed(stamp)),
+        Reply::Refused(why) => return begin_anew(why),
+        _ => return Ok(Way::On(then)),
+    }
+}
+
+/// One visit of an insertion to a world, which makes one event or none: the next step from the page to which its way has
+/// come, whatever has become of the page since. A step that is refused by the state of the pages is prepared again.
+///
+/// # Errors
+/// `CommitsFull` where there are as many commits as may be, `PagesFull`, and want of memory. Nothing is changed then.
+pub fn insert_step<C: KeyClass, O: Outlet<C::Key>>(
+    alloc: Global,
+    world: &mut World<C, O>,
+    seat: u32,
+    page: u32,
+    key: C::Key,
+    tag: u64,
+) -> Result<Way<C::Key>, Refusal>
+    ensures goes { IfOk result (λ way. Goes world.old seat key tag way world.new) }
+    ensures one_event { IsOneEvent C O O.End (words C.is_match C.is_consistent C.is_cover C.union_of O.may_take O.may_refuse O.is_emptied_elsewhere) seat world.old world.new }
+    ensures mailboxes { O.is_emptied_elsewhere ≡ true → MailboxesFit (words C.is_match C.is_consistent C.is_cover C.union_of O.may_take O.may_refuse O.is_emptied_elsewhere) world.old → MailboxesFit (words C.is_match C.is_consistent C.is_cover C.union_of O.may_take O.may_refuse O.is_emptied_elsewhere) world.new }
+    ensures unchanged { OnErr result (world.new ≡ world.old) }
+    ensures full { (result ≡ Err Refusal.CommitsFull) ↔ (world.old.limit ≤ length world.old.commits) }
+    ensures refusals { IfErr result (λ why. (why ≡ Refusal.CommitsFull) ⊎ IsWanting world.old.search why) }
+{
+    if world.limit() <= world.commits() {
+        return Err(Refusal::CommitsFull);
+    }
+    match next_event(alloc, world, page, key, tag)? {
+        Next::Down(child) => Ok(Way::On(child)),
+        Next::Make(event, then) => make(world, seat, event, then),
+    }
+}

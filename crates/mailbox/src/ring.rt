@@ -1,0 +1,60 @@
+ghost use Rattle.std.specs.Prelude.{◌≡◌, [], ◌∷◌, ◌++◌, IfErr, OnOk, OnErr};
+ghost use Rattle.mailbox.specs.Rings.{items_sent, IsSameRing};
+
+use crate::outlet::{Outlet, Taken};
+use change_list::Item;
+use rtrb::{Consumer, Producer, PushError, RingBuffer};
+use std::alloc::{AllocError, Global};
+
+/// The side of a ring that is filled. Whoever has the other end empties it, and waits for nobody.
+#[derive(Drop)]
+pub struct Ring<K> {
+    producer: Producer<Item<K>>,
+}
+
+impl<K: Copy> Outlet<K> for Ring<K> {
+    ghost use Rattle.std.specs.Prelude.{◌≡◌, true, []};
+    ghost use Rattle.rtrb.specs.Ring.{received};
+    ghost use Rattle.mailbox.specs.Rings.{places, items_sent, IsOtherEnd};
+
+    type End = Consumer<Item<K>>;
+
+    ghost room_of = { λ ring. places ring };
+
+    ghost unread = { λ ring. items_sent ring };
+
+    ghost may_take = { λ room count. true };
+
+    ghost may_refuse = { λ room count. true };
+
+    ghost is_emptied_elsewhere = { true };
+
+    ghost is_end_of = { λ end ring. IsOtherEnd end ring };
+
+    ghost fresh = { λ end. received end ≡ [] };
+
+    fn make(alloc: Global, room: u32) -> Result<(Ring<K>, Consumer<Item<K>>), AllocError> {
+        let (producer, consumer) = RingBuffer::new(alloc, room as usize)?;
+        Ok((Ring { producer }, consumer))
+    }
+
+    fn offer(&mut self, item: Item<K>) -> Result<(), Item<K>>
+        ensures taken { OnOk result (items_sent self.new ≡ items_sent self.old ++ item ∷ []) }
+        ensures handed_back { IfErr result (λ back. back ≡ item) }
+        ensures unchanged { OnErr result (items_sent self.new ≡ items_sent self.old) }
+        ensures same { IsSameRing self.old self.new }
+    {
+        match self.producer.push(item) {
+            Ok(()) => Ok(()),
+            Err(PushError::Full(back)) => Err(back),
+        }
+    }
+
+    fn take(&mut self) -> Taken<K> {
+        Taken::Elsewhere
+    }
+
+    fn is_emptied_elsewhere() -> bool {
+        true
+    }
+}
