@@ -2,7 +2,6 @@ use Rattle.std.proofs.Common.{rules, ◌≡◌, ◌+◌, ◌≤◌, length, subs
 use Rattle.world.proofs.Sounding.{grown_pages}
 use Rattle.world.proofs.world.World.pages.Goals as goal
 
--- src/world.rt:120:5
 pub returns-clause-few : goal.returns-clause-few
 returns-clause-few g c =
     let number : c.len.result ≡ length c.args.self.now.search.tree.pages = search rules in
