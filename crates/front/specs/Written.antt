@@ -3,8 +3,8 @@ use Rattle.std.specs.Prelude.{◌≡◌, ℕ, ◌<◌, List, ◌++◌, length, O
 use Rattle.std.specs.Io.KnownBytes.{Appends}
 
 -- behind what is gathered there is room for a line
-abbrev pub HasRoom : List ℕ → Type 0
-HasRoom gathered = length gathered < 512
+abbrev pub HasRoomForLine : List ℕ → Type 0
+HasRoomForLine gathered = length gathered < 512
 
 -- the writer took these bytes in their order, all but the rest
 abbrev pub WritesAllBut : Option (List ℕ) → Option (List ℕ) → List ℕ → List ℕ → Type 0

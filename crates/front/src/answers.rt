@@ -3,7 +3,7 @@ ghost use Rattle.std.specs.List.{flat_map};
 ghost use Rattle.std.specs.Fmt.{decimal};
 ghost use Rattle.front.specs.Replies.{row_text, row_line, item_line, refusal_line, first_line, listed, text_of};
 ghost use Rattle.std.specs.Io.KnownBytes.{Appends};
-ghost use Rattle.front.specs.Written.{HasRoom, WritesBeginning, WritesOrFails};
+ghost use Rattle.front.specs.Written.{HasRoomForLine, WritesBeginning, WritesOrFails};
 
 use crate::reply::Reply;
 use arrayvec::ArrayVec;
@@ -16,10 +16,10 @@ use std::io::{ErrorKind, Write};
 const GATHERED: usize = 512;
 
 /// The room for fewer bytes than are written at once, and for one line more, which has at most 455.
-const ROOM: usize = 1_024;
+const ANSWERS: usize = 1_024;
 
 /// Answers that are gathered, in an array: no memory is asked for them.
-pub type Gathered = ArrayVec<u8, ROOM>;
+pub type Gathered = ArrayVec<u8, ANSWERS>;
 
 /// Writes bytes, and goes on where a signal came between.
 ///
@@ -68,7 +68,7 @@ pub fn send<W: Write>(writer: &mut W, gathered: &mut Gathered) -> Result<(), Fau
 /// `Write` where the writer failed. It took a beginning, and is given no more.
 pub fn send_enough<W: Write>(writer: &mut W, gathered: &mut Gathered) -> Result<(), Fault>
     ensures written { WritesOrFails result (W.contents writer.old) gathered.old.items (W.contents writer.new) gathered.new.items [] }
-    ensures room { OnOk result (HasRoom gathered.new.items) }
+    ensures room { OnOk result (HasRoomForLine gathered.new.items) }
     ensures err { IfErr result (λ e. e ≡ Fault.Write) }
 {
     if gathered.len() < GATHERED {
@@ -112,7 +112,7 @@ fn append_row<C: ClassText>(gathered: &mut Gathered, row: &Row<C::Key>)
 
 /// Appends the line of a row.
 fn append_row_line<C: ClassText>(gathered: &mut Gathered, row: &Row<C::Key>)
-    requires room { HasRoom gathered.old.items }
+    requires room { HasRoomForLine gathered.old.items }
     ensures { gathered.new.items ≡ gathered.old.items ++ row_line C.key_text row.now }
 {
     append(gathered, b"row ");
@@ -122,7 +122,7 @@ fn append_row_line<C: ClassText>(gathered: &mut Gathered, row: &Row<C::Key>)
 
 /// Appends the line of an item.
 pub fn append_item<C: ClassText>(gathered: &mut Gathered, item: &Item<C::Key>)
-    requires room { HasRoom gathered.old.items }
+    requires room { HasRoomForLine gathered.old.items }
     ensures { gathered.new.items ≡ gathered.old.items ++ item_line C.key_text item.now }
 {
     match item {
@@ -139,7 +139,7 @@ pub fn append_item<C: ClassText>(gathered: &mut Gathered, item: &Item<C::Key>)
 
 /// Appends the line of a refusal.
 pub fn append_refusal(gathered: &mut Gathered, why: Refusal)
-    requires room { HasRoom gathered.old.items }
+    requires room { HasRoomForLine gathered.old.items }
     ensures { gathered.new.items ≡ gathered.old.items ++ refusal_line why }
 {
     append(gathered, b"refused ");
@@ -161,9 +161,9 @@ pub fn gather_refusal<W: Write>(
     writer: &mut W,
     gathered: &mut Gathered,
 ) -> Result<(), Fault>
-    requires room { HasRoom gathered.old.items }
+    requires room { HasRoomForLine gathered.old.items }
     ensures written { WritesOrFails result (W.contents writer.old) gathered.old.items (W.contents writer.new) gathered.new.items (refusal_line why) }
-    ensures room { OnOk result (HasRoom gathered.new.items) }
+    ensures room { OnOk result (HasRoomForLine gathered.new.items) }
     ensures err { IfErr result (λ e. e ≡ Fault.Write) }
 {
     append_refusal(gathered, why);
@@ -172,7 +172,7 @@ pub fn gather_refusal<W: Write>(
 
 /// Appends the first line of a reply.
 fn append_line<C: ClassText>(gathered: &mut Gathered, reply: &Reply<C::Key>)
-    requires room { HasRoom gathered.old.items }
+    requires room { HasRoomForLine gathered.old.items }
     ensures { gathered.new.items ≡ gathered.old.items ++ first_line C.key_text reply.now }
 {
     match reply {
@@ -207,9 +207,9 @@ fn write_rows<C: ClassText, W: Write>(
     gathered: &mut Gathered,
     rows: &[Row<C::Key>],
 ) -> Result<(), Fault>
-    requires room { HasRoom gathered.old.items }
+    requires room { HasRoomForLine gathered.old.items }
     ensures written { WritesOrFails result (W.contents writer.old) gathered.old.items (W.contents writer.new) gathered.new.items (flat_map (row_line C.key_text) rows.now) }
-    ensures room { OnOk result (HasRoom gathered.new.items) }
+    ensures room { OnOk result (HasRoomForLine gathered.new.items) }
     ensures err { IfErr result (λ e. e ≡ Fault.Write) }
 {
     for row in rows {
@@ -228,9 +228,9 @@ pub fn write_reply<C: ClassText, W: Write>(
     gathered: &mut Gathered,
     reply: &Reply<C::Key>,
 ) -> Result<(), Fault>
-    requires room { HasRoom gathered.old.items }
+    requires room { HasRoomForLine gathered.old.items }
     ensures written { WritesOrFails result (W.contents writer.old) gathered.old.items (W.contents writer.new) gathered.new.items (text_of C.key_text reply.now) }
-    ensures room { OnOk result (HasRoom gathered.new.items) }
+    ensures room { OnOk result (HasRoomForLine gathered.new.items) }
     ensures err { IfErr result (λ e. e ≡ Fault.Write) }
 {
     append_line::<C>(gathered, reply);

@@ -4,7 +4,7 @@ ghost use Rattle.std.specs.Io.KnownBytes.{IsAtEnd};
 ghost use Rattle.query_text.specs.Tokens.{Placed, placed};
 ghost use Rattle.front.specs.Conversations.{AnswersLine, AnsweredAll, AnsweredWhole, AnsweredFirst};
 ghost use Rattle.front.specs.Held.{IsRestOf};
-ghost use Rattle.front.specs.Written.{HasRoom, WritesOrFails};
+ghost use Rattle.front.specs.Written.{HasRoomForLine, WritesOrFails};
 
 use crate::answers::{Gathered, gather_refusal, send};
 use crate::line_buffer::{LineBuffer, MAX_LINE};
@@ -30,9 +30,9 @@ pub trait Responder {
         writer: &mut W,
         gathered: &mut Gathered,
     ) -> Result<(), Fault>
-        requires room { HasRoom gathered.old.items }
+        requires room { HasRoomForLine gathered.old.items }
         ensures answers { (said : List ℕ) × answers (length text.now) self.old (placed text.now lexemes.now) said self.new × WritesOrFails result (W.contents writer.old) gathered.old.items (W.contents writer.new) gathered.new.items said }
-        ensures room { OnOk result (HasRoom gathered.new.items) }
+        ensures room { OnOk result (HasRoomForLine gathered.new.items) }
         ensures err { IfErr result (λ e. e ≡ Fault.Write) };
 }
 
@@ -47,11 +47,11 @@ fn answer_line<S: Responder, W: Write>(
     gathered: &mut Gathered,
 ) -> Result<(), Fault>
     requires capacity { 4096 ≤ vec_capacity lexemes.old }
-    requires room { HasRoom gathered.old.items }
+    requires room { HasRoomForLine gathered.old.items }
     ensures answers { (whole : List ℕ) → IsRestOf overlong whole line.now
         → (said : List ℕ) × AnswersLine S.answers responder.old whole said responder.new × WritesOrFails result (W.contents writer.old) gathered.old.items (W.contents writer.new) gathered.new.items said }
     ensures capacity { 4096 ≤ vec_capacity lexemes.new }
-    ensures room { OnOk result (HasRoom gathered.new.items) }
+    ensures room { OnOk result (HasRoomForLine gathered.new.items) }
     ensures err { IfErr result (λ e. e ≡ Fault.Write) }
 {
     if overlong || line.len() > MAX_LINE {

@@ -1,7 +1,7 @@
 //! How the replies of a world are written.
 ghost use Rattle.std.specs.Prelude.{◌≡◌, ◌++◌, OnOk, IfErr};
 ghost use Rattle.front.specs.EventReplies.{reply_line};
-ghost use Rattle.front.specs.Written.{HasRoom, WritesOrFails};
+ghost use Rattle.front.specs.Written.{HasRoomForLine, WritesOrFails};
 
 use crate::answers::{
     Gathered, append_item, append_numbered, append_pair, append_refusal, send_enough,
@@ -14,7 +14,7 @@ use world::Reply;
 
 /// Appends the line of a reply.
 fn append_line<C: ClassText, O: Outlet<C::Key>>(gathered: &mut Gathered, reply: &Reply<C, O>)
-    requires room { HasRoom gathered.old.items }
+    requires room { HasRoomForLine gathered.old.items }
     ensures { gathered.new.items ≡ gathered.old.items ++ reply_line C.key_text reply.now }
 {
     match reply {
@@ -53,9 +53,9 @@ pub fn write_event_reply<C: ClassText, O: Outlet<C::Key>, W: Write>(
     gathered: &mut Gathered,
     reply: &Reply<C, O>,
 ) -> Result<(), Fault>
-    requires room { HasRoom gathered.old.items }
+    requires room { HasRoomForLine gathered.old.items }
     ensures written { WritesOrFails result (W.contents writer.old) gathered.old.items (W.contents writer.new) gathered.new.items (reply_line C.key_text reply.now) }
-    ensures room { OnOk result (HasRoom gathered.new.items) }
+    ensures room { OnOk result (HasRoomForLine gathered.new.items) }
     ensures err { IfErr result (λ e. e ≡ Fault.Write) }
 {
     append_line::<C, O>(gathered, reply);

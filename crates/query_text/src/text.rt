@@ -11,8 +11,8 @@ pub const MAX_KEY_TEXT: usize = 403;
 pub type KeyText = ArrayVec<u8, MAX_KEY_TEXT>;
 
 /// Puts bytes behind a text.
-pub fn append<const ROOM: usize>(text: &mut ArrayVec<u8, ROOM>, bytes: &[u8])
-    requires room { length text.old.items + length bytes.now ≤ ROOM }
+pub fn append<const CAPACITY: usize>(text: &mut ArrayVec<u8, CAPACITY>, bytes: &[u8])
+    requires room { length text.old.items + length bytes.now ≤ CAPACITY }
     ensures { text.new.items ≡ text.old.items ++ bytes.now }
 {
     match text.try_extend_from_slice(bytes) {
@@ -22,8 +22,11 @@ pub fn append<const ROOM: usize>(text: &mut ArrayVec<u8, ROOM>, bytes: &[u8])
 }
 
 /// Puts the digits of a number behind a text.
-pub fn append_number<I: Integer, const ROOM: usize>(text: &mut ArrayVec<u8, ROOM>, number: I)
-    requires room { length text.old.items + I.MAX_STR_LEN ≤ ROOM }
+pub fn append_number<I: Integer, const CAPACITY: usize>(
+    text: &mut ArrayVec<u8, CAPACITY>,
+    number: I,
+)
+    requires room { length text.old.items + I.MAX_STR_LEN ≤ CAPACITY }
     ensures digits { text.new.items ≡ text.old.items ++ I.text number }
     ensures short { length text.new.items ≤ length text.old.items + I.MAX_STR_LEN }
 {

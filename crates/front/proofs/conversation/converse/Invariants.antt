@@ -1,6 +1,6 @@
 use Rattle.std.proofs.Common.{◌≤◌, length, vec_capacity}
 use Rattle.front.specs.Lines.{HasNoFeed}
-use Rattle.front.specs.Written.{HasRoom}
+use Rattle.front.specs.Written.{HasRoomForLine}
 use Rattle.front.proofs.Conversing.{Progress}
 use Rattle.front.proofs.conversation.converse.Given as goal
 
@@ -15,7 +15,7 @@ invariant-reading g l = record {
 abbrev pub invariant-answering : goal.invariant-answering
 invariant-answering g l = record {
   capacity : 4096 ≤ vec_capacity l.lexemes;
-  room : HasRoom l.gathered.items;
+  room : HasRoomForLine l.gathered.items;
   progress : Progress g.S.Responder.answers (g.R.Read.remaining l.fn.reader) (g.W.Write.contents l.fn.writer) l.fn.responder
       (g.R.Read.remaining l.reader) (g.W.Write.contents l.writer) l.gathered.items l.responder l.lines;
 }
