@@ -1,78 +1,130 @@
+use crate::picks::{asked, has_too_few, splits, splits_again};
 use box_class::{Atom, BoxKey, Boxes, atoms_mean_their_words};
-use key_class::{KeyClass, Refusal, Rel, Side, Sides};
+use key_class::{KeyClass, Refusal, Rel};
 use std::alloc::Global;
 use std::test::Fail;
 
-fn key(x1: i32, y1: i32, x2: i32, y2: i32) -> Result<BoxKey, Fail> {
-    Ok(BoxKey::new(x1, y1, x2, y2)?)
+/// A box by its ends x1, y1, x2, y2.
+fn key(ends: [i32; 4]) -> Result<BoxKey, Refusal> {
+    let [x1, y1, x2, y2] = ends;
+    BoxKey::new(x1, y1, x2, y2)
 }
+
+fn has_ends(ends: [i32; 4]) -> bool {
+    match key(ends) {
+        Ok(made) => [made.x1, made.y1, made.x2, made.y2] == ends,
+        Err(_) => false,
+    }
+}
+
+#[test]
+fn makes_boxes_in_order(rt: HostRuntime) {
+    assert!(rt; has_ends([-1, 2, 3, 2]));
+    for ends in [[1, 0, 0, 0], [0, 1, 0, 0], [5, 5, 4, 4]] {
+        assert!(rt; key(ends).err() == Some(Refusal::BadConfig), "{ends:?}");
+    }
+}
+
+/// An atom, whether the key (2 2 5 5) matches it, and whether its bound (0 0 9 9) is consistent with it.
+static MATCHES: [(Rel, [i32; 4], bool, bool); 12] = [
+    (Rel::Overlaps, [5, 5, 7, 7], true, true),
+    (Rel::Overlaps, [6, 2, 7, 5], false, true),
+    (Rel::Overlaps, [10, 2, 12, 5], false, false),
+    (Rel::Within, [2, 0, 5, 9], true, true),
+    (Rel::Within, [3, 0, 5, 9], false, true),
+    (Rel::Within, [2, 10, 5, 12], false, false),
+    (Rel::Holds, [3, 3, 5, 5], true, true),
+    (Rel::Holds, [3, 3, 5, 6], false, true),
+    (Rel::Holds, [3, 3, 10, 6], false, false),
+    (Rel::Same, [2, 2, 5, 5], true, true),
+    (Rel::Same, [2, 2, 5, 6], false, true),
+    (Rel::Same, [2, -1, 5, 5], false, false),
+];
 
 /// Whether a key matches an atom, and whether a bound is consistent with it.
-fn asked<C: KeyClass>(atom: &C::Atom, key: C::Key, bound: C::Key) -> (bool, bool) {
-    (C::matches(atom, key), C::consistent(atom, bound))
+fn asked_of(
+    rel: Rel,
+    operand: [i32; 4],
+    matching: [i32; 4],
+    bound: [i32; 4],
+) -> Result<(bool, bool), Refusal> {
+    let operand = key(operand)?;
+    let atom = Atom { rel, operand };
+    Ok(asked::<Boxes>(&atom, key(matching)?, key(bound)?))
 }
 
 #[test]
-fn makes_boxes_in_order(rt: HostRuntime) -> Result<(), Fail> {
-    let made = key(-1, 2, 3, 2)?;
-    assert_eq!(rt; (made.x1, made.y1, made.x2, made.y2), (-1, 2, 3, 2));
-    for (x1, y1, x2, y2) in [(1, 0, 0, 0), (0, 1, 0, 0), (5, 5, 4, 4)] {
-        assert_eq!(rt; BoxKey::new(x1, y1, x2, y2).err(), Some(Refusal::BadConfig));
+fn matches_by_points(rt: HostRuntime) {
+    for (rel, operand, matches, consistent) in &MATCHES {
+        let told = asked_of(*rel, *operand, [2, 2, 5, 5], [0, 0, 9, 9]);
+        assert!(rt; told == Ok((*matches, *consistent)), "{rel:?} {operand:?}");
     }
-    Ok(())
+    let told = asked_of(Rel::Holds, [0, 0, 0, 0], PLANE, PLANE);
+    assert!(rt; told == Ok((true, true)));
+}
+
+const LOW: i32 = i32::MIN;
+
+const HIGH: i32 = i32::MAX;
+
+const PLANE: [i32; 4] = [LOW, LOW, HIGH, HIGH];
+
+const FIRST: [i32; 4] = [LOW, LOW, LOW, LOW];
+
+const LAST: [i32; 4] = [HIGH, HIGH, HIGH, HIGH];
+
+static SIZES: [([i32; 4], u128); 2] = [(PLANE, 18_446_744_073_709_551_616), ([-1, 0, 1, 4], 15)];
+
+/// A bound, a key, and what the bound gains by the key.
+static PENALTIES: [([i32; 4], [i32; 4], u128); 3] = [
+    (FIRST, LAST, 18_446_744_073_709_551_615),
+    (PLANE, LAST, 0),
+    ([0, 0, 1, 1], [3, 0, 3, 0], 4),
+];
+
+/// Two boxes and the least box over both.
+static UNIONS: [([i32; 4], [i32; 4], [i32; 4]); 2] = [
+    (FIRST, LAST, PLANE),
+    ([0, 5, 2, 6], [1, 0, 1, 1], [0, 0, 2, 6]),
+];
+
+fn size(ends: [i32; 4]) -> Result<u128, Refusal> {
+    Ok(Boxes::size(key(ends)?))
+}
+
+fn penalty(bound: [i32; 4], added: [i32; 4]) -> Result<u128, Refusal> {
+    Ok(Boxes::penalty(key(bound)?, key(added)?))
+}
+
+fn union(a: [i32; 4], b: [i32; 4]) -> Result<BoxKey, Refusal> {
+    Ok(Boxes::union(key(a)?, key(b)?))
+}
+
+fn covers(bound: [i32; 4], covered: [i32; 4]) -> Result<bool, Refusal> {
+    Ok(Boxes::covers(key(bound)?, key(covered)?))
 }
 
 #[test]
-fn matches_by_points(rt: HostRuntime) -> Result<(), Fail> {
-    let bound = key(0, 0, 9, 9)?;
-    // The operand, whether the key (2 2 5 5) matches, and whether its bound (0 0 9 9) is consistent.
-    for (rel, operand, matches, consistent) in [
-        (Rel::Overlaps, key(5, 5, 7, 7)?, true, true),
-        (Rel::Overlaps, key(6, 2, 7, 5)?, false, true),
-        (Rel::Overlaps, key(10, 2, 12, 5)?, false, false),
-        (Rel::Within, key(2, 0, 5, 9)?, true, true),
-        (Rel::Within, key(3, 0, 5, 9)?, false, true),
-        (Rel::Within, key(2, 10, 5, 12)?, false, false),
-        (Rel::Holds, key(3, 3, 5, 5)?, true, true),
-        (Rel::Holds, key(3, 3, 5, 6)?, false, true),
-        (Rel::Holds, key(3, 3, 10, 6)?, false, false),
-        (Rel::Same, key(2, 2, 5, 5)?, true, true),
-        (Rel::Same, key(2, 2, 5, 6)?, false, true),
-        (Rel::Same, key(2, -1, 5, 5)?, false, false),
-    ] {
-        let atom = Atom { rel, operand };
-        assert_eq!(rt;
-            asked::<Boxes>(&atom, key(2, 2, 5, 5)?, bound),
-            (matches, consistent),
-            "{atom:?}"
+fn measures_boxes(rt: HostRuntime) {
+    for (ends, wanted) in &SIZES {
+        assert!(rt; size(*ends) == Ok(*wanted), "{ends:?}");
+    }
+    for (bound, added, wanted) in &PENALTIES {
+        assert!(rt;
+            penalty(*bound, *added) == Ok(*wanted),
+            "{bound:?} {added:?}"
         );
     }
-    Ok(())
+    atoms_mean_their_words();
 }
 
 #[test]
-fn measures_boxes(rt: HostRuntime) -> Result<(), Fail> {
-    let (low, high) = (i32::MIN, i32::MAX);
-    let plane = key(low, low, high, high)?;
-    let (first, last) = (key(low, low, low, low)?, key(high, high, high, high)?);
-    assert_eq!(rt; Boxes::size(plane), 18_446_744_073_709_551_616);
-    assert_eq!(rt; Boxes::size(key(-1, 0, 1, 4)?), 15);
-    assert_eq!(rt; Boxes::penalty(first, last), 18_446_744_073_709_551_615);
-    assert_eq!(rt; Boxes::penalty(plane, last), 0);
-    assert_eq!(rt; Boxes::penalty(key(0, 0, 1, 1)?, key(3, 0, 3, 0)?), 4);
-    assert_eq!(rt; Boxes::union(first, last), plane);
-    assert_eq!(rt;
-        Boxes::union(key(0, 5, 2, 6)?, key(1, 0, 1, 1)?),
-        key(0, 0, 2, 6)?
-    );
-    assert!(rt; Boxes::covers(plane, first) && !Boxes::covers(first, plane));
-    let holds = Atom {
-        rel: Rel::Holds,
-        operand: key(0, 0, 0, 0)?,
-    };
-    assert_eq!(rt; asked::<Boxes>(&holds, plane, plane), (true, true));
-    atoms_mean_their_words();
-    Ok(())
+fn joins_boxes(rt: HostRuntime) {
+    for (a, b, wanted) in &UNIONS {
+        assert!(rt; union(*a, *b) == key(*wanted), "{a:?} {b:?}");
+    }
+    assert!(rt; covers(PLANE, FIRST) == Ok(true));
+    assert!(rt; covers(FIRST, PLANE) == Ok(false));
 }
 
 /// Boxes by their ends x1, y1, x2, y2, the least number for a side, and the side of each box.
@@ -154,85 +206,146 @@ fn placed(ends: [i32; 4], moved: i32, scale: i32) -> Result<BoxKey, Fail> {
     Ok(BoxKey::new(first(x1), first(y1), last(x2), last(y2))?)
 }
 
+/// Boxes that are moved and made larger.
+fn all_placed(
+    alloc: Global,
+    boxes: &[[i32; 4]],
+    moved: i32,
+    scale: i32,
+) -> Result<Vec<BoxKey>, Fail> {
+    let mut keys = Vec::new(alloc);
+    for ends in boxes {
+        keys.push(placed(*ends, moved, scale)?)?;
+    }
+    Ok(keys)
+}
+
+/// Whether boxes that are moved and made larger are put on their sides.
+fn is_split(alloc: Global, split: &Split, moved: i32, scale: i32) -> Result<bool, Fail> {
+    let keys = all_placed(alloc, split.boxes, moved, scale)?;
+    Ok(splits::<Boxes>(alloc, &keys, split.least, split.sides))
+}
+
 #[test]
 fn splits_as_guttman_does(rt: HostRuntime) -> Result<(), Fail> {
     // Where they are, below 0, and so large that most of them have areas that outgrow 64 bits.
     for (moved, scale) in [(0, 1), (-20, 1), (-6, 300_000_000)] {
         for split in &SPLITS {
-            let mut keys = Vec::new(rt.alloc());
-            for ends in split.boxes {
-                keys.push(placed(*ends, moved, scale)?)?;
-            }
-            assert!(rt; split.least >= 1);
-            let sides = Boxes::pick_split(rt.alloc(), &keys, split.least)?;
-            assert_eq!(rt; letters(rt.alloc(), &sides)?.as_str(), split.sides);
+            assert!(rt;
+                is_split(rt.alloc(), split, moved, scale)?,
+                "{moved} {}",
+                split.sides
+            );
         }
     }
     Ok(())
+}
+
+/// The least number for a side, and the sides of sixty-four boxes.
+static SIXTY_FOUR: [(usize, &str); 3] = [
+    (
+        12,
+        "lrlrlrlrlrllrlrlrlrlrllrlrlrlrlrllrlrlrlrlrllrlrlrlrlrllrlrlrlrl",
+    ),
+    (
+        31,
+        "lrlrlrlrlrllrlrlrlrlrllrlrlrlrlrllrlrlrlrlrrlrlrlrlrlrrlrlrlrlrl",
+    ),
+    (
+        32,
+        "lrlrlrlrlrllrlrlrlrlrllrlrlrlrlrrlrlrlrlrlrrlrlrlrlrlrrlrlrlrlrl",
+    ),
+];
+
+/// The ends of one of sixty-four boxes.
+fn ends_at(place: u8) -> [i32; 4] {
+    let place = i32::from(place);
+    let (x, y) = (place * 37 % 101 - 50, place * 53 % 97 - 50);
+    [x, y, x + place * 29 % 13, y + place * 31 % 17]
+}
+
+fn sixty_four(alloc: Global, scale: i32) -> Result<Vec<BoxKey>, Fail> {
+    let mut keys = Vec::new(alloc);
+    for place in 0..64 {
+        keys.push(placed(ends_at(place), 0, scale)?)?;
+    }
+    Ok(keys)
 }
 
 #[test]
 fn splits_sixty_four_boxes(rt: HostRuntime) -> Result<(), Fail> {
     for scale in [1, 1 << 25] {
-        let mut keys = Vec::new(rt.alloc());
-        for place in 0..64u8 {
-            let place = i32::from(place);
-            let (x, y) = (place * 37 % 101 - 50, place * 53 % 97 - 50);
-            let ends = [x, y, x + place * 29 % 13, y + place * 31 % 17];
-            keys.push(placed(ends, 0, scale)?)?;
-        }
-        for (least, wanted) in [
-            (
-                12,
-                "lrlrlrlrlrllrlrlrlrlrllrlrlrlrlrllrlrlrlrlrllrlrlrlrlrllrlrlrlrl",
-            ),
-            (
-                31,
-                "lrlrlrlrlrllrlrlrlrlrllrlrlrlrlrllrlrlrlrlrrlrlrlrlrlrrlrlrlrlrl",
-            ),
-            (
-                32,
-                "lrlrlrlrlrllrlrlrlrlrllrlrlrlrlrrlrlrlrlrlrrlrlrlrlrlrrlrlrlrlrl",
-            ),
-        ] {
-            assert!(rt; least >= 1);
-            let sides = Boxes::pick_split(rt.alloc(), &keys, least)?;
-            assert_eq!(rt; letters(rt.alloc(), &sides)?.as_str(), wanted);
+        let keys = sixty_four(rt.alloc(), scale)?;
+        for (least, wanted) in &SIXTY_FOUR {
+            assert!(rt;
+                splits::<Boxes>(rt.alloc(), &keys, *least, wanted),
+                "{scale} {least}"
+            );
         }
     }
     Ok(())
 }
 
+/// Boxes at the ends of what numbers there are.
+static ENDS: [[i32; 4]; 9] = [
+    PLANE,
+    FIRST,
+    LAST,
+    [LOW, HIGH, LOW, HIGH],
+    [HIGH, LOW, HIGH, LOW],
+    PLANE,
+    [0, 0, 0, 0],
+    [LOW, 0, HIGH, 0],
+    [0, LOW, 0, HIGH],
+];
+
+/// Which of the boxes at the ends, the least number for a side, and the side of each box.
+static ENDS_SPLIT: [(usize, usize, usize, &str); 3] = [
+    (0, 9, 3, "rlrllrrrr"),
+    (0, 9, 4, "rlrllrrrl"),
+    (1, 5, 1, "lrlr"),
+];
+
+/// The boxes at the ends from one to another.
+fn ends(alloc: Global, first: usize, last: usize) -> Result<Vec<BoxKey>, Fail> {
+    let mut keys = Vec::new(alloc);
+    for (place, ends) in ENDS.iter().enumerate() {
+        if first <= place && place < last {
+            keys.push(key(*ends)?)?;
+        }
+    }
+    Ok(keys)
+}
+
+fn splits_ends(
+    alloc: Global,
+    first: usize,
+    last: usize,
+    least: usize,
+    wanted: &str,
+) -> Result<bool, Fail> {
+    Ok(splits::<Boxes>(alloc, &ends(alloc, first, last)?, least, wanted))
+}
+
+fn has_too_few_ends(alloc: Global, count: usize, least: usize) -> Result<bool, Fail> {
+    Ok(has_too_few::<Boxes>(alloc, &ends(alloc, 0, count)?, least))
+}
+
 #[test]
 fn splits_at_the_ends(rt: HostRuntime) -> Result<(), Fail> {
-    let (low, high) = (i32::MIN, i32::MAX);
-    let plane = key(low, low, high, high)?;
-    let keys = [
-        plane,
-        key(low, low, low, low)?,
-        key(high, high, high, high)?,
-        key(low, high, low, high)?,
-        key(high, low, high, low)?,
-        plane,
-        key(0, 0, 0, 0)?,
-        key(low, 0, high, 0)?,
-        key(0, low, 0, high)?,
-    ];
-    for (first, last, least, wanted) in [
-        (0, 9, 3, "rlrllrrrr"),
-        (0, 9, 4, "rlrllrrrl"),
-        (1, 5, 1, "lrlr"),
-    ] {
-        assert!(rt; first <= last && last <= 9 && least >= 1);
-        let sides = Boxes::pick_split(rt.alloc(), &keys[first..last], least)?;
-        assert_eq!(rt; letters(rt.alloc(), &sides)?.as_str(), wanted);
+    for (first, last, least, wanted) in &ENDS_SPLIT {
+        assert!(rt;
+            splits_ends(rt.alloc(), *first, *last, *least, wanted)?,
+            "{wanted}"
+        );
     }
-    let sides = Boxes::pick_split(rt.alloc(), &[plane; 4], 2)?;
-    assert_eq!(rt; letters(rt.alloc(), &sides)?.as_str(), "lrlr");
+    let plane = key(PLANE)?;
+    assert!(rt; splits::<Boxes>(rt.alloc(), &[plane; 4], 2, "lrlr"));
     for (count, least) in [(0, 1), (1, 1), (5, 3), (9, 5), (9, usize::MAX)] {
-        assert!(rt; count <= 9 && least >= 1);
-        let refused = Boxes::pick_split(rt.alloc(), &keys[..count], least);
-        assert_eq!(rt; refused.err(), Some(Refusal::TooFew));
+        assert!(rt;
+            has_too_few_ends(rt.alloc(), count, least)?,
+            "{count} {least}"
+        );
     }
     Ok(())
 }
@@ -241,38 +354,13 @@ fn splits_at_the_ends(rt: HostRuntime) -> Result<(), Fail> {
 #[test]
 fn answers_want_of_memory(rt: HostRuntime) -> Result<(), Fail> {
     let keys = [
-        key(0, 0, 0, 0)?,
-        key(1, 1, 1, 1)?,
-        key(10, 10, 10, 10)?,
-        key(11, 11, 11, 11)?,
+        key([0, 0, 0, 0])?,
+        key([1, 1, 1, 1])?,
+        key([10, 10, 10, 10])?,
+        key([11, 11, 11, 11])?,
     ];
     let before = keys;
-    let sides = match Boxes::pick_split(rt.alloc(), &keys, 2) {
-        Ok(sides) => sides,
-        Err(refusal) => {
-            assert_eq!(rt; refusal, Refusal::OutOfMemory);
-            Boxes::pick_split(rt.alloc(), &keys, 2)?
-        }
-    };
-    assert_eq!(rt; keys, before);
-    assert_eq!(rt; sides.len(), 4);
-    for (place, side) in [Side::Left, Side::Left, Side::Right, Side::Right]
-        .iter()
-        .enumerate()
-    {
-        assert_eq!(rt; sides.side(place), *side);
-    }
+    assert!(rt; splits_again::<Boxes>(rt.alloc(), &keys, 2, "llrr"));
+    assert!(rt; keys == before);
     Ok(())
-}
-
-/// The sides as letters.
-fn letters(alloc: Global, sides: &Sides) -> Result<String, Fail> {
-    let mut text = String::new(alloc);
-    for place in 0..sides.len() {
-        text.push(match sides.side(place) {
-            Side::Left => 'l',
-            Side::Right => 'r',
-        })?;
-    }
-    Ok(text)
 }

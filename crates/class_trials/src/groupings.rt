@@ -1,46 +1,60 @@
+use crate::picks::are;
 use key_class::{Grouping, Side};
+use std::alloc::Global;
 use std::test::Fail;
+
+/// How many places there are, how many of them are open, and how many are left and right.
+fn counts(groups: &Grouping) -> [usize; 4] {
+    [
+        groups.len(),
+        groups.opens(),
+        groups.lefts(),
+        groups.rights(),
+    ]
+}
+
+/// Puts an open place on a side. False where the place isn't open.
+fn put(groups: &mut Grouping, place: usize, side: Side) -> bool {
+    if place >= groups.len() || !groups.is_open(place) {
+        return false;
+    }
+    groups.put(place, side);
+    true
+}
+
+fn first_open(groups: &Grouping) -> Option<usize> {
+    if groups.opens() == 0 {
+        return None;
+    }
+    Some(groups.first_open())
+}
+
+/// Whether a place is open, if there is such a place.
+fn is_open(groups: &Grouping, place: usize) -> Option<bool> {
+    if place >= groups.len() {
+        return None;
+    }
+    Some(groups.is_open(place))
+}
+
+/// Whether the sides are those that letters name once what is open is put on one side.
+fn ends_as(groups: Grouping, alloc: Global, rest: Side, wanted: &str) -> Result<bool, Fail> {
+    let sides = groups.finish(alloc, rest)?;
+    Ok(are(&sides, wanted))
+}
 
 #[test]
 fn parts_places(rt: HostRuntime) -> Result<(), Fail> {
     let mut groups = Grouping::new(rt.alloc(), 5)?;
-    assert_eq!(rt;
-        (
-            groups.len(),
-            groups.opens(),
-            groups.lefts(),
-            groups.rights()
-        ),
-        (5, 5, 0, 0)
-    );
-    groups.put(3, Side::Left);
-    groups.put(0, Side::Right);
-    assert_eq!(rt;
-        (
-            groups.len(),
-            groups.opens(),
-            groups.lefts(),
-            groups.rights()
-        ),
-        (5, 3, 1, 1)
-    );
-    assert!(rt; !groups.is_open(0) && groups.is_open(1) && !groups.is_open(3) && groups.is_open(4));
-    let first = groups.first_open();
-    assert_eq!(rt; first, 1);
-    groups.put(first, Side::Left);
-    let sides = groups.finish(rt.alloc(), Side::Right)?;
-    assert_eq!(rt; sides.len(), 5);
-    for (place, side) in [
-        Side::Right,
-        Side::Left,
-        Side::Right,
-        Side::Left,
-        Side::Right,
-    ]
-    .iter()
-    .enumerate()
-    {
-        assert_eq!(rt; sides.side(place), *side, "{place}");
+    assert!(rt; counts(&groups) == [5, 5, 0, 0]);
+    assert!(rt; put(&mut groups, 3, Side::Left));
+    assert!(rt; put(&mut groups, 0, Side::Right));
+    assert!(rt; counts(&groups) == [5, 3, 1, 1]);
+    for (place, wanted) in [(0, false), (1, true), (3, false), (4, true)] {
+        assert!(rt; is_open(&groups, place) == Some(wanted), "{place}");
     }
+    assert!(rt; first_open(&groups) == Some(1));
+    assert!(rt; put(&mut groups, 1, Side::Left));
+    assert!(rt; ends_as(groups, rt.alloc(), Side::Right, "rlrlr")?);
     Ok(())
 }

@@ -8,6 +8,8 @@ mod groupings;
 #[cfg(test)]
 mod intervals;
 #[cfg(test)]
+mod picks;
+#[cfg(test)]
 mod queries;
 #[cfg(test)]
 mod refusals;

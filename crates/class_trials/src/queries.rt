@@ -53,31 +53,43 @@ fn composed(alloc: Global) -> Result<Pred<u8>, Fail> {
     either(alloc, left, right)
 }
 
+fn is_spelled(alloc: Global, query: &Pred<u8>, wanted: &str) -> Result<bool, Fail> {
+    let mut text = String::new(alloc);
+    spell(query, &mut text)?;
+    Ok(text.as_str() == wanted)
+}
+
 #[test]
 fn copies_queries(rt: HostRuntime) -> Result<(), Fail> {
     let query = composed(rt.alloc())?;
     let copy = query.copy(rt.alloc())?;
     for tree in [&query, &copy] {
-        let mut text = String::new(rt.alloc());
-        spell(tree, &mut text)?;
-        assert_eq!(rt; text.as_str(), "|!&0'!0''|0'''&00'");
+        assert!(rt; is_spelled(rt.alloc(), tree, "|!&0'!0''|0'''&00'")?);
     }
     Ok(())
+}
+
+/// 1 and not 2.
+fn small(alloc: Global) -> Result<Pred<u8>, Fail> {
+    let part = negated(alloc, Pred::Atom(2))?;
+    both(alloc, Pred::Atom(1), part)
+}
+
+/// A copy, for which memory may be refused once.
+fn copied(alloc: Global, query: &Pred<u8>) -> Result<Pred<u8>, AllocError> {
+    match query.copy(alloc) {
+        Ok(copy) => Ok(copy),
+        Err(AllocError) => query.copy(alloc),
+    }
 }
 
 /// Holds whichever allocation of the copy is refused: the query can then be copied again.
 #[test]
 fn answers_want_of_memory(rt: HostRuntime) -> Result<(), Fail> {
-    let part = negated(rt.alloc(), Pred::Atom(2))?;
-    let query = both(rt.alloc(), Pred::Atom(1), part)?;
-    let copy = match query.copy(rt.alloc()) {
-        Ok(copy) => copy,
-        Err(AllocError) => query.copy(rt.alloc())?,
-    };
+    let query = small(rt.alloc())?;
+    let copy = copied(rt.alloc(), &query)?;
     for tree in [&query, &copy] {
-        let mut text = String::new(rt.alloc());
-        spell(tree, &mut text)?;
-        assert_eq!(rt; text.as_str(), "&0'!0''");
+        assert!(rt; is_spelled(rt.alloc(), tree, "&0'!0''")?);
     }
     Ok(())
 }

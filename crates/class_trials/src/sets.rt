@@ -1,25 +1,43 @@
-use key_class::{KeyClass, Refusal, Rel, Side, Sides};
+use crate::picks::{asked, has_too_few, splits, splits_again};
+use key_class::{KeyClass, Refusal, Rel};
 use set_class::{Atom, Elements, Sets, atoms_mean_their_words};
 use std::alloc::Global;
 use std::test::Fail;
 
-/// Whether a key matches an atom, and whether a bound is consistent with it.
-fn asked<C: KeyClass>(atom: &C::Atom, key: C::Key, bound: C::Key) -> (bool, bool) {
-    (C::matches(atom, key), C::consistent(atom, bound))
+/// Numbers and the mask of their set.
+static MASKS: [(&[u8], u128); 3] = [
+    (&[], 0),
+    (&[127, 0, 1, 0], (1 << 127) + 3),
+    (&[5, 5], 1 << 5),
+];
+
+fn mask(numbers: &[u8]) -> Result<u128, Refusal> {
+    Ok(Elements::new(numbers)?.mask)
+}
+
+/// The empty set with a number and then with another.
+fn with_both(one: u8, other: u8) -> Result<Elements, Refusal> {
+    Elements::empty().with(one)?.with(other)
+}
+
+fn contains(numbers: &[u8], number: u8) -> Result<bool, Refusal> {
+    Ok(Elements::new(numbers)?.contains(number))
 }
 
 #[test]
-fn makes_sets_of_small_numbers(rt: HostRuntime) -> Result<(), Fail> {
-    assert_eq!(rt; Elements::new(&[])?, Elements::empty());
-    assert_eq!(rt; Elements::new(&[127, 0, 1, 0])?.mask, (1 << 127) + 3);
-    assert_eq!(rt; Elements::empty().with(5)?.with(5)?, Elements::new(&[5])?);
-    assert_eq!(rt; Elements::new(&[1, 128]).err(), Some(Refusal::BadConfig));
-    assert_eq!(rt;
-        Elements::new(&[1]).ok().map(|set| set.contains(1)),
-        Some(true)
-    );
-    assert_eq!(rt; Elements::empty().with(200).err(), Some(Refusal::BadConfig));
-    let set = Elements::new(&[0, 64, 127])?;
+fn makes_sets_of_small_numbers(rt: HostRuntime) {
+    for (numbers, wanted) in &MASKS {
+        assert!(rt; mask(numbers) == Ok(*wanted), "{numbers:?}");
+    }
+    assert!(rt; Elements::new(&[]) == Ok(Elements::empty()));
+    assert!(rt; with_both(5, 5) == Elements::new(&[5]));
+    assert!(rt; Elements::new(&[1, 128]).err() == Some(Refusal::BadConfig));
+    assert!(rt; Elements::empty().with(200).err() == Some(Refusal::BadConfig));
+}
+
+#[test]
+fn tells_elements(rt: HostRuntime) {
+    assert!(rt; contains(&[1], 1) == Ok(true));
     for (number, wanted) in [
         (0, true),
         (1, false),
@@ -28,69 +46,85 @@ fn makes_sets_of_small_numbers(rt: HostRuntime) -> Result<(), Fail> {
         (128, false),
         (255, false),
     ] {
-        assert_eq!(rt; set.contains(number), wanted, "{number}");
+        assert!(rt; contains(&[0, 64, 127], number) == Ok(wanted), "{number}");
     }
-    Ok(())
+}
+
+/// An atom, whether the key {1 2} and then the empty set match it, and whether their bound {1 2 3} is consistent with it.
+static MATCHES: [(Rel, &[u8], bool, bool, bool); 16] = [
+    (Rel::Overlaps, &[2, 9], true, false, true),
+    (Rel::Overlaps, &[3], false, false, true),
+    (Rel::Overlaps, &[0, 127], false, false, false),
+    (Rel::Overlaps, &[], false, false, false),
+    (Rel::Within, &[1, 2, 9], true, true, true),
+    (Rel::Within, &[2, 3], false, true, true),
+    (Rel::Within, &[9], false, true, true),
+    (Rel::Within, &[], false, true, true),
+    (Rel::Holds, &[1], true, false, true),
+    (Rel::Holds, &[3], false, false, true),
+    (Rel::Holds, &[1, 9], false, false, false),
+    (Rel::Holds, &[], true, true, true),
+    (Rel::Same, &[2, 1], true, false, true),
+    (Rel::Same, &[1, 2, 3], false, false, true),
+    (Rel::Same, &[1, 2, 9], false, false, false),
+    (Rel::Same, &[], false, true, true),
+];
+
+/// Whether a key matches an atom, and whether its bound {1 2 3} is consistent with it.
+fn asked_of(rel: Rel, operand: &[u8], key: &[u8]) -> Result<(bool, bool), Refusal> {
+    let operand = Elements::new(operand)?;
+    let atom = Atom { rel, operand };
+    Ok(asked::<Sets>(&atom, Elements::new(key)?, Elements::new(&[1, 2, 3])?))
 }
 
 #[test]
-fn matches_by_elements(rt: HostRuntime) -> Result<(), Fail> {
-    let bound = Elements::new(&[1, 2, 3])?;
-    let empty = Elements::empty();
-    // The operand, whether the key {1 2} and then the empty set match, and whether their bound {1 2 3} is consistent.
-    for (rel, operand, matches, empty_matches, consistent) in [
-        (Rel::Overlaps, Elements::new(&[2, 9])?, true, false, true),
-        (Rel::Overlaps, Elements::new(&[3])?, false, false, true),
-        (
-            Rel::Overlaps,
-            Elements::new(&[0, 127])?,
-            false,
-            false,
-            false,
-        ),
-        (Rel::Overlaps, empty, false, false, false),
-        (Rel::Within, Elements::new(&[1, 2, 9])?, true, true, true),
-        (Rel::Within, Elements::new(&[2, 3])?, false, true, true),
-        (Rel::Within, Elements::new(&[9])?, false, true, true),
-        (Rel::Within, empty, false, true, true),
-        (Rel::Holds, Elements::new(&[1])?, true, false, true),
-        (Rel::Holds, Elements::new(&[3])?, false, false, true),
-        (Rel::Holds, Elements::new(&[1, 9])?, false, false, false),
-        (Rel::Holds, empty, true, true, true),
-        (Rel::Same, Elements::new(&[2, 1])?, true, false, true),
-        (Rel::Same, Elements::new(&[1, 2, 3])?, false, false, true),
-        (Rel::Same, Elements::new(&[1, 2, 9])?, false, false, false),
-        (Rel::Same, empty, false, true, true),
-    ] {
-        let atom = Atom { rel, operand };
-        assert_eq!(rt;
-            asked::<Sets>(&atom, Elements::new(&[1, 2])?, bound),
-            (matches, consistent),
-            "{atom:?}"
-        );
-        assert_eq!(rt;
-            asked::<Sets>(&atom, empty, bound),
-            (empty_matches, consistent),
-            "{atom:?}"
+fn matches_by_elements(rt: HostRuntime) {
+    for (rel, operand, matches, empty_matches, consistent) in &MATCHES {
+        let told = asked_of(*rel, operand, &[1, 2]);
+        assert!(rt; told == Ok((*matches, *consistent)), "{rel:?} {operand:?}");
+        let told = asked_of(*rel, operand, &[]);
+        assert!(rt;
+            told == Ok((*empty_matches, *consistent)),
+            "{rel:?} {operand:?}"
         );
     }
-    Ok(())
 }
 
+const ALL: Elements = Elements { mask: u128::MAX };
+
+const NONE: Elements = Elements { mask: 0 };
+
+/// The sets {0 1}, {1 127} and {0 1 127}.
+const LOW: Elements = Elements { mask: 3 };
+
+const HIGH: Elements = Elements {
+    mask: (1 << 127) + 2,
+};
+
+const BOTH: Elements = Elements {
+    mask: (1 << 127) + 3,
+};
+
 #[test]
-fn measures_sets(rt: HostRuntime) -> Result<(), Fail> {
-    let all = Elements { mask: u128::MAX };
-    let (low, high) = (Elements::new(&[0, 1])?, Elements::new(&[1, 127])?);
-    assert_eq!(rt; Sets::size(all), 128);
-    assert_eq!(rt; Sets::size(Elements::empty()), 0);
-    assert_eq!(rt; Sets::penalty(Elements::empty(), all), 128);
-    assert_eq!(rt; Sets::penalty(low, high), 1);
-    assert_eq!(rt; Sets::penalty(all, high), 0);
-    assert_eq!(rt; Sets::union(low, high), Elements::new(&[0, 1, 127])?);
-    assert!(rt; Sets::covers(all, low) && !Sets::covers(low, all));
-    assert!(rt; Sets::covers(low, Elements::empty()));
+fn measures_sets(rt: HostRuntime) {
+    assert!(rt; Elements::new(&[0, 1]) == Ok(LOW));
+    assert!(rt; Elements::new(&[1, 127]) == Ok(HIGH));
+    for (set, wanted) in [(ALL, 128), (NONE, 0)] {
+        assert!(rt; Sets::size(set) == wanted, "{set:?}");
+    }
+    for (bound, key, wanted) in [(NONE, ALL, 128), (LOW, HIGH, 1), (ALL, HIGH, 0)] {
+        assert!(rt; Sets::penalty(bound, key) == wanted, "{bound:?} {key:?}");
+    }
     atoms_mean_their_words();
-    Ok(())
+}
+
+#[test]
+fn joins_sets(rt: HostRuntime) {
+    assert!(rt; Elements::new(&[0, 1, 127]) == Ok(BOTH));
+    assert!(rt; Sets::union(LOW, HIGH) == BOTH);
+    for (bound, key, wanted) in [(ALL, LOW, true), (LOW, ALL, false), (LOW, NONE, true)] {
+        assert!(rt; Sets::covers(bound, key) == wanted, "{bound:?} {key:?}");
+    }
 }
 
 /// Sets by their elements, the least number for a side, and the side of each set.
@@ -137,44 +171,69 @@ static SPLITS: [Split; 5] = [
     },
 ];
 
+fn keys(alloc: Global, sets: &[&[u8]]) -> Result<Vec<Elements>, Fail> {
+    let mut keys = Vec::new(alloc);
+    for numbers in sets {
+        keys.push(Elements::new(numbers)?)?;
+    }
+    Ok(keys)
+}
+
+fn is_split(alloc: Global, split: &Split) -> Result<bool, Fail> {
+    let keys = keys(alloc, split.sets)?;
+    Ok(splits::<Sets>(alloc, &keys, split.least, split.sides))
+}
+
 #[test]
 fn splits_by_what_a_bound_gains(rt: HostRuntime) -> Result<(), Fail> {
     for split in &SPLITS {
-        let mut keys = Vec::new(rt.alloc());
-        for numbers in split.sets {
-            keys.push(Elements::new(numbers)?)?;
-        }
-        assert!(rt; split.least >= 1);
-        let sides = Sets::pick_split(rt.alloc(), &keys, split.least)?;
-        assert_eq!(rt; letters(rt.alloc(), &sides)?.as_str(), split.sides);
+        assert!(rt; is_split(rt.alloc(), split)?, "{}", split.sides);
     }
     Ok(())
 }
 
+/// One of sixty-four sets.
+fn set_at(place: u32) -> Result<Elements, Refusal> {
+    let mut set = Elements::empty();
+    for number in 0..128u8 {
+        if u32::from(number)
+            .wrapping_mul(7)
+            .wrapping_add(place.wrapping_mul(13))
+            % 31
+            < place % 5
+        {
+            set = set.with(number)?;
+        }
+    }
+    Ok(set)
+}
+
+/// The first so many of sixty-four sets.
+fn first_of_sixty_four(alloc: Global, count: u32) -> Result<Vec<Elements>, Fail> {
+    let mut keys = Vec::new(alloc);
+    for place in 0..count {
+        keys.push(set_at(place)?)?;
+    }
+    Ok(keys)
+}
+
+fn has_too_few_of(alloc: Global, count: u32, least: usize) -> Result<bool, Fail> {
+    let keys = first_of_sixty_four(alloc, count)?;
+    Ok(has_too_few::<Sets>(alloc, &keys, least))
+}
+
 #[test]
 fn splits_sixty_four_sets(rt: HostRuntime) -> Result<(), Fail> {
-    let mut keys = Vec::new(rt.alloc());
-    for place in 0..64u32 {
-        let mut set = Elements::empty();
-        for number in 0..128u8 {
-            if (u32::from(number) * 7 + place * 13) % 31 < place % 5 {
-                set = set.with(number)?;
-            }
-        }
-        keys.push(set)?;
-    }
+    let keys = first_of_sixty_four(rt.alloc(), 64)?;
+    let wanted = "lrrlllrrrrrllrrlrllrrrllllrrrlrlrrllllrrrlllrlrrllrlrllllrrrrllr";
     for least in [12, 30] {
-        assert!(rt; least >= 1);
-        let sides = Sets::pick_split(rt.alloc(), &keys, least)?;
-        assert_eq!(rt;
-            letters(rt.alloc(), &sides)?.as_str(),
-            "lrrlllrrrrrllrrlrllrrrllllrrrlrlrrllllrrrlllrlrrllrlrllllrrrrllr"
-        );
+        assert!(rt; splits::<Sets>(rt.alloc(), &keys, least, wanted), "{least}");
     }
     for (count, least) in [(0, 1), (1, 1), (3, 2), (64, 33), (64, usize::MAX)] {
-        assert!(rt; count <= keys.len() && least >= 1);
-        let refused = Sets::pick_split(rt.alloc(), &keys[..count], least);
-        assert_eq!(rt; refused.err(), Some(Refusal::TooFew));
+        assert!(rt;
+            has_too_few_of(rt.alloc(), count, least)?,
+            "{count} {least}"
+        );
     }
     Ok(())
 }
@@ -189,32 +248,7 @@ fn answers_want_of_memory(rt: HostRuntime) -> Result<(), Fail> {
         Elements::new(&[9, 10])?,
     ];
     let before = keys;
-    let sides = match Sets::pick_split(rt.alloc(), &keys, 2) {
-        Ok(sides) => sides,
-        Err(refusal) => {
-            assert_eq!(rt; refusal, Refusal::OutOfMemory);
-            Sets::pick_split(rt.alloc(), &keys, 2)?
-        }
-    };
-    assert_eq!(rt; keys, before);
-    assert_eq!(rt; sides.len(), 4);
-    for (place, side) in [Side::Left, Side::Left, Side::Right, Side::Right]
-        .iter()
-        .enumerate()
-    {
-        assert_eq!(rt; sides.side(place), *side);
-    }
+    assert!(rt; splits_again::<Sets>(rt.alloc(), &keys, 2, "llrr"));
+    assert!(rt; keys == before);
     Ok(())
-}
-
-/// The sides as letters.
-fn letters(alloc: Global, sides: &Sides) -> Result<String, Fail> {
-    let mut text = String::new(alloc);
-    for place in 0..sides.len() {
-        text.push(match sides.side(place) {
-            Side::Left => 'l',
-            Side::Right => 'r',
-        })?;
-    }
-    Ok(text)
 }

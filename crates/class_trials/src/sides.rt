@@ -1,27 +1,32 @@
+use crate::picks::are;
 use key_class::{Side, Sides};
+use std::alloc::Global;
 use std::test::Fail;
+
+/// Right, then left.
+fn two(alloc: Global) -> Result<Sides, Fail> {
+    let mut sides = Sides::new(alloc);
+    sides.push(Side::Right)?;
+    sides.push(Side::Left)?;
+    Ok(sides)
+}
+
+fn three_lefts(alloc: Global) -> Result<Sides, Fail> {
+    Ok(Sides::from_vec(vec![in alloc; Side::Left; 3]?))
+}
 
 #[test]
 fn gathers_sides(rt: HostRuntime) -> Result<(), Fail> {
-    let mut sides = Sides::new(rt.alloc());
-    assert_eq!(rt; sides.len(), 0);
-    sides.push(Side::Right)?;
-    sides.push(Side::Left)?;
-    assert_eq!(rt; sides.len(), 2);
-    assert_eq!(rt; (sides.side(0), sides.side(1)), (Side::Right, Side::Left));
-    let sides = Sides::from_vec(vec![in rt.alloc(); Side::Left; 3]?);
-    assert_eq!(rt; sides.len(), 3);
-    assert_eq!(rt; sides.side(2), Side::Left);
+    assert!(rt; are(&Sides::new(rt.alloc()), ""));
+    assert!(rt; are(&two(rt.alloc())?, "rl"));
+    assert!(rt; are(&three_lefts(rt.alloc())?, "lll"));
     Ok(())
 }
 
 #[test]
 fn copies_sides(rt: HostRuntime) -> Result<(), Fail> {
-    let mut sides = Sides::new(rt.alloc());
-    sides.push(Side::Right)?;
-    sides.push(Side::Left)?;
+    let sides = two(rt.alloc())?;
     let copy = sides.copy(rt.alloc())?;
-    assert_eq!(rt; (sides.len(), copy.len()), (2, 2));
-    assert_eq!(rt; (copy.side(0), copy.side(1)), (Side::Right, Side::Left));
+    assert!(rt; are(&copy, "rl") && are(&sides, "rl"));
     Ok(())
 }

@@ -1,0 +1,58 @@
+use key_class::{KeyClass, Refusal, Side, Sides};
+use std::alloc::Global;
+
+/// Whether a key matches an atom, and whether a bound is consistent with it.
+pub fn asked<C: KeyClass>(atom: &C::Atom, key: C::Key, bound: C::Key) -> (bool, bool) {
+    (C::matches(atom, key), C::consistent(atom, bound))
+}
+
+/// Whether sides are those that letters name: l for left, r for right.
+pub fn are(sides: &Sides, letters: &str) -> bool {
+    let letters = letters.as_bytes();
+    if sides.len() != letters.len() {
+        return false;
+    }
+    for place in 0..sides.len() {
+        let letter = match sides.side(place) {
+            Side::Left => b'l',
+            Side::Right => b'r',
+        };
+        if letter != letters[place] {
+            return false;
+        }
+    }
+    true
+}
+
+/// Whether a class puts keys on these sides.
+pub fn splits<C: KeyClass>(alloc: Global, keys: &[C::Key], least: usize, wanted: &str) -> bool {
+    if least < 1 {
+        return false;
+    }
+    match C::pick_split(alloc, keys, least) {
+        Ok(sides) => are(&sides, wanted),
+        Err(_) => false,
+    }
+}
+
+/// The same, where want of memory is answered as such, and the split asked for again.
+pub fn splits_again<C: KeyClass>(
+    alloc: Global,
+    keys: &[C::Key],
+    least: usize,
+    wanted: &str,
+) -> bool {
+    if least < 1 {
+        return false;
+    }
+    match C::pick_split(alloc, keys, least) {
+        Ok(sides) => are(&sides, wanted),
+        Err(Refusal::OutOfMemory) => splits::<C>(alloc, keys, least, wanted),
+        Err(_) => false,
+    }
+}
+
+/// Whether a class has too few keys for two sides of `least` keys.
+pub fn has_too_few<C: KeyClass>(alloc: Global, keys: &[C::Key], least: usize) -> bool {
+    least >= 1 && C::pick_split(alloc, keys, least).err() == Some(Refusal::TooFew)
+}
