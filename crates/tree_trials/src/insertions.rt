@@ -5,6 +5,7 @@ use descent::{Finder, Step, best_branch, next_step};
 use interval_class::{Interval, Intervals};
 use key_class::{KeyClass, Refusal};
 use node::Branch;
+use page_table::PageTable;
 use row_version::Entry;
 use scan::Sought;
 use split::SearchTree;
@@ -67,9 +68,9 @@ pub fn insert<C: KeyClass>(
 }
 
 /// The key of a row: one of 101 beginnings and 7 lengths.
-pub fn key_of(row: u32) -> Result<Interval, Fail> {
+pub fn key_of(row: u32) -> Result<Interval, Refusal> {
     let lo = i64::from(row % 101).wrapping_mul(37) % 101;
-    Ok(Interval::new(lo, lo.wrapping_add(i64::from(row % 7)))?)
+    Interval::new(lo, lo.wrapping_add(i64::from(row % 7)))
 }
 
 /// The page on which a finder meets its row, within that many visits.
@@ -101,83 +102,95 @@ fn stands(alloc: Global, tree: &SearchTree<Intervals>, row: u32) -> Result<bool,
     Ok(page_of(alloc, tree, row)?.is_some_and(|page| tree.is_leaf(u64::from(page))))
 }
 
-#[test]
-fn inserts_rows_over_many_levels(rt: HostRuntime) -> Result<(), Fail> {
-    let alloc = rt.alloc();
-    let mut tree = SearchTree::<Intervals>::new(alloc, 4, 2, 65_536)?;
-    for row in 1..201 {
-        assert!(rt;
-            insert(alloc, &mut tree, Entry::new(key_of(row)?, row, 0))?,
-            "{row}"
-        );
-    }
-    for row in 1..201 {
-        assert!(rt; stands(alloc, &tree, row)?, "{row}");
-    }
+fn inserted(alloc: Global, tree: &mut SearchTree<Intervals>, row: u32) -> Result<bool, Refusal> {
+    insert(alloc, tree, Entry::new(key_of(row)?, row, 0))
+}
+
+/// How many rows the pages hold.
+fn rows_held(tree: &SearchTree<Intervals>) -> usize {
     let table = tree.pages();
     let mut held: usize = 0;
     for page in 0..table.len() as u32 {
         held = held.wrapping_add(table.page(page).rows().len());
     }
-    assert_eq!(rt; held, 200);
-    assert!(rt; table.page(0).level() > 2);
+    held
+}
+
+fn level(table: &PageTable<Interval>) -> Option<u32> {
+    if table.len() == 0 {
+        return None;
+    }
+    Some(table.page(0).level())
+}
+
+#[test]
+fn inserts_rows_over_many_levels(rt: HostRuntime) -> Result<(), Fail> {
+    let mut tree = SearchTree::<Intervals>::new(rt.alloc(), 4, 2, 65_536)?;
+    for row in 1..201 {
+        assert!(rt; inserted(rt.alloc(), &mut tree, row)?, "{row}");
+    }
+    for row in 1..201 {
+        assert!(rt; stands(rt.alloc(), &tree, row)?, "{row}");
+    }
+    assert!(rt; rows_held(&tree) == 200);
+    assert!(rt; level(tree.pages()) > Some(2));
     Ok(())
+}
+
+/// The first row whose insertion is not carried out, with why if it is refused.
+fn first_refused(
+    alloc: Global,
+    tree: &mut SearchTree<Intervals>,
+) -> Option<(u32, Option<Refusal>)> {
+    for row in 1..201 {
+        match inserted(alloc, tree, row) {
+            Ok(true) => (),
+            Ok(false) => return Some((row, None)),
+            Err(refusal) => return Some((row, Some(refusal))),
+        }
+    }
+    None
 }
 
 #[test]
 fn refuses_an_insertion_only_where_the_pages_are_full(rt: HostRuntime) -> Result<(), Fail> {
-    let alloc = rt.alloc();
-    let mut tree = SearchTree::<Intervals>::new(alloc, 4, 2, 9)?;
-    let mut placed = 0;
-    let mut refused = None;
-    for row in 1..201 {
-        match insert(alloc, &mut tree, Entry::new(key_of(row)?, row, 0)) {
-            Ok(here) => {
-                assert!(rt; here, "{row}");
-                placed = row;
-            }
-            Err(refusal) => {
-                refused = Some(refusal);
-                break;
-            }
-        }
-    }
-    assert_eq!(rt; refused, Some(Refusal::PagesFull));
-    assert!(rt; placed > 8);
-    for row in 1..placed {
-        assert!(rt; stands(alloc, &tree, row)?, "{row}");
+    let mut tree = SearchTree::<Intervals>::new(rt.alloc(), 4, 2, 9)?;
+    let Some((refused, why)) = first_refused(rt.alloc(), &mut tree) else {
+        panic!(rt; "none is refused");
+    };
+    assert!(rt; why == Some(Refusal::PagesFull), "{refused}");
+    assert!(rt; refused > 9);
+    for row in 1..refused {
+        assert!(rt; stands(rt.alloc(), &tree, row)?, "{row}");
     }
     Ok(())
 }
 
+/// The keys of four branches, to the pages 1 to 4.
+static BRANCHES: [(i64, i64, u32); 4] = [(0, 9, 1), (4, 6, 2), (5, 7, 3), (20, 30, 4)];
+
+fn branches(alloc: Global) -> Result<Vec<Branch<Interval>>, Fail> {
+    let mut branches = Vec::new(alloc);
+    for (lo, hi, child) in &BRANCHES {
+        branches.push(Branch {
+            key: Interval::new(*lo, *hi)?,
+            child: *child,
+        })?;
+    }
+    Ok(branches)
+}
+
+/// The place of the branch that a point's row goes to.
+fn best(branches: &[Branch<Interval>], point: i64) -> Result<Option<usize>, Refusal> {
+    Ok(best_branch::<Intervals>(branches, Interval::new(point, point)?))
+}
+
 #[test]
 fn chooses_the_branch_that_grows_least(rt: HostRuntime) -> Result<(), Fail> {
-    let branches = [
-        Branch {
-            key: Interval::new(0, 9)?,
-            child: 1,
-        },
-        Branch {
-            key: Interval::new(4, 6)?,
-            child: 2,
-        },
-        Branch {
-            key: Interval::new(5, 7)?,
-            child: 3,
-        },
-        Branch {
-            key: Interval::new(20, 30)?,
-            child: 4,
-        },
-    ];
+    let branches = branches(rt.alloc())?;
     for (point, place) in [(5, 1), (7, 2), (2, 0), (13, 0), (19, 3)] {
-        let key = Interval::new(point, point)?;
-        assert_eq!(rt;
-            best_branch::<Intervals>(&branches, key),
-            Some(place),
-            "{point}"
-        );
+        assert!(rt; best(&branches, point)? == Some(place), "{point}");
     }
-    assert_eq!(rt; best_branch::<Intervals>(&[], Interval::new(1, 1)?), None);
+    assert!(rt; best(&[], 1)?.is_none());
     Ok(())
 }

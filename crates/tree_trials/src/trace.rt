@@ -3,7 +3,7 @@ use key_class::{Refusal, Side, Sides};
 use page_table::PageTable;
 use row_version::Entry;
 use split::SearchTree;
-use std::alloc::Global;
+use std::alloc::{AllocError, Global};
 use std::test::Fail;
 
 /// A step of the trace. Keys are points.
@@ -16,51 +16,99 @@ enum Step {
     Grow,
 }
 
-/// Two entries to the left and two to the right.
-pub fn halves(alloc: Global) -> Result<Sides, Fail> {
+/// The sides that letters name: l for left, r for right.
+fn sides(alloc: Global, letters: &str) -> Result<Sides, AllocError> {
     let mut sides = Sides::new(alloc);
-    for side in [Side::Left, Side::Left, Side::Right, Side::Right] {
-        sides.push(side)?;
+    for letter in letters.as_bytes() {
+        sides.push(if *letter == b'l' {
+            Side::Left
+        } else {
+            Side::Right
+        })?;
     }
     Ok(sides)
 }
 
-/// The answer to a step, where `rows` rows were placed before.
-fn answer(
+/// Two entries to the left and two to the right.
+pub fn halves(alloc: Global) -> Result<Sides, AllocError> {
+    sides(alloc, "llrr")
+}
+
+fn placed(
+    tree: &mut SearchTree<Intervals>,
+    page: u64,
+    point: i64,
+    row: u32,
+) -> Result<(), Refusal> {
+    tree.place(page, Entry::new(Interval::new(point, point)?, row, 0))
+}
+
+fn enlarged(
+    tree: &mut SearchTree<Intervals>,
+    parent: u64,
+    child: u64,
+    point: i64,
+) -> Result<(), Refusal> {
+    tree.enlarge(parent, child, Interval::new(point, point)?)
+}
+
+fn split(alloc: Global, tree: &mut SearchTree<Intervals>, page: u64) -> Result<u32, Refusal> {
+    tree.split(page, &halves(alloc)?)
+}
+
+fn grown(alloc: Global, tree: &mut SearchTree<Intervals>) -> Result<(u32, u32), Refusal> {
+    tree.grow(&halves(alloc)?)
+}
+
+/// What a step did.
+#[derive(Clone, Copy, Debug, PartialEq, Eq)]
+enum Answer {
+    Committed(u32),
+    Enlarged,
+    Split(u32),
+    Posted,
+    Grown(u32, u32),
+}
+
+/// Carries out a step, where `rows` rows were placed before.
+fn carry_out(
     alloc: Global,
     tree: &mut SearchTree<Intervals>,
     rows: u32,
     step: Step,
-) -> Result<String, Fail> {
-    let refusal = match step {
+) -> Result<Answer, Refusal> {
+    match step {
         Step::Place(page, point) => {
             let number = rows.wrapping_add(1);
-            let entry = Entry::new(Interval::new(point, point)?, number, 0);
-            match tree.place(page, entry) {
-                Ok(()) => return Ok(format!(in alloc; "committed {number}")?),
-                Err(refusal) => refusal,
-            }
+            placed(tree, page, point, number)?;
+            Ok(Answer::Committed(number))
         }
         Step::Enlarge(parent, child, point) => {
-            match tree.enlarge(parent, child, Interval::new(point, point)?) {
-                Ok(()) => return Ok(format!(in alloc; "enlarged")?),
-                Err(refusal) => refusal,
-            }
+            enlarged(tree, parent, child, point)?;
+            Ok(Answer::Enlarged)
         }
-        Step::Split(page) => match tree.split(page, &halves(alloc)?) {
-            Ok(sibling) => return Ok(format!(in alloc; "split {sibling}")?),
-            Err(refusal) => refusal,
-        },
-        Step::Post(parent, child) => match tree.post(parent, child) {
-            Ok(()) => return Ok(format!(in alloc; "posted")?),
-            Err(refusal) => refusal,
-        },
-        Step::Grow => match tree.grow(&halves(alloc)?) {
-            Ok((a, b)) => return Ok(format!(in alloc; "grown {a} {b}")?),
-            Err(refusal) => refusal,
-        },
-    };
-    Ok(format!(in alloc; "refused {refusal}")?)
+        Step::Split(page) => Ok(Answer::Split(split(alloc, tree, page)?)),
+        Step::Post(parent, child) => {
+            tree.post(parent, child)?;
+            Ok(Answer::Posted)
+        }
+        Step::Grow => {
+            let (a, b) = grown(alloc, tree)?;
+            Ok(Answer::Grown(a, b))
+        }
+    }
+}
+
+/// An answer's text.
+fn told(alloc: Global, answer: Result<Answer, Refusal>) -> Result<String, AllocError> {
+    match answer {
+        Ok(Answer::Committed(row)) => format!(in alloc; "committed {row}"),
+        Ok(Answer::Enlarged) => format!(in alloc; "enlarged"),
+        Ok(Answer::Split(sibling)) => format!(in alloc; "split {sibling}"),
+        Ok(Answer::Posted) => format!(in alloc; "posted"),
+        Ok(Answer::Grown(a, b)) => format!(in alloc; "grown {a} {b}"),
+        Err(refusal) => format!(in alloc; "refused {refusal}"),
+    }
 }
 
 /// The steps of the trace with their answers.
@@ -133,18 +181,22 @@ static PAGES: [(Place, &[u32]); 11] = [
     ((10, 1, 0, None), &[]),
 ];
 
+fn is_told(alloc: Global, answer: Result<Answer, Refusal>, wanted: &str) -> Result<bool, Fail> {
+    Ok(told(alloc, answer)?.as_str() == wanted)
+}
+
 /// Gives a tree each step in turn. Returns the first that is not answered as wanted, with its answer.
 fn other_answer(
     alloc: Global,
     tree: &mut SearchTree<Intervals>,
-) -> Result<Option<(Step, String)>, Fail> {
+) -> Result<Option<(Step, Result<Answer, Refusal>)>, Fail> {
     let mut rows = 0;
     for (step, wanted) in &TRACE {
-        let answer = answer(alloc, tree, rows, *step)?;
-        if answer.as_str() != *wanted {
+        let answer = carry_out(alloc, tree, rows, *step);
+        if !is_told(alloc, answer, wanted)? {
             return Ok(Some((*step, answer)));
         }
-        if wanted.starts_with("committed") {
+        if matches!(answer, Ok(Answer::Committed(_))) {
             rows = u32::wrapping_add(rows, 1);
         }
     }
@@ -165,17 +217,23 @@ fn stands(table: &PageTable<Interval>, (number, level, nsn, right): Place, rows:
 #[test]
 fn answers_the_worked_trace(rt: HostRuntime) -> Result<(), Fail> {
     let mut tree = SearchTree::<Intervals>::new(rt.alloc(), 4, 2, 65_536)?;
-    assert_eq!(rt; other_answer(rt.alloc(), &mut tree)?, None);
+    let other = other_answer(rt.alloc(), &mut tree)?;
+    assert!(rt; other.is_none(), "{other:?}");
     let table = tree.pages();
-    assert_eq!(rt; (table.counter(), table.len()), (6, 11));
+    assert!(rt; table.counter() == 6 && table.len() == 11);
     for (place, rows) in &PAGES {
         assert!(rt; stands(table, *place, rows), "{place:?}");
     }
     Ok(())
 }
 
+/// How a tree is refused, if it is.
+fn config_refusal(alloc: Global, fan: u64, least: u64, limit: u64) -> Option<Refusal> {
+    SearchTree::<Intervals>::new(alloc, fan, least, limit).err()
+}
+
 #[test]
-fn refuses_configurations(rt: HostRuntime) -> Result<(), Fail> {
+fn refuses_configurations(rt: HostRuntime) {
     for (fan, least, limit) in [
         (4, 3, 9),
         (65, 2, 9),
@@ -184,61 +242,81 @@ fn refuses_configurations(rt: HostRuntime) -> Result<(), Fail> {
         (4, 2, 0),
         (4, 2, 65_537),
     ] {
-        let refused = SearchTree::<Intervals>::new(rt.alloc(), fan, least, limit).err();
-        assert_eq!(rt; refused, Some(Refusal::BadConfig), "{fan} {least} {limit}");
+        let refused = config_refusal(rt.alloc(), fan, least, limit);
+        assert!(rt;
+            refused == Some(Refusal::BadConfig),
+            "{fan} {least} {limit}"
+        );
+    }
+}
+
+/// Places rows at the point 7 in the root, from 1 up to another, which isn't placed.
+fn fill(tree: &mut SearchTree<Intervals>, end: u32) -> Result<(), Refusal> {
+    for row in 1..end {
+        placed(tree, 0, 7, row)?;
     }
     Ok(())
 }
 
-/// One entry to the left and three to the right, of four.
-fn too_few_left(alloc: Global) -> Result<Sides, Fail> {
-    let mut sides = Sides::new(alloc);
-    for side in [Side::Left, Side::Right, Side::Right, Side::Right] {
-        sides.push(side)?;
-    }
-    Ok(sides)
+fn growth_refusal(
+    alloc: Global,
+    tree: &mut SearchTree<Intervals>,
+    letters: &str,
+) -> Result<Option<Refusal>, AllocError> {
+    Ok(tree.grow(&sides(alloc, letters)?).err())
 }
 
 #[test]
 fn refuses_growth(rt: HostRuntime) -> Result<(), Fail> {
-    let alloc = rt.alloc();
-    let mut tree = SearchTree::<Intervals>::new(alloc, 4, 2, 2)?;
-    assert_eq!(rt; (tree.fan(), tree.least(), tree.pages_left()), (4, 2, 1));
-    for row in 1..5 {
-        tree.place(0, Entry::new(Interval::new(7, 7)?, row, 0))?;
-    }
-    for (sides, wanted) in [
-        (Sides::new(alloc), Refusal::BadSides),
-        (too_few_left(alloc)?, Refusal::BadSides),
-        (halves(alloc)?, Refusal::PagesFull),
+    let mut tree = SearchTree::<Intervals>::new(rt.alloc(), 4, 2, 2)?;
+    assert!(rt; tree.fan() == 4 && tree.least() == 2 && tree.pages_left() == 1);
+    fill(&mut tree, 5)?;
+    for (letters, wanted) in [
+        ("", Refusal::BadSides),
+        ("lrrr", Refusal::BadSides),
+        ("llrr", Refusal::PagesFull),
     ] {
-        assert_eq!(rt; tree.grow(&sides).err(), Some(wanted));
+        let refused = growth_refusal(rt.alloc(), &mut tree, letters)?;
+        assert!(rt; refused == Some(wanted), "{letters}");
     }
     Ok(())
+}
+
+/// Buries a row of the root, if the root is a leaf.
+fn bury(tree: &mut SearchTree<Intervals>, row: u32, commit: u32) -> Result<(), Refusal> {
+    if commit == 0 || !tree.is_leaf(0) {
+        return Err(Refusal::NotHere);
+    }
+    tree.bury(0, row, commit)
+}
+
+fn sweep(tree: &mut SearchTree<Intervals>, page: u64, horizon: u32) -> Result<usize, Refusal> {
+    tree.sweep(page, horizon)
+}
+
+/// The number of a row at a place on the root, and the commit that deleted it.
+fn version_at(table: &PageTable<Interval>, at: usize) -> Option<(u32, Option<u32>)> {
+    if table.len() != 1 {
+        return None;
+    }
+    let entry = table.page(0).rows().get(at)?;
+    Some((entry.row(), entry.died()))
 }
 
 #[test]
 fn buries_and_sweeps_rows(rt: HostRuntime) -> Result<(), Fail> {
     let mut tree = SearchTree::<Intervals>::new(rt.alloc(), 4, 2, 9)?;
-    for row in 1..4 {
-        tree.place(0, Entry::new(Interval::new(7, 7)?, row, 0))?;
-    }
-    assert!(rt; tree.is_leaf(0));
-    tree.bury(0, 2, 4)?;
-    assert!(rt; tree.is_leaf(0));
-    tree.bury(0, 3, 5)?;
+    fill(&mut tree, 4)?;
+    bury(&mut tree, 2, 4)?;
+    bury(&mut tree, 3, 5)?;
     // Who opened at commit 4 still needs the row that died at commit 5.
-    assert_eq!(rt; tree.sweep(0, 4), Ok(1));
-    assert_eq!(rt; tree.sweep(9, 4), Err(Refusal::NotHere));
-    let table = tree.pages();
-    assert_eq!(rt; table.len(), 1);
-    let died = table
-        .page(0)
-        .rows()
-        .iter()
-        .map(|entry| (entry.row(), entry.died()));
-    assert!(rt; died.eq([(1, None), (3, Some(5))].into_iter()));
-    assert_eq!(rt; tree.sweep(0, 5), Ok(1));
-    assert_eq!(rt; tree.place_refusal(0, Interval::new(7, 7)?), None);
+    assert!(rt; sweep(&mut tree, 0, 4) == Ok(1));
+    assert!(rt; sweep(&mut tree, 9, 4) == Err(Refusal::NotHere));
+    assert!(rt; tree.pages().len() == 1);
+    assert!(rt; version_at(tree.pages(), 0) == Some((1, None)));
+    assert!(rt; version_at(tree.pages(), 1) == Some((3, Some(5))));
+    assert!(rt; version_at(tree.pages(), 2).is_none());
+    assert!(rt; sweep(&mut tree, 0, 5) == Ok(1));
+    assert!(rt; tree.place_refusal(0, Interval::new(7, 7)?).is_none());
     Ok(())
 }

@@ -1,5 +1,6 @@
 use change_list::Item;
 use mailbox::{Outlet, Taken, Tray};
+use std::alloc::{AllocError, Global};
 use std::test::Fail;
 
 /// Offers a mark with a number; whether it was taken.
@@ -7,18 +8,35 @@ fn mark<O: Outlet<u8>>(outlet: &mut O, number: u64) -> bool {
     outlet.offer(Item::Mark(number)).is_ok()
 }
 
+fn tray(alloc: Global, room: u32) -> Result<(Tray<u8>, ()), AllocError> {
+    <Tray<u8> as Outlet<u8>>::make(alloc, room)
+}
+
+fn takes(outlet: &mut Tray<u8>, number: u64) -> bool {
+    outlet.take() == Taken::Item(Item::Mark(number))
+}
+
+fn takes_nothing(outlet: &mut Tray<u8>) -> bool {
+    outlet.take() == Taken::Nothing
+}
+
+/// Whether a mark with a number is handed back.
+fn hands_back(outlet: &mut Tray<u8>, number: u64) -> bool {
+    outlet.offer(Item::Mark(number)) == Err(Item::Mark(number))
+}
+
 #[test]
 fn gives_first_in_first_out(rt: HostRuntime) -> Result<(), Fail> {
-    let (mut tray, end) = <Tray<u8> as Outlet<u8>>::make(rt.alloc(), 2)?;
-    assert_eq!(rt; end, ());
-    assert_eq!(rt; tray.take(), Taken::Nothing);
+    let (mut tray, ()) = tray(rt.alloc(), 2)?;
+    assert!(rt; takes_nothing(&mut tray));
     assert!(rt; mark(&mut tray, 1) && mark(&mut tray, 2));
-    assert_eq!(rt; tray.offer(Item::Mark(3)), Err(Item::Mark(3)));
-    assert_eq!(rt; tray.take(), Taken::Item(Item::Mark(1)));
+    assert!(rt; hands_back(&mut tray, 3));
+    assert!(rt; takes(&mut tray, 1));
     assert!(rt; mark(&mut tray, 4) && !mark(&mut tray, 5));
-    assert_eq!(rt; tray.take(), Taken::Item(Item::Mark(2)));
-    assert_eq!(rt; tray.take(), Taken::Item(Item::Mark(4)));
-    assert_eq!(rt; tray.take(), Taken::Nothing);
+    for number in [2, 4] {
+        assert!(rt; takes(&mut tray, number), "{number}");
+    }
+    assert!(rt; takes_nothing(&mut tray));
     Ok(())
 }
 
