@@ -41,8 +41,8 @@ one_branch : {K : Type 0} (child : ℕ) (bound : Option K) → length (branch_to
 one_branch child None = omega arith
 one_branch child (Some key) = omega arith
 
--- a full page loses two entries at least to each of its parts
 module _ {K : Type 0} (union : K → K → K) (t : Tree K) (fan least : ℕ) (two_least : 2 ≤ least) (sides : List Side) where
+  -- each part of a full page has two entries fewer at least
   module _ (page : Page K) (sound_page : IsShaped t fan page) (full : fan ≤ entries_of page) (counted : length sides ≡ entries_of page) (enough_left : least ≤ count_by is_left sides) (enough_right : least ≤ count_by is_right sides) where
     parts : (entries_of (split_left union page sides (length t.pages)) + 2 ≤ fan) × (entries_of (split_right union page sides) + 2 ≤ fan)
     parts =
@@ -51,19 +51,18 @@ module _ {K : Type 0} (union : K → K → K) (t : Tree K) (fan least : ℕ) (tw
         let branches = length-parts sides page.branches in
         (omega (arith, sound_page.fits, two_least, enough_right, lengths.1, rows, branches), omega (arith, sound_page.fits, two_least, enough_left, lengths.0, rows, branches))
 
-module _ {K : Type 0} (union : K → K → K) (t : Tree K) (fan least : ℕ) (two_least : 2 ≤ least) (sides : List Side) where
   pub split_potential : (p : ℕ) → p < length t.pages → IsShaped t fan (page_at t p) → fan ≤ entries_of (page_at t p) → length sides ≡ entries_of (page_at t p) → least ≤ count_by is_left sides → least ≤ count_by is_right sides
       → potential fan (after_split union t p sides) ≤ potential fan t
   unfolding potential
   split_potential p l shape full counted enough_left enough_right =
-      let few = parts union t fan least two_least sides (page_at t p) shape full counted enough_left enough_right in
+      let few = parts (page_at t p) shape full counted enough_left enough_right in
       omega (arith, full, few.0, few.1, split_total union t p sides l (λ page. page_potential fan page))
 
   pub grow_potential : (is_cover : K → K → Bool) (sound : IsSound is_cover fan t) (part : SidesPart (page_at t 0) sides) → 2 * least ≤ fan → fan ≤ entries_of (page_at t 0) → length sides ≡ entries_of (page_at t 0) → least ≤ count_by is_left sides → least ≤ count_by is_right sides
       → potential fan (after_grow union t sides) ≤ potential fan t
   unfolding potential
   grow_potential is_cover sound part wide full counted enough_left enough_right =
-      let few = parts union t fan least two_least sides (page_at t 0) (sound.shape 0 sound.root_exists) full counted enough_left enough_right in
+      let few = parts (page_at t 0) (sound.shape 0 sound.root_exists) full counted enough_left enough_right in
       let first : ℕ = length t.pages in
       let left : Page K = grown_left union (page_at t 0) sides (suc first) in
       let right : Page K = grown_right union (page_at t 0) sides in
