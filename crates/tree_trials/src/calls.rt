@@ -284,6 +284,41 @@ fn keeps_pages_by_number(rt: HostRuntime) -> Result<(), Fail> {
     Ok(())
 }
 
+/// Parts the root, by a side for each of its entries.
+fn part(
+    table: &mut PageTable<Interval>,
+    sides: &Sides,
+    right: Page<Interval>,
+) -> Result<u32, Fail> {
+    if table.len() != 1 || !fit(table.page(0), sides) {
+        return Err(Refusal::BadSides.into());
+    }
+    Ok(table.part::<Intervals>(0, sides, right)?)
+}
+
+/// How many rows a page has, and the number of its right sibling.
+fn rows_and_right(table: &PageTable<Interval>, page: u32) -> Option<(usize, Option<u32>)> {
+    if page as usize >= table.len() {
+        return None;
+    }
+    let page = table.page(page);
+    Some((page.rows().len(), page.right()))
+}
+
+#[test]
+fn parts_the_root_of_a_table(rt: HostRuntime) -> Result<(), Fail> {
+    let mut table = PageTable::<Interval>::new(rt.alloc(), 4)?;
+    for _ in 0..3 {
+        place(&mut table, 0)?;
+    }
+    let sides = second_left(rt.alloc())?;
+    let right = three_rows(rt.alloc())?;
+    assert!(rt; part(&mut table, &sides, right)? == 1);
+    assert!(rt; rows_and_right(&table, 0) == Some((1, Some(1))));
+    assert!(rt; rows_and_right(&table, 1) == Some((3, None)));
+    Ok(())
+}
+
 #[test]
 fn keeps_laws_of_traversals() {
     traversals_follow_chains::<Intervals>();
