@@ -97,7 +97,7 @@ fn refused_memory_changes_one_line_of_a_session(rt: HostRuntime) -> Result<(), F
 
 /// The set of all elements and the greatest tag: no row has a longer text.
 fn longest_row(rt: HostRuntime) -> Result<String, Fail> {
-    let mut row = String::new(rt.alloc());
+    let mut row = String::with_capacity(rt.alloc(), 512)?;
     for element in 0..128 {
         let before = if element == 0 { '{' } else { ' ' };
         write!(row, "{before}{element}")?;
@@ -110,8 +110,8 @@ fn longest_row(rt: HostRuntime) -> Result<String, Fail> {
 #[test]
 fn refused_memory_loses_no_long_line(rt: HostRuntime) -> Result<(), Fail> {
     let row = longest_row(rt)?;
-    let mut input = String::new(rt.alloc());
-    let mut output = String::new(rt.alloc());
+    let mut input = String::with_capacity(rt.alloc(), 4_096)?;
+    let mut output = String::with_capacity(rt.alloc(), 4_096)?;
     input.push_str("open 4 holds{}\n")?;
     output.push_str("opened 1\n")?;
     for number in 1..5 {
