@@ -1,0 +1,275 @@
+ghost use Rattle.std.specs.Prelude.{◌≡◌, ◌≢◌, ◌↔◌, ◌⊎◌, ◌<◌, ◌≤◌, ◌+◌, ℕ, [], ◌∷◌, ◌++◌, length, Some, Err, IfOk, IfErr, OnOk, OnErr, slice_get};
+ghost use Rattle.key_class.specs.Queries.{query_of};
+ghost use Rattle.change_list.specs.Configs.{IsWithinLimits};
+ghost use Rattle.change_list.specs.declared.write.Write.TheVariants.{Insert, Delete};
+ghost use Rattle.desk.specs.Seats.{fresh_seat};
+ghost use Rattle.desk.specs.Visits.{CountsSearch, IsDelete};
+
+use crate::locked::{Guarded, Locked, Search};
+use crate::seat::Seat;
+use crate::taker::Taker;
+use change_list::Config;
+use insertion::Way;
+use key_class::{KeyClass, Pred, Refusal};
+use mailbox::Ring;
+use std::alloc::{AllocError, Global};
+use std::marker::Model;
+use std::sync::ledger::{Blank, Ledger, Share};
+use std::sync::{Mutex, Wait};
+use world::{Reply, Stamped, World};
+
+/// A world under a lock, which as many seats as the ledger has parts share.
+#[derive(Drop)]
+pub struct DeskOver<W: Guarded, L: Ledger> {
+    pub(crate) alloc: Global,
+    pub(crate) locked: Mutex<Locked<W, L>>,
+    pub(crate) seats: usize,
+}
+
+/// A desk over a world of a class.
+pub type Desk<C, L> = DeskOver<World<C, Ring<<C as KeyClass>::Key>>, L>;
+
+impl<W: Guarded, L: Ledger> Model for DeskOver<W, L> {
+    ghost use Rattle.std.specs.Prelude.{◌≡◌, ◌<◌, ℕ};
+
+    ghost Value = { ℕ };
+
+    ghost view = { λ d. d.seats };
+
+    ghost invariant = { λ d. (d.seats ≡ L.parts) × (0 < d.seats) };
+}
+
+/// Seats that share all parts of a ledger.
+fn seats_of<C: KeyClass, L: Ledger>(
+    alloc: Global,
+    all: Share<L>,
+    seats: usize,
+) -> Result<Vec<Seat<C, L>>, AllocError>
+    requires { (all.parts ≡ seats) × (all.amount ≡ 0) × (seats ≤ 64) }
+    ensures seats { IfOk result (λ made. length made.items ≡ seats) }
+    ensures fresh { IfOk result (λ made. (k : ℕ) → k < seats → slice_get made.items k ≡ Some (fresh_seat (k + 1))) }
+{
+    let mut all = all;
+    let mut made = Vec::with_capacity(alloc, seats)?;
+    for i in 0..seats {
+        let share = all.split_off(1, 0);
+        made.push_reserved(Seat::new(alloc, i as u32 + 1, share));
+    }
+    Ok(made)
+}
+
+impl<C: KeyClass, L: Ledger> DeskOver<World<C, Ring<C::Key>>, L> {
+    /// A desk with one empty leaf, and its seats, numbered from 1.
+    ///
+    /// # Errors
+    /// `BadConfig` where a limit of the configuration or the number of seats (1 to 64) is out of its range, else want of
+    /// memory.
+    pub fn new(
+        alloc: Global,
+        blank: Blank,
+        config: Config,
+        seats: usize,
+    ) -> Result<(Desk<C, L>, Vec<Seat<C, L>>), Refusal>
+        requires name { blank.name ≡ L.name }
+        requires parts { blank.parts ≡ L.parts }
+        requires one_each { blank.parts ≡ seats }
+        ensures desk { IfOk result (λ made. made.0 ≡ seats) }
+        ensures seats { IfOk result (λ made. length made.1.items ≡ seats) }
+        ensures fresh { IfOk result (λ made. (k : ℕ) → k < seats → slice_get made.1.items k ≡ Some (fresh_seat (k + 1))) }
+        ensures bad { (result ≡ Err Refusal.BadConfig) ↔ ((seats ≡ 0) ⊎ (64 < seats) ⊎ (¬ IsWithinLimits config)) }
+        ensures refusals { IfErr result (λ why. (why ≡ Refusal.BadConfig) ⊎ (why ≡ Refusal.OutOfMemory)) }
+    {
+        if seats == 0 || seats > 64 {
+            return Err(Refusal::BadConfig);
+        }
+        let world = World::<C, Ring<C::Key>>::new(alloc, config)?;
+        let (book, all) = blank.open::<L>();
+        let Ok(made) = seats_of(alloc, all, seats) else {
+            return Err(Refusal::OutOfMemory);
+        };
+        let locked = Mutex::new(Locked::new(world, book));
+        Ok((
+            DeskOver {
+                alloc,
+                locked,
+                seats,
+            },
+            made,
+        ))
+    }
+
+    /// Inserts a row for a seat.
+    ///
+    /// # Errors
+    /// `CommitsFull`, `PagesFull`, or want of memory. No commit is made then.
+    pub fn insert<R: Wait>(
+        &self,
+        rt: &R,
+        seat: &mut Seat<C, L>,
+        key: C::Key,
+        tag: u64,
+    ) -> Result<Stamped<C::Key>, Refusal>
+        ensures stamp { IfOk result (λ s. (s.seat ≡ seat.old.number) × (s.write ≡ Insert key tag)) }
+        ensures stamps { IfOk result (λ s. seat.new.stamps ≡ seat.old.stamps ++ s ∷ []) }
+        ensures number { IfOk result (λ s. length seat.new.stamps ≤ s.number) }
+        ensures seat { seat.new.number ≡ seat.old.number }
+        ensures refused { OnErr result (seat.new ≡ seat.old) }
+        ensures refusals { IfErr result (λ why. (why ≡ Refusal.OutOfMemory) ⊎ (why ≡ Refusal.CommitsFull) ⊎ (why ≡ Refusal.PagesFull)) }
+    {
+        if seat.stamps.try_reserve(1).is_err() {
+            return Err(Refusal::OutOfMemory);
+        }
+        let number = seat.number;
+        let stamped = self.insert_for(rt, number, &mut seat.share, key, tag)?;
+        seat.stamps.push_reserved(stamped);
+        Ok(stamped)
+    }
+
+    /// Visits the lock until the row is placed or a visit is refused.
+    fn insert_for<R: Wait>(
+        &self,
+        rt: &R,
+        number: u32,
+        share: &mut Share<L>,
+        key: C::Key,
+        tag: u64,
+    ) -> Result<Stamped<C::Key>, Refusal>
+        requires { 0 < share.old.parts }
+        ensures stamp { IfOk result (λ s. (s.seat ≡ number) × (s.write ≡ Insert key tag)) }
+        ensures share { IfOk result (λ s. (share.new.amount ≡ share.old.amount + 1) × (share.new.amount ≤ s.number)) }
+        ensures parts { share.new.parts ≡ share.old.parts }
+        ensures refused { OnErr result (share.new.amount ≡ share.old.amount) }
+        ensures refusals { IfErr result (λ why. (why ≡ Refusal.OutOfMemory) ⊎ (why ≡ Refusal.CommitsFull) ⊎ (why ≡ Refusal.PagesFull)) }
+    {
+        let alloc = self.alloc;
+        let mut page = 0;
+        for _ in rt.forever() {
+            let way = self
+                .locked
+                .lock(rt)
+                .insert_on(alloc, number, share, page, key, tag)?;
+            match way {
+                Way::On(next) => page = next,
+                Way::Placed(stamped) => return Ok(stamped),
+            }
+        }
+        unreachable!()
+    }
+
+    /// Deletes a row for a seat.
+    ///
+    /// # Errors
+    /// `NoSuchRow`, `AlreadyDeleted`, `CommitsFull`, `FindersFull` once the serials of finders are used up, or want of
+    /// memory. No commit is made then.
+    pub fn delete<R: Wait>(
+        &self,
+        rt: &R,
+        seat: &mut Seat<C, L>,
+        row: u64,
+    ) -> Result<Stamped<C::Key>, Refusal>
+        ensures stamp { IfOk result (λ s. (s.seat ≡ seat.old.number) × (s.write ≡ Delete row)) }
+        ensures stamps { IfOk result (λ s. seat.new.stamps ≡ seat.old.stamps ++ s ∷ []) }
+        ensures number { IfOk result (λ s. length seat.new.stamps ≤ s.number) }
+        ensures seat { seat.new.number ≡ seat.old.number }
+        ensures refused { OnErr result (seat.new ≡ seat.old) }
+        ensures refusals { IfErr result (λ why. (why ≡ Refusal.OutOfMemory) ⊎ (why ≡ Refusal.CommitsFull) ⊎ (why ≡ Refusal.FindersFull) ⊎ (why ≡ Refusal.NoSuchRow) ⊎ (why ≡ Refusal.AlreadyDeleted)) }
+    {
+        if seat.stamps.try_reserve(1).is_err() {
+            return Err(Refusal::OutOfMemory);
+        }
+        let number = seat.number;
+        let stamped = self.delete_for(rt, number, &mut seat.share, row)?;
+        seat.stamps.push_reserved(stamped);
+        Ok(stamped)
+    }
+
+    /// Visits the lock until the row is deleted or a visit is refused.
+    fn delete_for<R: Wait>(
+        &self,
+        rt: &R,
+        number: u32,
+        share: &mut Share<L>,
+        row: u64,
+    ) -> Result<Stamped<C::Key>, Refusal>
+        requires { 0 < share.old.parts }
+        ensures stamp { IfOk result (λ s. (s.seat ≡ number) × (s.write ≡ Delete row)) }
+        ensures share { IfOk result (λ s. (share.new.amount ≡ share.old.amount + 1) × (share.new.amount ≤ s.number)) }
+        ensures parts { share.new.parts ≡ share.old.parts }
+        ensures refused { OnErr result (share.new.amount ≡ share.old.amount) }
+        ensures refusals { IfErr result (λ why. (why ≡ Refusal.OutOfMemory) ⊎ (why ≡ Refusal.CommitsFull) ⊎ (why ≡ Refusal.FindersFull) ⊎ (why ≡ Refusal.NoSuchRow) ⊎ (why ≡ Refusal.AlreadyDeleted)) }
+    {
+        let mut finder = self.locked.lock(rt).find(row)?;
+        for _ in rt.forever() {
+            let search = self.seek_for(rt, number, share, finder, row)?;
+            match search {
+                Search::On => {}
+                Search::Lost => finder = self.locked.lock(rt).find(row)?,
+                Search::Deleted(stamped) => return Ok(stamped),
+            }
+        }
+        unreachable!()
+    }
+
+    /// A step of a finder, which ends where it is refused.
+    fn seek_for<R: Wait>(
+        &self,
+        rt: &R,
+        number: u32,
+        share: &mut Share<L>,
+        finder: u64,
+        row: u64,
+    ) -> Result<Search<C::Key>, Refusal>
+        requires { 0 < share.old.parts }
+        ensures stamp { IfOk result (λ search. IsDelete number row search) }
+        ensures share { IfOk result (λ search. CountsSearch share.old.amount search share.new.amount) }
+        ensures parts { share.new.parts ≡ share.old.parts }
+        ensures refused { OnErr result (share.new.amount ≡ share.old.amount) }
+        ensures refusals { IfErr result (λ why. (why ≡ Refusal.AlreadyDeleted) ⊎ (why ≡ Refusal.CommitsFull) ⊎ (why ≡ Refusal.OutOfMemory)) }
+    {
+        let search = self.locked.lock(rt).seek(number, share, finder, row);
+        if search.is_err() {
+            let _unfound = self.locked.lock(rt).unfind(finder);
+        }
+        search
+    }
+
+    /// Opens a cursor at the present commits, and gives the end from which its items are taken.
+    ///
+    /// # Errors
+    /// `BadConfig` where the room (1 to 4,096) or the query's depth (at most 32) is out of range, `CursorsFull`, or want
+    /// of memory.
+    pub fn open_cursor<'d, R: Wait>(
+        &'d self,
+        rt: &R,
+        seat: &mut Seat<C, L>,
+        query: Pred<C::Atom>,
+        room: u64,
+    ) -> Result<Taker<'d, C, L>, Refusal>
+        ensures seat { seat.new ≡ seat.old }
+        ensures query { IfOk result (λ t. t.query ≡ query_of query) }
+        ensures opened { IfOk result (λ t. length seat.old.stamps ≤ t.opened) }
+        ensures taken { IfOk result (λ t. t.taken ≡ []) }
+        ensures refusals { IfErr result (λ why. (why ≡ Refusal.BadConfig) ⊎ (why ≡ Refusal.CursorsFull) ⊎ (why ≡ Refusal.OutOfMemory)) }
+    {
+        let Ok(copy) = query.copy(self.alloc) else {
+            return Err(Refusal::OutOfMemory);
+        };
+        let (cursor, opened, items) = self.locked.lock(rt).open(&mut seat.share, copy, room)?;
+        Ok(Taker::new(self, cursor, query, opened, items))
+    }
+
+    /// One turn of a cursor.
+    pub fn turn<R: Wait>(&self, rt: &R, cursor: u64) -> Reply<C, Ring<C::Key>> {
+        self.locked.lock(rt).turn(cursor)
+    }
+
+    /// Asks a cursor for a mark.
+    pub fn ask_mark<R: Wait>(&self, rt: &R, cursor: u64) -> Reply<C, Ring<C::Key>> {
+        self.locked.lock(rt).ask_mark(cursor)
+    }
+
+    /// Sweeps a leaf.
+    pub fn sweep<R: Wait>(&self, rt: &R, leaf: u64) -> Reply<C, Ring<C::Key>> {
+        self.locked.lock(rt).sweep(leaf)
+    }
+}

@@ -1,0 +1,133 @@
+//! What a desk gives once all seats came back.
+ghost use Rattle.std.specs.Prelude.{◌≡◌, ◌≢◌, ◌↔◌, [], length, ◌∷◌, ◌++◌, ◌+◌, ◌<◌, ◌≤◌, sum_by};
+ghost use Rattle.change_list.specs.Changes.{IsLegal};
+ghost use Rattle.desk.specs.Finishes.{IsOut, IfClosing, IfTorn, IfOut};
+ghost use Rattle.desk.specs.Weaving.{Woven, all_shares};
+
+use crate::checks::woven;
+use crate::desk::{Desk, DeskOver};
+use crate::seat::Seat;
+use change_list::ChangeList;
+use key_class::KeyClass;
+use mailbox::Ring;
+use std::marker::Model;
+use std::sync::ledger::{Book, Ledger, Share};
+use world::World;
+
+/// The commits, and the sum of the shares.
+#[derive(Drop)]
+pub struct Closing<K> {
+    commits: ChangeList<K>,
+    sum: u64,
+}
+
+impl<K> Model for Closing<K> {
+    ghost use Rattle.desk.specs.Seats.{Closed};
+
+    ghost Value = { Closed K };
+
+    ghost view = { λ c. record { commits = c.commits; sum = c.sum } };
+}
+
+impl<K: Copy> Closing<K> {
+    pub(crate) fn new(commits: ChangeList<K>, sum: u64) -> Closing<K>
+        ensures { result ≡ record { commits = commits; sum = sum } }
+    {
+        Closing { commits, sum }
+    }
+
+    pub fn commits(&self) -> &ChangeList<K>
+        ensures { result.now ≡ self.now.commits }
+    {
+        &self.commits
+    }
+
+    /// The sum of all seats' shares.
+    pub fn sum(&self) -> u64
+        ensures { result ≡ self.now.sum }
+    {
+        self.sum
+    }
+}
+
+/// The commits and the seats, which don't fit.
+#[derive(Drop)]
+pub struct Torn<C: KeyClass, L: Ledger> {
+    pub commits: ChangeList<C::Key>,
+    pub seats: Vec<Seat<C, L>>,
+}
+
+#[derive(Drop)]
+pub enum Finished<C: KeyClass, L: Ledger> {
+    Closing(Closing<C::Key>),
+    Torn(Torn<C, L>),
+    SeatsOut(Desk<C, L>, Vec<Seat<C, L>>),
+}
+
+/// Shows that the shares of the seats, with those that `all` has, sum up to the book's total.
+fn audit_all<C: KeyClass, L: Ledger>(
+    book: &mut Book<L>,
+    seats: &mut [Seat<C, L>],
+    all: &mut Share<L>,
+)
+    requires parts { all.old.parts + length seats.old ≡ L.parts }
+    requires backed { all.old.parts ≡ 0 → all.old.amount ≡ 0 }
+    ensures seats { seats.new ≡ seats.old }
+    ensures all { (all.new.parts ≡ all.old.parts) × (all.new.amount ≡ all.old.amount) }
+    ensures book { book.new.total ≡ book.old.total }
+    ensures total { all.old.amount + all_shares seats.old ≡ book.old.total }
+{
+    match seats.split_first_mut() {
+        None => book.audit(all),
+        Some((first, rest)) => {
+            let amount = first.stamps.len() as u64;
+            first.share.give(all, 1, amount);
+            audit_all(book, rest, all);
+            all.give(&mut first.share, 1, amount);
+        }
+    }
+}
+
+/// Shows that the shares of all seats sum up to the book's total.
+pub(crate) fn audit_seats<C: KeyClass, L: Ledger>(book: &mut Book<L>, seats: &mut Vec<Seat<C, L>>)
+    requires all { length seats.old.items ≡ L.parts }
+    requires some { 0 < length seats.old.items }
+    ensures seats { seats.new.items ≡ seats.old.items }
+    ensures total { all_shares seats.old.items ≡ book.old.total }
+    ensures book { book.new.total ≡ book.old.total }
+{
+    let seats = seats.as_mut_slice();
+    let mut all = match seats.first_mut() {
+        None => unreachable!(),
+        Some(first) => first.share.empty(),
+    };
+    audit_all(book, seats, &mut all);
+}
+
+impl<C: KeyClass, L: Ledger> DeskOver<World<C, Ring<C::Key>>, L> {
+    /// Ends the desk, where all seats came back, and compares their stamps with the commits. It takes no memory.
+    pub fn finish(self, seats: Vec<Seat<C, L>>) -> Finished<C, L>
+        ensures out { IsOut result ↔ (length seats.items ≢ self) }
+        ensures back { IfOut result (λ d s. (d ≡ self) × (s ≡ seats.items)) }
+        ensures legal { IfClosing result (λ c. IsLegal c.commits) }
+        ensures woven { IfClosing result (λ c. Woven c.commits seats.items) }
+        ensures sum { IfClosing result (λ c. (length c.commits ≡ c.sum) × (c.sum ≡ all_shares seats.items)) }
+        ensures torn { IfTorn result (λ commits s. (s ≡ seats.items) × (length commits ≡ all_shares seats.items) × (Woven commits s → ⊥)) }
+    {
+        if seats.len() != self.seats {
+            return Finished::SeatsOut(self, seats);
+        }
+        let DeskOver { locked, .. } = self;
+        let (world, book) = locked.into_inner().open_up();
+        let mut book = book;
+        let mut seats = seats;
+        audit_seats(&mut book, &mut seats);
+        let commits = world.into_commits();
+        let sum = commits.len() as u64;
+        if woven(&commits, seats.as_slice()) {
+            Finished::Closing(Closing::new(commits, sum))
+        } else {
+            Finished::Torn(Torn { commits, seats })
+        }
+    }
+}

@@ -1,0 +1,84 @@
+ghost use Rattle.std.specs.Prelude.{◌≡◌};
+
+use change_list::Config;
+use desk::{Desk, Seat};
+use interval_class::{Atom, Interval, Intervals};
+use key_class::{Pred, Refusal, Rel};
+use std::alloc::Global;
+use std::marker::Brand;
+use std::process::Abort;
+use std::sync::Wait;
+use std::sync::ledger::{Blank, Ledger};
+use std::test::*;
+
+const CONFIG: Config = Config {
+    fan: 4,
+    least: 2,
+    pages: 64,
+    commits: 1_000,
+};
+
+/// Opens a cursor over all rows, and tells at which number of commits.
+fn open<L: Ledger, R: Wait>(
+    rt: &R,
+    desk: &Desk<Intervals, L>,
+    seat: &mut Seat<Intervals, L>,
+    room: u64,
+) -> Result<u64, Refusal> {
+    let operand = Interval::new(0, 999)?;
+    let all = Pred::Atom(Atom {
+        rel: Rel::Overlaps,
+        operand,
+    });
+    Ok(desk.open_cursor(rt, seat, all, room)?.opened())
+}
+
+/// 64 seats, and a cursor's room and number at their limits.
+fn many_seats<L: Ledger, R: Wait + Abort>(rt: &R, alloc: Global, blank: Blank) -> Result<(), Fail>
+    requires name { blank.name ≡ L.name }
+    requires parts { blank.parts ≡ L.parts }
+    requires many { blank.parts ≡ 64 }
+{
+    let (desk, mut seats) = Desk::<Intervals, L>::new(alloc, blank, CONFIG, 64)?;
+    assert_eq!(rt; seats.len(), 64);
+    for seat in seats.iter_mut() {
+        let inserted = desk.insert(rt, seat, Interval::new(1, 2)?, 0)?;
+        assert_eq!(rt; inserted.number(), u64::from(seat.number()));
+        assert!(rt; open(rt, &desk, seat, 1)? >= seat.share());
+    }
+    assert_eq!(rt; open(rt, &desk, &mut seats[0], 0), Err(Refusal::BadConfig));
+    assert_eq!(rt;
+        open(rt, &desk, &mut seats[0], 4_097),
+        Err(Refusal::BadConfig)
+    );
+    for _ in 64..256 {
+        assert_eq!(rt; open(rt, &desk, &mut seats[0], 4_096), Ok(64));
+    }
+    assert_eq!(rt;
+        open(rt, &desk, &mut seats[0], 1),
+        Err(Refusal::CursorsFull)
+    );
+    Ok(())
+}
+
+#[test]
+fn limits_are_reached(rt: HostRuntime) -> Result<(), Fail> {
+    many_seats::<Brand, _>(&rt, rt.alloc(), Blank::new(64))
+}
+
+/// Too many seats are refused.
+fn crowd<L: Ledger>(alloc: Global, blank: Blank) -> Option<Refusal>
+    requires name { blank.name ≡ L.name }
+    requires parts { blank.parts ≡ L.parts }
+    requires many { blank.parts ≡ 65 }
+{
+    Desk::<Intervals, L>::new(alloc, blank, CONFIG, 65).err()
+}
+
+#[test]
+fn a_crowd_is_refused(rt: HostRuntime) {
+    assert_eq!(rt;
+        crowd::<Brand>(rt.alloc(), Blank::new(65)),
+        Some(Refusal::BadConfig)
+    );
+}

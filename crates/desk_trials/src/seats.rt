@@ -1,0 +1,78 @@
+ghost use Rattle.std.specs.Prelude.{◌≡◌};
+
+use change_list::Config;
+use desk::{Desk, Finished, Seat};
+use interval_class::{Interval, Intervals};
+use key_class::Refusal;
+use std::alloc::Global;
+use std::marker::Brand;
+use std::process::Abort;
+use std::sync::Wait;
+use std::sync::ledger::{Blank, Ledger};
+use std::test::*;
+use world::Reply;
+
+const CONFIG: Config = Config {
+    fan: 4,
+    least: 2,
+    pages: 64,
+    commits: 3,
+};
+
+fn insert<L: Ledger, R: Wait>(
+    rt: &R,
+    desk: &Desk<Intervals, L>,
+    seat: &mut Seat<Intervals, L>,
+    tag: u64,
+) -> Result<u64, Refusal> {
+    Ok(desk.insert(rt, seat, Interval::new(1, 2)?, tag)?.number())
+}
+
+/// A desk of two seats: what each is answered, and that the desk ends only when both are back.
+fn two_seats<L: Ledger, R: Wait + Abort>(rt: &R, alloc: Global, blank: Blank) -> Result<(), Fail>
+    requires name { blank.name ≡ L.name }
+    requires parts { blank.parts ≡ L.parts }
+    requires two { blank.parts ≡ 2 }
+{
+    let (desk, mut seats) = Desk::<Intervals, L>::new(alloc, blank, CONFIG, 2)?;
+    assert_eq!(rt; insert(rt, &desk, &mut seats[0], 7), Ok(1));
+    assert_eq!(rt; insert(rt, &desk, &mut seats[1], 8), Ok(2));
+    assert_eq!(rt;
+        desk.delete(rt, &mut seats[1], 9).err(),
+        Some(Refusal::NoSuchRow)
+    );
+    let deleted = desk.delete(rt, &mut seats[1], 1)?;
+    assert!(rt; deleted.number() == 3 && deleted.seat() == 2);
+    assert_eq!(rt;
+        desk.delete(rt, &mut seats[0], 1).err(),
+        Some(Refusal::AlreadyDeleted)
+    );
+    assert_eq!(rt;
+        desk.delete(rt, &mut seats[0], 2).err(),
+        Some(Refusal::CommitsFull)
+    );
+    assert_eq!(rt;
+        insert(rt, &desk, &mut seats[0], 9),
+        Err(Refusal::CommitsFull)
+    );
+    assert!(rt; matches!(desk.sweep(rt, 0), Reply::Swept(1)));
+    assert_eq!(rt; (seats[0].share(), seats[1].share()), (1, 2));
+    let second = seats.pop();
+    let Finished::SeatsOut(desk, mut seats) = desk.finish(seats) else {
+        assert!(rt; false, "a seat is out");
+        return Ok(());
+    };
+    if let Some(second) = second {
+        seats.push(second)?;
+    }
+    match desk.finish(seats) {
+        Finished::Closing(closing) => assert_eq!(rt; closing.sum(), 3),
+        _ => assert!(rt; false, "the seats fit"),
+    }
+    Ok(())
+}
+
+#[test]
+fn two_seats_meet_at_a_row(rt: HostRuntime) -> Result<(), Fail> {
+    two_seats::<Brand, _>(&rt, rt.alloc(), Blank::new(2))
+}

@@ -1,0 +1,136 @@
+ghost use Rattle.std.specs.Prelude.{◌≡◌};
+
+use change_list::{Config, Item};
+use desk::{Desk, Finished, Seat, Taker};
+use interval_class::{Atom, Interval, Intervals};
+use key_class::{Pred, Refusal, Rel};
+use std::alloc::Global;
+use std::marker::Brand;
+use std::process::Abort;
+use std::sync::Wait;
+use std::sync::ledger::{Blank, Ledger};
+use std::test::*;
+use std::thread;
+use std::thread::Threads;
+use world::Reply;
+
+const CONFIG: Config = Config {
+    fan: 8,
+    least: 3,
+    pages: 65_536,
+    commits: 16_777_216,
+};
+
+/// The key of the nth row of a seat.
+fn key(number: u32, nth: u32) -> Result<Interval, Refusal> {
+    let low = i64::from(nth.wrapping_mul(37) % 499) + i64::from(number % 64);
+    Interval::new(low, low + i64::from(nth % 7))
+}
+
+fn insert_rows<L: Ledger, R: Wait + Abort>(
+    rt: &R,
+    desk: &Desk<Intervals, L>,
+    seat: &mut Seat<Intervals, L>,
+) {
+    for nth in 0..250 {
+        let inserted = match key(seat.number(), nth) {
+            Ok(key) => desk.insert(rt, seat, key, u64::from(nth)),
+            Err(why) => Err(why),
+        };
+        assert!(rt; inserted.is_ok());
+    }
+}
+
+/// Deletes some of the rows that a seat inserted, each of which is then refused.
+fn delete_rows<L: Ledger, R: Wait + Abort>(
+    rt: &R,
+    desk: &Desk<Intervals, L>,
+    seat: &mut Seat<Intervals, L>,
+) {
+    for place in 0..100 {
+        let Some(row) = seat.stamps().get(place).map(|stamp| stamp.number()) else {
+            continue;
+        };
+        assert!(rt; desk.delete(rt, seat, row).is_ok());
+        assert_eq!(rt;
+            desk.delete(rt, seat, row).err(),
+            Some(Refusal::AlreadyDeleted)
+        );
+    }
+}
+
+/// How many items a cursor sends, and the number of its mark.
+fn items_and_mark<L: Ledger, R: Wait + Abort>(
+    rt: &R,
+    desk: &Desk<Intervals, L>,
+    taker: &mut Taker<'_, Intervals, L>,
+) -> (u64, u64) {
+    let mut items: u64 = 0;
+    let mut mark = 0;
+    for _ in 0..20_000 {
+        let _turned = desk.turn(rt, taker.cursor());
+        match taker.take() {
+            Some(Item::Mark(number)) => mark = number,
+            Some(_) => items = items.wrapping_add(1),
+            None => {}
+        }
+    }
+    (items, mark)
+}
+
+fn all() -> Result<Pred<Atom>, Refusal> {
+    let operand = Interval::new(0, 999)?;
+    Ok(Pred::Atom(Atom {
+        rel: Rel::Overlaps,
+        operand,
+    }))
+}
+
+/// Four threads of 250 inserts and 100 deletes each, a cursor that was opened before them with a ring of four, and a mark.
+fn five_seats<L: Ledger + Send + Sync, R: Threads + Wait + Abort + Sync>(
+    rt: &R,
+    alloc: Global,
+    blank: Blank,
+) -> Result<(), Fail>
+    requires name { blank.name ≡ L.name }
+    requires parts { blank.parts ≡ L.parts }
+    requires five { blank.parts ≡ 5 }
+{
+    let (desk, mut seats) = Desk::<Intervals, L>::new(alloc, blank, CONFIG, 5)?;
+    let shared = &desk;
+    let mut taker = shared.open_cursor(rt, &mut seats[4], all()?, 4)?;
+    thread::for_each_mut(
+        rt,
+        seats.as_mut_slice(),
+        5,
+        &|_, seat| {
+            if seat.number() < 5 {
+                insert_rows(rt, shared, seat);
+                delete_rows(rt, shared, seat)
+            }
+        },
+    );
+    assert!(rt; matches!(shared.ask_mark(rt, taker.cursor()), Reply::Asked));
+    assert_eq!(rt; items_and_mark(rt, shared, &mut taker), (1_400, 1_400));
+    assert!(rt;
+        matches!(
+            shared.turn(rt, taker.cursor()),
+            Reply::Refused(Refusal::Idle)
+        )
+    );
+    assert_eq!(rt; taker.opened(), 0);
+    drop(taker);
+    match desk.finish(seats) {
+        Finished::Closing(closing) => {
+            assert_eq!(rt; closing.sum(), 1_400);
+            assert_eq!(rt; closing.commits().len(), 1_400);
+        }
+        _ => assert!(rt; false, "the seats fit"),
+    }
+    Ok(())
+}
+
+#[test]
+fn four_threads_insert_and_delete(rt: HostRuntime) -> Result<(), Fail> {
+    five_seats::<Brand, _>(&rt, rt.alloc(), Blank::new(5))
+}
