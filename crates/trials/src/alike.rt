@@ -1,6 +1,6 @@
 use super::plain::Plain;
 use box_class::{BoxKey, Boxes};
-use change_list::{Config, Item, Row};
+use change_list::{Config, Item, Row, Write};
 use interval_class::{Interval, Intervals};
 use key_class::{Pred, Refusal, Rel};
 use query_text::ClassText;
@@ -93,6 +93,34 @@ fn atom<C: Drawn>(source: &mut Source, is_wide: bool) -> Result<Pred<C::Atom>, R
     Ok(Pred::Atom(C::atom(rel, C::draw(source, is_wide)?)))
 }
 
+fn boxed_atom<C: Drawn>(
+    source: &mut Source,
+    alloc: Global,
+    is_wide: bool,
+) -> Result<Box<Pred<C::Atom>>, Refusal> {
+    Ok(Box::new(alloc, atom::<C>(source, is_wide)?)?)
+}
+
+/// A query in a negation, or in a joint with a random atom.
+fn longer<C: Drawn>(
+    source: &mut Source,
+    alloc: Global,
+    is_wide: bool,
+    part: Pred<C::Atom>,
+) -> Result<Pred<C::Atom>, Refusal> {
+    let part = Box::new(alloc, part)?;
+    let joint = source.below(4);
+    if joint == 0 {
+        return Ok(Pred::Not(part));
+    }
+    let other = boxed_atom::<C>(source, alloc, is_wide)?;
+    Ok(match joint {
+        1 => Pred::And(part, other),
+        2 => Pred::Or(part, other),
+        _ => Pred::Or(other, part),
+    })
+}
+
 /// A random atom, in up to three negations and joints with further atoms.
 fn chain<C: Drawn>(
     source: &mut Source,
@@ -101,13 +129,7 @@ fn chain<C: Drawn>(
 ) -> Result<Pred<C::Atom>, Refusal> {
     let mut whole = atom::<C>(source, is_wide)?;
     for _ in 0..source.below(4) {
-        let part = Box::new(alloc, whole)?;
-        whole = match source.below(4) {
-            0 => Pred::Not(part),
-            1 => Pred::And(part, Box::new(alloc, atom::<C>(source, is_wide)?)?),
-            2 => Pred::Or(part, Box::new(alloc, atom::<C>(source, is_wide)?)?),
-            _ => Pred::Or(Box::new(alloc, atom::<C>(source, is_wide)?)?, part),
-        };
+        whole = longer::<C>(source, alloc, is_wide, whole)?;
     }
     Ok(whole)
 }
@@ -189,6 +211,17 @@ impl Tally {
         }
     }
 
+    /// How often the outcome came that came least often.
+    fn least(self) -> u64 {
+        let items = self
+            .rows
+            .min(self.inserted)
+            .min(self.deleted)
+            .min(self.marks);
+        let others = self.found.min(self.ends).min(self.swept).min(self.refused);
+        items.min(others)
+    }
+
     fn count<K: Copy>(&mut self, item: Option<Item<K>>) {
         let counter = match item {
             Some(Item::Row(_)) => &mut self.rows,
@@ -201,12 +234,64 @@ impl Tally {
     }
 }
 
+/// A store of which nothing is known but what it answers.
+#[derive(Drop)]
+struct Bare<C: Drawn> {
+    store: Store<C>,
+}
+
+impl<C: Drawn> Bare<C> {
+    fn commits(&self) -> u64 {
+        self.store.commits()
+    }
+
+    fn commit(&self, number: u64) -> Option<Write<C::Key>> {
+        self.store.commit(number)
+    }
+
+    fn insert(&mut self, key: C::Key, tag: u64) -> Result<u64, Refusal> {
+        self.store.insert(key, tag)
+    }
+
+    fn delete(&mut self, row: u64) -> Result<u64, Refusal> {
+        self.store.delete(row)
+    }
+
+    fn find(&self, query: &Pred<C::Atom>) -> Result<Vec<Row<C::Key>>, Refusal> {
+        self.store.find(query)
+    }
+
+    fn open(&mut self, query: Pred<C::Atom>, room: u64) -> Result<u64, Refusal> {
+        self.store.open(query, room)
+    }
+
+    fn next(&mut self, cursor: u64) -> Result<Option<Item<C::Key>>, Refusal> {
+        self.store.next(cursor)
+    }
+
+    fn drain(&mut self, cursor: u64, items: &mut Vec<Item<C::Key>>) -> Result<(), Refusal> {
+        self.store.drain(cursor, items)
+    }
+
+    fn ask_mark(&mut self, cursor: u64) -> Result<(), Refusal> {
+        self.store.ask_mark(cursor)
+    }
+
+    fn close(&mut self, cursor: u64) -> Result<(), Refusal> {
+        self.store.close(cursor)
+    }
+
+    fn sweep_all(&mut self) -> Result<u64, Refusal> {
+        self.store.sweep_all()
+    }
+}
+
 /// A store and the plain one that got the same calls.
 #[derive(Drop)]
 struct Pair<C: Drawn> {
     alloc: Global,
     source: Source,
-    store: Store<C>,
+    store: Bare<C>,
     plain: Plain<C>,
     /// The open cursors.
     open: Vec<Given<C::Key>>,
@@ -221,7 +306,9 @@ impl<C: Drawn> Pair<C> {
             source: Source {
                 generator: Pcg32::new(seed, 0),
             },
-            store: Store::new(alloc, config)?,
+            store: Bare {
+                store: Store::new(alloc, config)?,
+            },
             plain: Plain::new(alloc, config),
             open: Vec::new(alloc),
             last: 0,
@@ -331,45 +418,97 @@ impl<C: Drawn> Pair<C> {
         Ok(self.agree(store, plain)?)
     }
 
+    /// Whether an item of a cursor goes on both sides with those before.
+    fn takes(
+        &mut self,
+        serial: u64,
+        ours: Option<Item<C::Key>>,
+        theirs: Option<Item<C::Key>>,
+    ) -> Result<bool, Refusal> {
+        match self.open.iter_mut().find(|given| given.serial == serial) {
+            Some(given) => given.takes(ours, theirs),
+            None => Ok(false),
+        }
+    }
+
+    /// Whether both sides agree on the next item of a cursor, and whether they gave one or none.
+    fn next_item(&mut self, serial: u64) -> Result<(bool, bool), Refusal> {
+        let store = answered(self.store.next(serial))?;
+        let plain = answered(self.plain.next(serial))?;
+        let (Ok(ours), Ok(theirs)) = (store, plain) else {
+            return Ok((self.agree(store, plain)?, false));
+        };
+        self.tally.count(ours);
+        Ok((self.takes(serial, ours, theirs)?, true))
+    }
+
     /// The next items of a cursor.
     fn next(&mut self) -> Result<bool, Fail> {
         let serial = self.cursor();
         for _ in 0..=self.source.below(32) {
-            let store = answered(self.store.next(serial))?;
-            let plain = answered(self.plain.next(serial))?;
-            let (Ok(ours), Ok(theirs)) = (store, plain) else {
-                return Ok(self.agree(store, plain)?);
-            };
-            self.tally.count(ours);
-            let Some(given) = self.open.iter_mut().find(|given| given.serial == serial) else {
-                return Ok(false);
-            };
-            if !given.takes(ours, theirs)? {
-                return Ok(false);
+            let (are_alike, is_given) = self.next_item(serial)?;
+            if !are_alike || !is_given {
+                return Ok(are_alike);
             }
         }
         Ok(true)
     }
 
-    /// Whether all that both sides have left to give a cursor is the same.
-    fn drain(&mut self, place: usize) -> Result<bool, Fail> {
-        let Some(given) = self.open.get_mut(place) else {
-            return Ok(true);
-        };
-        let mut ours = Vec::new(self.alloc);
-        answered(self.store.drain(given.serial, &mut ours))??;
-        let theirs = answered(self.plain.drain(given.serial))??;
+    /// All that a store has left to give a cursor.
+    fn left(&mut self, serial: u64) -> Result<Vec<Item<C::Key>>, Refusal> {
+        let mut items = Vec::new(self.alloc);
+        self.store.drain(serial, &mut items)?;
+        Ok(items)
+    }
+
+    /// Whether items that both sides gave a cursor go on with those before.
+    fn take_all(
+        &mut self,
+        serial: u64,
+        ours: &[Item<C::Key>],
+        theirs: &[Item<C::Key>],
+    ) -> Result<bool, Refusal> {
         if ours.len() != theirs.len() {
             return Ok(false);
         }
         for (item, other) in ours.iter().zip(theirs.iter()) {
             self.tally.count(Some(*item));
-            if !given.takes(Some(*item), Some(*other))? {
+            if !self.takes(serial, Some(*item), Some(*other))? {
                 return Ok(false);
             }
         }
         self.tally.ends = self.tally.ends.wrapping_add(1);
-        Ok(given.takes(None, None)?)
+        self.takes(serial, None, None)
+    }
+
+    /// Whether all that both sides have left to give a cursor is the same.
+    fn drain(&mut self, place: usize) -> Result<bool, Fail> {
+        let Some(serial) = self.open.get(place).map(|given| given.serial) else {
+            return Ok(true);
+        };
+        let ours = self.left(serial)?;
+        let theirs = self.plain.drain(serial)?;
+        Ok(self.take_all(serial, &ours, &theirs)?)
+    }
+
+    /// The first random call that the sides don't answer alike.
+    fn first_wrong_call(&mut self) -> Result<Option<u64>, Fail> {
+        for number in 0..CALLS {
+            if !self.call()? {
+                return Ok(Some(number));
+            }
+        }
+        Ok(None)
+    }
+
+    /// The first commit of which the sides don't tell the same.
+    fn first_wrong_commit(&self) -> Option<u64> {
+        for number in 0..=self.store.commits().wrapping_add(1) {
+            if self.store.commit(number) != self.plain.commit(number) {
+                return Some(number);
+            }
+        }
+        None
     }
 
     fn ask_mark(&mut self) -> Result<bool, Fail> {
@@ -387,14 +526,26 @@ impl<C: Drawn> Pair<C> {
         Ok(self.agree(store, plain)?)
     }
 
-    /// A sweep, once the cursors that have begun were drained: how far a scan is isn't the same on both sides.
-    fn sweep(&mut self) -> Result<bool, Fail> {
+    /// Whether the cursors that have begun are drained alike.
+    fn drain_begun(&mut self) -> Result<bool, Fail> {
         for place in 0..self.open.len() {
-            if self.open.get(place).is_some_and(|given| given.begun) && !self.drain(place)? {
+            if self.has_begun(place) && !self.drain(place)? {
                 return Ok(false);
             }
         }
-        let swept = answered(self.store.sweep_all())??;
+        Ok(true)
+    }
+
+    fn has_begun(&self, place: usize) -> bool {
+        self.open.get(place).is_some_and(|given| given.begun)
+    }
+
+    /// A sweep, once the cursors that have begun were drained: how far a scan is isn't the same on both sides.
+    fn sweep(&mut self) -> Result<bool, Fail> {
+        if !self.drain_begun()? {
+            return Ok(false);
+        }
+        let swept = self.store.sweep_all()?;
         self.tally.swept = self.tally.swept.wrapping_add(swept);
         Ok(swept == self.plain.sweep_all())
     }
@@ -434,29 +585,12 @@ fn try_class<C: Drawn>(rt: &impl Abort, alloc: Global) -> Result<(), Fail> {
             commits: 12_500,
         };
         let mut pair = Pair::<C>::new(alloc, config, u64::from(fan))?;
-        for number in 0..CALLS {
-            assert!(rt; pair.call()?, "fan {fan}, call {number}");
-        }
-        let commits = pair.store.commits();
-        for number in 0..=commits.wrapping_add(1) {
-            assert!(rt;
-                pair.store.commit(number) == pair.plain.commit(number),
-                "fan {fan}, commit {number}"
-            );
-        }
+        let wrong = pair.first_wrong_call()?;
+        assert!(rt; wrong.is_none(), "fan {fan}, call {wrong:?}");
+        let wrong = pair.first_wrong_commit();
+        assert!(rt; wrong.is_none(), "fan {fan}, commit {wrong:?}");
         let tally = pair.tally;
-        for count in [
-            tally.found,
-            tally.rows,
-            tally.inserted,
-            tally.deleted,
-            tally.marks,
-            tally.ends,
-            tally.swept,
-            tally.refused,
-        ] {
-            assert!(rt; count >= 100, "fan {fan}, {tally:?}");
-        }
+        assert!(rt; tally.least() >= 100, "fan {fan}, {tally:?}");
     }
     Ok(())
 }

@@ -3,42 +3,69 @@ use change_list::{ChangeList, Config, Item, Row, Status, Write};
 use interval_class::{Atom, Interval, Intervals};
 use key_class::{Pred, Refusal, Rel};
 use query_text::ClassText;
+use std::alloc::Global;
 use std::test::Fail;
 use store::Store;
 
-fn key(lo: i64, hi: i64) -> Result<Interval, Fail> {
-    Ok(Interval::new(lo, hi)?)
+fn key(lo: i64, hi: i64) -> Result<Interval, Refusal> {
+    Interval::new(lo, hi)
 }
 
-fn overlapping(lo: i64, hi: i64) -> Result<Pred<Atom>, Fail> {
+fn overlapping(lo: i64, hi: i64) -> Result<Pred<Atom>, Refusal> {
     Ok(Pred::Atom(Intervals::atom(Rel::Overlaps, key(lo, hi)?)))
+}
+
+/// Adds a commit, if a row that it deletes is live.
+fn commit(changes: &mut ChangeList<u8>, write: Write<u8>) -> Result<(), Refusal> {
+    if let Write::Delete(row) = write {
+        if changes.status(row) != Status::Live {
+            return Err(Refusal::NoSuchRow);
+        }
+    }
+    Ok(changes.push(write)?)
+}
+
+/// Two insertions, and the delete of the first's row.
+fn three_commits(alloc: Global) -> Result<ChangeList<u8>, Refusal> {
+    let mut changes = ChangeList::new(alloc);
+    for write in [Write::Insert(7, 3), Write::Insert(9, 0), Write::Delete(1)] {
+        commit(&mut changes, write)?;
+    }
+    Ok(changes)
 }
 
 #[test]
 fn a_list_of_commits(rt: HostRuntime) -> Result<(), Fail> {
-    let mut changes = ChangeList::new(rt.alloc());
-    assert_eq!(rt; changes.len(), 0);
-    changes.push(Write::Insert(7u8, 3))?;
-    changes.push(Write::Insert(9u8, 0))?;
-    assert!(rt; changes.status(1) == Status::Live);
-    if changes.status(1) == Status::Live {
-        changes.push(Write::Delete(1))?;
+    assert!(rt; ChangeList::<u8>::new(rt.alloc()).len() == 0);
+    let changes = three_commits(rt.alloc())?;
+    assert!(rt; changes.len() == 3);
+    for (row, status) in [
+        (0, Status::NeverIssued),
+        (1, Status::Dead),
+        (2, Status::Live),
+        (3, Status::NeverIssued),
+    ] {
+        assert!(rt; changes.status(row) == status, "{row}");
     }
-    assert_eq!(rt; changes.len(), 3);
-    assert!(rt; changes.status(1) == Status::Dead && changes.status(2) == Status::Live);
-    assert!(rt;
-        changes.status(0) == Status::NeverIssued && changes.status(3) == Status::NeverIssued
-    );
-    assert!(rt;
-        changes.commit(1) == Some(Write::Insert(7u8, 3))
-            && changes.commit(3) == Some(Write::Delete(1))
-    );
-    assert!(rt; changes.commit(0).is_none() && changes.commit(4).is_none());
+    for (number, write) in [
+        (0, None),
+        (1, Some(Write::Insert(7, 3))),
+        (3, Some(Write::Delete(1))),
+        (4, None),
+    ] {
+        assert!(rt; changes.commit(number) == write, "{number}");
+    }
     Ok(())
 }
 
+/// Whether a configuration is out of range, and refused as such.
+fn is_refused(alloc: Global, config: Config) -> bool {
+    !config.is_within_limits()
+        && Store::<Intervals>::new(alloc, config).err() == Some(Refusal::BadConfig)
+}
+
 #[test]
-fn limits_of_a_store(rt: HostRuntime) -> Result<(), Fail> {
+fn limits_of_a_store(rt: HostRuntime) {
     for (fan, least, pages, commits) in [
         (4, 3, 9, 9),
         (65, 3, 9, 9),
@@ -54,83 +81,187 @@ fn limits_of_a_store(rt: HostRuntime) -> Result<(), Fail> {
             pages,
             commits,
         };
-        assert!(rt; !config.is_within_limits());
-        match Store::<Intervals>::new(rt.alloc(), config) {
-            Ok(_) => assert!(rt; false),
-            Err(why) => assert_eq!(rt; why, Refusal::BadConfig),
+        assert!(rt; is_refused(rt.alloc(), config), "{config:?}");
+    }
+}
+
+/// A store of the usual limits, but for its commits.
+fn store_of(alloc: Global, commits: u32) -> Result<Store<Intervals>, Refusal> {
+    Store::new(alloc, Config { commits, ..CONFIG })
+}
+
+/// A call of a store, which it answers by a number.
+#[derive(Clone, Copy, Debug)]
+enum Call {
+    Insert(i64, i64, u64),
+    Delete(u64),
+    /// Opens a cursor of what overlaps an interval.
+    Open(i64, i64),
+    Sweep,
+    /// Answered by 0.
+    AskMark(u64),
+    /// Answered by 0.
+    Close(u64),
+    /// Answered by how many items are given.
+    Drain(u64),
+}
+
+fn answer(alloc: Global, store: &mut Store<Intervals>, call: Call) -> Result<u64, Refusal> {
+    match call {
+        Call::Insert(lo, hi, tag) => store.insert(key(lo, hi)?, tag),
+        Call::Delete(row) => store.delete(row),
+        Call::Open(lo, hi) => store.open(overlapping(lo, hi)?, 4),
+        Call::Sweep => store.sweep_all(),
+        Call::AskMark(cursor) => {
+            store.ask_mark(cursor)?;
+            Ok(0)
+        }
+        Call::Close(cursor) => {
+            store.close(cursor)?;
+            Ok(0)
+        }
+        Call::Drain(cursor) => count_left(alloc, store, cursor),
+    }
+}
+
+/// How many items are left to give a cursor.
+fn count_left(alloc: Global, store: &mut Store<Intervals>, cursor: u64) -> Result<u64, Refusal> {
+    let mut items = Vec::new(alloc);
+    store.drain(cursor, &mut items)?;
+    Ok(items.len() as u64)
+}
+
+/// The first of some calls that a store doesn't answer as wanted.
+fn first_wrong(
+    alloc: Global,
+    store: &mut Store<Intervals>,
+    calls: &[(Call, Result<u64, Refusal>)],
+) -> Option<Call> {
+    for (call, wanted) in calls {
+        if answer(alloc, store, *call) != *wanted {
+            return Some(*call);
         }
     }
-    let mut store = Store::<Intervals>::new(
-        rt.alloc(),
-        Config {
-            commits: 1,
-            ..CONFIG
-        },
-    )?;
-    assert_eq!(rt; store.insert(key(5, 5)?, 0)?, 1);
-    assert_eq!(rt;
-        store.insert(key(5, 5)?, 0).err(),
-        Some(Refusal::CommitsFull)
-    );
-    assert_eq!(rt; store.delete(1).err(), Some(Refusal::CommitsFull));
-    assert_eq!(rt; store.delete(2).err(), Some(Refusal::NoSuchRow));
+    None
+}
+
+/// Calls of a store that has room for one commit.
+static ONE_COMMIT: [(Call, Result<u64, Refusal>); 4] = [
+    (Call::Insert(5, 5, 0), Ok(1)),
+    (Call::Insert(5, 5, 0), Err(Refusal::CommitsFull)),
+    (Call::Delete(1), Err(Refusal::CommitsFull)),
+    (Call::Delete(2), Err(Refusal::NoSuchRow)),
+];
+
+#[test]
+fn commits_of_a_store(rt: HostRuntime) -> Result<(), Fail> {
+    let mut store = store_of(rt.alloc(), 1)?;
+    let wrong = first_wrong(rt.alloc(), &mut store, &ONE_COMMIT);
+    assert!(rt; wrong.is_none(), "{wrong:?}");
     Ok(())
 }
 
-#[test]
-fn pages_of_a_store(rt: HostRuntime) -> Result<(), Fail> {
-    let mut store = Store::<Intervals>::new(
-        rt.alloc(),
+/// A store of two pages with four entries each.
+fn two_pages(alloc: Global) -> Result<Store<Intervals>, Refusal> {
+    Store::new(
+        alloc,
         Config {
             fan: 4,
             least: 2,
             pages: 2,
             ..CONFIG
         },
-    )?;
-    for row in 1..5 {
-        assert_eq!(rt; store.insert(key(5, 5)?, row), Ok(row));
-    }
-    assert_eq!(rt; store.insert(key(5, 5)?, 0), Err(Refusal::PagesFull));
-    assert_eq!(rt; store.commits(), 4);
-    let rows = store.find(&overlapping(0, 9)?)?;
-    assert!(rt; rows.iter().map(|row| row.row).eq(1..5));
-    assert_eq!(rt; store.delete(3), Ok(5));
-    assert_eq!(rt; store.find(&overlapping(0, 9)?)?.len(), 3);
+    )
+}
+
+/// Whether the rows that overlap an interval have these numbers.
+fn finds(store: &Store<Intervals>, lo: i64, hi: i64, numbers: &[u64]) -> Result<bool, Refusal> {
+    let rows = store.find(&overlapping(lo, hi)?)?;
+    Ok(rows.iter().map(|row| row.row).eq(numbers.iter().copied()))
+}
+
+/// Calls of a store that has no pages to grow by.
+static TWO_PAGES: [(Call, Result<u64, Refusal>); 5] = [
+    (Call::Insert(5, 5, 1), Ok(1)),
+    (Call::Insert(5, 5, 2), Ok(2)),
+    (Call::Insert(5, 5, 3), Ok(3)),
+    (Call::Insert(5, 5, 4), Ok(4)),
+    (Call::Insert(5, 5, 0), Err(Refusal::PagesFull)),
+];
+
+#[test]
+fn pages_of_a_store(rt: HostRuntime) -> Result<(), Fail> {
+    let mut store = two_pages(rt.alloc())?;
+    let wrong = first_wrong(rt.alloc(), &mut store, &TWO_PAGES);
+    assert!(rt; wrong.is_none(), "{wrong:?}");
+    assert!(rt; store.commits() == 4);
+    assert!(rt; finds(&store, 0, 9, &[1, 2, 3, 4])?);
+    let wrong = first_wrong(rt.alloc(), &mut store, &[(Call::Delete(3), Ok(5))]);
+    assert!(rt; wrong.is_none(), "{wrong:?}");
+    assert!(rt; finds(&store, 0, 9, &[1, 2, 4])?);
     Ok(())
 }
 
-#[test]
-fn calls_of_a_store(rt: HostRuntime) -> Result<(), Fail> {
-    let mut store = Store::<Intervals>::new(rt.alloc(), CONFIG)?;
-    assert_eq!(rt; store.insert(key(5, 5)?, 7)?, 1);
-    assert_eq!(rt; store.open(overlapping(0, 9)?, 4)?, 1);
-    assert_eq!(rt; store.insert(key(20, 30)?, 0)?, 2);
-    assert_eq!(rt; store.delete(1)?, 3);
-    assert_eq!(rt; store.delete(1).err(), Some(Refusal::AlreadyDeleted));
-    assert_eq!(rt; store.commits(), 3);
-    assert!(rt; store.commit(3) == Some(Write::Delete(1)) && store.commit(4).is_none());
-    assert_eq!(rt; store.sweep_all()?, 0);
-    store.ask_mark(1)?;
-    let mut items = Vec::new(rt.alloc());
-    store.drain(1, &mut items)?;
+/// Whether all that is left to give a cursor is these items, and then none.
+fn drains(
+    alloc: Global,
+    store: &mut Store<Intervals>,
+    cursor: u64,
+    wanted: &[Item<Interval>],
+) -> Result<bool, Refusal> {
+    let mut items = Vec::new(alloc);
+    store.drain(cursor, &mut items)?;
+    Ok(items.as_slice() == wanted && store.next(cursor)?.is_none())
+}
+
+fn next_refusal(store: &mut Store<Intervals>, cursor: u64) -> Option<Refusal> {
+    store.next(cursor).err()
+}
+
+/// A row is deleted after cursor 1 was opened, and one comes that the cursor doesn't ask for.
+static CALLS: [(Call, Result<u64, Refusal>); 7] = [
+    (Call::Insert(5, 5, 7), Ok(1)),
+    (Call::Open(0, 9), Ok(1)),
+    (Call::Insert(20, 30, 0), Ok(2)),
+    (Call::Delete(1), Ok(3)),
+    (Call::Delete(1), Err(Refusal::AlreadyDeleted)),
+    (Call::Sweep, Ok(0)),
+    (Call::AskMark(1), Ok(0)),
+];
+
+/// What follows once the cursor was drained.
+static LATER_CALLS: [(Call, Result<u64, Refusal>); 4] = [
+    (Call::Sweep, Ok(1)),
+    (Call::Close(1), Ok(0)),
+    (Call::Close(1), Err(Refusal::CursorClosed)),
+    (Call::Drain(2), Err(Refusal::NoSuchCursor)),
+];
+
+/// The items that cursor 1 is given.
+fn items_of_calls() -> Result<[Item<Interval>; 3], Refusal> {
     let row = Row {
         row: 1,
         key: key(5, 5)?,
         tag: 7,
     };
-    assert!(rt;
-        items.as_slice() == [Item::Row(row), Item::Deleted(3, 1), Item::Mark(3)].as_slice()
-    );
-    assert!(rt; store.next(1)?.is_none());
-    assert_eq!(rt; store.sweep_all()?, 1);
-    assert_eq!(rt; store.find(&overlapping(0, 99)?)?.len(), 1);
-    store.close(1)?;
-    assert_eq!(rt; store.close(1).err(), Some(Refusal::CursorClosed));
-    assert_eq!(rt; store.next(1).err(), Some(Refusal::CursorClosed));
-    assert_eq!(rt;
-        store.drain(2, &mut items).err(),
-        Some(Refusal::NoSuchCursor)
-    );
+    Ok([Item::Row(row), Item::Deleted(3, 1), Item::Mark(3)])
+}
+
+/// Whether the commits are those of the calls.
+fn has_commits_of_calls(store: &Store<Intervals>) -> bool {
+    store.commits() == 3 && store.commit(3) == Some(Write::Delete(1)) && store.commit(4).is_none()
+}
+
+#[test]
+fn calls_of_a_store(rt: HostRuntime) -> Result<(), Fail> {
+    let mut store = store_of(rt.alloc(), CONFIG.commits)?;
+    let wrong = first_wrong(rt.alloc(), &mut store, &CALLS);
+    assert!(rt; wrong.is_none(), "{wrong:?}");
+    assert!(rt; has_commits_of_calls(&store));
+    assert!(rt; drains(rt.alloc(), &mut store, 1, &items_of_calls()?)?);
+    let wrong = first_wrong(rt.alloc(), &mut store, &LATER_CALLS);
+    assert!(rt; wrong.is_none(), "{wrong:?}");
+    assert!(rt; next_refusal(&mut store, 1) == Some(Refusal::CursorClosed));
+    assert!(rt; finds(&store, 0, 99, &[2])?);
     Ok(())
 }

@@ -87,18 +87,17 @@ impl Write for Faltering {
 }
 
 /// Three lines, with two commits in all.
-#[derive(Clone, Copy)]
 struct Lines {
     kind: Kind,
     input: &'static [u8],
     /// The answers to as many first lines.
-    answers: [&'static str; 4],
+    answers: &'static [&'static str],
 }
 
-const COMMANDS: Lines = Lines {
+static COMMANDS: Lines = Lines {
     kind: Kind::Session,
     input: b"insert (5 5) 0\nfind overlaps(5 5)\ninsert (6 6) 1\n",
-    answers: [
+    answers: &[
         "",
         "committed 1\n",
         "committed 1\nfound 1\nrow 1 (5 5) 0\n",
@@ -106,10 +105,10 @@ const COMMANDS: Lines = Lines {
     ],
 };
 
-const EVENTS: Lines = Lines {
+static EVENTS: Lines = Lines {
     kind: Kind::Replay,
     input: b"place 0 (5 5) 0\nopen 4 overlaps(5 5)\nplace 0 (6 6) 1\n",
-    answers: [
+    answers: &[
         "",
         "committed 1\n",
         "committed 1\nopened 1\n",
@@ -117,32 +116,134 @@ const EVENTS: Lines = Lines {
     ],
 };
 
+impl Lines {
+    /// The answers to the first lines.
+    fn answers_to(&self, count: usize) -> Option<&'static [u8]> {
+        Some(self.answers.get(count)?.as_bytes())
+    }
+
+    /// The answers to all lines.
+    fn all(&self) -> &'static [u8] {
+        self.answers_to(3).unwrap_or(b"".as_slice())
+    }
+}
+
+/// How many of the first bytes of a text end a line.
+fn line_ends(text: &[u8], bytes: usize) -> usize {
+    text.iter()
+        .take(bytes)
+        .filter(|byte| **byte == b'\n')
+        .count()
+}
+
+/// Whether a reader that fails at its last call is a fault, where the lines aren't at their end, and what came before is
+/// answered.
+fn breaks(rt: HostRuntime, lines: &Lines, at_once: usize, calls: usize) -> Result<bool, Fail> {
+    let mut reader = Breaking {
+        rest: lines.input,
+        at_once,
+        calls,
+    };
+    let mut writer = Vec::new(rt.alloc());
+    let ending = run(rt, lines.kind, &mut reader, &mut writer)?;
+    let is_early = at_once.saturating_mul(calls.saturating_sub(1)) < lines.input.len();
+    let is_due = match ending.result {
+        Ok(()) => !is_early,
+        Err(Fault::Read) => is_early,
+        Err(_) => false,
+    };
+    let whole = line_ends(lines.input, at_once.saturating_mul(calls));
+    Ok(is_due && lines.answers_to(whole) == Some(writer.as_slice()))
+}
+
 #[test]
 fn reader_that_fails(rt: HostRuntime) -> Result<(), Fail> {
-    for lines in [COMMANDS, EVENTS] {
+    for lines in [&COMMANDS, &EVENTS] {
         for at_once in [1, 7, 20, 100] {
             for calls in 0..55 {
-                let mut reader = Breaking {
-                    rest: lines.input,
-                    at_once,
-                    calls,
-                };
-                let mut writer = Vec::new(rt.alloc());
-                let ending = run(rt, lines.kind, &mut reader, &mut writer)?;
-                let whole = lines
-                    .input
-                    .iter()
-                    .take(at_once.saturating_mul(calls))
-                    .filter(|byte| **byte == b'\n')
-                    .count();
-                if at_once.saturating_mul(calls.saturating_sub(1)) < lines.input.len() {
-                    assert!(rt; matches!(ending.result, Err(Fault::Read)));
-                } else {
-                    assert!(rt; ending.result.is_ok());
-                }
-                assert_eq!(rt;
-                    Some(writer.as_slice()),
-                    lines.answers.get(whole).map(|text| text.as_bytes())
+                assert!(rt; breaks(rt, lines, at_once, calls)?, "{at_once} {calls}");
+            }
+        }
+    }
+    Ok(())
+}
+
+/// Whether a writer that fails at its last call is a fault, where it hasn't all, and keeps what was written before.
+fn stops(rt: HostRuntime, lines: &Lines, at_once: usize, calls: usize) -> Result<bool, Fail> {
+    let mut reader = lines.input;
+    let mut writer = Stopping {
+        kept: Vec::new(rt.alloc()),
+        at_once,
+        calls,
+    };
+    let ending = run(rt, lines.kind, &mut reader, &mut writer)?;
+    let wanted = at_once.saturating_mul(calls);
+    let is_due = match ending.result {
+        Ok(()) => wanted >= lines.all().len(),
+        Err(Fault::Write) => wanted < lines.all().len(),
+        Err(_) => false,
+    };
+    Ok(is_due && ending.commits == 2 && is_start(lines.all(), writer.kept.as_slice(), wanted))
+}
+
+/// Whether some bytes are the first so many of a text, or all of it.
+fn is_start(text: &[u8], bytes: &[u8], count: usize) -> bool {
+    bytes == &text[..text.len().min(count)]
+}
+
+#[test]
+fn writer_that_fails(rt: HostRuntime) -> Result<(), Fail> {
+    for lines in [&COMMANDS, &EVENTS] {
+        for at_once in [1, 7, 20, 100] {
+            for calls in 0..55 {
+                assert!(rt; stops(rt, lines, at_once, calls)?, "{at_once} {calls}");
+            }
+        }
+    }
+    Ok(())
+}
+
+/// How a run went whose writer fails at one call, and the writer then.
+fn faltered(
+    rt: HostRuntime,
+    lines: &Lines,
+    at_once: usize,
+    before: usize,
+    kind: ErrorKind,
+) -> Result<(bool, Faltering), Fail> {
+    let mut reader = lines.input;
+    let mut writer = Faltering {
+        kept: Vec::new(rt.alloc()),
+        at_once,
+        before,
+        kind,
+        failed: false,
+        after: 0,
+    };
+    let ending = run(rt, lines.kind, &mut reader, &mut writer)?;
+    Ok((ending.result.is_ok(), writer))
+}
+
+/// Whether a run ends at a call that fails, if it comes to that call, and writes nothing after it.
+fn ends_there(rt: HostRuntime, lines: &Lines, at_once: usize, before: usize) -> Result<bool, Fail> {
+    let (is_well, writer) = faltered(rt, lines, at_once, before, ErrorKind::BrokenPipe)?;
+    let wanted = at_once.saturating_mul(before);
+    Ok(
+        writer.failed == (wanted < lines.all().len())
+            && is_well != writer.failed
+            && writer.after == 0
+            && is_start(lines.all(), writer.kept.as_slice(), wanted),
+    )
+}
+
+#[test]
+fn nothing_is_written_after_a_fault(rt: HostRuntime) -> Result<(), Fail> {
+    for lines in [&COMMANDS, &EVENTS] {
+        for at_once in [1, 7, 20, 100] {
+            for before in 0..55 {
+                assert!(rt;
+                    ends_there(rt, lines, at_once, before)?,
+                    "{at_once} {before}"
                 );
             }
         }
@@ -150,78 +251,18 @@ fn reader_that_fails(rt: HostRuntime) -> Result<(), Fail> {
     Ok(())
 }
 
-#[test]
-fn writer_that_fails(rt: HostRuntime) -> Result<(), Fail> {
-    for lines in [COMMANDS, EVENTS] {
-        let all = lines.answers[3].as_bytes();
-        for at_once in [1, 7, 20, 100] {
-            for calls in 0..55 {
-                let mut reader = lines.input;
-                let mut writer = Stopping {
-                    kept: Vec::new(rt.alloc()),
-                    at_once,
-                    calls,
-                };
-                let ending = run(rt, lines.kind, &mut reader, &mut writer)?;
-                let kept = all.len().min(at_once.saturating_mul(calls));
-                if kept < all.len() {
-                    assert!(rt; matches!(ending.result, Err(Fault::Write)));
-                } else {
-                    assert!(rt; ending.result.is_ok());
-                }
-                assert_eq!(rt; writer.kept.as_slice(), &all[..kept]);
-                assert_eq!(rt; ending.commits, 2);
-            }
-        }
-    }
-    Ok(())
-}
-
-#[test]
-fn nothing_is_written_after_a_fault(rt: HostRuntime) -> Result<(), Fail> {
-    for lines in [COMMANDS, EVENTS] {
-        let all = lines.answers[3].as_bytes();
-        for at_once in [1, 7, 20, 100] {
-            for before in 0..55 {
-                let mut reader = lines.input;
-                let mut writer = Faltering {
-                    kept: Vec::new(rt.alloc()),
-                    at_once,
-                    before,
-                    kind: ErrorKind::BrokenPipe,
-                    failed: false,
-                    after: 0,
-                };
-                let ending = run(rt, lines.kind, &mut reader, &mut writer)?;
-                let kept = all.len().min(at_once.saturating_mul(before));
-                assert_eq!(rt; writer.failed, kept < all.len());
-                assert_eq!(rt; ending.result.is_err(), writer.failed);
-                assert_eq!(rt; writer.kept.as_slice(), &all[..kept]);
-                assert_eq!(rt; writer.after, 0);
-            }
-        }
-    }
-    Ok(())
+/// Whether all is written beside a signal.
+fn goes_on(rt: HostRuntime, lines: &Lines, at_once: usize, before: usize) -> Result<bool, Fail> {
+    let (is_well, writer) = faltered(rt, lines, at_once, before, ErrorKind::Interrupted)?;
+    Ok(is_well && writer.kept.as_slice() == lines.all())
 }
 
 #[test]
 fn signal_is_no_fault(rt: HostRuntime) -> Result<(), Fail> {
-    for lines in [COMMANDS, EVENTS] {
-        let all = lines.answers[3].as_bytes();
+    for lines in [&COMMANDS, &EVENTS] {
         for at_once in [1, 7, 20, 100] {
             for before in 0..55 {
-                let mut reader = lines.input;
-                let mut writer = Faltering {
-                    kept: Vec::new(rt.alloc()),
-                    at_once,
-                    before,
-                    kind: ErrorKind::Interrupted,
-                    failed: false,
-                    after: 0,
-                };
-                let ending = run(rt, lines.kind, &mut reader, &mut writer)?;
-                assert!(rt; ending.result.is_ok());
-                assert_eq!(rt; writer.kept.as_slice(), all);
+                assert!(rt; goes_on(rt, lines, at_once, before)?, "{at_once} {before}");
             }
         }
     }

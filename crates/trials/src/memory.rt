@@ -7,13 +7,13 @@ use std::test::Fail;
 #[derive(Clone, Copy)]
 struct Script {
     kind: Kind,
-    lines: [&'static str; 12],
+    lines: &'static [&'static str],
     answers: &'static str,
 }
 
-const COMMANDS: Script = Script {
+static COMMANDS: Script = Script {
     kind: Kind::Session,
-    lines: [
+    lines: &[
         "insert (5 5) 0\n",
         "open 4 overlaps(0 9)\n",
         "insert (6 6) 1\n",
@@ -30,9 +30,9 @@ const COMMANDS: Script = Script {
     answers: "committed 1\nopened 1\ncommitted 2\nrow 1 (5 5) 0\nasked\ncommitted 3\ninserted 2 (6 6) 1\ndeleted 3 1\nmark 3\nswept 1\nclosed\nfound 1\nrow 2 (6 6) 1\n",
 };
 
-const EVENTS: Script = Script {
+static EVENTS: Script = Script {
     kind: Kind::Replay,
-    lines: [
+    lines: &[
         "place 0 (1 1) 0\n",
         "place 0 (2 2) 0\n",
         "place 0 (3 3) 0\n",
@@ -59,14 +59,20 @@ struct Ending {
     commits: u64,
 }
 
-/// Carries out all lines of a script but one.
-fn run_but(rt: HostRuntime, script: Script, left_out: Option<usize>) -> Result<Ending, Fail> {
+/// All lines but one.
+fn input_but(rt: HostRuntime, lines: &[&str], left_out: Option<usize>) -> Result<Vec<u8>, Fail> {
     let mut input = Vec::new(rt.alloc());
-    for (place, line) in script.lines.iter().enumerate() {
+    for (place, line) in lines.iter().enumerate() {
         if left_out != Some(place) {
             input.extend_from_slice(line.as_bytes())?;
         }
     }
+    Ok(input)
+}
+
+/// Carries out all lines of a script but one.
+fn run_but(rt: HostRuntime, script: &Script, left_out: Option<usize>) -> Result<Ending, Fail> {
+    let input = input_but(rt, script.lines, left_out)?;
     let mut written = Vec::with_capacity(rt.alloc(), 1_000)?;
     let mut reader = input.as_slice();
     let ending = run(rt, script.kind, &mut reader, &mut written)?;
@@ -94,7 +100,7 @@ fn answers_but_refused(rt: HostRuntime, written: &[u8]) -> Result<(Option<usize>
 
 /// Whether, where an allocation is refused, the run ends before it reads, or one line is refused and all else is as if
 /// that line weren't there.
-fn is_refused_alone(rt: HostRuntime, script: Script) -> Result<bool, Fail> {
+fn is_refused_alone(rt: HostRuntime, script: &Script) -> Result<bool, Fail> {
     let first = run_but(rt, script, None)?;
     if matches!(first.result, Err(Fault::OutOfMemory)) {
         return Ok(first.written.is_empty() && first.commits == 0);
@@ -111,12 +117,12 @@ fn is_refused_alone(rt: HostRuntime, script: Script) -> Result<bool, Fail> {
 
 #[test]
 fn refused_memory_changes_one_line(rt: HostRuntime) -> Result<(), Fail> {
-    assert!(rt; is_refused_alone(rt, COMMANDS)?);
+    assert!(rt; is_refused_alone(rt, &COMMANDS)?);
     Ok(())
 }
 
 #[test]
 fn refused_memory_changes_one_event(rt: HostRuntime) -> Result<(), Fail> {
-    assert!(rt; is_refused_alone(rt, EVENTS)?);
+    assert!(rt; is_refused_alone(rt, &EVENTS)?);
     Ok(())
 }

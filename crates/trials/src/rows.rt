@@ -72,9 +72,9 @@ fn class_ending<C: ClassText>(
     input: &[u8],
 ) -> Result<Ending, Fail> {
     let mut store = Store::<C>::new(rt.alloc(), config)?;
-    let mut reader = input;
     // All that the rows write, so that no write wants memory.
     let mut written = Vec::with_capacity(rt.alloc(), 4_096)?;
+    let mut reader = input;
     let result = session(rt.alloc(), &mut reader, &mut written, &mut store);
     Ok(Ending {
         result,
@@ -104,18 +104,18 @@ fn answers(rt: HostRuntime, options: Options, input: &[u8]) -> Result<Vec<u8>, F
     Ok(ending.written)
 }
 
-/// The first input that isn't answered by its row's output.
-fn first_wrong(rt: HostRuntime, rows: &[Lines]) -> Result<Option<&'static str>, Fail> {
-    for (options, input, output) in rows {
-        let written = answers(rt, *options, input.as_bytes())?;
-        if written.as_slice() != output.as_bytes() {
-            return Ok(Some(*input));
-        }
-    }
-    Ok(None)
+/// Whether an input is answered by an output.
+fn is_answered(
+    rt: HostRuntime,
+    options: Options,
+    input: &[u8],
+    output: &str,
+) -> Result<bool, Fail> {
+    let written = answers(rt, options, input)?;
+    Ok(written.as_slice() == output.as_bytes())
 }
 
-pub const INSERTS_AND_FINDS: [Lines; 9] = [
+pub static INSERTS_AND_FINDS: [Lines; 9] = [
     (INTERVALS, "", ""),
     (INTERVALS, "\n  \n", ""),
     (INTERVALS, "find overlaps(0 9)\n", "found 0\n"),
@@ -153,11 +153,16 @@ pub const INSERTS_AND_FINDS: [Lines; 9] = [
 
 #[test]
 fn inserts_and_finds(rt: HostRuntime) -> Result<(), Fail> {
-    assert_eq!(rt; first_wrong(rt, INSERTS_AND_FINDS.as_slice())?, None);
+    for (options, input, output) in &INSERTS_AND_FINDS {
+        assert!(rt;
+            is_answered(rt, *options, input.as_bytes(), output)?,
+            "{input}"
+        );
+    }
     Ok(())
 }
 
-pub const REFUSED_LINES: [Lines; 20] = [
+pub static REFUSED_LINES: [Lines; 20] = [
     (INTERVALS, "find", "refused 21 QueryText 4\n"),
     (INTERVALS, "open", "refused 22 Line 4\n"),
     (INTERVALS, "open 4", "refused 21 QueryText 6\n"),
@@ -190,47 +195,66 @@ pub const REFUSED_LINES: [Lines; 20] = [
 
 #[test]
 fn refused_lines(rt: HostRuntime) -> Result<(), Fail> {
-    assert_eq!(rt; first_wrong(rt, REFUSED_LINES.as_slice())?, None);
-    Ok(())
-}
-
-#[test]
-fn ends_and_long_lines(rt: HostRuntime) -> Result<(), Fail> {
-    let input: &[u8] = b"insert (5 5) 0\ninsert (6";
-    let output: &[u8] = b"committed 1\nrefused 22 Line 9\n";
-    assert_eq!(rt; answers(rt, INTERVALS, input)?.as_slice(), output);
-
-    let mut line = Vec::new(rt.alloc());
-    line.extend_from_slice(b"insert (5 5) 0")?;
-    line.resize(4096, b' ')?;
-    let output: &[u8] = b"committed 1\n";
-    assert_eq!(rt; answers(rt, INTERVALS, line.as_slice())?.as_slice(), output);
-
-    line.push(b' ')?;
-    line.extend_from_slice(b"\nfind overlaps(0 9)")?;
-    let output: &[u8] = b"refused 22 Line 4096\nfound 0\n";
-    assert_eq!(rt; answers(rt, INTERVALS, line.as_slice())?.as_slice(), output);
-
-    for (nots, output) in [
-        (31, "found 1\nrow 1 (20 20) 0\n"),
-        (32, "refused 21 QueryText 5\n"),
-    ] {
-        let mut text = Vec::new(rt.alloc());
-        text.extend_from_slice(b"insert (20 20) 0\nfind ")?;
-        text.extend_from_slice("not ".repeat(rt.alloc(), nots)?.as_bytes())?;
-        text.extend_from_slice(b"overlaps(0 9)\n")?;
-        let mut want = Vec::new(rt.alloc());
-        want.extend_from_slice(b"committed 1\n")?;
-        want.extend_from_slice(output.as_bytes())?;
-        assert_eq!(rt;
-            answers(rt, INTERVALS, text.as_slice())?.as_slice(),
-            want.as_slice()
+    for (options, input, output) in &REFUSED_LINES {
+        assert!(rt;
+            is_answered(rt, *options, input.as_bytes(), output)?,
+            "{input}"
         );
     }
     Ok(())
 }
 
-pub const CURSORS_AND_SWEEPS: [Lines; 8] = [
+#[test]
+fn ends_within_a_line(rt: HostRuntime) -> Result<(), Fail> {
+    let input = b"insert (5 5) 0\ninsert (6";
+    let output = "committed 1\nrefused 22 Line 9\n";
+    assert!(rt; is_answered(rt, INTERVALS, input, output)?);
+    Ok(())
+}
+
+/// A line that is filled by spaces up to a length, and further bytes.
+fn filled(rt: HostRuntime, length: usize, further: &[u8]) -> Result<Vec<u8>, Fail> {
+    let mut line = Vec::new(rt.alloc());
+    line.extend_from_slice(b"insert (5 5) 0")?;
+    line.resize(length, b' ')?;
+    line.extend_from_slice(further)?;
+    Ok(line)
+}
+
+#[test]
+fn long_lines(rt: HostRuntime) -> Result<(), Fail> {
+    let line = filled(rt, 4_096, b"")?;
+    assert!(rt; is_answered(rt, INTERVALS, &line, "committed 1\n")?);
+    let lines = filled(rt, 4_097, b"\nfind overlaps(0 9)")?;
+    let output = "refused 22 Line 4096\nfound 0\n";
+    assert!(rt; is_answered(rt, INTERVALS, &lines, output)?);
+    Ok(())
+}
+
+/// An insertion, and a search with so many times `not` before an atom.
+fn nested(rt: HostRuntime, nots: usize) -> Result<Vec<u8>, Fail> {
+    let mut text = Vec::new(rt.alloc());
+    text.extend_from_slice(b"insert (20 20) 0\nfind ")?;
+    for _ in 0..nots {
+        text.extend_from_slice(b"not ")?;
+    }
+    text.extend_from_slice(b"overlaps(0 9)\n")?;
+    Ok(text)
+}
+
+#[test]
+fn deep_queries(rt: HostRuntime) -> Result<(), Fail> {
+    for (nots, output) in [
+        (31, "committed 1\nfound 1\nrow 1 (20 20) 0\n"),
+        (32, "committed 1\nrefused 21 QueryText 5\n"),
+    ] {
+        let text = nested(rt, nots)?;
+        assert!(rt; is_answered(rt, INTERVALS, &text, output)?, "{nots}");
+    }
+    Ok(())
+}
+
+pub static CURSORS_AND_SWEEPS: [Lines; 8] = [
     (
         INTERVALS,
         "insert (5 5) 0\nopen 4 overlaps(0 9)\ninsert (6 6) 0\nnext 1\nnext 1\nnext 1\n",
@@ -275,6 +299,11 @@ pub const CURSORS_AND_SWEEPS: [Lines; 8] = [
 
 #[test]
 fn cursors_and_sweeps(rt: HostRuntime) -> Result<(), Fail> {
-    assert_eq!(rt; first_wrong(rt, CURSORS_AND_SWEEPS.as_slice())?, None);
+    for (options, input, output) in &CURSORS_AND_SWEEPS {
+        assert!(rt;
+            is_answered(rt, *options, input.as_bytes(), output)?,
+            "{input}"
+        );
+    }
     Ok(())
 }

@@ -1,10 +1,9 @@
 use change_list::Config;
 use front::{replay, session};
 use interval_class::{Interval, Intervals};
-use key_class::Fault;
+use key_class::{Fault, Refusal};
 use mailbox::Tray;
 use std::io::{Read, Write};
-use std::test::Fail;
 use store::Store;
 use world::World;
 
@@ -29,29 +28,43 @@ pub struct Ending {
     pub commits: u64,
 }
 
+/// A session over a new store.
+fn serve<R: Read, W: Write>(
+    rt: HostRuntime,
+    reader: &mut R,
+    writer: &mut W,
+) -> Result<Ending, Refusal> {
+    let mut store = Store::<Intervals>::new(rt.alloc(), CONFIG)?;
+    let result = session(rt.alloc(), reader, writer, &mut store);
+    Ok(Ending {
+        result,
+        commits: store.commits(),
+    })
+}
+
+/// A replay over a new world.
+fn carry_out<R: Read, W: Write>(
+    rt: HostRuntime,
+    reader: &mut R,
+    writer: &mut W,
+) -> Result<Ending, Refusal> {
+    let mut world = World::<Intervals, Tray<Interval>>::new(rt.alloc(), CONFIG)?;
+    let result = replay(rt.alloc(), reader, writer, &mut world);
+    Ok(Ending {
+        result,
+        commits: world.commits(),
+    })
+}
+
 /// Carries out the lines of a reader, over a new store or a new world.
 pub fn run<R: Read, W: Write>(
     rt: HostRuntime,
     kind: Kind,
     reader: &mut R,
     writer: &mut W,
-) -> Result<Ending, Fail> {
-    Ok(match kind {
-        Kind::Session => {
-            let mut store = Store::<Intervals>::new(rt.alloc(), CONFIG)?;
-            let result = session(rt.alloc(), reader, writer, &mut store);
-            Ending {
-                result,
-                commits: store.commits(),
-            }
-        }
-        Kind::Replay => {
-            let mut world = World::<Intervals, Tray<Interval>>::new(rt.alloc(), CONFIG)?;
-            let result = replay(rt.alloc(), reader, writer, &mut world);
-            Ending {
-                result,
-                commits: world.commits(),
-            }
-        }
-    })
+) -> Result<Ending, Refusal> {
+    match kind {
+        Kind::Session => serve(rt, reader, writer),
+        Kind::Replay => carry_out(rt, reader, writer),
+    }
 }
