@@ -382,8 +382,8 @@ module _ {C O K A E : Type 0} (w : Words K A) (laws : WordLaws w) (seat : ℕ) (
                   ap (λ (z : OpenCursor K A). z.asked) f,
                   record { query = query; room = room; end = end; is = ap (λ n. (event.Open query room, reply.Opened n end)) (d.change.serial ∙ sym eq) },
                   (let e : Some fresh.cursor ≡ Some y = sym fresh.is_open ∙ ap (λ n. cursor_at new n) (sym eq) ∙ g in
-                  let h : fresh.cursor ≡ y = cc in
-                  subst (λ (z : OpenCursor K A). Fits w.matching new.commits (shown w new.search.tree z) []) h fresh.fits),
+                      let h : fresh.cursor ≡ y = cc in
+                      subst (λ (z : OpenCursor K A). Fits w.matching new.commits (shown w new.search.tree z) []) h fresh.fits),
                 )
             | inr n ↦ absurd (none_is_some y (cursor_at new x) (apart x n ∙ h) g)
           ];
