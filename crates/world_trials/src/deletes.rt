@@ -1,6 +1,7 @@
 use super::rows::{Row, SMALL, check, steps_of};
 use super::steps::{Answer, Ask, Query, Trial, answer_of};
 use change_list::Config;
+use std::alloc::Global;
 use std::test::Fail;
 
 const FIVE_COMMITS: Config = Config {
@@ -365,19 +366,34 @@ fn deletes_are_items(rt: HostRuntime) -> Result<(), Fail> {
     check(&rt, rt.alloc(), SMALL, &DELETE_ITEMS)
 }
 
+/// Places two rows, at the points 1 and 2.
+fn place_two(alloc: Global, world: &mut Trial) -> Result<(), Fail> {
+    for point in 1..=2 {
+        answer_of(alloc, world, Ask::Place(0, (point, point), 0))?;
+    }
+    Ok(())
+}
+
+/// Whether the next finders of row 1 have the serials 1 to 64.
+fn opens_finders(alloc: Global, world: &mut Trial) -> Result<bool, Fail> {
+    for serial in 1..=64 {
+        if answer_of(alloc, world, Ask::Find(1))? != Answer::Finder(serial) {
+            return Ok(false);
+        }
+    }
+    Ok(true)
+}
+
+fn with_two_rows(alloc: Global) -> Result<Trial, Fail> {
+    let mut world = Trial::new(alloc, SMALL)?;
+    place_two(alloc, &mut world)?;
+    Ok(world)
+}
+
 #[test]
 fn at_most_64_finders_are_open(rt: HostRuntime) -> Result<(), Fail> {
-    let mut world = Trial::new(rt.alloc(), SMALL)?;
-    for point in 1..=2 {
-        answer_of(rt.alloc(), &mut world, Ask::Place(0, (point, point), 0))?;
-    }
-    for serial in 1..=64 {
-        let answer = answer_of(rt.alloc(), &mut world, Ask::Find(1))?;
-        assert!(rt;
-            matches!(answer, Answer::Finder(given) if given == serial),
-            "{answer:?}"
-        );
-    }
+    let mut world = with_two_rows(rt.alloc())?;
+    assert!(rt; opens_finders(rt.alloc(), &mut world)?);
     steps_of(&rt, rt.alloc(), &mut world, &FULL_FINDERS)?;
     Ok(())
 }

@@ -387,80 +387,97 @@ fn rows_of(rt: &impl Abort, alloc: Global, world: &Trial) -> Result<Vec<Item<Int
     Ok(items)
 }
 
+/// Settles a world, and tells how many rows the sweeps took then.
+fn newly_swept(alloc: Global, tried: &mut Tried) -> Result<u64, Fail> {
+    let before = count_swept(&tried.steps);
+    tried.settle(alloc)?;
+    Ok(count_swept(&tried.steps).saturating_sub(before))
+}
+
+/// How far the rows on the pages of a world, each of which is to be live, are in a listing of all rows.
+fn extent_held(rt: &impl Abort, alloc: Global, world: &Trial) -> Result<Extent, Fail> {
+    let commits = commits_of(alloc, world)?;
+    let rows = rows_of(rt, alloc, world)?;
+    let everything = Query::Overlaps(0, 31);
+    let now = (world.commits(), world.commits());
+    Ok(extent_of(alloc, &commits, everything, now, &rows)?)
+}
+
 #[test]
 fn settled_worlds_hold_the_live_rows(rt: HostRuntime) -> Result<(), Fail> {
-    let alloc = rt.alloc();
     let mut last_swept = 0;
     for seed in 1..=8 {
-        let mut tried = Tried::new(alloc, seed)?;
-        let swept = count_swept(&tried.steps);
-        tried.settle(alloc)?;
-        assert_eq!(rt; first_flaw(alloc, &tried.steps)?, None, "seed {seed}");
-        let newly_swept = u64::saturating_sub(count_swept(&tried.steps), swept);
-        last_swept = u64::saturating_add(last_swept, newly_swept);
-        let commits = commits_of(alloc, &tried.world)?;
-        let rows = rows_of(&rt, alloc, &tried.world)?;
-        let everything = Query::Overlaps(0, 31);
-        let now = (tried.world.commits(), tried.world.commits());
-        let extent = extent_of(alloc, &commits, everything, now, &rows)?;
-        assert_eq!(rt; extent, Extent::Whole, "seed {seed}");
+        let mut tried = Tried::new(rt.alloc(), seed)?;
+        let swept = newly_swept(rt.alloc(), &mut tried)?;
+        last_swept = u64::saturating_add(last_swept, swept);
+        assert!(rt;
+            first_flaw(rt.alloc(), &tried.steps)?.is_none(),
+            "seed {seed}"
+        );
+        let extent = extent_held(&rt, rt.alloc(), &tried.world)?;
+        assert!(rt; extent == Extent::Whole, "seed {seed}");
     }
     assert!(rt; last_swept > 0);
     Ok(())
 }
 
+/// Adds the steps of a random list, and tells whether they have no flaw.
+fn add_flawless(alloc: Global, seed: u64, all: &mut Vec<Step>) -> Result<bool, Fail> {
+    let tried = Tried::new(alloc, seed)?;
+    all.extend_from_slice(&tried.steps)?;
+    Ok(first_flaw(alloc, &tried.steps)?.is_none())
+}
+
+/// The words that begin answers, each of which comes.
+static WORDS: [&str; 36] = [
+    "enlarged",
+    "committed",
+    "split",
+    "posted",
+    "grown",
+    "finder",
+    "seeking",
+    "buried",
+    "unfound",
+    "swept",
+    "opened",
+    "offered",
+    "visited",
+    "passed",
+    "asked",
+    "row",
+    "inserted",
+    "deleted",
+    "mark",
+    "nothing",
+    "closed",
+    "BadConfig",
+    "NotHere",
+    "NodeFull",
+    "TooFew",
+    "Uncovered",
+    "Owed",
+    "Unhung",
+    "BadSides",
+    "NoSuchRow",
+    "AlreadyDeleted",
+    "NoSuchCursor",
+    "CursorClosed",
+    "NoRoom",
+    "Idle",
+    "NoSuchFinder",
+];
+
 #[test]
 fn random_lists_have_no_flaw(rt: HostRuntime) -> Result<(), Fail> {
-    let alloc = rt.alloc();
-    let mut all = Vec::new(alloc);
+    let mut all = Vec::new(rt.alloc());
     for seed in 1..=SEEDS {
-        let tried = Tried::new(alloc, seed)?;
-        assert_eq!(rt; first_flaw(alloc, &tried.steps)?, None, "seed {seed}");
-        for step in &tried.steps {
-            all.push(*step)?;
-        }
+        assert!(rt; add_flawless(rt.alloc(), seed, &mut all)?, "seed {seed}");
     }
-    for word in [
-        "enlarged",
-        "committed",
-        "split",
-        "posted",
-        "grown",
-        "finder",
-        "seeking",
-        "buried",
-        "unfound",
-        "swept",
-        "opened",
-        "offered",
-        "visited",
-        "passed",
-        "asked",
-        "row",
-        "inserted",
-        "deleted",
-        "mark",
-        "nothing",
-        "closed",
-        "BadConfig",
-        "NotHere",
-        "NodeFull",
-        "TooFew",
-        "Uncovered",
-        "Owed",
-        "Unhung",
-        "BadSides",
-        "NoSuchRow",
-        "AlreadyDeleted",
-        "NoSuchCursor",
-        "CursorClosed",
-        "NoRoom",
-        "Idle",
-        "NoSuchFinder",
-    ] {
+    for word in &WORDS {
         assert!(rt; count_word(&all, word) > 0, "{word}");
     }
-    assert_eq!(rt; count_word(&all, "OutOfMemory"), 0);
+    assert!(rt; count_word(&all, "OutOfMemory") == 0);
     assert!(rt; count_word(&all, "buried") >= 200);
     assert!(rt; count_word(&all, "deleted") >= 50);
     assert!(rt; count_swept(&all) >= 200);

@@ -112,7 +112,7 @@ impl Ask {
 }
 
 /// The sides of a word of the letters `l` and `r`.
-fn sides(alloc: Global, letters: &str) -> Result<Sides, Fail> {
+pub fn sides(alloc: Global, letters: &str) -> Result<Sides, Fail> {
     let mut sides = Sides::new(alloc);
     for letter in letters.as_bytes() {
         sides.push(if *letter == b'l' {

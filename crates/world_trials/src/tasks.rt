@@ -1,12 +1,10 @@
+use super::steps::{Answer, Ask, Query, Trial, sides};
 use change_list::Config;
-use interval_class::{Atom, Interval, Intervals};
-use key_class::{Pred, Refusal, Rel, Side, Sides};
-use mailbox::Tray;
+use interval_class::{Interval, Intervals};
+use key_class::Refusal;
 use std::alloc::Global;
 use std::test::Fail;
-use world::{Event, Reply, World};
-
-type Trays = World<Intervals, Tray<Interval>>;
+use world::{Event, SplitTask, VisitTask};
 
 const EIGHT: Config = Config {
     fan: 8,
@@ -15,149 +13,259 @@ const EIGHT: Config = Config {
     commits: 400,
 };
 
-fn sides(alloc: Global, text: &[u8]) -> Result<Sides, Fail> {
-    let mut sides = Sides::new(alloc);
-    for letter in text {
-        sides.push(if *letter == b'l' {
-            Side::Left
-        } else {
-            Side::Right
-        })?;
-    }
-    Ok(sides)
+const NOT_HERE: Answer = Answer::Refused(Refusal::NotHere);
+
+fn answer(world: &mut Trial, event: Event<Intervals>) -> Answer {
+    Answer::of(world.step(event))
 }
 
-/// A root with two leaves, of which page 1 has four rows.
-fn grown(alloc: Global) -> Result<Trays, Fail> {
-    let mut world = Trays::new(alloc, EIGHT)?;
-    for low in 0..8 {
-        world.step(Event::Place(0, Interval::new(low, low)?, 0));
+/// The answer, where memory was not wanting.
+fn given(world: &mut Trial, event: Event<Intervals>) -> Result<Answer, Refusal> {
+    match answer(world, event) {
+        Answer::Refused(Refusal::OutOfMemory) => Err(Refusal::OutOfMemory),
+        answer => Ok(answer),
     }
-    world.step(Event::Grow(sides(alloc, b"llllrrrr")?));
+}
+
+fn place(world: &mut Trial, page: u64, point: i64, tag: u64) -> Result<(), Refusal> {
+    given(world, Event::Place(page, Interval::new(point, point)?, tag))?;
+    Ok(())
+}
+
+/// Grows the root of a new world to two leaves, of which page 1 has four rows.
+fn grow(alloc: Global, world: &mut Trial) -> Result<(), Fail> {
+    for point in 0..8 {
+        place(world, 0, point, 0)?;
+    }
+    given(world, Event::Grow(sides(alloc, "llllrrrr")?))?;
+    Ok(())
+}
+
+fn new_world(alloc: Global) -> Result<Trial, Refusal> {
+    Trial::new(alloc, EIGHT)
+}
+
+fn grown(alloc: Global) -> Result<Trial, Fail> {
+    let mut world = new_world(alloc)?;
+    grow(alloc, &mut world)?;
     Ok(world)
 }
 
-fn everything() -> Result<Pred<Atom>, Fail> {
-    Ok(Pred::Atom(Atom {
-        rel: Rel::Overlaps,
-        operand: Interval::new(0, 9)?,
-    }))
+/// Places four further rows on page 1.
+fn fill(world: &mut Trial) -> Result<(), Refusal> {
+    for _ in 0..4 {
+        place(world, 1, 1, 7)?;
+    }
+    Ok(())
 }
 
-fn is_not_here(reply: &Reply<Intervals, Tray<Interval>>) -> bool {
-    match reply {
-        Reply::Refused(Refusal::NotHere) => true,
-        _ => false,
+/// A world with splits and visits that are to be published.
+#[derive(Drop)]
+struct Scene {
+    world: Trial,
+    splits: Vec<SplitTask<Intervals>>,
+    visits: Vec<VisitTask<Intervals>>,
+}
+
+/// What is done to it, with what comes of it.
+#[derive(Clone, Copy, Debug)]
+enum Deed {
+    /// An event is carried out.
+    Give(Ask),
+    /// Four further rows come to page 1.
+    Fill,
+    /// A split of a page is prepared, and worked on or not.
+    PrepareSplit(u64, bool),
+    /// The split that was prepared last is published, and makes that page, or is stale.
+    PublishSplit(Option<u32>),
+    /// No split of a page can be prepared.
+    RefuseSplit(u64),
+    PrepareVisit(u64, bool),
+    /// The visit that was prepared last is published, and visits that page, or is stale.
+    PublishVisit(Option<u32>),
+    RefuseVisit(u64),
+    /// There are so many pages.
+    Count(u64),
+    /// A cursor is closed.
+    IsClosed(u64),
+}
+
+fn prepare_split(scene: &mut Scene, page: u64, is_worked: bool) -> Result<(), Refusal> {
+    let mut task = scene.world.prepare_split(page)?;
+    if is_worked {
+        task.work()?;
     }
+    Ok(scene.splits.push(task)?)
+}
+
+fn publishes_split(scene: &mut Scene, sibling: Option<u32>) -> bool {
+    let Some(task) = scene.splits.pop() else {
+        return false;
+    };
+    let answer = Answer::of(scene.world.publish_split(0, task));
+    answer == sibling.map_or(NOT_HERE, |page| Answer::Split(page))
+}
+
+fn prepare_visit(scene: &mut Scene, cursor: u64, is_worked: bool) -> Result<(), Refusal> {
+    let mut task = scene.world.prepare_visit(cursor)?;
+    if is_worked {
+        task.work()?;
+    }
+    Ok(scene.visits.push(task)?)
+}
+
+fn publishes_visit(scene: &mut Scene, page: Option<u32>) -> bool {
+    let Some(task) = scene.visits.pop() else {
+        return false;
+    };
+    let answer = Answer::of(scene.world.publish_visit(0, task));
+    answer == page.map_or(NOT_HERE, |page| Answer::Visited(page))
+}
+
+fn give(alloc: Global, world: &mut Trial, ask: Ask) -> Result<(), Fail> {
+    given(world, ask.event(alloc)?)?;
+    Ok(())
+}
+
+/// Whether a deed is done, and what comes of it is as it tells.
+fn is_done(alloc: Global, scene: &mut Scene, deed: Deed) -> Result<bool, Fail> {
+    match deed {
+        Deed::Give(ask) => give(alloc, &mut scene.world, ask)?,
+        Deed::Fill => fill(&mut scene.world)?,
+        Deed::PrepareSplit(page, is_worked) => prepare_split(scene, page, is_worked)?,
+        Deed::PublishSplit(wanted) => return Ok(publishes_split(scene, wanted)),
+        Deed::RefuseSplit(page) => return Ok(prepare_split(scene, page, false).is_err()),
+        Deed::PrepareVisit(cursor, is_worked) => prepare_visit(scene, cursor, is_worked)?,
+        Deed::PublishVisit(wanted) => return Ok(publishes_visit(scene, wanted)),
+        Deed::RefuseVisit(cursor) => return Ok(prepare_visit(scene, cursor, false).is_err()),
+        Deed::Count(pages) => return Ok(scene.world.pages() == pages),
+        Deed::IsClosed(cursor) => {
+            return Ok(scene.world.check_cursor(cursor) == Err(Refusal::CursorClosed));
+        }
+    }
+    Ok(true)
+}
+
+/// Two leaves, of which page 1 has four rows.
+fn grown_scene(alloc: Global) -> Result<Scene, Fail> {
+    Ok(Scene {
+        world: grown(alloc)?,
+        splits: Vec::new(alloc),
+        visits: Vec::new(alloc),
+    })
+}
+
+/// The first of some deeds that isn't done.
+fn first_wrong(alloc: Global, deeds: &[Deed]) -> Result<Option<Deed>, Fail> {
+    let mut scene = grown_scene(alloc)?;
+    for deed in deeds {
+        if !is_done(alloc, &mut scene, *deed)? {
+            return Ok(Some(*deed));
+        }
+    }
+    Ok(None)
 }
 
 #[test]
 fn a_split_is_published_where_the_page_is_as_it_was(rt: HostRuntime) -> Result<(), Fail> {
-    let alloc = rt.alloc();
-    let mut world = grown(alloc)?;
-    let mut stale = world.prepare_split(1)?;
-    stale.work()?;
-    for _ in 0..4 {
-        world.step(Event::Place(1, Interval::new(1, 1)?, 7));
-    }
-    // The page got further entries.
-    assert!(rt; is_not_here(&world.publish_split(0, stale)));
-    assert_eq!(rt; world.pages(), 3);
-    let idle = world.prepare_split(1)?;
-    assert!(rt; is_not_here(&world.publish_split(0, idle)));
-    let mut task = world.prepare_split(1)?;
-    task.work()?;
-    match world.publish_split(0, task) {
-        Reply::Split(sibling) => assert_eq!(rt; sibling, 3),
-        _ => assert!(rt; false),
-    }
-    // The root and what is no page are never split so.
-    assert!(rt; world.prepare_split(0).is_err() && world.prepare_split(9).is_err());
+    let deeds = [
+        Deed::PrepareSplit(1, true),
+        Deed::Fill,
+        // The page got further entries.
+        Deed::PublishSplit(None),
+        Deed::Count(3),
+        Deed::PrepareSplit(1, false),
+        Deed::PublishSplit(None),
+        Deed::PrepareSplit(1, true),
+        Deed::PublishSplit(Some(3)),
+        // The root and what is no page are never split so.
+        Deed::RefuseSplit(0),
+        Deed::RefuseSplit(9),
+    ];
+    let wrong = first_wrong(rt.alloc(), &deeds)?;
+    assert!(rt; wrong.is_none(), "{wrong:?}");
     Ok(())
 }
 
 #[test]
 fn a_task_of_a_page_that_was_split_is_stale(rt: HostRuntime) -> Result<(), Fail> {
-    let alloc = rt.alloc();
-    let mut world = grown(alloc)?;
-    for _ in 0..4 {
-        world.step(Event::Place(1, Interval::new(1, 1)?, 7));
-    }
-    let mut task = world.prepare_split(1)?;
-    task.work()?;
-    let mut other = world.prepare_split(1)?;
-    other.work()?;
-    assert!(rt; matches!(world.publish_split(0, task), Reply::Split(3)));
-    assert!(rt; is_not_here(&world.publish_split(0, other)));
-    assert_eq!(rt; world.pages(), 4);
+    let deeds = [
+        Deed::Fill,
+        Deed::PrepareSplit(1, true),
+        Deed::PrepareSplit(1, true),
+        Deed::PublishSplit(Some(3)),
+        Deed::PublishSplit(None),
+        Deed::Count(4),
+    ];
+    let wrong = first_wrong(rt.alloc(), &deeds)?;
+    assert!(rt; wrong.is_none(), "{wrong:?}");
     Ok(())
 }
 
+/// Opens a cursor of all rows.
+const OPEN: Deed = Deed::Give(Ask::Open(Query::Overlaps(0, 9), 16));
+
 #[test]
 fn a_visit_is_published_beside_other_turns(rt: HostRuntime) -> Result<(), Fail> {
-    let alloc = rt.alloc();
-    let mut world = grown(alloc)?;
-    for _ in 0..2 {
-        world.step(Event::Open(everything()?, 16));
-    }
-    let mut task = world.prepare_visit(1)?;
-    task.work()?;
-    // Another cursor's turn falls between.
-    world.step(Event::Turn(2));
-    match world.publish_visit(0, task) {
-        Reply::Visited(page) => assert_eq!(rt; page, 0),
-        _ => assert!(rt; false),
-    }
-    let mut task = world.prepare_visit(1)?;
-    task.work()?;
-    world.step(Event::Turn(1));
-    assert!(rt; is_not_here(&world.publish_visit(0, task)));
-    // Rows are pending.
-    assert!(rt; world.prepare_visit(1).is_err());
+    let deeds = [
+        OPEN,
+        OPEN,
+        Deed::PrepareVisit(1, true),
+        // Another cursor's turn falls between.
+        Deed::Give(Ask::Turn(2)),
+        Deed::PublishVisit(Some(0)),
+        Deed::PrepareVisit(1, true),
+        Deed::Give(Ask::Turn(1)),
+        Deed::PublishVisit(None),
+        // Rows are pending.
+        Deed::RefuseVisit(1),
+    ];
+    let wrong = first_wrong(rt.alloc(), &deeds)?;
+    assert!(rt; wrong.is_none(), "{wrong:?}");
     Ok(())
 }
 
 #[test]
 fn a_task_of_a_closed_cursor_is_stale(rt: HostRuntime) -> Result<(), Fail> {
-    let alloc = rt.alloc();
-    let mut world = grown(alloc)?;
-    world.step(Event::Open(everything()?, 16));
-    let idle = world.prepare_visit(1)?;
-    assert!(rt; is_not_here(&world.publish_visit(0, idle)));
-    let mut task = world.prepare_visit(1)?;
-    task.work()?;
-    world.step(Event::Close(1));
-    assert!(rt; is_not_here(&world.publish_visit(0, task)));
-    assert_eq!(rt; world.check_cursor(1), Err(Refusal::CursorClosed));
-    assert!(rt; world.prepare_visit(1).is_err() && world.prepare_visit(2).is_err());
+    let deeds = [
+        OPEN,
+        Deed::PrepareVisit(1, false),
+        Deed::PublishVisit(None),
+        Deed::PrepareVisit(1, true),
+        Deed::Give(Ask::Close(1)),
+        Deed::PublishVisit(None),
+        Deed::IsClosed(1),
+        Deed::RefuseVisit(1),
+        Deed::RefuseVisit(2),
+    ];
+    let wrong = first_wrong(rt.alloc(), &deeds)?;
+    assert!(rt; wrong.is_none(), "{wrong:?}");
     Ok(())
 }
 
-/// The reply, where memory was not wanting.
-fn given(
-    reply: Reply<Intervals, Tray<Interval>>,
-) -> Result<Reply<Intervals, Tray<Interval>>, Refusal> {
-    match reply {
-        Reply::Refused(Refusal::OutOfMemory) => Err(Refusal::OutOfMemory),
-        reply => Ok(reply),
+/// A world of two leaves, row 1 of which is deleted.
+fn with_a_dead_row(alloc: Global) -> Result<Trial, Fail> {
+    let mut world = grown(alloc)?;
+    for ask in [Ask::Find(1), Ask::Seek(1), Ask::Seek(1)] {
+        give(alloc, &mut world, ask)?;
     }
+    Ok(world)
+}
+
+fn enlarged(world: &mut Trial) -> Result<Answer, Refusal> {
+    Ok(answer(world, Event::Enlarge(0, 1, Interval::new(0, 9)?)))
+}
+
+fn sweeps(world: &mut Trial, page: u64, count: u64) -> bool {
+    answer(world, Event::Sweep(page)) == Answer::Swept(count)
 }
 
 /// Whichever allocation is refused: an enlargement and a sweep of pages that nobody shares want no memory.
 #[test]
 fn refused_memory_changes_unshared_pages(rt: HostRuntime) -> Result<(), Fail> {
-    let alloc = rt.alloc();
-    let mut world = Trays::new(alloc, EIGHT)?;
-    for low in 0..8 {
-        given(world.step(Event::Place(0, Interval::new(low, low)?, 0)))?;
-    }
-    given(world.step(Event::Grow(sides(alloc, b"llllrrrr")?)))?;
-    given(world.step(Event::Find(1)))?;
-    given(world.step(Event::Seek(1)))?;
-    given(world.step(Event::Seek(1)))?;
-    let enlarged = world.step(Event::Enlarge(0, 1, Interval::new(0, 9)?));
-    assert!(rt; matches!(enlarged, Reply::Enlarged));
-    assert!(rt; matches!(world.step(Event::Sweep(2)), Reply::Swept(0)));
-    assert!(rt; matches!(world.step(Event::Sweep(1)), Reply::Swept(1)));
+    let mut world = with_a_dead_row(rt.alloc())?;
+    assert!(rt; enlarged(&mut world)? == Answer::Enlarged);
+    assert!(rt; sweeps(&mut world, 2, 0));
+    assert!(rt; sweeps(&mut world, 1, 1));
     Ok(())
 }
