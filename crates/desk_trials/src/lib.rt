@@ -1,9 +1,9 @@
-//! Trials of a desk: threads that insert and delete at once, seats that meet at one row, and the limits.
+//! Trials of a desk: a cursor that follows what seats insert and delete, seats that meet at one row, and the limits.
 #![tactic(auto)]
 
+#[cfg(test)]
+mod following;
 #[cfg(test)]
 mod limits;
 #[cfg(test)]
 mod seats;
-#[cfg(test)]
-mod threads;

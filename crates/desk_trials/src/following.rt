@@ -10,8 +10,6 @@ use std::process::Abort;
 use std::sync::Wait;
 use std::sync::ledger::{Blank, Ledger};
 use std::test::*;
-use std::thread;
-use std::thread::Threads;
 use world::Reply;
 
 const CONFIG: Config = Config {
@@ -86,44 +84,58 @@ fn all() -> Result<Pred<Atom>, Refusal> {
     }))
 }
 
-/// Four threads of 250 inserts and 100 deletes each, a cursor that was opened before them with a ring of four, and a mark.
-fn five_seats<L: Ledger + Send + Sync, R: Threads + Wait + Abort + Sync>(
+/// 250 inserts and 100 deletes of each seat but the last.
+fn work<L: Ledger, R: Wait + Abort>(
     rt: &R,
-    alloc: Global,
-    blank: Blank,
-) -> Result<(), Fail>
+    desk: &Desk<Intervals, L>,
+    seats: &mut [Seat<Intervals, L>],
+) {
+    for seat in seats {
+        if seat.number() < 5 {
+            insert_rows(rt, desk, seat);
+            delete_rows(rt, desk, seat)
+        }
+    }
+}
+
+/// Follows all rows by a cursor that has had a ring of four since before they were inserted, up to a mark.
+fn follow<L: Ledger, R: Wait + Abort>(
+    rt: &R,
+    desk: &Desk<Intervals, L>,
+    taker: &mut Taker<'_, Intervals, L>,
+) {
+    assert!(rt; matches!(desk.ask_mark(rt, taker.cursor()), Reply::Asked));
+    assert!(rt; items_and_mark(rt, desk, taker) == (1_400, 1_400));
+    assert!(rt; matches!(desk.turn(rt, taker.cursor()), Reply::Refused(Refusal::Idle)));
+    assert!(rt; taker.opened() == 0);
+}
+
+fn work_and_follow<L: Ledger, R: Wait + Abort>(
+    rt: &R,
+    desk: &Desk<Intervals, L>,
+    seats: &mut [Seat<Intervals, L>],
+) -> Result<(), Fail> {
+    let all = all()?;
+    let Some(seat) = seats.get_mut(4) else {
+        return Err(Refusal::BadConfig.into());
+    };
+    let mut taker = desk.open_cursor(rt, seat, all, 4)?;
+    work(rt, desk, seats);
+    follow(rt, desk, &mut taker);
+    Ok(())
+}
+
+fn five_seats<L: Ledger, R: Wait + Abort>(rt: &R, alloc: Global, blank: Blank) -> Result<(), Fail>
     requires name { blank.name ≡ L.name }
     requires parts { blank.parts ≡ L.parts }
     requires five { blank.parts ≡ 5 }
 {
     let (desk, mut seats) = Desk::<Intervals, L>::new(alloc, blank, CONFIG, 5)?;
-    let shared = &desk;
-    let mut taker = shared.open_cursor(rt, &mut seats[4], all()?, 4)?;
-    thread::for_each_mut(
-        rt,
-        seats.as_mut_slice(),
-        5,
-        &|_, seat| {
-            if seat.number() < 5 {
-                insert_rows(rt, shared, seat);
-                delete_rows(rt, shared, seat)
-            }
-        },
-    );
-    assert!(rt; matches!(shared.ask_mark(rt, taker.cursor()), Reply::Asked));
-    assert_eq!(rt; items_and_mark(rt, shared, &mut taker), (1_400, 1_400));
-    assert!(rt;
-        matches!(
-            shared.turn(rt, taker.cursor()),
-            Reply::Refused(Refusal::Idle)
-        )
-    );
-    assert_eq!(rt; taker.opened(), 0);
-    drop(taker);
+    work_and_follow(rt, &desk, seats.as_mut_slice())?;
     match desk.finish(seats) {
         Finished::Closing(closing) => {
-            assert_eq!(rt; closing.sum(), 1_400);
-            assert_eq!(rt; closing.commits().len(), 1_400);
+            assert!(rt; closing.sum() == 1_400);
+            assert!(rt; closing.commits().len() == 1_400);
         }
         _ => assert!(rt; false, "the seats fit"),
     }
@@ -131,6 +143,6 @@ fn five_seats<L: Ledger + Send + Sync, R: Threads + Wait + Abort + Sync>(
 }
 
 #[test]
-fn four_threads_insert_and_delete(rt: HostRuntime) -> Result<(), Fail> {
+fn a_cursor_follows_four_seats(rt: HostRuntime) -> Result<(), Fail> {
     five_seats::<Brand, _>(&rt, rt.alloc(), Blank::new(5))
 }
