@@ -18,122 +18,120 @@ fn behind<'a>(
     Ok(words)
 }
 
+/// Options of a store by words, with what they are.
+static OPTIONS: [(&[&str], Class, u32, u32); 7] = [
+    (&["--fan", "9"], Class::Interval, 9, 3),
+    (&["--fan=9"], Class::Interval, 9, 3),
+    (&["--class", "interval"], Class::Interval, 8, 3),
+    (&["--least", "4", "--class", "box"], Class::Box, 8, 4),
+    (
+        &["--class=set", "--fan", "32", "--least=12"],
+        Class::Set,
+        32,
+        12,
+    ),
+    (
+        &["--fan", "4294967295", "--least", "0"],
+        Class::Interval,
+        4_294_967_295,
+        0,
+    ),
+    (&[], Class::Interval, 8, 3),
+];
+
+fn is_read(
+    rt: HostRuntime,
+    command: &str,
+    options: &[&'static str],
+    wanted: Settings,
+) -> Result<bool, Fail> {
+    let words = behind(rt, command, options)?;
+    Ok(settings(rt.alloc(), words.as_slice())? == wanted)
+}
+
 #[test]
 fn options_are_read(rt: HostRuntime) -> Result<(), Fail> {
-    for (words, class, fan, least) in [
-        (["--fan", "9"].as_slice(), Class::Interval, 9, 3),
-        (["--fan=9"].as_slice(), Class::Interval, 9, 3),
-        (["--class", "interval"].as_slice(), Class::Interval, 8, 3),
-        (
-            ["--least", "4", "--class", "box"].as_slice(),
-            Class::Box,
-            8,
-            4,
-        ),
-        (
-            ["--class=set", "--fan", "32", "--least=12"].as_slice(),
-            Class::Set,
-            32,
-            12,
-        ),
-        (
-            ["--fan", "4294967295", "--least", "0"].as_slice(),
-            Class::Interval,
-            4_294_967_295,
-            0,
-        ),
-        ([].as_slice(), Class::Interval, 8, 3),
-    ] {
-        let options = StoreOptions { class, fan, least };
-        let served = behind(rt, "serve", words)?;
-        assert_eq!(rt;
-            settings(rt.alloc(), served.as_slice())?,
-            Settings::Serve(options)
+    for (words, class, fan, least) in &OPTIONS {
+        let options = StoreOptions {
+            class: *class,
+            fan: *fan,
+            least: *least,
+        };
+        assert!(rt;
+            is_read(rt, "serve", words, Settings::Serve(options))?,
+            "{words:?}"
         );
-        let replayed = behind(rt, "replay", words)?;
-        assert_eq!(rt;
-            settings(rt.alloc(), replayed.as_slice())?,
-            Settings::Replay(options)
+        assert!(rt;
+            is_read(rt, "replay", words, Settings::Replay(options))?,
+            "{words:?}"
         );
     }
     Ok(())
 }
 
-#[test]
-fn words_are_refused(rt: HostRuntime) -> Result<(), Fail> {
-    for (words, kind) in [
-        (["gist"].as_slice(), ErrorKind::MissingSubcommand),
-        (["gist", "sit"].as_slice(), ErrorKind::InvalidSubcommand),
-        (
-            ["gist", "--fan", "9"].as_slice(),
-            ErrorKind::UnknownArgument,
-        ),
-        (
-            ["gist", "serve", "now"].as_slice(),
-            ErrorKind::UnknownArgument,
-        ),
-        (
-            ["gist", "serve", "--fan"].as_slice(),
-            ErrorKind::InvalidValue,
-        ),
-        (
-            ["gist", "serve", "--fan", "many"].as_slice(),
-            ErrorKind::ValueValidation,
-        ),
-        (
-            ["gist", "serve", "--fan", "4294967296"].as_slice(),
-            ErrorKind::ValueValidation,
-        ),
-        (
-            ["gist", "serve", "--least", "-1"].as_slice(),
-            ErrorKind::UnknownArgument,
-        ),
-        (
-            ["gist", "serve", "--class", "line"].as_slice(),
-            ErrorKind::InvalidValue,
-        ),
-        (
-            ["gist", "serve", "--fan", "8", "--fan", "9"].as_slice(),
-            ErrorKind::ArgumentConflict,
-        ),
-        (["gist", "--help"].as_slice(), ErrorKind::DisplayHelp),
-        (["gist", "serve", "-h"].as_slice(), ErrorKind::DisplayHelp),
-        (["gist", "Replay"].as_slice(), ErrorKind::InvalidSubcommand),
-        (
-            ["gist", "replay", "serve"].as_slice(),
-            ErrorKind::UnknownArgument,
-        ),
-        (
-            ["gist", "replay", "--room", "4"].as_slice(),
-            ErrorKind::UnknownArgument,
-        ),
-        (
-            ["gist", "replay", "--fan"].as_slice(),
-            ErrorKind::InvalidValue,
-        ),
-        (
-            ["gist", "replay", "--least", "few"].as_slice(),
-            ErrorKind::ValueValidation,
-        ),
-        (
-            ["gist", "replay", "--class", "line"].as_slice(),
-            ErrorKind::InvalidValue,
-        ),
-        (
-            ["gist", "replay", "--class=set", "--class=set"].as_slice(),
-            ErrorKind::ArgumentConflict,
-        ),
-        (
-            ["gist", "replay", "--help"].as_slice(),
-            ErrorKind::DisplayHelp,
-        ),
-    ] {
-        match settings(rt.alloc(), words) {
-            Ok(_) => assert!(rt; false),
-            Err(error) => assert!(rt; error.kind() == kind, "{words:?}"),
-        }
+/// Words, and the kind of error that they are.
+static REFUSED: [(&[&str], ErrorKind); 20] = [
+    (&["gist"], ErrorKind::MissingSubcommand),
+    (&["gist", "sit"], ErrorKind::InvalidSubcommand),
+    (&["gist", "--fan", "9"], ErrorKind::UnknownArgument),
+    (&["gist", "serve", "now"], ErrorKind::UnknownArgument),
+    (&["gist", "serve", "--fan"], ErrorKind::InvalidValue),
+    (
+        &["gist", "serve", "--fan", "many"],
+        ErrorKind::ValueValidation,
+    ),
+    (
+        &["gist", "serve", "--fan", "4294967296"],
+        ErrorKind::ValueValidation,
+    ),
+    (
+        &["gist", "serve", "--least", "-1"],
+        ErrorKind::UnknownArgument,
+    ),
+    (
+        &["gist", "serve", "--class", "line"],
+        ErrorKind::InvalidValue,
+    ),
+    (
+        &["gist", "serve", "--fan", "8", "--fan", "9"],
+        ErrorKind::ArgumentConflict,
+    ),
+    (&["gist", "--help"], ErrorKind::DisplayHelp),
+    (&["gist", "serve", "-h"], ErrorKind::DisplayHelp),
+    (&["gist", "Replay"], ErrorKind::InvalidSubcommand),
+    (&["gist", "replay", "serve"], ErrorKind::UnknownArgument),
+    (
+        &["gist", "replay", "--room", "4"],
+        ErrorKind::UnknownArgument,
+    ),
+    (&["gist", "replay", "--fan"], ErrorKind::InvalidValue),
+    (
+        &["gist", "replay", "--least", "few"],
+        ErrorKind::ValueValidation,
+    ),
+    (
+        &["gist", "replay", "--class", "line"],
+        ErrorKind::InvalidValue,
+    ),
+    (
+        &["gist", "replay", "--class=set", "--class=set"],
+        ErrorKind::ArgumentConflict,
+    ),
+    (&["gist", "replay", "--help"], ErrorKind::DisplayHelp),
+];
+
+fn error_of(rt: HostRuntime, words: &[&str]) -> Option<ErrorKind> {
+    match settings(rt.alloc(), words) {
+        Ok(_) => None,
+        Err(error) => Some(error.kind()),
     }
-    Ok(())
+}
+
+#[test]
+fn words_are_refused(rt: HostRuntime) {
+    for (words, kind) in &REFUSED {
+        assert!(rt; error_of(rt, words) == Some(*kind), "{words:?}");
+    }
 }
 
 /// What a run of the program came to.
@@ -158,169 +156,214 @@ fn run_of(rt: HostRuntime, words: &[&str], input: &str) -> Run {
     }
 }
 
+/// Whether a run reads its whole input, writes that output and ends well.
+fn is_served(rt: HostRuntime, words: &[&str], input: &str, output: &str) -> bool {
+    let run = run_of(rt, words, input);
+    run.status == 0
+        && run.written.as_slice() == output.as_bytes()
+        && run.unread == 0
+        && run.told.is_empty()
+}
+
+/// Words, an input and the output to it.
+static SERVED: [(&[&str], &str, &str); 3] = [
+    (
+        &["gist", "serve"],
+        "insert (5 5) 0\nfind overlaps(0 9)\n",
+        "committed 1\nfound 1\nrow 1 (5 5) 0\n",
+    ),
+    (
+        &["gist", "serve", "--class", "box"],
+        "insert (0 0 1 1) 7\nfind holds(1 1 1 1)\n",
+        "committed 1\nfound 1\nrow 1 (0 0 1 1) 7\n",
+    ),
+    (
+        &["gist", "serve", "--class=set", "--fan", "4", "--least", "2"],
+        "insert {3 1} 7\nfind overlaps{1}",
+        "committed 1\nfound 1\nrow 1 {1 3} 7\n",
+    ),
+];
+
 #[test]
-fn sessions_are_served(rt: HostRuntime) -> Result<(), Fail> {
-    for (words, input, output) in [
-        (
-            ["gist", "serve"].as_slice(),
-            "insert (5 5) 0\nfind overlaps(0 9)\n",
-            "committed 1\nfound 1\nrow 1 (5 5) 0\n",
-        ),
-        (
-            ["gist", "serve", "--class", "box"].as_slice(),
-            "insert (0 0 1 1) 7\nfind holds(1 1 1 1)\n",
-            "committed 1\nfound 1\nrow 1 (0 0 1 1) 7\n",
-        ),
-        (
-            ["gist", "serve", "--class=set", "--fan", "4", "--least", "2"].as_slice(),
-            "insert {3 1} 7\nfind overlaps{1}",
-            "committed 1\nfound 1\nrow 1 {1 3} 7\n",
-        ),
-    ] {
-        let run = run_of(rt, words, input);
-        assert_eq!(rt; run.status, 0);
-        assert_eq!(rt; run.written.as_slice(), output.as_bytes());
-        assert!(rt; run.unread == 0 && run.told.is_empty());
+fn sessions_are_served(rt: HostRuntime) {
+    for (words, input, output) in &SERVED {
+        assert!(rt; is_served(rt, words, input, output), "{words:?}");
     }
-    Ok(())
+}
+
+/// 400 insertions and a search for the last.
+fn many_rows(rt: HostRuntime) -> Result<String, Fail> {
+    let mut input = String::new(rt.alloc());
+    for number in 1..=400 {
+        writeln!(input, "insert ({number} {number}) 0")?;
+    }
+    writeln!(input, "find same(400 400)")?;
+    Ok(input)
+}
+
+fn many_answers(rt: HostRuntime) -> Result<String, Fail> {
+    let mut output = String::new(rt.alloc());
+    for number in 1..=400 {
+        writeln!(output, "committed {number}")?;
+    }
+    writeln!(output, "found 1\nrow 400 (400 400) 0")?;
+    Ok(output)
+}
+
+fn are_kept(rt: HostRuntime, words: &[&str]) -> Result<bool, Fail> {
+    let input = many_rows(rt)?;
+    let output = many_answers(rt)?;
+    Ok(is_served(rt, words, input.as_str(), output.as_str()))
 }
 
 #[test]
 fn many_rows_are_kept(rt: HostRuntime) -> Result<(), Fail> {
-    let mut input = String::new(rt.alloc());
-    let mut output = String::new(rt.alloc());
-    for number in 1..=400 {
-        writeln!(input, "insert ({number} {number}) 0")?;
-        writeln!(output, "committed {number}")?;
-    }
-    writeln!(input, "find same(400 400)")?;
-    writeln!(output, "found 1\nrow 400 (400 400) 0")?;
-    for words in [
-        ["gist", "serve"].as_slice(),
-        ["gist", "serve", "--fan=4", "--least=2"].as_slice(),
-    ] {
-        let run = run_of(rt, words, input.as_str());
-        assert_eq!(rt; run.status, 0);
-        assert_eq!(rt; run.written.as_slice(), output.as_bytes());
-        assert!(rt; run.unread == 0 && run.told.is_empty());
-    }
+    assert!(rt; are_kept(rt, &["gist", "serve"])?);
+    assert!(rt; are_kept(rt, &["gist", "serve", "--fan=4", "--least=2"])?);
     Ok(())
+}
+
+/// Words, and lines with their answers.
+static REPLAYED: [(&[&str], &[(&str, &str)]); 3] = [
+    (
+        &["gist", "replay"],
+        &[
+            ("place 0 (1 1) 0", "committed 1"),
+            ("open 1 overlaps(0 9)", "opened 1"),
+            ("turn 1", "visited 0"),
+            ("take 1", "nothing"),
+            ("turn 1", "offered"),
+            ("take 1", "row 1 (1 1) 0"),
+            ("insert (5 5) 0", "refused 22 Line 0"),
+            ("find 1", "finder 1"),
+            ("seek 1", "committed 2"),
+            ("unfind 1", "refused 20 NoSuchFinder"),
+            ("find 1", "refused 15 AlreadyDeleted"),
+            ("sweep 0", "swept 1"),
+            ("turn 1", "offered"),
+            ("take 1", "deleted 2 1"),
+        ],
+    ),
+    (
+        &["gist", "replay", "--class", "box", "--least=2"],
+        &[
+            ("place 0 (0 0 1 1) 0", "committed 1"),
+            ("place 0 (1 1 2 2) 0", "committed 2"),
+            ("grow lr", "refused 9 TooFew"),
+            ("open 1 holds(1 1 1 1)", "opened 1"),
+            ("turn 1", "visited 0"),
+            ("turn 1", "offered"),
+            ("turn 1", "refused 18 NoRoom"),
+            ("close 1", "closed"),
+            ("take 1", "refused 17 CursorClosed"),
+        ],
+    ),
+    (
+        &["gist", "replay", "--class=set", "--fan", "4", "--least=2"],
+        &[
+            ("place 0 {1} 0", "committed 1"),
+            ("place 0 {1 2} 0", "committed 2"),
+            ("place 0 {9} 0", "committed 3"),
+            ("place 0 {9 10} 0", "committed 4"),
+            ("place 0 {} 0", "refused 8 NodeFull"),
+            ("grow llrr", "grown 1 2"),
+            ("place 2 {} 0", "committed 5"),
+            ("place 2 {3} 0", "refused 10 Uncovered"),
+            ("enlarge 0 2 {3}", "enlarged"),
+            ("place 2 {3} 0", "committed 6"),
+        ],
+    ),
+];
+
+fn input_of(rt: HostRuntime, lines: &[(&str, &str)]) -> Result<String, Fail> {
+    let mut input = String::new(rt.alloc());
+    for (line, _) in lines {
+        writeln!(input, "{line}")?;
+    }
+    Ok(input)
+}
+
+fn output_of(rt: HostRuntime, lines: &[(&str, &str)]) -> Result<String, Fail> {
+    let mut output = String::new(rt.alloc());
+    for (_, answer) in lines {
+        writeln!(output, "{answer}")?;
+    }
+    Ok(output)
+}
+
+fn are_replayed(rt: HostRuntime, words: &[&str], lines: &[(&str, &str)]) -> Result<bool, Fail> {
+    let input = input_of(rt, lines)?;
+    let output = output_of(rt, lines)?;
+    Ok(is_served(rt, words, input.as_str(), output.as_str()))
 }
 
 #[test]
 fn events_are_replayed(rt: HostRuntime) -> Result<(), Fail> {
-    for (words, lines) in [
-        (
-            ["gist", "replay"].as_slice(),
-            [
-                ("place 0 (1 1) 0", "committed 1"),
-                ("open 1 overlaps(0 9)", "opened 1"),
-                ("turn 1", "visited 0"),
-                ("take 1", "nothing"),
-                ("turn 1", "offered"),
-                ("take 1", "row 1 (1 1) 0"),
-                ("insert (5 5) 0", "refused 22 Line 0"),
-                ("find 1", "finder 1"),
-                ("seek 1", "committed 2"),
-                ("unfind 1", "refused 20 NoSuchFinder"),
-                ("find 1", "refused 15 AlreadyDeleted"),
-                ("sweep 0", "swept 1"),
-                ("turn 1", "offered"),
-                ("take 1", "deleted 2 1"),
-            ]
-            .as_slice(),
-        ),
-        (
-            ["gist", "replay", "--class", "box", "--least=2"].as_slice(),
-            [
-                ("place 0 (0 0 1 1) 0", "committed 1"),
-                ("place 0 (1 1 2 2) 0", "committed 2"),
-                ("grow lr", "refused 9 TooFew"),
-                ("open 1 holds(1 1 1 1)", "opened 1"),
-                ("turn 1", "visited 0"),
-                ("turn 1", "offered"),
-                ("turn 1", "refused 18 NoRoom"),
-                ("close 1", "closed"),
-                ("take 1", "refused 17 CursorClosed"),
-            ]
-            .as_slice(),
-        ),
-        (
-            ["gist", "replay", "--class=set", "--fan", "4", "--least=2"].as_slice(),
-            [
-                ("place 0 {1} 0", "committed 1"),
-                ("place 0 {1 2} 0", "committed 2"),
-                ("place 0 {9} 0", "committed 3"),
-                ("place 0 {9 10} 0", "committed 4"),
-                ("place 0 {} 0", "refused 8 NodeFull"),
-                ("grow llrr", "grown 1 2"),
-                ("place 2 {} 0", "committed 5"),
-                ("place 2 {3} 0", "refused 10 Uncovered"),
-                ("enlarge 0 2 {3}", "enlarged"),
-                ("place 2 {3} 0", "committed 6"),
-            ]
-            .as_slice(),
-        ),
-    ] {
-        let mut input = String::new(rt.alloc());
-        let mut output = String::new(rt.alloc());
-        for (line, answer) in lines {
-            writeln!(input, "{line}")?;
-            writeln!(output, "{answer}")?;
-        }
-        let run = run_of(rt, words, input.as_str());
-        assert_eq!(rt; run.status, 0);
-        assert_eq!(rt; run.written.as_slice(), output.as_bytes());
-        assert!(rt; run.unread == 0 && run.told.is_empty());
+    for (words, lines) in &REPLAYED {
+        assert!(rt; are_replayed(rt, words, lines)?, "{words:?}");
     }
     Ok(())
 }
 
-#[test]
-fn faults_are_told(rt: HostRuntime) -> Result<(), Fail> {
-    for words in [
-        ["gist", "serve", "--fan", "4"].as_slice(),
-        ["gist", "serve", "--fan", "65"].as_slice(),
-        ["gist", "serve", "--fan", "4294967295"].as_slice(),
-        ["gist", "serve", "--least", "0"].as_slice(),
-        ["gist", "serve", "--least", "5"].as_slice(),
-        ["gist", "replay", "--fan", "65"].as_slice(),
-        ["gist", "replay", "--least", "5", "--class", "set"].as_slice(),
-    ] {
-        let run = run_of(rt, words, "find overlaps(0 9)\n");
-        assert_eq!(rt; run.status, 1);
-        assert!(rt; run.unread == 19 && run.written.is_empty());
-        assert_eq!(rt;
-            run.told.as_slice(),
-            b"gist: refused 2 BadConfig\n".as_slice()
-        );
-    }
-    Ok(())
+/// Words of stores that can't be.
+static FAULTY: [&[&str]; 7] = [
+    &["gist", "serve", "--fan", "4"],
+    &["gist", "serve", "--fan", "65"],
+    &["gist", "serve", "--fan", "4294967295"],
+    &["gist", "serve", "--least", "0"],
+    &["gist", "serve", "--least", "5"],
+    &["gist", "replay", "--fan", "65"],
+    &["gist", "replay", "--least", "5", "--class", "set"],
+];
+
+/// Whether a run reads and writes nothing and tells that the configuration is refused.
+fn tells_bad_config(rt: HostRuntime, words: &[&str]) -> bool {
+    let run = run_of(rt, words, "find overlaps(0 9)\n");
+    run.status == 1
+        && run.unread == 19
+        && run.written.is_empty()
+        && run.told.as_slice() == b"gist: refused 2 BadConfig\n".as_slice()
 }
 
 #[test]
-fn refused_words_and_help_are_shown(rt: HostRuntime) -> Result<(), Fail> {
-    for words in [
-        ["gist"].as_slice(),
-        ["gist", "serve", "--fan", "many"].as_slice(),
-        ["gist", "replay", "sweep"].as_slice(),
-    ] {
-        let run = run_of(rt, words, "sweep\n");
-        assert_eq!(rt; run.status, 2);
-        assert!(rt; run.unread == 6 && run.written.is_empty());
-        assert!(rt; run.told.starts_with(b"error: "));
+fn faults_are_told(rt: HostRuntime) {
+    for words in &FAULTY {
+        assert!(rt; tells_bad_config(rt, words), "{words:?}");
     }
-    for words in [
-        ["gist", "--help"].as_slice(),
-        ["gist", "serve", "--help"].as_slice(),
-        ["gist", "replay", "-h"].as_slice(),
-    ] {
-        let run = run_of(rt, words, "sweep\n");
-        assert_eq!(rt; run.status, 0);
-        assert!(rt; run.unread == 6 && run.told.is_empty());
-        assert!(rt; run.written.len() > 200);
+}
+
+static WRONG: [&[&str]; 3] = [
+    &["gist"],
+    &["gist", "serve", "--fan", "many"],
+    &["gist", "replay", "sweep"],
+];
+
+/// Whether a run reads and writes nothing and tells an error.
+fn tells_error(rt: HostRuntime, words: &[&str]) -> bool {
+    let run = run_of(rt, words, "sweep\n");
+    run.status == 2 && run.unread == 6 && run.written.is_empty() && run.told.starts_with(b"error: ")
+}
+
+static HELP: [&[&str]; 3] = [
+    &["gist", "--help"],
+    &["gist", "serve", "--help"],
+    &["gist", "replay", "-h"],
+];
+
+/// Whether a run reads nothing and writes a help.
+fn helps(rt: HostRuntime, words: &[&str]) -> bool {
+    let run = run_of(rt, words, "sweep\n");
+    run.status == 0 && run.unread == 6 && run.told.is_empty() && run.written.len() > 200
+}
+
+#[test]
+fn refused_words_and_help_are_shown(rt: HostRuntime) {
+    for words in &WRONG {
+        assert!(rt; tells_error(rt, words), "{words:?}");
     }
-    Ok(())
+    for words in &HELP {
+        assert!(rt; helps(rt, words), "{words:?}");
+    }
 }
 
 /// A reader and a writer that fail at once.
@@ -343,46 +386,33 @@ impl Write for Broken {
     }
 }
 
-#[test]
-fn broken_ends_are_told(rt: HostRuntime) -> Result<(), Fail> {
+/// Whether a run over a reader that fails ends in a fault, and tells it.
+fn tells_of_reader(rt: HostRuntime, words: &[&str]) -> bool {
+    let mut written = Vec::new(rt.alloc());
     let mut told = Vec::new(rt.alloc());
-    for name in ["serve", "replay"] {
-        let words = ["gist", name];
-        let mut written = Vec::new(rt.alloc());
-        let status = command(
-            rt.alloc(),
-            words.as_slice(),
-            &mut Broken,
-            &mut written,
-            &mut told,
-        );
-        assert_eq!(rt; status, 1);
-        assert_eq!(rt; told.as_slice(), b"gist: read failed\n".as_slice());
+    let status = command(rt.alloc(), words, &mut Broken, &mut written, &mut told);
+    status == 1 && told.as_slice() == b"gist: read failed\n".as_slice()
+}
 
-        told.clear();
-        let mut reader: &[u8] = b"sweep\n";
-        let status = command(
-            rt.alloc(),
-            words.as_slice(),
-            &mut reader,
-            &mut Broken,
-            &mut told,
-        );
-        assert_eq!(rt; status, 1);
-        assert_eq!(rt; told.as_slice(), b"gist: write failed\n".as_slice());
-        told.clear();
-    }
-    let help = ["gist", "--help"];
+/// How a run over a writer that fails ends, and what it tells.
+fn end_by_writer(rt: HostRuntime, words: &[&str]) -> (u8, Vec<u8>) {
+    let mut told = Vec::new(rt.alloc());
     let mut reader: &[u8] = b"sweep\n";
-    assert_eq!(rt;
-        command(
-            rt.alloc(),
-            help.as_slice(),
-            &mut reader,
-            &mut Broken,
-            &mut told
-        ),
-        1
-    );
-    Ok(())
+    let status = command(rt.alloc(), words, &mut reader, &mut Broken, &mut told);
+    (status, told)
+}
+
+fn tells_of_writer(rt: HostRuntime, words: &[&str]) -> bool {
+    let (status, told) = end_by_writer(rt, words);
+    status == 1 && told.as_slice() == b"gist: write failed\n".as_slice()
+}
+
+#[test]
+fn broken_ends_are_told(rt: HostRuntime) {
+    for name in ["serve", "replay"] {
+        assert!(rt; tells_of_reader(rt, &["gist", name]), "{name}");
+        assert!(rt; tells_of_writer(rt, &["gist", name]), "{name}");
+    }
+    let (status, _) = end_by_writer(rt, &["gist", "--help"]);
+    assert!(rt; status == 1);
 }
