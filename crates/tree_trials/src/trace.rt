@@ -290,33 +290,46 @@ fn bury(tree: &mut SearchTree<Intervals>, row: u32, commit: u32) -> Result<(), R
     tree.bury(0, row, commit)
 }
 
-fn sweep(tree: &mut SearchTree<Intervals>, page: u64, horizon: u32) -> Result<usize, Refusal> {
-    tree.sweep(page, horizon)
+/// Whether a tree answers sweeps of pages, each with a horizon, as wanted.
+fn sweeps(tree: &mut SearchTree<Intervals>, rows: &[(u64, u32, Result<usize, Refusal>)]) -> bool {
+    for (page, horizon, wanted) in rows {
+        if tree.sweep(*page, *horizon) != *wanted {
+            return false;
+        }
+    }
+    true
 }
 
-/// The number of a row at a place on the root, and the commit that deleted it.
-fn version_at(table: &PageTable<Interval>, at: usize) -> Option<(u32, Option<u32>)> {
-    if table.len() != 1 {
-        return None;
+/// Whether the root is alone, and has rows of these numbers, with the commits that deleted them.
+fn has_versions(tree: &SearchTree<Intervals>, wanted: &[(u32, Option<u32>)]) -> bool {
+    let table = tree.pages();
+    if table.len() != 1 || table.page(0).rows().len() != wanted.len() {
+        return false;
     }
-    let entry = table.page(0).rows().get(at)?;
-    Some((entry.row(), entry.died()))
+    for (entry, (row, died)) in table.page(0).rows().iter().zip(wanted) {
+        if entry.row() != *row || entry.died() != *died {
+            return false;
+        }
+    }
+    true
+}
+
+/// A tree of three rows, of which commits 4 and 5 deleted the second and the third.
+fn with_dead_rows(alloc: Global) -> Result<SearchTree<Intervals>, Refusal> {
+    let mut tree = SearchTree::<Intervals>::new(alloc, 4, 2, 9)?;
+    fill(&mut tree, 4)?;
+    bury(&mut tree, 2, 4)?;
+    bury(&mut tree, 3, 5)?;
+    Ok(tree)
 }
 
 #[test]
 fn buries_and_sweeps_rows(rt: HostRuntime) -> Result<(), Fail> {
-    let mut tree = SearchTree::<Intervals>::new(rt.alloc(), 4, 2, 9)?;
-    fill(&mut tree, 4)?;
-    bury(&mut tree, 2, 4)?;
-    bury(&mut tree, 3, 5)?;
+    let mut tree = with_dead_rows(rt.alloc())?;
     // Who opened at commit 4 still needs the row that died at commit 5.
-    assert!(rt; sweep(&mut tree, 0, 4) == Ok(1));
-    assert!(rt; sweep(&mut tree, 9, 4) == Err(Refusal::NotHere));
-    assert!(rt; tree.pages().len() == 1);
-    assert!(rt; version_at(tree.pages(), 0) == Some((1, None)));
-    assert!(rt; version_at(tree.pages(), 1) == Some((3, Some(5))));
-    assert!(rt; version_at(tree.pages(), 2).is_none());
-    assert!(rt; sweep(&mut tree, 0, 5) == Ok(1));
+    assert!(rt; sweeps(&mut tree, &[(0, 4, Ok(1)), (9, 4, Err(Refusal::NotHere))]));
+    assert!(rt; has_versions(&tree, &[(1, None), (3, Some(5))]));
+    assert!(rt; sweeps(&mut tree, &[(0, 5, Ok(1))]));
     assert!(rt; tree.place_refusal(0, Interval::new(7, 7)?).is_none());
     Ok(())
 }
