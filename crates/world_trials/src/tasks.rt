@@ -243,7 +243,7 @@ fn a_task_of_a_closed_cursor_is_stale(rt: HostRuntime) -> Result<(), Fail> {
     Ok(())
 }
 
-/// A world of two leaves, row 1 of which is deleted.
+/// A world of two leaves, whose first row is deleted.
 fn with_a_dead_row(alloc: Global) -> Result<Trial, Fail> {
     let mut world = grown(alloc)?;
     for ask in [Ask::Find(1), Ask::Seek(1), Ask::Seek(1)] {
