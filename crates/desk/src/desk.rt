@@ -1,17 +1,24 @@
-ghost use Rattle.std.specs.Prelude.{◌≡◌, ◌≢◌, ◌↔◌, ◌⊎◌, ◌<◌, ◌≤◌, ◌+◌, ℕ, [], ◌∷◌, ◌++◌, length, Some, Err, IfOk, IfErr, OnOk, OnErr, slice_get};
+//! The desk: a world under a lock, and the calls of its clients. Each call visits the lock once or more; a visit makes one
+//! event or none.
+ghost use Rattle.std.specs.Prelude.{◌≡◌, ◌↔◌, ◌⊎◌, ◌<◌, ◌≤◌, ◌+◌, ℕ, [], ◌∷◌, ◌++◌, length, Some, Err, IfOk, IfErr, OnErr, slice_get};
 ghost use Rattle.key_class.specs.Queries.{query_of};
 ghost use Rattle.change_list.specs.Configs.{IsWithinLimits};
 ghost use Rattle.change_list.specs.declared.write.Write.TheVariants.{Insert, Delete};
+ghost use Rattle.removal.specs.Visits.{RefusesDelete};
+ghost use Rattle.world.specs.declared.event.Event.TheVariants as event;
+ghost use Rattle.world.specs.Rings.{ring_words};
+ghost use Rattle.world.specs.Steps.{Step, Opens};
 ghost use Rattle.desk.specs.Seats.{fresh_seat};
-ghost use Rattle.desk.specs.Visits.{CountsSearch, IsDelete};
+ghost use Rattle.desk.specs.Visits.{CountsSearch, IsDelete, IsVisit, IsCommitted, IsSearchCommitted, IsRefusedWhere, RefusesInsert, RefusesOpening};
 
-use crate::locked::{Guarded, Locked, Search};
+use crate::locked::{Guarded, Locked};
 use crate::seat::Seat;
 use crate::taker::Taker;
 use change_list::Config;
 use insertion::Way;
 use key_class::{KeyClass, Pred, Refusal};
 use mailbox::Ring;
+use removal::Search;
 use std::alloc::{AllocError, Global};
 use std::marker::Model;
 use std::sync::ledger::{Blank, Ledger, Share};
@@ -114,7 +121,8 @@ impl<C: KeyClass, L: Ledger> DeskOver<World<C, Ring<C::Key>>, L> {
         ensures number { IfOk result (λ s. length seat.new.stamps ≤ s.number) }
         ensures seat { seat.new.number ≡ seat.old.number }
         ensures refused { OnErr result (seat.new ≡ seat.old) }
-        ensures refusals { IfErr result (λ why. (why ≡ Refusal.OutOfMemory) ⊎ (why ≡ Refusal.CommitsFull) ⊎ (why ≡ Refusal.PagesFull)) }
+        ensures committed { IfOk result (IsCommitted (ring_words C.is_match C.is_consistent C.is_cover C.union_of)) }
+        ensures refusals { IfErr result (λ why. (why ≡ Refusal.OutOfMemory) ⊎ IsRefusedWhere (ring_words C.is_match C.is_consistent C.is_cover C.union_of) (λ world. RefusesInsert world why)) }
     {
         if seat.stamps.try_reserve(1).is_err() {
             return Err(Refusal::OutOfMemory);
@@ -139,7 +147,8 @@ impl<C: KeyClass, L: Ledger> DeskOver<World<C, Ring<C::Key>>, L> {
         ensures share { IfOk result (λ s. (share.new.amount ≡ share.old.amount + 1) × (share.new.amount ≤ s.number)) }
         ensures parts { share.new.parts ≡ share.old.parts }
         ensures refused { OnErr result (share.new.amount ≡ share.old.amount) }
-        ensures refusals { IfErr result (λ why. (why ≡ Refusal.OutOfMemory) ⊎ (why ≡ Refusal.CommitsFull) ⊎ (why ≡ Refusal.PagesFull)) }
+        ensures committed { IfOk result (IsCommitted (ring_words C.is_match C.is_consistent C.is_cover C.union_of)) }
+        ensures refusals { IfErr result (λ why. (why ≡ Refusal.OutOfMemory) ⊎ IsRefusedWhere (ring_words C.is_match C.is_consistent C.is_cover C.union_of) (λ world. RefusesInsert world why)) }
     {
         let alloc = self.alloc;
         let mut page = 0;
@@ -172,7 +181,8 @@ impl<C: KeyClass, L: Ledger> DeskOver<World<C, Ring<C::Key>>, L> {
         ensures number { IfOk result (λ s. length seat.new.stamps ≤ s.number) }
         ensures seat { seat.new.number ≡ seat.old.number }
         ensures refused { OnErr result (seat.new ≡ seat.old) }
-        ensures refusals { IfErr result (λ why. (why ≡ Refusal.OutOfMemory) ⊎ (why ≡ Refusal.CommitsFull) ⊎ (why ≡ Refusal.FindersFull) ⊎ (why ≡ Refusal.NoSuchRow) ⊎ (why ≡ Refusal.AlreadyDeleted)) }
+        ensures committed { IfOk result (IsCommitted (ring_words C.is_match C.is_consistent C.is_cover C.union_of)) }
+        ensures refusals { IfErr result (λ why. (why ≡ Refusal.OutOfMemory) ⊎ IsRefusedWhere (ring_words C.is_match C.is_consistent C.is_cover C.union_of) (λ world. RefusesDelete world row why)) }
     {
         if seat.stamps.try_reserve(1).is_err() {
             return Err(Refusal::OutOfMemory);
@@ -196,18 +206,26 @@ impl<C: KeyClass, L: Ledger> DeskOver<World<C, Ring<C::Key>>, L> {
         ensures share { IfOk result (λ s. (share.new.amount ≡ share.old.amount + 1) × (share.new.amount ≤ s.number)) }
         ensures parts { share.new.parts ≡ share.old.parts }
         ensures refused { OnErr result (share.new.amount ≡ share.old.amount) }
-        ensures refusals { IfErr result (λ why. (why ≡ Refusal.OutOfMemory) ⊎ (why ≡ Refusal.CommitsFull) ⊎ (why ≡ Refusal.FindersFull) ⊎ (why ≡ Refusal.NoSuchRow) ⊎ (why ≡ Refusal.AlreadyDeleted)) }
+        ensures committed { IfOk result (IsCommitted (ring_words C.is_match C.is_consistent C.is_cover C.union_of)) }
+        ensures refusals { IfErr result (λ why. (why ≡ Refusal.OutOfMemory) ⊎ IsRefusedWhere (ring_words C.is_match C.is_consistent C.is_cover C.union_of) (λ world. RefusesDelete world row why)) }
     {
-        let mut finder = self.locked.lock(rt).find(row)?;
+        let mut finder = self.find_for(rt, row)?;
         for _ in rt.forever() {
             let search = self.seek_for(rt, number, share, finder, row)?;
             match search {
                 Search::On => {}
-                Search::Lost => finder = self.locked.lock(rt).find(row)?,
+                Search::Lost => finder = self.find_for(rt, row)?,
                 Search::Deleted(stamped) => return Ok(stamped),
             }
         }
         unreachable!()
+    }
+
+    /// A finder of a row; its serial.
+    fn find_for<R: Wait>(&self, rt: &R, row: u64) -> Result<u64, Refusal>
+        ensures refusals { IfErr result (λ why. IsRefusedWhere (ring_words C.is_match C.is_consistent C.is_cover C.union_of) (λ world. RefusesDelete world row why)) }
+    {
+        self.locked.lock(rt).find(row)
     }
 
     /// A step of a finder, which ends where it is refused.
@@ -224,7 +242,8 @@ impl<C: KeyClass, L: Ledger> DeskOver<World<C, Ring<C::Key>>, L> {
         ensures share { IfOk result (λ search. CountsSearch share.old.amount search share.new.amount) }
         ensures parts { share.new.parts ≡ share.old.parts }
         ensures refused { OnErr result (share.new.amount ≡ share.old.amount) }
-        ensures refusals { IfErr result (λ why. (why ≡ Refusal.AlreadyDeleted) ⊎ (why ≡ Refusal.CommitsFull) ⊎ (why ≡ Refusal.OutOfMemory)) }
+        ensures committed { IfOk result (λ search. IsSearchCommitted (ring_words C.is_match C.is_consistent C.is_cover C.union_of) search) }
+        ensures refusals { IfErr result (λ why. IsRefusedWhere (ring_words C.is_match C.is_consistent C.is_cover C.union_of) (λ world. RefusesDelete world row why)) }
     {
         let search = self.locked.lock(rt).seek(number, share, finder, row);
         if search.is_err() {
@@ -249,27 +268,53 @@ impl<C: KeyClass, L: Ledger> DeskOver<World<C, Ring<C::Key>>, L> {
         ensures query { IfOk result (λ t. t.query ≡ query_of query) }
         ensures opened { IfOk result (λ t. length seat.old.stamps ≤ t.opened) }
         ensures taken { IfOk result (λ t. t.taken ≡ []) }
-        ensures refusals { IfErr result (λ why. (why ≡ Refusal.BadConfig) ⊎ (why ≡ Refusal.CursorsFull) ⊎ (why ≡ Refusal.OutOfMemory)) }
+        ensures opens { IfOk result (λ t. IsVisit (ring_words C.is_match C.is_consistent C.is_cover C.union_of) (λ old new. (t.opened ≡ length old.commits) × Opens old query room t.cursor new)) }
+        ensures refusals { IfErr result (λ why. (why ≡ Refusal.OutOfMemory) ⊎ IsRefusedWhere (ring_words C.is_match C.is_consistent C.is_cover C.union_of) (λ world. RefusesOpening world query room why)) }
     {
         let Ok(copy) = query.copy(self.alloc) else {
             return Err(Refusal::OutOfMemory);
         };
-        let (cursor, opened, items) = self.locked.lock(rt).open(&mut seat.share, copy, room)?;
-        Ok(Taker::new(self, cursor, query, opened, items))
+        match self.locked.lock(rt).open(&mut seat.share, copy, room) {
+            Ok((cursor, opened, items)) => {
+                return Ok(Taker::new(self, cursor, query, opened, items));
+            }
+            Err(why) => return Err(why),
+        }
     }
 
-    /// One turn of a cursor.
-    pub fn turn<R: Wait>(&self, rt: &R, cursor: u64) -> Reply<C, Ring<C::Key>> {
+    /// One turn of a cursor, which takes from its ring nothing and puts there one item or none.
+    ///
+    /// # Errors
+    /// `NoSuchCursor`, `CursorClosed`, `NoRoom` where its ring is full, `Idle`, or want of memory, as a reply.
+    pub fn turn<R: Wait>(&self, rt: &R, cursor: u64) -> Reply<C, Ring<C::Key>>
+        ensures visit { IsVisit (ring_words C.is_match C.is_consistent C.is_cover C.union_of) (λ old new. Step (ring_words C.is_match C.is_consistent C.is_cover C.union_of) 0 old (event.Turn cursor) result new) }
+    {
         self.locked.lock(rt).turn(cursor)
     }
 
     /// Asks a cursor for a mark.
-    pub fn ask_mark<R: Wait>(&self, rt: &R, cursor: u64) -> Reply<C, Ring<C::Key>> {
+    ///
+    /// # Errors
+    /// `NoSuchCursor` or `CursorClosed`, as a reply.
+    pub fn ask_mark<R: Wait>(&self, rt: &R, cursor: u64) -> Reply<C, Ring<C::Key>>
+        ensures visit { IsVisit (ring_words C.is_match C.is_consistent C.is_cover C.union_of) (λ old new. Step (ring_words C.is_match C.is_consistent C.is_cover C.union_of) 0 old (event.AskMark cursor) result new) }
+    {
         self.locked.lock(rt).ask_mark(cursor)
     }
 
-    /// Sweeps a leaf.
-    pub fn sweep<R: Wait>(&self, rt: &R, leaf: u64) -> Reply<C, Ring<C::Key>> {
+    /// Takes from a leaf the dead rows that no open scan needs.
+    ///
+    /// # Errors
+    /// `NotHere` where there is no such leaf, or want of memory, as a reply.
+    pub fn sweep<R: Wait>(&self, rt: &R, leaf: u64) -> Reply<C, Ring<C::Key>>
+        ensures visit { IsVisit (ring_words C.is_match C.is_consistent C.is_cover C.union_of) (λ old new. Step (ring_words C.is_match C.is_consistent C.is_cover C.union_of) 0 old (event.Sweep leaf) result new) }
+    {
         self.locked.lock(rt).sweep(leaf)
+    }
+    /// Closes a cursor.
+    pub(crate) fn close_cursor<R: Wait>(&self, rt: &R, cursor: u64) -> Reply<C, Ring<C::Key>>
+        ensures visit { IsVisit (ring_words C.is_match C.is_consistent C.is_cover C.union_of) (λ old new. Step (ring_words C.is_match C.is_consistent C.is_cover C.union_of) 0 old (event.Close cursor) result new) }
+    {
+        self.locked.lock(rt).close(cursor)
     }
 }

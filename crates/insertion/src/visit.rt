@@ -5,6 +5,7 @@ ghost use Rattle.page_table.specs.Trees.{page_at};
 ghost use Rattle.descent.specs.NextSteps.{HasRoom};
 ghost use Rattle.cursor.specs.OpenCursors.{words};
 ghost use Rattle.world.specs.Promises.{MailboxesFit};
+ghost use Rattle.world.specs.States.{IsSoundWorld};
 ghost use Rattle.world.specs.Visits.{IsOneEvent};
 ghost use Rattle.insertion.specs.PageSteps.{IsWanting};
 ghost use Rattle.insertion.specs.Visits.{IsForInsertion, IsNext, Goes, GoesBy};
@@ -108,6 +109,7 @@ fn make<C: KeyClass, O: Outlet<C::Key>>(
     requires own { (key : C.Key) × (tag : ℕ) × IsForInsertion key tag event }
     ensures goes { IfOk result (λ way. GoesBy world.old seat event way world.new) }
     ensures one_event { IsOneEvent C O O.End (words C.is_match C.is_consistent C.is_cover C.union_of O.may_take O.may_refuse O.is_emptied_elsewhere) seat world.old world.new }
+    ensures sound { IsSoundWorld C.is_cover world.new }
     ensures mailboxes { O.is_emptied_elsewhere ≡ true → MailboxesFit (words C.is_match C.is_consistent C.is_cover C.union_of O.may_take O.may_refuse O.is_emptied_elsewhere) world.old → MailboxesFit (words C.is_match C.is_consistent C.is_cover C.union_of O.may_take O.may_refuse O.is_emptied_elsewhere) world.new }
     ensures unchanged { OnErr result (world.new ≡ world.old) }
     ensures refusals { IfErr result (IsWanting world.old.search) }
@@ -134,11 +136,13 @@ pub fn insert_step<C: KeyClass, O: Outlet<C::Key>>(
 ) -> Result<Way<C::Key>, Refusal>
     ensures goes { IfOk result (λ way. Goes world.old seat key tag way world.new) }
     ensures one_event { IsOneEvent C O O.End (words C.is_match C.is_consistent C.is_cover C.union_of O.may_take O.may_refuse O.is_emptied_elsewhere) seat world.old world.new }
+    ensures sound { IsSoundWorld C.is_cover world.new }
     ensures mailboxes { O.is_emptied_elsewhere ≡ true → MailboxesFit (words C.is_match C.is_consistent C.is_cover C.union_of O.may_take O.may_refuse O.is_emptied_elsewhere) world.old → MailboxesFit (words C.is_match C.is_consistent C.is_cover C.union_of O.may_take O.may_refuse O.is_emptied_elsewhere) world.new }
     ensures unchanged { OnErr result (world.new ≡ world.old) }
     ensures full { (result ≡ Err Refusal.CommitsFull) ↔ (world.old.limit ≤ length world.old.commits) }
     ensures refusals { IfErr result (λ why. (why ≡ Refusal.CommitsFull) ⊎ IsWanting world.old.search why) }
 {
+    world.is_sound();
     if world.limit() <= world.commits() {
         return Err(Refusal::CommitsFull);
     }

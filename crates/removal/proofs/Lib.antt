@@ -2,3 +2,4 @@ pub mod Deaths
 pub mod HorizonFacts
 pub mod Swept
 pub mod UnderWay
+pub mod Refusing

@@ -23,6 +23,7 @@ use Rattle.scan.proofs.Finders.{seek_pages}
 use Rattle.scan.specs.LeafChanges.{after_bury}
 use Rattle.split.specs.Tests.{first_failing}
 use Rattle.removal.specs.Deleting.{Looks, Leaves, Deletes}
+use Rattle.removal.specs.Visits.{IsFullOfFinders}
 use Rattle.removal.proofs.Deaths.{buried_deaths}
 use Rattle.world.specs.declared.event.Event.TheVariants as event
 use Rattle.world.specs.declared.reply.Reply.{Reply}
@@ -257,10 +258,6 @@ rests_either w old row (Ok number) new done left = done.rests
 rests_either w old row (Err why) new done left = subst (λ s. Rests w old s) (sym left.is) (leaves_rests w old left.last_finder)
 
 module _ {K A : Type 0} where
-  -- there is no place or no serial for one more finder
-  abbrev pub IsFullOfFinders : State K A → Type 0
-  IsFullOfFinders s = (64 ≤ length s.finders) ⊎ (4294967295 ≤ s.last_finder)
-
   -- where a finder begins, there was a place
   pub has_place : (s : State K A) (row : ℕ) → first_failing (find_tests s row) ≡ None → IsFullOfFinders s → ⊥
   has_place s row passed full =

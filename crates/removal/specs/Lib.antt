@@ -1,2 +1,3 @@
 pub mod Deleting
 pub mod Sweeping
+pub mod Visits

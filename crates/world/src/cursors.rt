@@ -34,16 +34,17 @@ impl<C: KeyClass, O: Outlet<C::Key>> World<C, O> {
         if let Some(refusal) = self.open_refusal(&query, room) {
             return Reply::Refused(refusal);
         }
-        let Ok((outlet, end)) = O::make(self.alloc, room as u32) else {
+        let alloc = self.allocator();
+        let Ok((outlet, end)) = O::make(alloc, room as u32) else {
             return Reply::Refused(Refusal::OutOfMemory);
         };
-        let Ok(query) = Arc::new(self.alloc, query) else {
+        let Ok(query) = Arc::new(alloc, query) else {
             return Reply::Refused(Refusal::OutOfMemory);
         };
         let opened = self.changes.len() as u32;
         let counter = self.search.pages().counter();
         let serial = self.last + 1;
-        let cursor = Cursor::new(self.alloc, serial, query, opened, counter, outlet);
+        let cursor = Cursor::new(alloc, serial, query, opened, counter, outlet);
         if self.cursors.push(cursor).is_err() {
             return Reply::Refused(Refusal::OutOfMemory);
         }
@@ -58,7 +59,8 @@ impl<C: KeyClass, O: Outlet<C::Key>> World<C, O> {
             Ok(at) => at,
             Err(refusal) => return Reply::Refused(refusal),
         };
-        match self.cursors[at].turn(self.alloc, self.search.pages(), &self.changes) {
+        let alloc = self.allocator();
+        match self.cursors[at].turn(alloc, self.search.pages(), &self.changes) {
             Ok(Turned::Offered) => return Reply::Offered,
             Ok(Turned::Visited(page)) => return Reply::Visited(page),
             Ok(Turned::Passed(commit)) => return Reply::Passed(commit),

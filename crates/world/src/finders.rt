@@ -46,7 +46,7 @@ impl<C: KeyClass, O: Outlet<C::Key>> World<C, O> {
         };
         let counter = self.search.pages().counter();
         let serial = self.last_finder + 1;
-        let finder = Finder::new(self.alloc, serial, row as u32, key, counter);
+        let finder = Finder::new(self.allocator(), serial, row as u32, key, counter);
         if self.finders.push(finder).is_err() {
             return Reply::Refused(Refusal::OutOfMemory);
         }
@@ -82,7 +82,8 @@ impl<C: KeyClass, O: Outlet<C::Key>> World<C, O> {
         let row = self.finders[at].row();
         let number = count + 1;
         let write = Write::Delete(u64::from(row));
-        let changes = mem::replace(&mut self.changes, ChangeList::new(self.alloc));
+        let empty = ChangeList::new(self.allocator());
+        let changes = mem::replace(&mut self.changes, empty);
         match changes.reserve() {
             Err(changes) => {
                 self.changes = changes;

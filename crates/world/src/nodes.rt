@@ -62,7 +62,8 @@ impl<C: KeyClass, O: Outlet<C::Key>> World<C, O> {
         }
         let number = count + 1;
         let write = Write::Insert(key, tag);
-        let changes = mem::replace(&mut self.changes, ChangeList::new(self.alloc));
+        let empty = ChangeList::new(self.allocator());
+        let changes = mem::replace(&mut self.changes, empty);
         match changes.reserve() {
             Err(changes) => {
                 self.changes = changes;

@@ -110,7 +110,7 @@ impl<C: KeyClass, O: Outlet<C::Key>> World<C, O> {
         ensures refused { IfErr result (RefusesPreparing self.now c) }
     {
         let at = self.place_of(c)?;
-        let visit = self.cursors[at].prepare(self.alloc, self.search.pages())?;
+        let visit = self.cursors[at].prepare(self.allocator(), self.search.pages())?;
         Ok(VisitTask { cursor: c, visit })
     }
 
@@ -129,7 +129,7 @@ impl<C: KeyClass, O: Outlet<C::Key>> World<C, O> {
         let page = pages.share(p as u32)?;
         let least = self.search.least();
         Ok(SplitTask {
-            alloc: self.alloc,
+            alloc: self.allocator(),
             number: p,
             page,
             least,

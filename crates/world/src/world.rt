@@ -26,7 +26,6 @@ use std::marker::Model;
 /// A tree of pages, its commits, its open cursors and finders. Each event is one atomic step.
 #[derive(Drop)]
 pub struct World<C: KeyClass, O: Outlet<C::Key>> {
-    pub(crate) alloc: Global,
     pub(crate) search: SearchTree<C>,
     pub(crate) limit: u64,
     pub(crate) changes: ChangeList<C::Key>,
@@ -71,7 +70,6 @@ impl<C: KeyClass, O: Outlet<C::Key>> World<C, O> {
             u64::from(config.pages),
         )?;
         Ok(World {
-            alloc,
             search,
             limit: u64::from(config.commits),
             changes: ChangeList::new(alloc),
@@ -80,6 +78,11 @@ impl<C: KeyClass, O: Outlet<C::Key>> World<C, O> {
             finders: Vec::new(alloc),
             last_finder: 0,
         })
+    }
+
+    /// Where its lists have their memory.
+    pub(crate) fn allocator(&self) -> Global {
+        *self.cursors.allocator()
     }
 
     /// How many commits there are.

@@ -76,7 +76,7 @@ returns-in-Ok-bury g c =
     let same = finder_is g.C.KeyClass.is_cover _ c.self.invariant c.args.f c.args.at m.here c.index.result.now c.index.ensures in
     let row : m.here.value.row ≡ c.row-row.result = ap (λ k. k.row) same ∙ sym c.row-row.ensures in
     let pushed = c.push.ensures ∙ ap (λ l. l ++ Delete c.from.result ∷ []) (c.in-Ok.ensures.ok ∙ c.replace-changes.ensures.value) ∙ ap (λ n. c.self.inside.changes ++ Delete n ∷ []) c.from.ensures in
-    let stamped = c.new-in-Ok-bury.ensures ∙ ap (λ n. record { number = c.len-count.result + 1; seat = c.args.seat; write = Delete n }) c.from.ensures in
+    let stamped = c.new.ensures ∙ ap (λ n. record { number = c.len-count.result + 1; seat = c.args.seat; write = Delete n }) c.from.ensures in
     let passed = meets_passes g.C.KeyClass.is_cover _ c.self.invariant c.args.f c.args.at c.args.page m (omega (arith, c.if-count-self.false, c.len-count.ensures.len)) in
     rw (← c.self.view_is) (record {
       passed = passed;

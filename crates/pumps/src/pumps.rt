@@ -1,0 +1,168 @@
+ghost use Rattle.std.specs.Prelude.{◌≡◌, ◌↔◌, ◌⊎◌, ◌<◌, ◌≤◌, ℕ, Err, IfOk, IfErr};
+
+use crossbeam_channel::Receiver;
+use desk::Desk;
+use key_class::{KeyClass, Refusal};
+use std::alloc::Global;
+use std::marker::Model;
+use std::rt::Clock;
+use std::sync::Wait;
+use std::sync::ledger::Ledger;
+use std::thread;
+use std::thread::Threads;
+use std::time::Duration;
+use world::Reply;
+
+/// How often a gate is asked before an order is skipped.
+const ASKS: u32 = 10_000;
+
+/// The time between two asks.
+const PAUSE: Duration = Duration::from_millis(1);
+
+/// What a pump is told.
+#[derive(Clone, Copy, Debug, PartialEq, Eq)]
+pub enum Order {
+    /// Turn the cursor with this serial so many times.
+    Turn(u64, u64),
+    /// Stop. It ends one pump.
+    Stop,
+}
+
+/// Says when a cursor may be turned.
+pub trait Gate: Drop {
+    /// Whether the cursor with this serial may be turned now.
+    fn may_turn(&self, cursor: u64) -> bool;
+}
+
+/// What pumps did. A number rises no further once it has its greatest value.
+#[derive(Clone, Copy, Debug, PartialEq, Eq)]
+pub struct Pumped {
+    /// How many turns were made that weren't refused.
+    pub turns: u64,
+    /// How many orders were skipped since the gate stayed shut.
+    pub skipped: u64,
+}
+
+impl Pumped {
+    const NOTHING: Pumped = Pumped {
+        turns: 0,
+        skipped: 0,
+    };
+
+    /// What both did.
+    fn and(self, other: Pumped) -> Pumped {
+        Pumped {
+            turns: self.turns.saturating_add(other.turns),
+            skipped: self.skipped.saturating_add(other.skipped),
+        }
+    }
+}
+
+/// Threads that turn cursors, where a gate lets them.
+#[derive(Drop)]
+pub struct Pumps<G: Gate> {
+    count: usize,
+    gate: G,
+}
+
+impl<G: Gate> Pumps<G> {
+    /// So many pumps with a gate.
+    ///
+    /// # Errors
+    /// `BadConfig` where there are none or more than 16.
+    pub fn new(count: usize, gate: G) -> Result<Pumps<G>, Refusal>
+        ensures bad { (result ≡ Err Refusal.BadConfig) ↔ ((count ≡ 0) ⊎ (16 < count)) }
+        ensures refusals { IfErr result (λ why. why ≡ Refusal.BadConfig) }
+    {
+        if count == 0 || count > 16 {
+            return Err(Refusal::BadConfig);
+        }
+        Ok(Pumps { count, gate })
+    }
+
+    /// The gate of these pumps.
+    pub fn gate(&self) -> &G {
+        &self.gate
+    }
+
+    /// Whether the gate opens for the cursor within so many asks.
+    fn opens<R: Clock>(&self, rt: &R, cursor: u64) -> bool {
+        for _ in 0..ASKS {
+            if self.gate.may_turn(cursor) {
+                return true;
+            }
+            thread::sleep(rt, PAUSE);
+        }
+        false
+    }
+
+    /// Turns the cursor, until it was done so many times, the gate stays shut or a turn is refused.
+    fn carry_out<C: KeyClass, L: Ledger, R: Wait + Clock>(
+        &self,
+        rt: &R,
+        desk: &Desk<C, L>,
+        cursor: u64,
+        times: u64,
+    ) -> Pumped {
+        let mut turns: u64 = 0;
+        for _ in 0..times {
+            if !self.opens(rt, cursor) {
+                return Pumped { turns, skipped: 1 };
+            }
+            if let Reply::Refused(_) = desk.turn(rt, cursor) {
+                return Pumped { turns, skipped: 0 };
+            }
+            turns = turns.saturating_add(1);
+        }
+        Pumped { turns, skipped: 0 }
+    }
+
+    /// One pump, which ends at a stop, or where no sender is left.
+    fn pump<C: KeyClass, L: Ledger, R: Wait + Clock>(
+        &self,
+        rt: &R,
+        desk: &Desk<C, L>,
+        orders: &Receiver<Order>,
+    ) -> Pumped {
+        let mut done = Pumped::NOTHING;
+        for _ in rt.forever() {
+            let Ok(Order::Turn(cursor, times)) = orders.recv(rt) else {
+                break;
+            };
+            done = done.and(self.carry_out(rt, desk, cursor, times));
+        }
+        done
+    }
+
+    /// Runs the pumps until all of them have ended, each in a thread of its own where one is to be had.
+    ///
+    /// An order is carried out by one pump. Before each turn it asks the gate, at most 10,000 times with a millisecond
+    /// between two asks; then the order is skipped. An order ends early where a turn is refused.
+    ///
+    /// # Errors
+    /// Want of memory. No pump was started then.
+    pub fn run<C, L, R>(
+        &self,
+        rt: &R,
+        alloc: Global,
+        desk: &Desk<C, L>,
+        orders: &Receiver<Order>,
+    ) -> Result<Pumped, Refusal>
+    where
+        G: Sync,
+        C: KeyClass + Send + Sync,
+        C::Key: Send + Sync,
+        C::Atom: Send + Sync,
+        L: Ledger + Send + Sync,
+        R: Threads + Wait + Clock + Sync,
+        ensures refusals { IfErr result (λ why. why ≡ Refusal.OutOfMemory) }
+    {
+        let pump = |_| self.pump(rt, desk, orders);
+        let Ok(pumped) = thread::map_indices(rt, alloc, self.count, &pump) else {
+            return Err(Refusal::OutOfMemory);
+        };
+        Ok(pumped
+            .iter()
+            .fold(Pumped::NOTHING, |all, one| all.and(*one)))
+    }
+}

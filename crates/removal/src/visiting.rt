@@ -1,0 +1,134 @@
+//! A deletion by visits, between which others may change the world.
+ghost use Rattle.std.specs.Prelude.{◌≡◌, ◌⊎◌, ◌↔◌, ◌+◌, ◌≤◌, true, Err, length, IfOk, IfErr, OnOk, OnErr};
+ghost use Rattle.change_list.specs.Changes.{status_of};
+ghost use Rattle.cursor.specs.OpenCursors.{words};
+ghost use Rattle.removal.specs.Deleting.{Looks};
+ghost use Rattle.removal.specs.Visits.{IsFullOfFinders, RefusesDelete, Seeks};
+ghost use Rattle.world.specs.Promises.{MailboxesFit};
+ghost use Rattle.world.specs.States.{IsSoundWorld};
+ghost use Rattle.world.specs.Visits.{IsOneEvent};
+
+use change_list::Status;
+use key_class::{KeyClass, Refusal};
+use mailbox::Outlet;
+use world::{Event, Reply, Stamped, World};
+
+/// How far the search for a row to be deleted has come.
+#[derive(Clone, Copy)]
+pub enum Search<K> {
+    /// The finder goes on.
+    On,
+    /// No finder of the row has this serial.
+    Lost,
+    /// The row was deleted.
+    Deleted(Stamped<K>),
+}
+
+/// The first visit of a deletion: a finder of the row, by its serial.
+///
+/// # Errors
+/// `NoSuchRow` where no insert has the number, else `AlreadyDeleted`, else `FindersFull` where 64 finders are open or the
+/// last serial was given, and want of memory. Nothing is changed then.
+pub fn find_row<C: KeyClass, O: Outlet<C::Key>>(
+    world: &mut World<C, O>,
+    row: u64,
+) -> Result<u64, Refusal>
+    ensures serial { IfOk result (λ finder. finder ≡ world.old.last_finder + 1) }
+    ensures looks { OnOk result (Looks world.old row world.new) }
+    ensures one_event { IsOneEvent C O O.End (words C.is_match C.is_consistent C.is_cover C.union_of O.may_take O.may_refuse O.is_emptied_elsewhere) 0 world.old world.new }
+    ensures sound { IsSoundWorld C.is_cover world.new }
+    ensures mailboxes { O.is_emptied_elsewhere ≡ true → MailboxesFit (words C.is_match C.is_consistent C.is_cover C.union_of O.may_take O.may_refuse O.is_emptied_elsewhere) world.old → MailboxesFit (words C.is_match C.is_consistent C.is_cover C.union_of O.may_take O.may_refuse O.is_emptied_elsewhere) world.new }
+    ensures unchanged { OnErr result (world.new ≡ world.old) }
+    ensures no_such_row { (result ≡ Err Refusal.NoSuchRow) ↔ (status_of world.old.commits row ≡ Status.NeverIssued) }
+    ensures already_deleted { (result ≡ Err Refusal.AlreadyDeleted) ↔ (status_of world.old.commits row ≡ Status.Dead) }
+    ensures finders_full { (result ≡ Err Refusal.FindersFull) ↔ ((status_of world.old.commits row ≡ Status.Live) × IsFullOfFinders world.old) }
+    ensures refusals { IfErr result (RefusesDelete world.old row) }
+{
+    world.is_sound();
+    match world.status(row) {
+        Status::NeverIssued => return Err(Refusal::NoSuchRow),
+        Status::Dead => return Err(Refusal::AlreadyDeleted),
+        Status::Live => return open_finder(world, row),
+    }
+}
+
+/// A finder of a live row, by its serial.
+fn open_finder<C: KeyClass, O: Outlet<C::Key>>(
+    world: &mut World<C, O>,
+    row: u64,
+) -> Result<u64, Refusal>
+    requires live { status_of world.old.commits row ≡ Status.Live }
+    ensures serial { IfOk result (λ finder. finder ≡ world.old.last_finder + 1) }
+    ensures looks { OnOk result (Looks world.old row world.new) }
+    ensures one_event { IsOneEvent C O O.End (words C.is_match C.is_consistent C.is_cover C.union_of O.may_take O.may_refuse O.is_emptied_elsewhere) 0 world.old world.new }
+    ensures sound { IsSoundWorld C.is_cover world.new }
+    ensures mailboxes { O.is_emptied_elsewhere ≡ true → MailboxesFit (words C.is_match C.is_consistent C.is_cover C.union_of O.may_take O.may_refuse O.is_emptied_elsewhere) world.old → MailboxesFit (words C.is_match C.is_consistent C.is_cover C.union_of O.may_take O.may_refuse O.is_emptied_elsewhere) world.new }
+    ensures unchanged { OnErr result (world.new ≡ world.old) }
+    ensures full { (result ≡ Err Refusal.FindersFull) ↔ IsFullOfFinders world.old }
+    ensures refusals { IfErr result (λ why. (why ≡ Refusal.OutOfMemory) ⊎ ((why ≡ Refusal.FindersFull) × IsFullOfFinders world.old)) }
+{
+    match world.step(Event::Find(row)) {
+        Reply::Finder(finder) => Ok(finder),
+        Reply::Refused(why) => Err(why),
+        _ => unreachable!(),
+    }
+}
+
+/// A later visit of a deletion: the next step of a finder of the row, which deletes the row where it meets it.
+///
+/// # Errors
+/// `NoSuchRow`, `AlreadyDeleted`, `CommitsFull` where there are as many commits as may be and the row is met, and want of
+/// memory. Nothing is changed then.
+pub fn seek_row<C: KeyClass, O: Outlet<C::Key>>(
+    world: &mut World<C, O>,
+    seat: u32,
+    finder: u64,
+    row: u64,
+) -> Result<Search<C::Key>, Refusal>
+    ensures seeks { IfOk result (λ search. Seeks world.old seat row search world.new) }
+    ensures one_event { IsOneEvent C O O.End (words C.is_match C.is_consistent C.is_cover C.union_of O.may_take O.may_refuse O.is_emptied_elsewhere) seat world.old world.new }
+    ensures sound { IsSoundWorld C.is_cover world.new }
+    ensures mailboxes { O.is_emptied_elsewhere ≡ true → MailboxesFit (words C.is_match C.is_consistent C.is_cover C.union_of O.may_take O.may_refuse O.is_emptied_elsewhere) world.old → MailboxesFit (words C.is_match C.is_consistent C.is_cover C.union_of O.may_take O.may_refuse O.is_emptied_elsewhere) world.new }
+    ensures unchanged { OnErr result (world.new ≡ world.old) }
+    ensures no_such_row { (result ≡ Err Refusal.NoSuchRow) ↔ (status_of world.old.commits row ≡ Status.NeverIssued) }
+    ensures already_deleted { (result ≡ Err Refusal.AlreadyDeleted) ↔ (status_of world.old.commits row ≡ Status.Dead) }
+    ensures refusals { IfErr result (RefusesDelete world.old row) }
+{
+    world.is_sound();
+    match world.status(row) {
+        Status::NeverIssued => return Err(Refusal::NoSuchRow),
+        Status::Dead => return Err(Refusal::AlreadyDeleted),
+        Status::Live => return seek_live(world, seat, finder, row),
+    }
+}
+
+/// The next step of a finder of a live row.
+fn seek_live<C: KeyClass, O: Outlet<C::Key>>(
+    world: &mut World<C, O>,
+    seat: u32,
+    finder: u64,
+    row: u64,
+) -> Result<Search<C::Key>, Refusal>
+    requires live { status_of world.old.commits row ≡ Status.Live }
+    ensures seeks { IfOk result (λ search. Seeks world.old seat row search world.new) }
+    ensures one_event { IsOneEvent C O O.End (words C.is_match C.is_consistent C.is_cover C.union_of O.may_take O.may_refuse O.is_emptied_elsewhere) seat world.old world.new }
+    ensures sound { IsSoundWorld C.is_cover world.new }
+    ensures mailboxes { O.is_emptied_elsewhere ≡ true → MailboxesFit (words C.is_match C.is_consistent C.is_cover C.union_of O.may_take O.may_refuse O.is_emptied_elsewhere) world.old → MailboxesFit (words C.is_match C.is_consistent C.is_cover C.union_of O.may_take O.may_refuse O.is_emptied_elsewhere) world.new }
+    ensures unchanged { OnErr result (world.new ≡ world.old) }
+    ensures refusals { IfErr result (λ why. (why ≡ Refusal.OutOfMemory) ⊎ ((why ≡ Refusal.CommitsFull) × (world.old.limit ≤ length world.old.commits))) }
+{
+    world.is_sound();
+    match world.finder_row(finder) {
+        None => return Ok(Search::Lost),
+        Some(other) => {
+            if other != row {
+                return Ok(Search::Lost);
+            }
+        }
+    }
+    match world.step_as(seat, Event::Seek(finder)) {
+        Reply::Committed(stamp) => return Ok(Search::Deleted(stamp)),
+        Reply::Refused(why) => return Err(why),
+        _ => return Ok(Search::On),
+    }
+}
