@@ -16,8 +16,8 @@ use world::Reply;
 /// How often a gate is asked before an order is skipped.
 const ASKS: u32 = 10_000;
 
-/// The time between two asks.
-const PAUSE: Duration = Duration::from_millis(1);
+/// The milliseconds between two asks.
+const PAUSE: u64 = 1;
 
 /// What a pump is told.
 #[derive(Clone, Copy, Debug, PartialEq, Eq)]
@@ -32,6 +32,18 @@ pub enum Order {
 pub trait Gate: Drop {
     /// Whether the cursor with this serial may be turned now.
     fn may_turn(&self, cursor: u64) -> bool;
+}
+
+/// What pumps turn cursors of.
+trait Turning {
+    /// Turns a cursor. Whether the turn wasn't refused.
+    fn turn_cursor<R: Wait>(&self, rt: &R, cursor: u64) -> bool;
+}
+
+impl<C: KeyClass, L: Ledger> Turning for Desk<C, L> {
+    fn turn_cursor<R: Wait>(&self, rt: &R, cursor: u64) -> bool {
+        !matches!(self.turn(rt, cursor), Reply::Refused(_))
+    }
 }
 
 /// What pumps did. A number rises no further once it has its greatest value.
@@ -91,16 +103,16 @@ impl<G: Gate> Pumps<G> {
             if self.gate.may_turn(cursor) {
                 return true;
             }
-            thread::sleep(rt, PAUSE);
+            thread::sleep(rt, Duration::from_millis(PAUSE));
         }
         false
     }
 
     /// Turns the cursor, until it was done so many times, the gate stays shut or a turn is refused.
-    fn carry_out<C: KeyClass, L: Ledger, R: Wait + Clock>(
+    fn carry_out<D: Turning, R: Wait + Clock>(
         &self,
         rt: &R,
-        desk: &Desk<C, L>,
+        desk: &D,
         cursor: u64,
         times: u64,
     ) -> Pumped {
@@ -109,7 +121,7 @@ impl<G: Gate> Pumps<G> {
             if !self.opens(rt, cursor) {
                 return Pumped { turns, skipped: 1 };
             }
-            if let Reply::Refused(_) = desk.turn(rt, cursor) {
+            if !desk.turn_cursor(rt, cursor) {
                 return Pumped { turns, skipped: 0 };
             }
             turns = turns.saturating_add(1);
@@ -118,10 +130,10 @@ impl<G: Gate> Pumps<G> {
     }
 
     /// One pump, which ends at a stop, or where no sender is left.
-    fn pump<C: KeyClass, L: Ledger, R: Wait + Clock>(
+    fn pump<D: Turning, R: Wait + Clock>(
         &self,
         rt: &R,
-        desk: &Desk<C, L>,
+        desk: &D,
         orders: &Receiver<Order>,
     ) -> Pumped {
         let mut done = Pumped::NOTHING;
@@ -132,6 +144,29 @@ impl<G: Gate> Pumps<G> {
             done = done.and(self.carry_out(rt, desk, cursor, times));
         }
         done
+    }
+
+    /// Runs the pumps over what has cursors.
+    fn run_all<D, R>(
+        &self,
+        rt: &R,
+        alloc: Global,
+        desk: &D,
+        orders: &Receiver<Order>,
+    ) -> Result<Pumped, Refusal>
+    where
+        G: Sync,
+        D: Turning + Sync,
+        R: Threads + Wait + Clock + Sync,
+        ensures refusals { IfErr result (λ why. why ≡ Refusal.OutOfMemory) }
+    {
+        let pump = |_| self.pump(rt, desk, orders);
+        let Ok(pumped) = thread::map_indices(rt, alloc, self.count, &pump) else {
+            return Err(Refusal::OutOfMemory);
+        };
+        Ok(pumped
+            .iter()
+            .fold(Pumped::NOTHING, |all, one| all.and(*one)))
     }
 
     /// Runs the pumps until all of them have ended, each in a thread of its own where one is to be had.
@@ -157,12 +192,6 @@ impl<G: Gate> Pumps<G> {
         R: Threads + Wait + Clock + Sync,
         ensures refusals { IfErr result (λ why. why ≡ Refusal.OutOfMemory) }
     {
-        let pump = |_| self.pump(rt, desk, orders);
-        let Ok(pumped) = thread::map_indices(rt, alloc, self.count, &pump) else {
-            return Err(Refusal::OutOfMemory);
-        };
-        Ok(pumped
-            .iter()
-            .fold(Pumped::NOTHING, |all, one| all.and(*one)))
+        self.run_all(rt, alloc, desk, orders)
     }
 }

@@ -1,15 +1,17 @@
 pub mod Askings
+pub mod Crossing
 pub mod Effects
 pub mod Faithful
 pub mod FinderLists
 pub mod FinderSteps
 pub mod Founds
-pub mod Handling
 pub mod HandingOut
+pub mod Handling
 pub mod Mailboxes
 pub mod Meeting
 pub mod PageSteps
 pub mod Placing
+pub mod Publishing
 pub mod Refusing
 pub mod Resting
 pub mod Running
@@ -19,4 +21,3 @@ pub mod Serving
 pub mod Sounding
 pub mod Stepping
 pub mod Turning
-pub mod Publishing
