@@ -164,9 +164,11 @@ impl<G: Gate> Pumps<G> {
         let Ok(pumped) = thread::map_indices(rt, alloc, self.count, &pump) else {
             return Err(Refusal::OutOfMemory);
         };
-        Ok(pumped
-            .iter()
-            .fold(Pumped::NOTHING, |all, one| all.and(*one)))
+        Ok(
+            pumped
+                .iter()
+                .fold(Pumped::NOTHING, |all, one| all.and(*one)),
+        )
     }
 
     /// Runs the pumps until all of them have ended, each in a thread of its own where one is to be had.

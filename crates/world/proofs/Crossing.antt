@@ -24,14 +24,28 @@ module _ (C O K A E : RattleType) (c : class.Ghosts C.Denot K.Denot A.Denot) (k 
       (recorded_send (cursor.the_field C O K A E c k a o).row _ _ (cursor.the_type C O K A E c k a o).to_one
       (struct_send (shape (cursor.the_type C O K A E c k a o)) (
         search sendable depth 20,
-        (search (crosses, sendable, pred.crosses, pred.crosses_both) depth 20,
-        (search sendable depth 20,
-        (search (stack.the_send, sendable) depth 20,
-        (search (crosses, sendable) depth 20,
-        (search sendable depth 20,
-        (search sendable depth 20,
-        (search sendable depth 20,
-        tt)))))))
+        (
+          search (crosses, sendable, pred.crosses, pred.crosses_both) depth 20,
+          (
+            search sendable depth 20,
+            (
+              search (stack.the_send, sendable) depth 20,
+              (
+                search (crosses, sendable) depth 20,
+                (
+                  search sendable depth 20,
+                  (
+                    search sendable depth 20,
+                    (
+                      search sendable depth 20,
+                      tt,
+                    ),
+                  ),
+                ),
+              ),
+            ),
+          ),
+        ),
       )))
 
   pub world_send : IsSend K → IsSync K → IsSend A → IsSync A → IsSend O → IsSend (World.the_row C O K A E c k a o)
@@ -41,11 +55,23 @@ module _ (C O K A E : RattleType) (c : class.Ghosts C.Denot K.Denot A.Denot) (k 
       (recorded_send (world.the_field C O K A E c k a o).row _ _ (world.the_type C O K A E c k a o).to_one
       (struct_send (shape (world.the_type C O K A E c k a o)) (
         search (tree.the_send, sendable) depth 20,
-        (search sendable depth 20,
-        (search (list.the_send, sendable) depth 20,
-        (search (crosses, sendable) depth 20,
-        (search sendable depth 20,
-        (search (finder.the_send, crosses, sendable) depth 20,
-        (search sendable depth 20,
-        tt))))))
+        (
+          search sendable depth 20,
+          (
+            search (list.the_send, sendable) depth 20,
+            (
+              search (crosses, sendable) depth 20,
+              (
+                search sendable depth 20,
+                (
+                  search (finder.the_send, crosses, sendable) depth 20,
+                  (
+                    search sendable depth 20,
+                    tt,
+                  ),
+                ),
+              ),
+            ),
+          ),
+        ),
       )))
