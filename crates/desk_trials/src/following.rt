@@ -1,16 +1,18 @@
 ghost use Rattle.std.specs.Prelude.{◌≡◌};
 
-use change_list::{Config, Item};
+use change_list::{ChangeList, Config, Item};
 use desk::{Desk, Finished, Seat, Taker};
 use interval_class::{Atom, Interval, Intervals};
 use key_class::{Pred, Refusal, Rel};
-use std::alloc::Global;
+use std::alloc::{AllocError, Global};
 use std::marker::Brand;
 use std::process::Abort;
 use std::sync::Wait;
 use std::sync::ledger::{Blank, Ledger};
 use std::test::*;
-use world::Reply;
+use std::thread;
+use std::thread::Threads;
+use world::{Reply, Stamped};
 
 const CONFIG: Config = Config {
     fan: 8,
@@ -25,6 +27,7 @@ fn key(number: u32, nth: u32) -> Result<Interval, Refusal> {
     Interval::new(low, low + i64::from(nth % 7))
 }
 
+/// Inserts rows. A cursor that is opened amidst them has an opening that is no less than the seat's share.
 fn insert_rows<L: Ledger, R: Wait + Abort>(
     rt: &R,
     desk: &Desk<Intervals, L>,
@@ -37,6 +40,11 @@ fn insert_rows<L: Ledger, R: Wait + Abort>(
         };
         assert!(rt; inserted.is_ok());
     }
+    let opened = match all() {
+        Ok(all) => desk.open_cursor(rt, seat, all, 1).map(|taker| taker.opened()),
+        Err(why) => Err(why),
+    };
+    assert!(rt; opened.is_ok_and(|opened| opened >= seat.share()));
 }
 
 /// Deletes some of the rows that a seat inserted, each of which is then refused.
@@ -84,18 +92,53 @@ fn all() -> Result<Pred<Atom>, Refusal> {
     }))
 }
 
-/// 250 inserts and 100 deletes of each seat but the last.
-fn work<L: Ledger, R: Wait + Abort>(
-    rt: &R,
-    desk: &Desk<Intervals, L>,
-    seats: &mut [Seat<Intervals, L>],
-) {
+/// What a client does.
+trait Works<L: Ledger> {
+    /// 250 inserts and 100 deletes for a seat.
+    fn work<R: Wait + Abort>(&self, rt: &R, seat: &mut Seat<Intervals, L>);
+}
+
+impl<L: Ledger> Works<L> for Desk<Intervals, L> {
+    fn work<R: Wait + Abort>(&self, rt: &R, seat: &mut Seat<Intervals, L>) {
+        insert_rows(rt, self, seat);
+        delete_rows(rt, self, seat)
+    }
+}
+
+/// Lets four threads work at once, a seat each.
+fn work_at_once<D, L, R>(rt: &R, desk: &D, seats: &mut [Seat<Intervals, L>])
+where
+    D: Works<L> + Sync,
+    L: Ledger + Send + Sync,
+    R: Threads + Wait + Abort + Sync,
+{
+    thread::for_each_mut(rt, seats, 4, &|_, seat| desk.work(rt, seat))
+}
+
+/// The stamps of seats.
+fn stamps_of<L: Ledger>(
+    alloc: Global,
+    seats: &[Seat<Intervals, L>],
+) -> Result<Vec<Stamped<Interval>>, AllocError> {
+    let mut stamps = Vec::new(alloc);
     for seat in seats {
-        if seat.number() < 5 {
-            insert_rows(rt, desk, seat);
-            delete_rows(rt, desk, seat)
+        for stamp in seat.stamps() {
+            stamps.push(*stamp)?;
         }
     }
+    Ok(stamps)
+}
+
+/// Whether the stamps, by their numbers, are the commits.
+fn are_the_commits(stamps: &[Stamped<Interval>], commits: &ChangeList<Interval>) -> bool {
+    let mut number: u64 = 0;
+    for stamp in stamps {
+        number = number.wrapping_add(1);
+        if stamp.number() != number || commits.commit(number) != Some(stamp.write()) {
+            return false;
+        }
+    }
+    number == commits.len() as u64
 }
 
 /// Follows all rows by a cursor that has had a ring of four since before they were inserted, up to a mark.
@@ -110,7 +153,7 @@ fn follow<L: Ledger, R: Wait + Abort>(
     assert!(rt; taker.opened() == 0);
 }
 
-fn work_and_follow<L: Ledger, R: Wait + Abort>(
+fn work_and_follow<L: Ledger + Send + Sync, R: Threads + Wait + Abort + Sync>(
     rt: &R,
     desk: &Desk<Intervals, L>,
     seats: &mut [Seat<Intervals, L>],
@@ -120,22 +163,29 @@ fn work_and_follow<L: Ledger, R: Wait + Abort>(
         return Err(Refusal::BadConfig.into());
     };
     let mut taker = desk.open_cursor(rt, seat, all, 4)?;
-    work(rt, desk, seats);
+    let (workers, _) = seats.split_at_mut(4);
+    work_at_once(rt, desk, workers);
     follow(rt, desk, &mut taker);
     Ok(())
 }
 
-fn five_seats<L: Ledger, R: Wait + Abort>(rt: &R, alloc: Global, blank: Blank) -> Result<(), Fail>
+fn five_seats<L: Ledger + Send + Sync, R: Threads + Wait + Abort + Sync>(
+    rt: &R,
+    alloc: Global,
+    blank: Blank,
+) -> Result<(), Fail>
     requires name { blank.name ≡ L.name }
     requires parts { blank.parts ≡ L.parts }
     requires five { blank.parts ≡ 5 }
 {
     let (desk, mut seats) = Desk::<Intervals, L>::new(alloc, blank, CONFIG, 5)?;
     work_and_follow(rt, &desk, seats.as_mut_slice())?;
+    let mut stamps = stamps_of(alloc, seats.as_slice())?;
+    stamps.as_mut_slice().sort_unstable_by_key(|stamp| stamp.number());
     match desk.finish(seats) {
         Finished::Closing(closing) => {
             assert!(rt; closing.sum() == 1_400);
-            assert!(rt; closing.commits().len() == 1_400);
+            assert!(rt; are_the_commits(stamps.as_slice(), closing.commits()));
         }
         _ => assert!(rt; false, "the seats fit"),
     }
@@ -143,6 +193,6 @@ fn five_seats<L: Ledger, R: Wait + Abort>(rt: &R, alloc: Global, blank: Blank) -
 }
 
 #[test]
-fn a_cursor_follows_four_seats(rt: HostRuntime) -> Result<(), Fail> {
+fn a_cursor_follows_four_threads(rt: HostRuntime) -> Result<(), Fail> {
     five_seats::<Brand, _>(&rt, rt.alloc(), Blank::new(5))
 }

@@ -6,4 +6,6 @@ mod following;
 #[cfg(test)]
 mod limits;
 #[cfg(test)]
+mod pumped;
+#[cfg(test)]
 mod seats;
