@@ -41,7 +41,9 @@ fn insert_rows<L: Ledger, R: Wait + Abort>(
         assert!(rt; inserted.is_ok());
     }
     let opened = match all() {
-        Ok(all) => desk.open_cursor(rt, seat, all, 1).map(|taker| taker.opened()),
+        Ok(all) => desk
+            .open_cursor(rt, seat, all, 1)
+            .map(|taker| taker.opened()),
         Err(why) => Err(why),
     };
     assert!(rt; opened.is_ok_and(|opened| opened >= seat.share()));
@@ -181,7 +183,9 @@ fn five_seats<L: Ledger + Send + Sync, R: Threads + Wait + Abort + Sync>(
     let (desk, mut seats) = Desk::<Intervals, L>::new(alloc, blank, CONFIG, 5)?;
     work_and_follow(rt, &desk, seats.as_mut_slice())?;
     let mut stamps = stamps_of(alloc, seats.as_slice())?;
-    stamps.as_mut_slice().sort_unstable_by_key(|stamp| stamp.number());
+    stamps
+        .as_mut_slice()
+        .sort_unstable_by_key(|stamp| stamp.number());
     match desk.finish(seats) {
         Finished::Closing(closing) => {
             assert!(rt; closing.sum() == 1_400);

@@ -4,6 +4,8 @@
 #[cfg(test)]
 mod following;
 #[cfg(test)]
+mod likeness;
+#[cfg(test)]
 mod limits;
 #[cfg(test)]
 mod pumped;
