@@ -29,11 +29,19 @@ module _ (ℓ : NamedLft) (C L K A : RattleType) (c : class.Ghosts C.Denot K.Den
       (recorded_send (taker.the_field ℓ C L K A c kc ke kp ac ae ap l).row _ _ (taker.the_type ℓ C L K A c kc ke kp ac ae ap l).to_one
       (struct_send (shape (taker.the_type ℓ C L K A c kc ke kp ac ae ap l)) (
         search (desk.the_sync, ring.the_send, world_send, sendable) depth 20,
-        (search sendable depth 20,
-        (search (std.crosses, sendable, pred.crosses) depth 20,
-        (search sendable depth 20,
-        (search (consumer.the_field_send, item.the_send, heap.the_send, std.crosses, sendable) depth 20,
-        tt))))
+        (
+          search sendable depth 20,
+          (
+            search (std.crosses, sendable, pred.crosses) depth 20,
+            (
+              search sendable depth 20,
+              (
+                search (consumer.the_field_send, item.the_send, heap.the_send, std.crosses, sendable) depth 20,
+                tt,
+              ),
+            ),
+          ),
+        ),
       )))
 
 pub ruleset crosses = (desk.the_send, desk.the_sync, seat.the_send, ring.the_send, taker_send, world_send)

@@ -155,19 +155,44 @@ fn follow<L: Ledger, R: Wait + Abort>(
     assert!(rt; taker.opened() == 0);
 }
 
+/// How many items a cursor sends before any is taken, and how many then are.
+fn sent_and_taken<L: Ledger, R: Wait + Abort>(
+    rt: &R,
+    desk: &Desk<Intervals, L>,
+    taker: &mut Taker<'_, Intervals, L>,
+) -> (u64, u64) {
+    let mut sent: u64 = 0;
+    for _ in 0..20_000 {
+        if matches!(desk.turn(rt, taker.cursor()), Reply::Offered) {
+            sent = sent.wrapping_add(1);
+        }
+    }
+    let mut taken: u64 = 0;
+    for _ in 0..20_000 {
+        if taker.take().is_some() {
+            taken = taken.wrapping_add(1);
+        }
+    }
+    (sent, taken)
+}
+
 fn work_and_follow<L: Ledger + Send + Sync, R: Threads + Wait + Abort + Sync>(
     rt: &R,
     desk: &Desk<Intervals, L>,
     seats: &mut [Seat<Intervals, L>],
 ) -> Result<(), Fail> {
-    let all = all()?;
     let Some(seat) = seats.get_mut(4) else {
         return Err(Refusal::BadConfig.into());
     };
-    let mut taker = desk.open_cursor(rt, seat, all, 4)?;
+    let mut taker = desk.open_cursor(rt, seat, all()?, 4)?;
+    let mut wide = desk.open_cursor(rt, seat, all()?, 4_096)?;
     let (workers, _) = seats.split_at_mut(4);
     work_at_once(rt, desk, workers);
     follow(rt, desk, &mut taker);
+    assert!(rt; sent_and_taken(rt, desk, &mut wide) == (1_400, 1_400));
+    assert!(rt;
+        matches!(taker.close(rt), Reply::Closed) && matches!(wide.close(rt), Reply::Closed)
+    );
     Ok(())
 }
 
