@@ -70,11 +70,17 @@ impl Pumped {
     }
 }
 
-/// Threads that turn cursors, where a gate lets them.
+/// Threads that turn cursors, where a gate lets them. Contracts see the gate.
 #[derive(Drop)]
 pub struct Pumps<G: Gate> {
     count: usize,
     gate: G,
+}
+
+impl<G: Gate> Model for Pumps<G> {
+    ghost Value = { G };
+
+    ghost view = { λ pumps. pumps.gate };
 }
 
 impl<G: Gate> Pumps<G> {
@@ -83,6 +89,7 @@ impl<G: Gate> Pumps<G> {
     /// # Errors
     /// `BadConfig` where there are none or more than 16.
     pub fn new(count: usize, gate: G) -> Result<Pumps<G>, Refusal>
+        ensures gate { IfOk result (λ pumps. pumps ≡ gate) }
         ensures bad { (result ≡ Err Refusal.BadConfig) ↔ ((count ≡ 0) ⊎ (16 < count)) }
         ensures refusals { IfErr result (λ why. why ≡ Refusal.BadConfig) }
     {
@@ -93,7 +100,9 @@ impl<G: Gate> Pumps<G> {
     }
 
     /// The gate of these pumps.
-    pub fn gate(&self) -> &G {
+    pub fn gate(&self) -> &G
+        ensures { result.now ≡ self.now }
+    {
         &self.gate
     }
 
