@@ -1,9 +1,10 @@
 ghost use Rattle.std.specs.Prelude.{◌≡◌};
 
+use crate::queries::all;
 use change_list::{ChangeList, Config, Item};
 use desk::{Desk, Finished, Seat, Taker};
-use interval_class::{Atom, Interval, Intervals};
-use key_class::{Pred, Refusal, Rel};
+use interval_class::{Interval, Intervals};
+use key_class::Refusal;
 use std::alloc::{AllocError, Global};
 use std::marker::Brand;
 use std::process::Abort;
@@ -84,14 +85,6 @@ fn items_and_mark<L: Ledger, R: Wait + Abort>(
         }
     }
     (items, mark)
-}
-
-fn all() -> Result<Pred<Atom>, Refusal> {
-    let operand = Interval::new(0, 999)?;
-    Ok(Pred::Atom(Atom {
-        rel: Rel::Overlaps,
-        operand,
-    }))
 }
 
 /// What a client does.

@@ -1,4 +1,4 @@
-//! Trials of a desk: a cursor that follows what seats insert and delete, seats that meet at one row, and the limits.
+//! Trials of a desk: threads that work at once, cursors that follow them, pumps, a desk beside a store, and the limits.
 #![tactic(auto)]
 
 #[cfg(test)]
@@ -11,5 +11,7 @@ mod likeness;
 mod limits;
 #[cfg(test)]
 mod pumped;
+#[cfg(test)]
+mod queries;
 #[cfg(test)]
 mod seats;

@@ -1,9 +1,10 @@
 ghost use Rattle.std.specs.Prelude.{◌≡◌};
 
+use crate::queries::overlapping;
 use change_list::{Config, Item};
 use desk::{Desk, Seat, Taker};
-use interval_class::{Atom, Interval, Intervals};
-use key_class::{Pred, Refusal, Rel};
+use interval_class::{Interval, Intervals};
+use key_class::Refusal;
 use rand_core::Rng;
 use rand_pcg::Pcg32;
 use std::alloc::Global;
@@ -33,14 +34,6 @@ fn random(generator: &mut Pcg32, below: u32) -> u32 {
 fn random_key(generator: &mut Pcg32) -> Result<Interval, Refusal> {
     let low = i64::from(random(generator, 100));
     Interval::new(low, low.wrapping_add(i64::from(random(generator, 10))))
-}
-
-fn overlapping(low: i64, high: i64) -> Result<Pred<Atom>, Refusal> {
-    let operand = Interval::new(low, high)?;
-    Ok(Pred::Atom(Atom {
-        rel: Rel::Overlaps,
-        operand,
-    }))
 }
 
 fn insert_alike<L: Ledger, R: Wait>(

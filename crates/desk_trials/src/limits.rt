@@ -1,9 +1,10 @@
 ghost use Rattle.std.specs.Prelude.{◌≡◌};
 
+use crate::queries::all;
 use change_list::Config;
 use desk::{Desk, Seat};
-use interval_class::{Atom, Interval, Intervals};
-use key_class::{Pred, Refusal, Rel};
+use interval_class::{Interval, Intervals};
+use key_class::Refusal;
 use std::alloc::Global;
 use std::marker::Brand;
 use std::process::Abort;
@@ -25,12 +26,7 @@ fn open<L: Ledger, R: Wait>(
     seat: &mut Seat<Intervals, L>,
     room: u64,
 ) -> Result<u64, Refusal> {
-    let operand = Interval::new(0, 999)?;
-    let all = Pred::Atom(Atom {
-        rel: Rel::Overlaps,
-        operand,
-    });
-    Ok(desk.open_cursor(rt, seat, all, room)?.opened())
+    Ok(desk.open_cursor(rt, seat, all()?, room)?.opened())
 }
 
 /// 64 seats, and a cursor's room and number at their limits.

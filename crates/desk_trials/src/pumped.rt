@@ -1,10 +1,11 @@
 ghost use Rattle.std.specs.Prelude.{◌≡◌};
 
+use crate::queries::all;
 use change_list::{Config, Item};
 use crossbeam_channel::{Receiver, unbounded};
 use desk::{Desk, Taker};
-use interval_class::{Atom, Interval, Intervals};
-use key_class::{Pred, Refusal, Rel};
+use interval_class::{Interval, Intervals};
+use key_class::Refusal;
 use pumps::{Gate, Order, Pumped, Pumps};
 use std::alloc::Global;
 use std::marker::Brand;
@@ -95,14 +96,6 @@ where
         || take_both(rt, gate, first, second),
         || pumps.run(rt, alloc, desk, orders),
     )
-}
-
-fn all() -> Result<Pred<Atom>, Refusal> {
-    let operand = Interval::new(0, 999)?;
-    Ok(Pred::Atom(Atom {
-        rel: Rel::Overlaps,
-        operand,
-    }))
 }
 
 /// Two pumps, of which one waits at the gate while the other serves what opens it.
