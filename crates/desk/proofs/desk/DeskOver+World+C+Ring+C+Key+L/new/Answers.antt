@@ -1,4 +1,4 @@
-use Rattle.std.proofs.Common.{◌<◌, ⊎_elim, arith}
+use Rattle.std.proofs.Common.{⊎_elim, arith}
 use Rattle.desk.proofs.desk.DeskOver+World+C+Ring+C+Key+L.new.Goals as goal
 
 pub returns-clause-bad : goal.returns-clause-bad

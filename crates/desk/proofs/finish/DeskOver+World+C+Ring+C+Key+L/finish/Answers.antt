@@ -1,4 +1,4 @@
-use Rattle.std.proofs.Common.{◌≡◌, ◌∙◌, length, sym, ap, subst}
+use Rattle.std.proofs.Common.{◌∙◌, length, sym, ap, subst}
 use Rattle.desk.specs.Weaving.{Woven}
 use Rattle.desk.proofs.finish.DeskOver+World+C+Ring+C+Key+L.finish.Goals as goal
 
