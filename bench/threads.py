@@ -1,0 +1,197 @@
+#!/usr/bin/env python3
+"""Measures the crate `desk`: threads at one lock by the clock, and single calls by their instructions.
+
+The program is built from bench/threads. Its files end in `.in`, since the gate refuses code that it doesn't prove; here
+they are put into a folder of their own, which is removed once the program is built. The program stays in bench/out.
+"""
+
+import argparse
+import hashlib
+import os
+import shutil
+import subprocess
+import tempfile
+
+HERE = os.path.dirname(os.path.abspath(__file__))
+SOURCES = os.path.join(HERE, "threads")
+OUT = os.path.join(HERE, "out")
+PROGRAM = os.path.join(OUT, "desk_bench")
+
+# What is aimed at: instructions of an insert beside those of a store, and instructions of a take.
+INSERT_AIM = 1.5
+TAKE_AIM = 60
+
+# The most items that stand in a ring.
+ROOM = 4_096
+
+FIELDS = ("wall", "threads_wall", "threads_cpu", "calls", "visits", "items")
+
+
+def files_below(folder):
+    """The files of a folder, by their places in it."""
+    found = []
+    for at, folders, names in os.walk(folder):
+        folders[:] = sorted(name for name in folders if name != "out")
+        found += [os.path.relpath(os.path.join(at, name), folder) for name in sorted(names)]
+    return found
+
+
+def state():
+    """A sum of all that the program is built from."""
+    told = hashlib.sha256()
+    crates = os.path.join(os.path.dirname(HERE), "crates")
+    for folder in (SOURCES, crates):
+        for name in files_below(folder):
+            told.update(name.encode("utf-8") + b"\0")
+            with open(os.path.join(folder, name), "rb") as file:
+                told.update(hashlib.sha256(file.read()).digest())
+    return told.hexdigest()
+
+
+def build():
+    """Builds the program, where that or a crate has changed. It may take some minutes."""
+    stamp = PROGRAM + ".stamp"
+    now = state()
+    if os.path.isfile(PROGRAM) and os.path.isfile(stamp):
+        with open(stamp, encoding="ascii") as file:
+            if file.read() == now:
+                return
+    os.makedirs(OUT, exist_ok=True)
+    with tempfile.TemporaryDirectory(prefix="building-", dir=OUT) as folder:
+        for name in files_below(SOURCES):
+            to = os.path.join(folder, name.removesuffix(".in"))
+            os.makedirs(os.path.dirname(to), exist_ok=True)
+            shutil.copyfile(os.path.join(SOURCES, name), to)
+        # Without a measurement's name the program does nothing and ends with 1.
+        log = os.path.join(OUT, "build.log")
+        with open(log, "wb") as file:
+            subprocess.run(["rt", "run", "--jobs", "1"], cwd=folder, stdin=subprocess.DEVNULL, stdout=file, stderr=file)
+        built = os.path.join(folder, "out", "desk_bench")
+        if not os.path.isfile(built):
+            raise SystemExit(f"bench: the program isn't built; {log} tells why")
+        shutil.copy2(built, PROGRAM)
+    with open(stamp, "w", encoding="ascii") as file:
+        file.write(now)
+
+
+def parts(words):
+    """What the program tells of each part of a measurement."""
+    told = subprocess.run([PROGRAM, *map(str, words)], stdout=subprocess.PIPE, check=True, text=True).stdout
+    return [dict(zip(FIELDS, map(int, line.split()))) for line in told.splitlines()]
+
+
+def instructions(words):
+    """How many instructions a run takes."""
+    with tempfile.TemporaryDirectory(prefix="gist-bench-") as folder:
+        out = os.path.join(folder, "callgrind.out")
+        told = subprocess.run(
+            ["valgrind", "--tool=callgrind", f"--callgrind-out-file={out}", PROGRAM, *map(str, words)],
+            stdout=subprocess.DEVNULL,
+            stderr=subprocess.PIPE,
+            check=True,
+            text=True,
+        ).stderr
+    for line in told.splitlines():
+        if "Collected" in line:
+            return int(line.split(":")[1])
+    raise SystemExit("bench: valgrind told no number of instructions")
+
+
+def least(runs, words):
+    """Of some runs the one whose first part was the shortest."""
+    return min((parts(words) for _ in range(runs)), key=lambda told: told[0]["wall"])
+
+
+def waiting(part):
+    """The share of their time in which the threads of a part had no processor."""
+    return 100 * (1 - part["threads_cpu"] / part["threads_wall"])
+
+
+def print_threads(options):
+    """Inserts and finds a second, by number of threads."""
+    print(f"{options.rows:,} rows and {options.finds:,} finds in all")
+    print("  threads  inserts a second  waiting    finds a second  waiting  items a find  visits a find      finish")
+    for count in options.threads:
+        runs = [parts(["threads", count, options.rows, options.finds]) for _ in range(options.turns)]
+        inserts = min((run[0] for run in runs), key=lambda part: part["wall"])
+        finds = min((run[1] for run in runs), key=lambda part: part["wall"])
+        finish = min((run[2] for run in runs), key=lambda part: part["wall"])
+        if inserts["calls"] != options.rows // count * count or finish["calls"] != inserts["calls"]:
+            raise SystemExit("bench: an insert was refused, or the seats don't fit the commits")
+        print(
+            f"  {count:>7}  {inserts['calls'] / inserts['wall'] * 1e9:>16,.0f}  {waiting(inserts):>5.1f} %"
+            f"  {finds['calls'] / finds['wall'] * 1e9:>16,.0f}  {waiting(finds):>5.1f} %"
+            f"  {finds['items'] / finds['calls']:>12.1f}  {finds['visits'] / finds['calls']:>13.1f}"
+            f"  {finish['wall'] / 1e9:>8.3f} s",
+            flush=True,
+        )
+
+
+def print_visits(options):
+    """How long one thread has the lock, with nobody else."""
+    keys = least(options.turns, ["keys", options.rows])[0]["wall"]
+    bare = least(options.turns, ["visits", options.rows])[0]
+    desk = least(options.turns, ["desk", options.rows])[0]["wall"]
+    store = least(options.turns, ["store", options.rows])[0]["wall"]
+    alone = [parts(["threads", 1, options.rows, options.finds])[1] for _ in range(options.turns)]
+    turn = min(part["wall"] / part["visits"] for part in alone)
+    print("One thread with nobody else")
+    print(f"  visits of an insert                   {bare['visits'] / bare['calls']:>10.2f}")
+    print(f"  such a visit, without a lock          {(bare['wall'] - keys) / bare['visits']:>10.1f} ns")
+    print(f"  such a visit of a desk, with its lock {(desk - keys) / bare['visits']:>10.1f} ns")
+    print(f"  a visit of a find, with its lock      {turn:>10.1f} ns")
+    print(f"  an insert into a desk                 {(desk - keys) / options.rows:>10.1f} ns")
+    print(f"  an insert into a store                {(store - keys) / options.rows:>10.1f} ns")
+
+
+def told(value, aim):
+    return f"{value:.2f}, aim {aim}: {'met' if value <= aim else 'MISSED'}"
+
+
+def print_instructions(rows):
+    """Instructions of a call of a desk beside those of a store, and of a take."""
+    print(f"Instructions, {rows:,} rows")
+    keys = instructions(["keys", rows]) - instructions(["keys", 0])
+    costs = {}
+    for name in ("store", "visits", "desk"):
+        costs[name] = (instructions([name, rows]) - instructions([name, 0]) - keys) / rows
+    print(f"  an insert into a store                {costs['store']:>10,.0f}")
+    print(f"  the visits of one, without a lock     {costs['visits']:>10,.0f}")
+    print(f"  an insert into a desk                 {costs['desk']:>10,.0f}")
+    print("  desk over store:", told(costs["desk"] / costs["store"], INSERT_AIM))
+    before = instructions(["takes", 0, 0])
+    found = (instructions(["takes", ROOM, 0]) - before) / ROOM
+    none = (instructions(["takes", 0, 100_000]) - before) / 100_000
+    print("  a take that finds an item:", told(found, TAKE_AIM))
+    print("  a take that finds none:", told(none, TAKE_AIM))
+
+
+def main():
+    parser = argparse.ArgumentParser(description="Measures the crate desk.")
+    parser.add_argument("--threads", type=int, action="append", help="by default 1, 2 and 4")
+    parser.add_argument("--rows", type=int, help="rows in all, by default 100000, and 20000 with --callgrind")
+    parser.add_argument("--finds", type=int, default=20_000, help="finds in all")
+    parser.add_argument("--turns", type=int, default=3, help="runs, the least of which counts")
+    parser.add_argument("--callgrind", action="store_true", help="instructions in place of time, by valgrind")
+    parser.add_argument("--build", action="store_true", help="build the program and measure nothing")
+    options = parser.parse_args()
+    options.threads = options.threads or [1, 2, 4]
+    options.rows = options.rows or (20_000 if options.callgrind else 100_000)
+    if options.callgrind and shutil.which("valgrind") is None:
+        parser.error("--callgrind needs valgrind")
+    if any(not 1 <= count <= 64 for count in options.threads):
+        parser.error("--threads is 1 to 64")
+    if not 100 <= options.rows <= 1_000_000 or options.finds < 100 or options.turns < 1:
+        parser.error("--rows is 100 to 1,000,000, --finds at least 100 and --turns at least 1")
+    build()
+    if options.build:
+        return
+    if options.callgrind:
+        print_instructions(options.rows)
+    else:
+        print_threads(options)
+        print_visits(options)
+
+
+if __name__ == "__main__":
+    main()
