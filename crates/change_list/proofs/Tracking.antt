@@ -8,6 +8,7 @@ use Rattle.change_list.specs.declared.write.Write.TheVariants.{Insert, Delete}
 use Rattle.change_list.specs.declared.write.Status.TheVariants.{Live}
 use Rattle.change_list.specs.Changes.{commit_at, deletes, is_deleted, status_from, status_of, MayFollow, IsLegal, IsTracked}
 use Rattle.change_list.proofs.Lists.{slice_get_before, slice_get_push, slice_get_end, slice_get_within, slice_get_set_same, slice_get_set_other}
+use Rattle.change_list.specs.Roomy.{NamesEarlier, letters_with}
 use Rattle.change_list.proofs.Pushing.{list_any-push}
 
 pub none_of : {X : Type 0} (p : X → Bool) (xs : List X) → ((i : ℕ) (x : X) → slice_get xs i ≡ Some x → p x ≡ false) → list_any p xs ≡ false
@@ -159,14 +160,13 @@ set_before [] i x y h = absurd (omega arith)
 set_before (z ∷ xs) zero x y h = refl
 set_before (z ∷ xs) (suc i) x y h = ap (λ r. z ∷ r) (set_before xs i x y (omega arith))
 
-module _ {K : Type 0} (commits : List (Write K)) (deleted : List Bool) (new : List (Write K)) (letters : List Bool) (write : Write K) (t : IsTracked commits deleted) (n : new ≡ commits ++ write ∷ []) (l : letters ≡ deleted ++ false ∷ []) where
-  pub pushed_insert : (key : K) (tag : ℕ) → write ≡ Insert key tag → IsTracked new letters
-  pushed_insert key tag w = rw (n, l, w) (tracked_insert commits deleted key tag t)
+module _ {K : Type 0} where
+  pub tracked_push : (commits : List (Write K)) (deleted : List Bool) (write : Write K) → IsTracked commits deleted → MayFollow commits write → IsTracked (commits ++ write ∷ []) (letters_with deleted write)
+  tracked_push commits deleted (Insert key tag) t m = tracked_insert commits deleted key tag t
+  tracked_push commits deleted (Delete row) t m =
+      let b = live_within commits row m in
+      rw (set_before deleted (row - 1) true false (omega (arith, b.0, b.1, t.one_each))) (tracked_delete commits deleted row t m)
 
-  pub pushed_delete : (row : ℕ) → MayFollow commits write → write ≡ Delete row → IsTracked new (slice_set letters (row - 1) true)
-  pushed_delete row m w =
-      let live : status_of commits row ≡ Live = subst (λ v. MayFollow commits v) w m in
-      let b = live_within commits row live in
-      let s : slice_set letters (row - 1) true ≡ slice_set deleted (row - 1) true ++ false ∷ [] =
-      ap (λ d. slice_set d (row - 1) true) l ∙ set_before deleted (row - 1) true false (omega (arith, b.0, b.1, t.one_each)) in
-      rw (s, n, w) (tracked_delete commits deleted row t live)
+  pub names_earlier : (commits : List (Write K)) (deleted : List Bool) (write : Write K) → IsTracked commits deleted → MayFollow commits write → NamesEarlier (length deleted) write
+  names_earlier commits deleted (Insert key tag) t m = tt
+  names_earlier commits deleted (Delete row) t m = let b = live_within commits row m in (b.0, omega (arith, b.1, t.one_each))

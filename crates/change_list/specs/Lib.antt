@@ -2,3 +2,5 @@ pub mod Changes
 pub mod Configs
 pub mod Cursors
 pub mod Listings
+pub mod Roomy
+pub mod Segments

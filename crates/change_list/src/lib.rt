@@ -3,13 +3,18 @@
 #![tactic(auto)]
 
 mod change_list;
+mod changes;
 mod config;
 mod item;
 mod roomy_list;
+mod segment;
+mod view;
 mod write;
 
 pub use change_list::ChangeList;
+pub use changes::change_item;
 pub use config::Config;
 pub use item::{Item, Row};
 pub use roomy_list::RoomyList;
+pub use view::View;
 pub use write::{Status, Write};

@@ -13,7 +13,7 @@ use Rattle.cursor.specs.declared.cursor.Turned.{Turned}
 use Rattle.cursor.specs.declared.cursor.Turned.TheVariants as turned
 use Rattle.cursor.specs.OpenCursors.{Words, OpenCursor, sent, Turns}
 use Rattle.cursor.specs.Sending.{SendsItem, TurnsTo}
-use Rattle.cursor.proofs.Items.{IsChange}
+use Rattle.change_list.proofs.Items.{IsChange}
 use Rattle.cursor.proofs.Tasks as tasks
 use Rattle.cursor.proofs.Tasks.{IsNext, IsAtEnd, Offers, of_row, of_change, of_mark}
 

@@ -8,7 +8,7 @@ use Rattle.change_list.specs.declared.item.Item.TheVariants as item
 use Rattle.change_list.specs.Changes.{item_at}
 use Rattle.page_table.specs.Stacks.{StackItem}
 use Rattle.cursor.specs.OpenCursors.{Words, OpenCursor, offer, visit, pass, rest, is_scanning, task_of, sent, wants, next_change, task}
-use Rattle.cursor.proofs.Items.{IsChange, item_is_change}
+use Rattle.change_list.proofs.Items.{IsChange, item_is_change}
 
 none_pending : {X : Type 0} (xs : List X) → slice_get xs 0 ≡ None → xs ≡ []
 none_pending [] h = refl

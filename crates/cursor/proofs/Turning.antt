@@ -25,7 +25,7 @@ use Rattle.cursor.specs.declared.cursor.Turned.{Turned}
 use Rattle.cursor.specs.declared.cursor.Turned.TheVariants as turned
 use Rattle.cursor.specs.OpenCursors.{Words, OpenCursor, is_scanning, sent, wants, admits, VisitsPage, Turns, shown, tree_work}
 use Rattle.cursor.specs.Offering.{IsOffered}
-use Rattle.cursor.proofs.Items.{IsChange, one_change}
+use Rattle.change_list.proofs.Items.{IsChange, one_change}
 use Rattle.cursor.proofs.WordLaws.{WordLaws, prunes, rows_arranged}
 use Rattle.cursor.proofs.Remaining.{fits_arranged}
 use Rattle.cursor.proofs.Tasks as tasks

@@ -16,8 +16,7 @@ ghost use Rattle.cursor.specs.Fitting.{FitsOver, KeepsFitting, GivesFitting};
 ghost use Rattle.cursor.specs.Offering.{IsOffered};
 ghost use Rattle.cursor.specs.Sending.{TurnsTo};
 
-use crate::change_item::change_item;
-use change_list::{ChangeList, Item, Row};
+use change_list::{ChangeList, Item, Row, change_item};
 use key_class::{KeyClass, Pred, Refusal};
 use mailbox::{Outlet, Taken};
 use page_table::PageTable;
@@ -237,7 +236,7 @@ impl<C: KeyClass, O: Outlet<C::Key>> Cursor<C, O> {
             return self.offer_mark();
         }
         let number = self.position + 1;
-        match change_item::<C>(changes, &self.query, self.position) {
+        match change_item::<C>(changes.as_view(), &self.query, self.position) {
             Some(item) => match self.outlet.offer(item) {
                 Ok(()) => {
                     self.position = number;

@@ -1,7 +1,6 @@
 //! Cursors over a tree: the rows at an opening, found page by page, and then the changes after it, in turns.
 #![tactic(auto)]
 
-mod change_item;
 mod cursor;
 mod laws;
 

@@ -1,5 +1,5 @@
 -- Which step comes next where a key is to be inserted and the way down has come to page p.
-use Rattle.std.specs.Prelude.{◌≡◌, ◌⊎◌, ◌≢◌, ℕ, suc, ◌<◌, Bool, true, false, List, length, Some, None}
+use Rattle.std.specs.Prelude.{◌≡◌, ◌⊎◌, ◌≢◌, ℕ, suc, ◌<◌, ◌≤◌, Bool, true, false, List, length, Some, None}
 use Rattle.key_class.specs.declared.refusal.Refusal.{Refusal}
 use Rattle.key_class.specs.declared.refusal.Refusal.TheVariants as refusal
 use Rattle.node.specs.Pages.{entries_of, is_within}
@@ -7,6 +7,8 @@ use Rattle.page_table.specs.Trees.{page_at}
 use Rattle.split.specs.SearchTrees.{SearchTree}
 use Rattle.split.specs.Tests.{first_failing, place_tests, enlarge_tests, split_tests, post_tests, grow_tests}
 use Rattle.descent.specs.Choosing.{IsBest}
+use Rattle.descent.specs.declared.step.Plan.{Plan}
+use Rattle.descent.specs.declared.step.Plan.TheVariants as plan
 use Rattle.descent.specs.declared.step.Step.{Step}
 use Rattle.descent.specs.declared.step.Step.TheVariants.{Grow, Split, Post, Enlarge, Place, Down}
 
@@ -33,6 +35,12 @@ module _ {K : Type 0} where
     pub not_owed : (page_at s.tree c).owed ≡ false
     pub room : HasRoom s c
 
+  -- page c owes nothing and has no room
+  pub record IsFull (s : SearchTree K) (c : ℕ) : Type 0 where
+    pub exists : c < length s.tree.pages
+    pub not_owed : (page_at s.tree c).owed ≡ false
+    pub full : s.fan ≤ entries_of (page_at s.tree c)
+
   module _ (is_cover : K → K → Bool) (union : K → K → K) (size : K → ℕ) (s : SearchTree K) (p : ℕ) (key : K) where
     -- the step that comes next
     abbrev pub IsNextStep : Step → Type 0
@@ -44,3 +52,12 @@ module _ {K : Type 0} where
         (parent ≡ p) × IsChosen union size s p key c × IsOpenBelow s p c
         × (is_within is_cover (page_at s.tree c).cover key ≡ false) × (first_failing (enlarge_tests is_cover s p c key) ≡ None)
     IsNextStep (Down c) = IsChosen union size s p key c × IsOpenBelow s p c × (is_within is_cover (page_at s.tree c).cover key ≡ true)
+
+    -- what comes next, before any sides are worked out: a page that grows or is split is full
+    abbrev pub IsPlan : Plan → Type 0
+    IsPlan plan.Grow = (p ≡ 0) × (s.fan ≤ entries_of (page_at s.tree p))
+    IsPlan (plan.Split c) = IsChosen union size s p key c × IsFull s c
+    IsPlan (plan.Place leaf) = IsNextStep (Place leaf)
+    IsPlan (plan.Post parent c) = IsNextStep (Post parent c)
+    IsPlan (plan.Enlarge parent c) = IsNextStep (Enlarge parent c)
+    IsPlan (plan.Down c) = IsNextStep (Down c)

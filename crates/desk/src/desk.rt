@@ -1,6 +1,6 @@
 //! The desk: a world under a lock, and the calls of its clients. Each call visits the lock once or more; a visit makes one
 //! event or none.
-ghost use Rattle.std.specs.Prelude.{◌≡◌, ◌↔◌, ◌⊎◌, ◌<◌, ◌≤◌, ◌+◌, ℕ, [], ◌∷◌, ◌++◌, length, Some, Err, IfOk, IfErr, OnErr, slice_get};
+ghost use Rattle.std.specs.Prelude.{◌≡◌, ◌↔◌, ◌⊎◌, ◌<◌, ◌≤◌, ◌+◌, ℕ, [], ◌∷◌, ◌++◌, length, Some, Err, IfSome, IfOk, IfErr, OnErr, slice_get};
 ghost use Rattle.key_class.specs.Queries.{query_of};
 ghost use Rattle.change_list.specs.Configs.{IsWithinLimits};
 ghost use Rattle.change_list.specs.declared.write.Write.TheVariants.{Insert, Delete};
@@ -9,12 +9,13 @@ ghost use Rattle.world.specs.declared.event.Event.TheVariants as event;
 ghost use Rattle.world.specs.Rings.{ring_words};
 ghost use Rattle.world.specs.Steps.{Step, Opens};
 ghost use Rattle.desk.specs.Seats.{fresh_seat};
-ghost use Rattle.desk.specs.Visits.{CountsSearch, IsDelete, IsVisit, IsCommitted, IsSearchCommitted, IsRefusedWhere, RefusesInsert, RefusesOpening};
+ghost use Rattle.desk.specs.Visits.{Closes, CountsSearch, IsDelete, IsVisit, IsCommitted, IsSearchCommitted, IsRefusedWhere, RefusesInsert, RefusesOpening};
 
+use crate::latches::Latches;
 use crate::locked::{Guarded, Locked};
 use crate::seat::Seat;
 use crate::taker::Taker;
-use change_list::Config;
+use change_list::{Config, View};
 use insertion::Way;
 use key_class::{KeyClass, Pred, Refusal};
 use mailbox::Ring;
@@ -23,13 +24,14 @@ use std::alloc::{AllocError, Global};
 use std::marker::Model;
 use std::sync::ledger::{Blank, Ledger, Share};
 use std::sync::{Mutex, Wait};
-use world::{Reply, Stamped, World};
+use world::{Reply, SplitTask, Stamped, World};
 
 /// A world under a lock, which as many seats as the ledger has parts share.
 #[derive(Drop)]
 pub struct DeskOver<W: Guarded, L: Ledger> {
     pub(crate) alloc: Global,
     pub(crate) locked: Mutex<Locked<W, L>>,
+    pub(crate) latches: Latches,
     pub(crate) seats: usize,
 }
 
@@ -44,6 +46,21 @@ impl<W: Guarded, L: Ledger> Model for DeskOver<W, L> {
     ghost view = { λ d. d.seats };
 
     ghost invariant = { λ d. (d.seats ≡ L.parts) × (0 < d.seats) };
+}
+
+/// After how many publications that came too late the event is made in one visit.
+const PUBLICATIONS: u32 = 4;
+
+/// The task of a split with its sides. None where its page has too few entries.
+fn worked_split<C: KeyClass>(task: SplitTask<C>) -> Result<Option<SplitTask<C>>, Refusal>
+    ensures refusals { IfErr result (λ why. why ≡ Refusal.OutOfMemory) }
+{
+    let mut task = task;
+    match task.work() {
+        Ok(()) => Ok(Some(task)),
+        Err(Refusal::OutOfMemory) => Err(Refusal::OutOfMemory),
+        Err(_) => Ok(None),
+    }
 }
 
 /// Seats that share all parts of a ledger.
@@ -99,6 +116,7 @@ impl<C: KeyClass, L: Ledger> DeskOver<World<C, Ring<C::Key>>, L> {
             DeskOver {
                 alloc,
                 locked,
+                latches: Latches::new(),
                 seats,
             },
             made,
@@ -159,10 +177,34 @@ impl<C: KeyClass, L: Ledger> DeskOver<World<C, Ring<C::Key>>, L> {
                 .insert_on(alloc, number, share, page, key, tag)?;
             match way {
                 Way::On(next) => page = next,
+                Way::Split(full) => {
+                    self.split_for(rt, number, full)?;
+                    page = 0;
+                }
                 Way::Placed(stamped) => return Ok(stamped),
             }
         }
         unreachable!()
+    }
+
+    /// Splits a page on an insertion's way. The sides are worked out without the lock, while nobody else works on the page;
+    /// where it was changed meanwhile, again and again, it is split in one visit.
+    fn split_for<R: Wait>(&self, rt: &R, number: u32, page: u32) -> Result<(), Refusal>
+        ensures refusals { IfErr result (λ why. (why ≡ Refusal.OutOfMemory) ⊎ IsRefusedWhere (ring_words C.is_match C.is_consistent C.is_cover C.union_of) (λ world. RefusesInsert world why)) }
+    {
+        let _latch = self.latches.of(page).lock(rt);
+        for _ in 0..PUBLICATIONS {
+            let Some(task) = self.locked.lock(rt).prepare_split(page)? else {
+                return Ok(());
+            };
+            let Some(task) = worked_split(task)? else {
+                return Ok(());
+            };
+            if self.locked.lock(rt).split_prepared(number, task)? {
+                return Ok(());
+            }
+        }
+        self.locked.lock(rt).split_at_once(number, page)
     }
 
     /// Deletes a row for a seat.
@@ -282,14 +324,40 @@ impl<C: KeyClass, L: Ledger> DeskOver<World<C, Ring<C::Key>>, L> {
         }
     }
 
-    /// One turn of a cursor, which takes from its ring nothing and puts there one item or none.
+    /// One turn of a cursor, which takes from its ring nothing and puts there one item or none. A visit to a page is worked
+    /// out without the lock, while nobody else works on the page.
     ///
     /// # Errors
     /// `NoSuchCursor`, `CursorClosed`, `NoRoom` where its ring is full, `Idle`, or want of memory, as a reply.
     pub fn turn<R: Wait>(&self, rt: &R, cursor: u64) -> Reply<C, Ring<C::Key>>
         ensures visit { IsVisit (ring_words C.is_match C.is_consistent C.is_cover C.union_of) (λ old new. Step (ring_words C.is_match C.is_consistent C.is_cover C.union_of) 0 old (event.Turn cursor) result new) }
     {
-        self.locked.lock(rt).turn(cursor)
+        let turned = self.locked.lock(rt).turn_unless_visit(cursor);
+        let page = match turned {
+            Ok(reply) => return reply,
+            Err(page) => page,
+        };
+        match self.visit_for(rt, cursor, page) {
+            Some(reply) => return reply,
+            None => return self.locked.lock(rt).turn(cursor),
+        }
+    }
+
+    /// A turn that visits a page. None where its next turn is no visit any more, or where what it reads was changed again
+    /// and again.
+    fn visit_for<R: Wait>(&self, rt: &R, cursor: u64, page: u32) -> Option<Reply<C, Ring<C::Key>>>
+        ensures visit { IfSome result (λ reply. IsVisit (ring_words C.is_match C.is_consistent C.is_cover C.union_of) (λ old new. Step (ring_words C.is_match C.is_consistent C.is_cover C.union_of) 0 old (event.Turn cursor) reply new)) }
+    {
+        let _latch = self.latches.of(page).lock(rt);
+        for _ in 0..PUBLICATIONS {
+            let mut task = self.locked.lock(rt).prepare_visit(cursor)?;
+            task.work().ok()?;
+            let turned = self.locked.lock(rt).turn_prepared(task);
+            if turned.is_some() {
+                return turned;
+            }
+        }
+        None
     }
 
     /// Asks a cursor for a mark.
@@ -316,5 +384,21 @@ impl<C: KeyClass, L: Ledger> DeskOver<World<C, Ring<C::Key>>, L> {
         ensures visit { IsVisit (ring_words C.is_match C.is_consistent C.is_cover C.union_of) (λ old new. Step (ring_words C.is_match C.is_consistent C.is_cover C.union_of) 0 old (event.Close cursor) result new) }
     {
         self.locked.lock(rt).close(cursor)
+    }
+
+    /// Closes a cursor for a seat, and gives the commits as they stood then, where there was memory for a view.
+    pub(crate) fn close_with_view<R: Wait>(
+        &self,
+        rt: &R,
+        seat: &mut Seat<C, L>,
+        cursor: u64,
+    ) -> Option<View<C::Key>>
+        ensures seat { seat.new ≡ seat.old }
+        ensures visit { IsVisit (ring_words C.is_match C.is_consistent C.is_cover C.union_of) (λ old new. IfSome result (λ view. view ≡ old.commits) × Closes (ring_words C.is_match C.is_consistent C.is_cover C.union_of) C old cursor new) }
+        ensures share { IfSome result (λ view. length seat.old.stamps ≤ length view) }
+    {
+        self.locked
+            .lock(rt)
+            .close_with_view(&mut seat.share, cursor)
     }
 }

@@ -124,7 +124,7 @@ impl<C: KeyClass, L: Ledger> DeskOver<World<C, Ring<C::Key>>, L> {
         audit_seats(&mut book, &mut seats);
         let commits = world.into_commits();
         let sum = commits.len() as u64;
-        if woven(&commits, seats.as_slice()) {
+        if woven(commits.as_view(), seats.as_slice()) {
             Finished::Closing(Closing::new(commits, sum))
         } else {
             Finished::Torn(Torn { commits, seats })

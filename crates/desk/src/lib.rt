@@ -4,12 +4,15 @@
 mod checks;
 mod desk;
 mod finish;
+mod latches;
 mod locked;
+mod receipt;
 mod seat;
 mod taker;
 
 pub use desk::{Desk, DeskOver};
 pub use finish::{Closing, Finished, Torn};
 pub use locked::{Guarded, Locked};
+pub use receipt::{Ended, Receipt};
 pub use seat::Seat;
 pub use taker::Taker;

@@ -1,5 +1,5 @@
 //! What lies under the lock, and the visits to it. Each makes one event or none.
-ghost use Rattle.std.specs.Prelude.{ℕ, ◌≡◌, ◌↔◌, ◌<◌, ◌≤◌, ◌+◌, [], length, Err, IfOk, IfErr, OnOk, OnErr};
+ghost use Rattle.std.specs.Prelude.{ℕ, ◌≡◌, ◌↔◌, ◌<◌, ◌≤◌, ◌+◌, [], length, Err, IfSome, IfNone, IfOk, IfErr, OnOk, OnErr};
 ghost use Rattle.rtrb.specs.Ring.{received};
 ghost use Rattle.world.specs.declared.event.Event.TheVariants as event;
 ghost use Rattle.world.specs.Rings.{ring_words};
@@ -7,10 +7,10 @@ ghost use Rattle.world.specs.Steps.{Step, Opens};
 ghost use Rattle.insertion.specs.Visits.{Goes};
 ghost use Rattle.removal.specs.Deleting.{Looks};
 ghost use Rattle.removal.specs.Visits.{RefusesDelete, Seeks};
-ghost use Rattle.desk.specs.Visits.{Counts, CountsSearch, IsHeld, IsRefusedWhere, IsSearchCommitted, IsWayCommitted, MakesOneEvent, RefusesInsert, RefusesOpening};
+ghost use Rattle.desk.specs.Visits.{Closes, Counts, CountsSearch, IsHeld, IsRefusedWhere, IsSearchCommitted, IsSplitAtMost, IsSplitInTime, IsWayCommitted, MakesOneEvent, RefusesInsert, RefusesOpening};
 
-use change_list::Item;
-use insertion::{Way, insert_step};
+use change_list::{Item, View};
+use insertion::{Way, insert_step, split_at_once, split_prepared};
 use key_class::{KeyClass, Pred, Refusal};
 use mailbox::Ring;
 use removal::{Search, find_row, seek_row};
@@ -18,7 +18,7 @@ use rtrb::Consumer;
 use std::alloc::Global;
 use std::marker::Model;
 use std::sync::ledger::{Book, Ledger, Share};
-use world::{Event, Reply, World};
+use world::{Event, Reply, SplitTask, VisitTask, World};
 
 /// What stands under the lock of a desk.
 pub trait Guarded: Drop {
@@ -105,12 +105,46 @@ impl<C: KeyClass, L: Ledger> Locked<World<C, Ring<C::Key>>, L> {
         let Locked { world, book } = self;
         match insert_step(alloc, world, seat, page, key, tag)? {
             Way::On(next) => return Ok(Way::On(next)),
+            Way::Split(full) => return Ok(Way::Split(full)),
             Way::Placed(stamp) => {
                 book.add(share, 1);
                 book.audit(share);
                 return Ok(Way::Placed(stamp));
             }
         }
+    }
+
+    /// The task of a split, to be worked on without the lock. None where the page can't be split any more.
+    pub(crate) fn prepare_split(&self, page: u32) -> Result<Option<SplitTask<C>>, Refusal>
+        ensures refusals { IfErr result (λ why. why ≡ Refusal.OutOfMemory) }
+    {
+        match self.world.prepare_split(u64::from(page)) {
+            Ok(task) => Ok(Some(task)),
+            Err(Refusal::OutOfMemory) => Err(Refusal::OutOfMemory),
+            Err(_) => Ok(None),
+        }
+    }
+
+    /// Splits a page by a task; whether the task came in time.
+    pub(crate) fn split_prepared(&mut self, seat: u32, task: SplitTask<C>) -> Result<bool, Refusal>
+        ensures splits { IfOk result (λ made. IsSplitInTime (ring_words C.is_match C.is_consistent C.is_cover C.union_of) C seat self.old task made self.new) }
+        ensures commits { self.new.commits ≡ self.old.commits }
+        ensures held { IsHeld (ring_words C.is_match C.is_consistent C.is_cover C.union_of) self.old × IsHeld (ring_words C.is_match C.is_consistent C.is_cover C.union_of) self.new }
+        ensures unchanged { OnErr result (self.new ≡ self.old) }
+        ensures refusals { IfErr result (λ why. IsRefusedWhere (ring_words C.is_match C.is_consistent C.is_cover C.union_of) (λ world. RefusesInsert world why)) }
+    {
+        split_prepared(&mut self.world, seat, task)
+    }
+
+    /// Splits a page in this one visit.
+    pub(crate) fn split_at_once(&mut self, seat: u32, page: u32) -> Result<(), Refusal>
+        ensures splits { IsSplitAtMost (ring_words C.is_match C.is_consistent C.is_cover C.union_of) C seat self.old page self.new }
+        ensures commits { self.new.commits ≡ self.old.commits }
+        ensures held { IsHeld (ring_words C.is_match C.is_consistent C.is_cover C.union_of) self.old × IsHeld (ring_words C.is_match C.is_consistent C.is_cover C.union_of) self.new }
+        ensures unchanged { OnErr result (self.new ≡ self.old) }
+        ensures refusals { IfErr result (λ why. IsRefusedWhere (ring_words C.is_match C.is_consistent C.is_cover C.union_of) (λ world. RefusesInsert world why)) }
+    {
+        split_at_once(&mut self.world, seat, page)
     }
 
     /// A finder of a row; its serial.
@@ -197,6 +231,37 @@ impl<C: KeyClass, L: Ledger> Locked<World<C, Ring<C::Key>>, L> {
         self.world.step(Event::Turn(cursor))
     }
 
+    /// A cursor's turn, where it visits no page. Else the number of the page; nothing is done then.
+    pub(crate) fn turn_unless_visit(&mut self, cursor: u64) -> Result<Reply<C, Ring<C::Key>>, u32>
+        ensures step { IfOk result (λ reply. Step (ring_words C.is_match C.is_consistent C.is_cover C.union_of) 0 self.old (event.Turn cursor) reply self.new) }
+        ensures unchanged { OnErr result (self.new ≡ self.old) }
+        ensures held { IsHeld (ring_words C.is_match C.is_consistent C.is_cover C.union_of) self.old × IsHeld (ring_words C.is_match C.is_consistent C.is_cover C.union_of) self.new }
+    {
+        match self.world.prepare_visit(cursor) {
+            Ok(task) => return Err(task.page()),
+            Err(_) => return Ok(self.world.step(Event::Turn(cursor))),
+        }
+    }
+
+    /// The visit that a cursor's next turn makes, to be worked on without the lock. None where its next turn is no visit.
+    pub(crate) fn prepare_visit(&self, cursor: u64) -> Option<VisitTask<C>>
+        ensures { IfSome result (λ task. task.cursor ≡ cursor) }
+    {
+        self.world.prepare_visit(cursor).ok()
+    }
+
+    /// Makes the visit of a task as its cursor's turn. None where it came too late; nothing is changed then.
+    pub(crate) fn turn_prepared(&mut self, task: VisitTask<C>) -> Option<Reply<C, Ring<C::Key>>>
+        ensures step { IfSome result (λ reply. Step (ring_words C.is_match C.is_consistent C.is_cover C.union_of) 0 self.old (event.Turn task.cursor) reply self.new) }
+        ensures late { IfNone result (self.new ≡ self.old) }
+        ensures held { IsHeld (ring_words C.is_match C.is_consistent C.is_cover C.union_of) self.old × IsHeld (ring_words C.is_match C.is_consistent C.is_cover C.union_of) self.new }
+    {
+        match self.world.publish_visit(0, task) {
+            Reply::Refused(Refusal::NotHere) => None,
+            reply => Some(reply),
+        }
+    }
+
     /// Asks a cursor for a mark.
     pub(crate) fn ask_mark(&mut self, cursor: u64) -> Reply<C, Ring<C::Key>>
         ensures step { Step (ring_words C.is_match C.is_consistent C.is_cover C.union_of) 0 self.old (event.AskMark cursor) result self.new }
@@ -219,5 +284,25 @@ impl<C: KeyClass, L: Ledger> Locked<World<C, Ring<C::Key>>, L> {
         ensures held { IsHeld (ring_words C.is_match C.is_consistent C.is_cover C.union_of) self.old × IsHeld (ring_words C.is_match C.is_consistent C.is_cover C.union_of) self.new }
     {
         self.world.step(Event::Close(cursor))
+    }
+
+    /// Closes a cursor, and gives the commits as they are, where there is memory for a view. The share is at most their
+    /// number.
+    pub(crate) fn close_with_view(
+        &mut self,
+        share: &mut Share<L>,
+        cursor: u64,
+    ) -> Option<View<C::Key>>
+        ensures closed { Closes (ring_words C.is_match C.is_consistent C.is_cover C.union_of) C self.old cursor self.new }
+        ensures view { IfSome result (λ view. view ≡ self.old.commits) }
+        ensures number { share.new.amount ≤ length self.old.commits }
+        ensures share { (share.new.amount ≡ share.old.amount) × (share.new.parts ≡ share.old.parts) }
+        ensures held { IsHeld (ring_words C.is_match C.is_consistent C.is_cover C.union_of) self.old × IsHeld (ring_words C.is_match C.is_consistent C.is_cover C.union_of) self.new }
+    {
+        let Locked { world, book } = self;
+        book.audit(share);
+        let view = world.view().ok();
+        let _closed = world.step(Event::Close(cursor));
+        view
     }
 }

@@ -184,7 +184,7 @@ fn work_and_follow<L: Ledger + Send + Sync, R: Threads + Wait + Abort + Sync>(
     follow(rt, desk, &mut taker);
     assert!(rt; sent_and_taken(rt, desk, &mut wide) == (1_400, 1_400));
     assert!(rt;
-        matches!(taker.close(rt), Reply::Closed) && matches!(wide.close(rt), Reply::Closed)
+        matches!(taker.give_up(rt), Reply::Closed) && matches!(wide.give_up(rt), Reply::Closed)
     );
     Ok(())
 }

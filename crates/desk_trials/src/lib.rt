@@ -14,4 +14,6 @@ mod pumped;
 #[cfg(test)]
 mod queries;
 #[cfg(test)]
+mod receipts;
+#[cfg(test)]
 mod seats;

@@ -2,8 +2,10 @@
 #![tactic(auto)]
 
 mod page_steps;
+mod splitting;
 mod visit;
 mod way_down;
 
+pub use splitting::{split_at_once, split_prepared};
 pub use visit::{Way, insert_step};
 pub use way_down::insert;

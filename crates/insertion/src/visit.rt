@@ -6,11 +6,11 @@ ghost use Rattle.descent.specs.NextSteps.{HasRoom};
 ghost use Rattle.cursor.specs.OpenCursors.{words};
 ghost use Rattle.world.specs.Promises.{MailboxesFit};
 ghost use Rattle.world.specs.States.{IsSoundWorld};
-ghost use Rattle.world.specs.Visits.{IsOneEvent};
+ghost use Rattle.world.specs.Visits.{IsOneEvent, Makes};
 ghost use Rattle.insertion.specs.PageSteps.{IsWanting};
-ghost use Rattle.insertion.specs.Visits.{IsForInsertion, IsNext, Goes, GoesBy};
+ghost use Rattle.insertion.specs.Visits.{IsStep, IsNext, Goes, GoesBy};
 
-use descent::{Step, next_step};
+use descent::{Plan, plan_at, sides_of};
 use key_class::{KeyClass, Refusal};
 use mailbox::Outlet;
 use split::SearchTree;
@@ -22,6 +22,8 @@ use world::{Event, Reply, Stamped, World};
 pub enum Way<K> {
     /// Its way goes on at this page.
     On(u32),
+    /// This page is full: once it is split, the way begins anew at the root.
+    Split(u32),
     /// The row was placed.
     Placed(Stamped<K>),
 }
@@ -33,6 +35,8 @@ enum Next<C: KeyClass> {
     Make(Event<C>, u32),
     /// Its way goes on at this page.
     Down(u32),
+    /// This page is to be split.
+    Split(u32),
 }
 
 /// Whether a way for the key may go on at the page.
@@ -61,7 +65,7 @@ fn next_event<C: KeyClass, O: Outlet<C::Key>>(
     key: C::Key,
     tag: u64,
 ) -> Result<Next<C>, Refusal>
-    ensures next { IfOk result (IsNext key tag) }
+    ensures next { IfOk result (IsNext world.now.search key tag) }
     ensures refusals { IfErr result (λ why. why ≡ Refusal.OutOfMemory) }
 {
     world.is_sound();
@@ -71,19 +75,25 @@ fn next_event<C: KeyClass, O: Outlet<C::Key>>(
     } else {
         0
     };
-    Ok(match next_step(alloc, search, from, key)? {
-        Step::Grow(sides) => Next::Make(Event::Grow(sides), 0),
-        Step::Post(parent, child) => {
-            Next::Make(Event::Post(u64::from(parent), u64::from(child)), 0)
+    match plan_at(search, from, key) {
+        Plan::Grow => {
+            let sides = sides_of(alloc, search, 0)?;
+            return Ok(Next::Make(Event::Grow(sides), 0));
         }
-        Step::Split(child, sides) => Next::Make(Event::Split(u64::from(child), sides), 0),
-        Step::Enlarge(parent, child) => {
+        Plan::Post(parent, child) => {
+            let posted = Event::Post(u64::from(parent), u64::from(child));
+            return Ok(Next::Make(posted, 0));
+        }
+        Plan::Split(child) => return Ok(Next::Split(child)),
+        Plan::Enlarge(parent, child) => {
             let wider = Event::Enlarge(u64::from(parent), u64::from(child), key);
-            Next::Make(wider, child)
+            return Ok(Next::Make(wider, child));
         }
-        Step::Down(child) => Next::Down(child),
-        Step::Place(leaf) => Next::Make(Event::Place(u64::from(leaf), key, tag), leaf),
-    })
+        Plan::Down(child) => return Ok(Next::Down(child)),
+        Plan::Place(leaf) => {
+            return Ok(Next::Make(Event::Place(u64::from(leaf), key, tag), leaf));
+        }
+    }
 }
 
 /// Tells a refusal by want of pages or memory; after any other the way begins anew.
@@ -100,13 +110,14 @@ fn begin_anew<K>(why: Refusal) -> Result<Way<K>, Refusal>
 }
 
 /// Makes an event of an insertion, after which its way goes on at a page.
-fn make<C: KeyClass, O: Outlet<C::Key>>(
+pub(crate) fn make<C: KeyClass, O: Outlet<C::Key>>(
     world: &mut World<C, O>,
     seat: u32,
     event: Event<C>,
     then: u32,
 ) -> Result<Way<C::Key>, Refusal>
-    requires own { (key : C.Key) × (tag : ℕ) × IsForInsertion key tag event }
+    requires own { IsStep event }
+    ensures makes { Makes C O O.End (words C.is_match C.is_consistent C.is_cover C.union_of O.may_take O.may_refuse O.is_emptied_elsewhere) seat world.old event world.new }
     ensures goes { IfOk result (λ way. GoesBy world.old seat event way world.new) }
     ensures one_event { IsOneEvent C O O.End (words C.is_match C.is_consistent C.is_cover C.union_of O.may_take O.may_refuse O.is_emptied_elsewhere) seat world.old world.new }
     ensures sound { IsSoundWorld C.is_cover world.new }
@@ -122,7 +133,8 @@ fn make<C: KeyClass, O: Outlet<C::Key>>(
 }
 
 /// One visit of an insertion to a world, which makes one event or none: the next step from the page to which its way has
-/// come, whatever has become of the page since. A step that is refused by the state of the pages is prepared again.
+/// come, whatever has become of the page since. A step that is refused by the state of the pages is prepared again. A
+/// split is told and not made.
 ///
 /// # Errors
 /// `CommitsFull` where there are as many commits as may be, `PagesFull`, and want of memory. Nothing is changed then.
@@ -148,6 +160,7 @@ pub fn insert_step<C: KeyClass, O: Outlet<C::Key>>(
     }
     match next_event(alloc, world, page, key, tag)? {
         Next::Down(child) => Ok(Way::On(child)),
+        Next::Split(child) => Ok(Way::Split(child)),
         Next::Make(event, then) => make(world, seat, event, then),
     }
 }

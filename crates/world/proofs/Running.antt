@@ -1,6 +1,7 @@
 -- The loop over a list of events.
 use Rattle.std.proofs.Common.{◌≡◌, ◌+◌, ◌<◌, ℕ, zero, suc, List, [], ◌∷◌, ◌++◌, length, take, get_or, refl, sym, ◌∙◌, arith, subst, length-append, length-take}
 use Rattle.std.specs.List.{zip}
+use Rattle.std.specs.Result.{IsErrAnd}
 use Rattle.std.proofs.lemmas.List.{take_more, append-nil}
 use Rattle.std.proofs.Common.{append_assoc}
 use Rattle.std.proofs.Common.{Result, Ok, Err}
@@ -104,11 +105,10 @@ module _ {C O K A E : Type 0} (w : Words K A) where
         ran = rw (take_more events count e l, is, zip_push (take count events) replies e r n) (runs_push (new_state config) s new (zip (take count events) replies) e r h.ran step);
       }
 
--- a call that answered want of memory didn't refuse the configuration
-pub no_bad_config : {X : Type 0} (r : Result X Refusal) → r ≡ Err refusal.OutOfMemory → r ≡ Err refusal.BadConfig → ⊥
-no_bad_config (Ok x) h b = cc
+-- want of memory doesn't refuse the configuration
+pub no_bad_config : {X : Type 0} (r : Result X Refusal) → IsErrAnd r (λ why. why ≡ refusal.OutOfMemory) → r ≡ Err refusal.BadConfig → ⊥
+no_bad_config (Ok x) h b = h
 no_bad_config (Err why) h b =
-    let e : why ≡ refusal.OutOfMemory = cc in
     let f : why ≡ refusal.BadConfig = cc in
-    let g : refusal.OutOfMemory ≡ refusal.BadConfig = sym e ∙ f in
+    let g : refusal.OutOfMemory ≡ refusal.BadConfig = sym h ∙ f in
     cc

@@ -6,11 +6,15 @@ use Rattle.key_class.specs.declared.sides.Side.{Side}
 use Rattle.node.specs.Pages.{Page}
 use Rattle.page_table.specs.Trees.{page_at}
 use Rattle.scan.specs.Prepared.{PreparedVisit}
-use Rattle.cursor.specs.OpenCursors.{OpenCursor}
+use Rattle.cursor.specs.OpenCursors.{OpenCursor, Words}
 use Rattle.cursor.specs.Preparing.{IsDue, RefusesVisit}
 use Rattle.split.specs.Tests.{first_failing}
 use Rattle.world.specs.States.{State, cursor_at}
-use Rattle.world.specs.Steps.{cursor_tests}
+use Rattle.world.specs.Steps.{Step, cursor_tests}
+use Rattle.world.specs.declared.event.Event.{Event}
+use Rattle.world.specs.declared.event.Event.TheVariants as event
+use Rattle.world.specs.declared.reply.Reply.{Reply}
+use Rattle.world.specs.declared.reply.Reply.TheVariants as reply
 
 -- a page that is to be split, with the sides once they were worked out
 pub record SplitTask (K : Type 0) : Type 0 where
@@ -43,3 +47,16 @@ module _ {K A : Type 0} where
   -- why no visit of a cursor is prepared: it isn't open, its next turn is no visit, or memory is wanting
   abbrev pub RefusesPreparing : State K A → ℕ → Refusal → Type 0
   RefusesPreparing s c why = (first_failing (cursor_tests s c) ≡ Some why) ⊎ ((k : OpenCursor K A) × (cursor_at s c ≡ Some k) × RefusesVisit k why)
+
+module _ {C K A : Type 0} where
+  -- the event splits the page of the task by the task's sides, and the page is as the task has it
+  pub record IsSplitOf (s : State K A) (task : SplitTask K) (split : Event C K A) : Type 0 where
+    pub sides : List Side
+    pub worked : task.sides ≡ Some sides
+    pub has_page : HasPage s task.number task.page
+    pub is : split ≡ event.Split task.number sides
+
+module _ {C O K A E : Type 0} (w : Words K A) where
+  -- a publication is the cursor's turn, or it comes too late and changes nothing
+  abbrev pub TurnsOrIsLate : ℕ → State K A → ℕ → Reply C O K A E → State K A → Type 0
+  TurnsOrIsLate seat old c r new = Step w seat old (event.Turn c) r new ⊎ ((r ≡ reply.Refused refusal.NotHere) × (new ≡ old))

@@ -7,6 +7,11 @@ use Rattle.world.specs.States.{State}
 use Rattle.world.specs.Steps.{Step}
 
 module _ (C O E : Type 0) {K A : Type 0} (w : Words K A) where
+  -- this event for the seat made the one world of the other
+  pub record Makes (seat : ℕ) (old : State K A) (event : Event C K A) (new : State K A) : Type 0 where
+    pub reply : Reply C O K A E
+    pub step : Step w seat old event reply new
+
   -- an event for the seat made the one world of the other
   pub record MakesEvent (seat : ℕ) (old new : State K A) : Type 0 where
     pub event : Event C K A

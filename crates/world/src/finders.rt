@@ -84,7 +84,7 @@ impl<C: KeyClass, O: Outlet<C::Key>> World<C, O> {
         let write = Write::Delete(u64::from(row));
         let empty = ChangeList::new(self.allocator());
         let changes = mem::replace(&mut self.changes, empty);
-        match changes.reserve() {
+        match changes.reserve(write) {
             Err(changes) => {
                 self.changes = changes;
                 return Reply::Refused(Refusal::OutOfMemory);
@@ -96,7 +96,7 @@ impl<C: KeyClass, O: Outlet<C::Key>> World<C, O> {
                 }
                 Ok(()) => {
                     self.finders.remove(at);
-                    self.changes = changes.push(write);
+                    self.changes = changes.push();
                     return Reply::Committed(Stamped::new(number, seat, write));
                 }
             },

@@ -64,7 +64,7 @@ impl<C: KeyClass, O: Outlet<C::Key>> World<C, O> {
         let write = Write::Insert(key, tag);
         let empty = ChangeList::new(self.allocator());
         let changes = mem::replace(&mut self.changes, empty);
-        match changes.reserve() {
+        match changes.reserve(write) {
             Err(changes) => {
                 self.changes = changes;
                 return Reply::Refused(Refusal::OutOfMemory);
@@ -75,7 +75,7 @@ impl<C: KeyClass, O: Outlet<C::Key>> World<C, O> {
                     return Reply::Refused(refusal);
                 }
                 Ok(()) => {
-                    self.changes = changes.push(write);
+                    self.changes = changes.push();
                     return Reply::Committed(Stamped::new(number, seat, write));
                 }
             },

@@ -1,6 +1,6 @@
 //! Work on a page beside the world: a task is prepared in one visit to the world, worked on without it, and published in
 //! another.
-ghost use Rattle.std.specs.Prelude.{◌≡◌, ◌≢◌, ◌⊎◌, ◌<◌, [], ◌*◌, ℕ, List, true, false, Some, None, length, IfOk, IfErr, OnOk, OnErr, IsTrue, ◌↔◌};
+ghost use Rattle.std.specs.Prelude.{◌≡◌, ◌≢◌, ◌⊎◌, ◌<◌, [], ◌*◌, ℕ, List, true, false, Some, None, length, IfSome, IfNone, IfOk, IfErr, OnOk, OnErr, IsTrue, ◌↔◌};
 ghost use Rattle.key_class.specs.Splits.{IsSplit};
 ghost use Rattle.key_class.specs.declared.sides.Side.{Side};
 ghost use Rattle.node.specs.Pages.{Page, entries_of};
@@ -9,10 +9,11 @@ ghost use Rattle.split.specs.Tests.{IsRefusedBy, first_failing};
 ghost use Rattle.cursor.specs.OpenCursors.{words, OpenCursor};
 ghost use Rattle.world.specs.declared.event.Event.TheVariants as event;
 ghost use Rattle.world.specs.declared.reply.Reply.TheVariants as reply;
-ghost use Rattle.world.specs.States.{IsAt, cursor_at};
+ghost use Rattle.world.specs.States.{IsAt, IsSoundWorld, cursor_at};
 ghost use Rattle.world.specs.Steps.{Step, cursor_tests};
 ghost use Rattle.world.specs.Tasks as model;
-ghost use Rattle.world.specs.Tasks.{HasPage, HasVisit, RefusesPreparing, prepare_split_tests};
+ghost use Rattle.world.specs.Promises.{MailboxesFit};
+ghost use Rattle.world.specs.Tasks.{HasPage, HasVisit, IsSplitOf, RefusesPreparing, TurnsOrIsLate, prepare_split_tests};
 
 use crate::event::Event;
 use crate::reply::Reply;
@@ -85,6 +86,13 @@ impl<C: KeyClass> Model for VisitTask<C> {
 }
 
 impl<C: KeyClass> VisitTask<C> {
+    /// The number of the page that it reads.
+    pub fn page(&self) -> u32
+        ensures { result ≡ self.now.visit.item.page }
+    {
+        self.visit.page_number()
+    }
+
     /// Works out what the visit notes and where it goes on.
     ///
     /// # Errors
@@ -137,12 +145,12 @@ impl<C: KeyClass, O: Outlet<C::Key>> World<C, O> {
         })
     }
 
-    /// Splits the page of a task by its sides: the event Split, where the page is as the task has it.
+    /// The event that the task of a split is: Split by its sides, where the page is as the task has it.
     ///
-    /// Else, and where the task was not worked on, it is refused NotHere, and nothing changes.
-    pub fn publish_split(&mut self, seat: u32, task: SplitTask<C>) -> Reply<C, O>
-        ensures step { (sides : List Side) → task.sides ≡ Some sides → HasPage self.old task.number task.page → Step (words C.is_match C.is_consistent C.is_cover C.union_of O.may_take O.may_refuse O.is_emptied_elsewhere) seat self.old (event.Split task.number sides) result self.new }
-        ensures stale { (task.sides ≡ None) ⊎ (¬ HasPage self.old task.number task.page) → (result ≡ reply.Refused Refusal.NotHere) × (self.new ≡ self.old) }
+    /// The page is let go, so that the world then changes its own in place.
+    pub fn split_of(&self, task: SplitTask<C>) -> Option<Event<C>>
+        ensures split { IfSome result (IsSplitOf self.now task) }
+        ensures stale { IfNone result ((task.sides ≡ None) ⊎ (¬ HasPage self.now task.number task.page)) }
     {
         let SplitTask {
             number,
@@ -151,14 +159,25 @@ impl<C: KeyClass, O: Outlet<C::Key>> World<C, O> {
             ..
         } = task;
         let Some(sides) = sides else {
-            return Reply::Refused(Refusal::NotHere);
+            return None;
         };
         if !self.has_page(number, page.get()) {
-            return Reply::Refused(Refusal::NotHere);
+            return None;
         }
-        // The page is let go first, so that the world changes its own in place.
-        drop(page);
-        self.step_as(seat, Event::Split(number, sides))
+        Some(Event::Split(number, sides))
+    }
+
+    /// Splits the page of a task by its sides: the event Split, where the page is as the task has it.
+    ///
+    /// Else, and where the task was not worked on, it is refused NotHere, and nothing changes.
+    pub fn publish_split(&mut self, seat: u32, task: SplitTask<C>) -> Reply<C, O>
+        ensures step { (sides : List Side) → task.sides ≡ Some sides → HasPage self.old task.number task.page → Step (words C.is_match C.is_consistent C.is_cover C.union_of O.may_take O.may_refuse O.is_emptied_elsewhere) seat self.old (event.Split task.number sides) result self.new }
+        ensures stale { (task.sides ≡ None) ⊎ (¬ HasPage self.old task.number task.page) → (result ≡ reply.Refused Refusal.NotHere) × (self.new ≡ self.old) }
+    {
+        match self.split_of(task) {
+            Some(split) => return self.step_as(seat, split),
+            None => return Reply::Refused(Refusal::NotHere),
+        }
     }
 
     /// Makes the visit of a task: the event Turn, where the visit is what the cursor's turn makes.
@@ -167,6 +186,9 @@ impl<C: KeyClass, O: Outlet<C::Key>> World<C, O> {
     pub fn publish_visit(&mut self, seat: u32, task: VisitTask<C>) -> Reply<C, O>
         ensures step { HasVisit self.old task.cursor task.visit → task.visit.worked ≡ true → Step (words C.is_match C.is_consistent C.is_cover C.union_of O.may_take O.may_refuse O.is_emptied_elsewhere) seat self.old (event.Turn task.cursor) result self.new }
         ensures stale { (task.visit.worked ≡ false) ⊎ (¬ HasVisit self.old task.cursor task.visit) → (result ≡ reply.Refused Refusal.NotHere) × (self.new ≡ self.old) }
+        ensures turned { TurnsOrIsLate (words C.is_match C.is_consistent C.is_cover C.union_of O.may_take O.may_refuse O.is_emptied_elsewhere) seat self.old task.cursor result self.new }
+        ensures sound { IsSoundWorld C.is_cover self.new }
+        ensures mailboxes { O.is_emptied_elsewhere ≡ true → MailboxesFit (words C.is_match C.is_consistent C.is_cover C.union_of O.may_take O.may_refuse O.is_emptied_elsewhere) self.old → MailboxesFit (words C.is_match C.is_consistent C.is_cover C.union_of O.may_take O.may_refuse O.is_emptied_elsewhere) self.new }
     {
         self.is_sound();
         let VisitTask { cursor, visit } = task;
@@ -177,7 +199,9 @@ impl<C: KeyClass, O: Outlet<C::Key>> World<C, O> {
         if !visit.is_worked() || !self.is_due(cursor, at, &visit) {
             return Reply::Refused(Refusal::NotHere);
         }
-        self.publish_due(cursor, at, visit)
+        let reply = self.publish_due(cursor, at, visit);
+        self.is_sound();
+        reply
     }
 
     /// Makes a visit that is what the cursor's turn makes.

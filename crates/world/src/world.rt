@@ -13,7 +13,7 @@ ghost use Rattle.world.specs.Promises.{ServesAll, FitsAtOpening, LowersWork, Kee
 use crate::event::Event;
 use crate::places::place_of;
 use crate::reply::Reply;
-use change_list::{ChangeList, Config, Status, Write};
+use change_list::{ChangeList, Config, Status, View, Write};
 use cursor::Cursor;
 use descent::Finder;
 use key_class::{KeyClass, Refusal};
@@ -98,6 +98,17 @@ impl<C: KeyClass, O: Outlet<C::Key>> World<C, O> {
         ensures { result ≡ commit_at self.now.commits number }
     {
         self.changes.commit(number)
+    }
+
+    /// The commits as they are now, whatever follows.
+    ///
+    /// # Errors
+    /// Want of memory.
+    pub fn view(&self) -> Result<View<C::Key>, Refusal>
+        ensures list { IfOk result (λ view. view ≡ self.now.commits) }
+        ensures refused { IfErr result (λ why. why ≡ Refusal.OutOfMemory) }
+    {
+        self.changes.view()
     }
 
     /// What is known of a row number.

@@ -1,20 +1,11 @@
-use Rattle.std.proofs.Common.{sym, ◌∙◌, ap, subst, arith, ◌≡◌}
-use Rattle.node.specs.Pages.{entries_of}
-use Rattle.page_table.specs.Trees.{page_at}
-use Rattle.descent.specs.Choosing.{IsBest}
-use Rattle.descent.specs.NextSteps.{HasRoom}
-use Rattle.descent.proofs.Descending.{chosen_best}
+use Rattle.descent.specs.NextSteps.{IsPlan}
+use Rattle.descent.specs.declared.step.Plan.TheVariants.{Split}
+use Rattle.descent.proofs.Descending.{split_next}
 use Rattle.descent.proofs.step.next_step.Goals as goal
-use Rattle.descent.proofs.step.next_step.Goals.{else-page-eq0-via-then-page-eq0+else-fan-entry_count, else-page-eq0-via-else-page-eq0}
 
-pub step_below-requires-clause-chosen : goal.step_below-requires-clause-chosen
-step_below-requires-clause-chosen g c =
-    let here : c.page-here.result.now ≡ page_at c.args.search.now.tree c.args.page = c.page-here.ensures ∙ ap (λ t. page_at t c.args.page) c.pages.ensures.table in
-    let entries : entries_of c.page-here.result.now ≡ entries_of (page_at c.args.search.now.tree c.args.page) = ap entries_of here in
-    let room : HasRoom c.args.search.now c.args.page = elim c.else-page-eq0.branch [
-      | else-page-eq0-via-then-page-eq0+else-fan-entry_count w ↦ omega (arith, w.if-fan-entry_count.false, w.fan.ensures, w.entry_count.ensures, entries)
-      | else-page-eq0-via-else-page-eq0 w ↦ c.requires.room w.if-page-eq0.false
-    ] in
-    chosen_best g.C.KeyClass.union_of g.C.KeyClass.size_of c.args.search.now c.args.page c.args.key room c.branches-2.result.now (c.branches-2.ensures ∙ ap (λ page. page.branches) here) c.in-Some.best
-    (subst (λ bs. IsBest g.C.KeyClass.union_of g.C.KeyClass.size_of c.args.key bs c.in-Some.best) (c.branches.ensures ∙ sym c.branches-2.ensures) c.in-Some.ensures.best)
-    c.index-branches-best.result
+pub returns-in-Split-clause-step : goal.returns-in-Split-clause-step
+returns-in-Split-clause-step g c =
+    let planned : IsPlan g.C.KeyClass.is_cover g.C.KeyClass.union_of g.C.KeyClass.size_of c.args.search.now c.args.page c.args.key (Split c.in-Split.child) = rw c.in-Split.is at c.plan_at.ensures in (
+      planned.0,
+      split_next g.C.KeyClass.is_cover g.C.KeyClass.union_of g.C.KeyClass.size_of c.args.search.now c.pages-pages.ensures.sound c.args.page c.requires.exists c.args.key c.in-Split.child planned.0 c.in_ok-sides-in-Split.sides planned.1.not_owed planned.1.full c.in_ok-sides-in-Split.ensures.split,
+    )

@@ -1,7 +1,6 @@
-use Rattle.std.proofs.Common.{◌≡◌, false, Err, sym, arith, rules}
+use Rattle.std.proofs.Common.{false, sym, arith}
 use Rattle.std.specs.Prelude.{nat_lt, nat_le}
 use Rattle.std.proofs.lemmas.List.{take_all}
-use Rattle.key_class.specs.declared.refusal.Refusal.TheVariants as refusal
 use Rattle.cursor.specs.OpenCursors.{words}
 use Rattle.cursor.proofs.WordLaws.{WordLaws}
 use Rattle.world.proofs.Running.{has_run_none, has_run_push, runs_always_faithful, no_bad_config}
@@ -13,14 +12,12 @@ loop-event-init g c = rw (c.in_ok-world.ensures.made, c.in_ok-replies.ensures.it
 pub returns-in_err-copy-clause-bad : goal.returns-in_err-copy-clause-bad
 returns-in_err-copy-clause-bad g c =
     let limits = c.in_ok-world.ensures.within in
-    let wanting : c.from_residual-in_err-copy.result ≡ Err refusal.OutOfMemory = search (rules, c.from_residual-in_err-copy.ensures) in
-    (λ e. absurd (no_bad_config c.from_residual-in_err-copy.result wanting e), λ n. absurd (n limits))
+    (λ e. absurd (no_bad_config c.from_residual-in_err-copy.result c.from_residual-in_err-copy.ensures.1 e), λ n. absurd (n limits))
 
 pub returns-in_err-push-clause-bad : goal.returns-in_err-push-clause-bad
 returns-in_err-push-clause-bad g c =
     let limits = c.in_ok-world.ensures.within in
-    let wanting : c.from_residual-in_err-push.result ≡ Err refusal.OutOfMemory = search rules in
-    (λ e. absurd (no_bad_config c.from_residual-in_err-push.result wanting e), λ n. absurd (n limits))
+    (λ e. absurd (no_bad_config c.from_residual-in_err-push.result c.from_residual-in_err-push.ensures.1 e), λ n. absurd (n limits))
 
 pub loop-event-preserved : goal.loop-event-preserved
 loop-event-preserved g c =

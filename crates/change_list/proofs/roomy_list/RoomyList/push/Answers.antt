@@ -1,15 +1,17 @@
-use Rattle.std.proofs.Common.{subst, sym}
-use Rattle.change_list.specs.Changes.{MayFollow}
-use Rattle.change_list.proofs.Tracking.{pushed_insert, pushed_delete}
+use Rattle.std.proofs.Common.{arith}
+use Rattle.change_list.specs.Changes.{IsTracked}
+use Rattle.change_list.specs.Segments.{joined}
+use Rattle.change_list.proofs.Tracking.{tracked_push}
 use Rattle.change_list.proofs.roomy_list.RoomyList.push.Goals as goal
-use Rattle.change_list.proofs.roomy_list.RoomyList.push.Goals.{in-Delete, in_default}
+
+pub invariant_of-commits : goal.invariant_of-commits
+invariant_of-commits g c =
+    let inside = c.self.inside in
+    let t : IsTracked (joined c.longer-full.result.0.items c.longer-full.result.1.items) c.with_letter-deleted.result.items =
+    rw (c.longer-full.ensures.list, c.with_letter-deleted.ensures) (tracked_push (joined inside.full.items inside.tail.items) inside.deleted.items inside.write c.self.invariant.1 c.self.invariant.2) in
+    (c.longer-full.ensures.segmented, t.legal, search (arith, t.one_each))
 
 pub invariant_of-result : goal.invariant_of-result
 invariant_of-result g c =
-    let may : MayFollow c.self.inside.commits.items c.args.write = subst (λ v. MayFollow v c.args.write) (sym c.self.view_is) c.requires in
-    elim c.match-write.branch [
-      | in-Delete w ↦ rw w.deleted-is
-          (pushed_delete c.self.inside.commits.items c.self.inside.deleted.items _ _ c.args.write c.self.invariant.0 c.push_reserved.ensures.items c.push_reserved-2.ensures.items w.in-Delete.row may w.in-Delete.is)
-      | in_default w ↦ rw w.deleted-is
-          (pushed_insert c.self.inside.commits.items c.self.inside.deleted.items _ _ c.args.write c.self.invariant.0 c.push_reserved.ensures.items c.push_reserved-2.ensures.items w.in_default.field-0 w.in_default.field-1 w.in_default.is)
-    ]
+    let inside = c.self.inside in
+    rw (c.longer-full.ensures.list, c.with_letter-deleted.ensures) (tracked_push (joined inside.full.items inside.tail.items) inside.deleted.items inside.write c.self.invariant.1 c.self.invariant.2)

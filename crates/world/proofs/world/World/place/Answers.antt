@@ -24,7 +24,7 @@ returns-in-Err g c =
 pub returns-in-Err-place : goal.returns-in-Err-place
 returns-in-Err-place g c =
     let passed = sym c.place_refusal.ensures ∙ c.in_default.is in
-    let kept : c.into_list.result ≡ c.self.inside.changes = c.into_list.ensures ∙ c.in-Ok.ensures.ok ∙ c.replace-changes.ensures.value in
+    let kept : c.into_list.result ≡ c.self.inside.changes = c.into_list.ensures ∙ c.in-Ok.ensures.list ∙ c.replace-changes.ensures.value in
     rw (← c.self.view_is)
     (place_wanting _ _ c.args.page c.args.key c.args.tag _ c.in-Err-place.refusal
     (ap (λ search. record { search = search; limit = c.self.inside.limit; commits = c.into_list.result; cursors = c.self.inside.cursors.items; last = c.self.inside.last; finders = c.self.inside.finders.items; last_finder = c.self.inside.last_finder }) c.in-Err-place.ensures.unchanged
@@ -35,13 +35,13 @@ pub invariant_of-self-in-Ok-place : goal.invariant_of-self-in-Ok-place
 invariant_of-self-in-Ok-place g c =
     let passed = sym c.place_refusal.ensures ∙ c.in_default.is in
     let entry = c.new.ensures ∙ ap (λ n. record { key = c.args.key; row = n + 1; tag = c.args.tag; died = None }) c.len-count.ensures.len in
-    let pushed = c.push.ensures ∙ ap (λ l. l ++ Insert c.args.key c.args.tag ∷ []) (c.in-Ok.ensures.ok ∙ c.replace-changes.ensures.value) in
+    let pushed = c.push.ensures ∙ ap (λ l. l ++ c.in-Ok.changes.write ∷ []) (c.in-Ok.ensures.list ∙ c.replace-changes.ensures.value) ∙ ap (λ w. c.self.inside.changes ++ w ∷ []) c.in-Ok.ensures.write in
     place_sound (words g.C.KeyClass.is_match g.C.KeyClass.is_consistent g.C.KeyClass.is_cover g.C.KeyClass.union_of g.O.Outlet.may_take g.O.Outlet.may_refuse g.O.Outlet.is_emptied_elsewhere) _ c.args.page c.args.key c.args.tag passed c.place.new.self c.push.result c.new.result entry c.in-Ok-place.ensures.placed pushed (omega (arith, c.if-count-self.false, c.len-count.ensures.len)) c.self.invariant
 
 pub returns-in-Ok-place : goal.returns-in-Ok-place
 returns-in-Ok-place g c =
     let passed = sym c.place_refusal.ensures ∙ c.in_default.is in
     let entry = c.new.ensures ∙ ap (λ n. record { key = c.args.key; row = n + 1; tag = c.args.tag; died = None }) c.len-count.ensures.len in
-    let pushed = c.push.ensures ∙ ap (λ l. l ++ Insert c.args.key c.args.tag ∷ []) (c.in-Ok.ensures.ok ∙ c.replace-changes.ensures.value) in
+    let pushed = c.push.ensures ∙ ap (λ l. l ++ c.in-Ok.changes.write ∷ []) (c.in-Ok.ensures.list ∙ c.replace-changes.ensures.value) ∙ ap (λ w. c.self.inside.changes ++ w ∷ []) c.in-Ok.ensures.write in
     let stamped = c.new-in-Ok-place.ensures ∙ ap (λ n. record { number = n + 1; seat = c.args.seat; write = Insert c.args.key c.args.tag }) c.len-count.ensures.len in
     rw (← c.self.view_is) (place_done _ _ c.args.page c.args.key c.args.tag passed c.place.new.self c.push.result c.new.result entry c.in-Ok-place.ensures.placed pushed (omega (arith, c.if-count-self.false, c.len-count.ensures.len)) _ _ _ c.args.seat _ stamped)

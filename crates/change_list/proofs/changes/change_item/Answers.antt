@@ -1,0 +1,6 @@
+use Rattle.std.proofs.Common.{rules, sym, ◌∙◌}
+use Rattle.change_list.proofs.Items.{item_of_delete}
+use Rattle.change_list.proofs.changes.change_item.Goals as goal
+
+pub returns-in-Some-Delete : goal.returns-in-Some-Delete
+returns-in-Some-Delete g c = c.delete_item.ensures ∙ sym (item_of_delete _ _ c.args.place _ c.len.ensures.legal (search rules))

@@ -1,6 +1,0 @@
-use Rattle.std.proofs.Common.{rules, sym, ◌∙◌}
-use Rattle.cursor.proofs.Items.{item_of_delete}
-use Rattle.cursor.proofs.change_item.change_item.Goals as goal
-
-pub returns-in-Some-Delete : goal.returns-in-Some-Delete
-returns-in-Some-Delete g c = c.delete_item.ensures ∙ sym (item_of_delete _ _ c.args.place _ c.len.ensures.legal (search rules))

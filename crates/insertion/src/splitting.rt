@@ -1,0 +1,79 @@
+//! Splits of an insertion by visits: their sides may be worked out beside the world.
+ghost use Rattle.std.specs.Prelude.{◌≡◌, true, IfOk, IfErr, OnErr};
+ghost use Rattle.cursor.specs.OpenCursors.{words};
+ghost use Rattle.world.specs.Promises.{MailboxesFit};
+ghost use Rattle.world.specs.States.{IsSoundWorld};
+ghost use Rattle.insertion.specs.PageSteps.{IsWanting};
+ghost use Rattle.insertion.specs.Visits.{SplitsInTime, SplitsAtMost};
+
+use crate::visit::make;
+use key_class::{KeyClass, Refusal};
+use mailbox::Outlet;
+use world::{SplitTask, World};
+
+/// Splits a page by a task that was worked on beside the world. Whether it came in time: where the page is no more as the
+/// task has it, nothing is changed. A split that the state of the pages refuses is given up.
+///
+/// # Errors
+/// `PagesFull`, and want of memory. Nothing is changed then.
+pub fn split_prepared<C: KeyClass, O: Outlet<C::Key>>(
+    world: &mut World<C, O>,
+    seat: u32,
+    task: SplitTask<C>,
+) -> Result<bool, Refusal>
+    ensures splits { IfOk result (λ made. SplitsInTime C O O.End (words C.is_match C.is_consistent C.is_cover C.union_of O.may_take O.may_refuse O.is_emptied_elsewhere) seat world.old task made world.new) }
+    ensures commits { world.new.commits ≡ world.old.commits }
+    ensures sound { IsSoundWorld C.is_cover world.new }
+    ensures mailboxes { O.is_emptied_elsewhere ≡ true → MailboxesFit (words C.is_match C.is_consistent C.is_cover C.union_of O.may_take O.may_refuse O.is_emptied_elsewhere) world.old → MailboxesFit (words C.is_match C.is_consistent C.is_cover C.union_of O.may_take O.may_refuse O.is_emptied_elsewhere) world.new }
+    ensures unchanged { OnErr result (world.new ≡ world.old) }
+    ensures refusals { IfErr result (IsWanting world.old.search) }
+{
+    world.is_sound();
+    match world.split_of(task) {
+        None => Ok(false),
+        Some(split) => {
+            make(world, seat, split, 0)?;
+            Ok(true)
+        }
+    }
+}
+
+/// Tells a refusal by want of memory; after any other the split is given up.
+fn give_up(why: Refusal) -> Result<(), Refusal>
+    ensures { IfErr result (λ told. told ≡ Refusal.OutOfMemory) }
+{
+    match why {
+        Refusal::OutOfMemory => Err(Refusal::OutOfMemory),
+        _ => Ok(()),
+    }
+}
+
+/// Splits a page in one visit. A split that the state of the pages refuses is given up.
+///
+/// # Errors
+/// `PagesFull`, and want of memory. Nothing is changed then.
+pub fn split_at_once<C: KeyClass, O: Outlet<C::Key>>(
+    world: &mut World<C, O>,
+    seat: u32,
+    page: u32,
+) -> Result<(), Refusal>
+    ensures splits { SplitsAtMost C O O.End (words C.is_match C.is_consistent C.is_cover C.union_of O.may_take O.may_refuse O.is_emptied_elsewhere) seat world.old page world.new }
+    ensures commits { world.new.commits ≡ world.old.commits }
+    ensures sound { IsSoundWorld C.is_cover world.new }
+    ensures mailboxes { O.is_emptied_elsewhere ≡ true → MailboxesFit (words C.is_match C.is_consistent C.is_cover C.union_of O.may_take O.may_refuse O.is_emptied_elsewhere) world.old → MailboxesFit (words C.is_match C.is_consistent C.is_cover C.union_of O.may_take O.may_refuse O.is_emptied_elsewhere) world.new }
+    ensures unchanged { OnErr result (world.new ≡ world.old) }
+    ensures refusals { IfErr result (IsWanting world.old.search) }
+{
+    world.is_sound();
+    let mut task = match world.prepare_split(u64::from(page)) {
+        Ok(task) => task,
+        Err(why) => return give_up(why),
+    };
+    match task.work() {
+        Ok(()) => {
+            split_prepared(world, seat, task)?;
+            Ok(())
+        }
+        Err(why) => give_up(why),
+    }
+}
