@@ -24,7 +24,7 @@ use std::alloc::{AllocError, Global};
 use std::marker::Model;
 use std::sync::ledger::{Blank, Ledger, Share};
 use std::sync::{Mutex, Wait};
-use world::{Reply, SplitTask, Stamped, World};
+use world::{Reply, SplitTask, Stamped, VisitTask, World};
 
 /// A world under a lock, which as many seats as the ledger has parts share.
 #[derive(Drop)]
@@ -60,6 +60,17 @@ fn worked_split<C: KeyClass>(task: SplitTask<C>) -> Result<Option<SplitTask<C>>,
         Ok(()) => Ok(Some(task)),
         Err(Refusal::OutOfMemory) => Err(Refusal::OutOfMemory),
         Err(_) => Ok(None),
+    }
+}
+
+/// The task of a visit with what it found. None where memory was wanting.
+fn worked_visit<C: KeyClass>(task: VisitTask<C>) -> Option<VisitTask<C>>
+    ensures { IfSome result (λ worked. worked.cursor ≡ task.cursor) }
+{
+    let mut task = task;
+    match task.work() {
+        Ok(()) => Some(task),
+        Err(_) => None,
     }
 }
 
@@ -350,14 +361,37 @@ impl<C: KeyClass, L: Ledger> DeskOver<World<C, Ring<C::Key>>, L> {
     {
         let _latch = self.latches.of(page).lock(rt);
         for _ in 0..PUBLICATIONS {
-            let mut task = self.locked.lock(rt).prepare_visit(cursor)?;
-            task.work().ok()?;
-            let turned = self.locked.lock(rt).turn_prepared(task);
-            if turned.is_some() {
-                return turned;
+            let task = worked_visit(self.prepare_visit(rt, cursor)?)?;
+            match self.publish_visit(rt, cursor, task) {
+                Some(reply) => return Some(reply),
+                None => {}
             }
         }
         None
+    }
+
+    /// The visit that a cursor's next turn makes. None where its next turn is no visit.
+    fn prepare_visit<R: Wait>(&self, rt: &R, cursor: u64) -> Option<VisitTask<C>>
+        ensures { IfSome result (λ task. task.cursor ≡ cursor) }
+    {
+        self.locked.lock(rt).prepare_visit(cursor)
+    }
+
+    /// Makes the visit of a task as its cursor's turn. None where it came too late.
+    fn publish_visit<R: Wait>(
+        &self,
+        rt: &R,
+        cursor: u64,
+        task: VisitTask<C>,
+    ) -> Option<Reply<C, Ring<C::Key>>>
+        requires { task.cursor ≡ cursor }
+        ensures { IfSome result (λ reply. IsVisit (ring_words C.is_match C.is_consistent C.is_cover C.union_of) (λ old new. Step (ring_words C.is_match C.is_consistent C.is_cover C.union_of) 0 old (event.Turn cursor) reply new)) }
+    {
+        let turned = self.locked.lock(rt).turn_prepared(cursor, task);
+        match turned {
+            Some(reply) => return Some(reply),
+            None => return None,
+        }
     }
 
     /// Asks a cursor for a mark.

@@ -3,6 +3,7 @@
 
 mod checks;
 mod desk;
+mod ending;
 mod finish;
 mod latches;
 mod locked;
@@ -11,8 +12,9 @@ mod seat;
 mod taker;
 
 pub use desk::{Desk, DeskOver};
+pub use ending::Ended;
 pub use finish::{Closing, Finished, Torn};
 pub use locked::{Guarded, Locked};
-pub use receipt::{Ended, Receipt};
+pub use receipt::Receipt;
 pub use seat::Seat;
 pub use taker::Taker;

@@ -251,8 +251,13 @@ impl<C: KeyClass, L: Ledger> Locked<World<C, Ring<C::Key>>, L> {
     }
 
     /// Makes the visit of a task as its cursor's turn. None where it came too late; nothing is changed then.
-    pub(crate) fn turn_prepared(&mut self, task: VisitTask<C>) -> Option<Reply<C, Ring<C::Key>>>
-        ensures step { IfSome result (λ reply. Step (ring_words C.is_match C.is_consistent C.is_cover C.union_of) 0 self.old (event.Turn task.cursor) reply self.new) }
+    pub(crate) fn turn_prepared(
+        &mut self,
+        cursor: u64,
+        task: VisitTask<C>,
+    ) -> Option<Reply<C, Ring<C::Key>>>
+        requires { task.cursor ≡ cursor }
+        ensures step { IfSome result (λ reply. Step (ring_words C.is_match C.is_consistent C.is_cover C.union_of) 0 self.old (event.Turn cursor) reply self.new) }
         ensures late { IfNone result (self.new ≡ self.old) }
         ensures held { IsHeld (ring_words C.is_match C.is_consistent C.is_cover C.union_of) self.old × IsHeld (ring_words C.is_match C.is_consistent C.is_cover C.union_of) self.new }
     {

@@ -231,7 +231,7 @@ fn receipt<L: Ledger, R: Wait>(
     alloc: Global,
     desk: &Desk<Intervals, L>,
     seat: &mut Seat<Intervals, L>,
-) -> Result<Option<Receipt<Interval>>, Fail> {
+) -> Result<Option<Receipt<Interval>>, Refusal> {
     let mut taker = desk.open_cursor(rt, seat, all()?, 4)?;
     let _asked = desk.ask_mark(rt, taker.cursor());
     let items = sent(rt, alloc, desk, &mut taker)?;
@@ -247,11 +247,11 @@ fn receipts<L: Ledger, R: Wait + Abort>(
     alloc: Global,
     desk: &Desk<Intervals, L>,
     seat: &mut Seat<Intervals, L>,
-) -> Result<Vec<Receipt<Interval>>, Fail> {
+) -> Result<Vec<Receipt<Interval>>, Refusal> {
     let mut receipts = Vec::new(alloc);
     for _ in 0..10 {
         let Some(receipt) = receipt(rt, alloc, desk, seat)? else {
-            return Err(Refusal::NotHere.into());
+            return Err(Refusal::NotHere);
         };
         receipts.push(receipt)?;
     }
@@ -286,10 +286,10 @@ fn close_while_others_insert<L: Ledger + Send + Sync, R: Threads + Wait + Abort 
     alloc: Global,
     desk: &Desk<Intervals, L>,
     seats: &mut [Seat<Intervals, L>],
-) -> Result<Vec<Receipt<Interval>>, Fail> {
+) -> Result<Vec<Receipt<Interval>>, Refusal> {
     let (inserting, closing) = seats.split_at_mut(3);
     let Some(seat) = closing.first_mut() else {
-        return Err(Refusal::BadConfig.into());
+        return Err(Refusal::BadConfig);
     };
     both(rt, desk, inserting, || receipts(rt, alloc, desk, seat))
 }

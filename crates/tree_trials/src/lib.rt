@@ -9,6 +9,8 @@ mod commits;
 #[cfg(test)]
 mod cursors;
 #[cfg(test)]
+mod deliveries;
+#[cfg(test)]
 mod finders;
 #[cfg(test)]
 mod horizons;

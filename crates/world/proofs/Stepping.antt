@@ -612,6 +612,11 @@ module _ {C O K A E : Type 0} (w : Words K A) (laws : WordLaws w) (seat : ℕ) (
   pub step_commits : (e : Event C K A) (r : Reply C O K A E) (new : State K A) → Step w seat old e r new → new.commits ≡ old.commits ++ option_to_list (written (e, r))
   step_commits e r new d = (step_leads e r new d).effect.commits
 
+  -- a turn makes no commit
+  pub turn_commits : (c : ℕ) (r : Reply C O K A E) (new : State K A) → Step w seat old (event.Turn c) r new → new.commits ≡ old.commits
+  turn_commits c (reply.Committed stamp) new d = absurd d.change
+  turn_commits c r new d = step_commits (event.Turn c) r new d ∙ append-nil old.commits
+
   -- a turn that isn't refused lowers the work of its cursor
   pub step_lowers : (e : Event C K A) (r : Reply C O K A E) (new : State K A) → Step w seat old e r new → LowersWork w old e r new
   step_lowers (event.Turn c) reply.Offered new d = lowered w laws old inv c turned.Offered new d.change

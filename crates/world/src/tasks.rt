@@ -187,6 +187,7 @@ impl<C: KeyClass, O: Outlet<C::Key>> World<C, O> {
         ensures step { HasVisit self.old task.cursor task.visit → task.visit.worked ≡ true → Step (words C.is_match C.is_consistent C.is_cover C.union_of O.may_take O.may_refuse O.is_emptied_elsewhere) seat self.old (event.Turn task.cursor) result self.new }
         ensures stale { (task.visit.worked ≡ false) ⊎ (¬ HasVisit self.old task.cursor task.visit) → (result ≡ reply.Refused Refusal.NotHere) × (self.new ≡ self.old) }
         ensures turned { TurnsOrIsLate (words C.is_match C.is_consistent C.is_cover C.union_of O.may_take O.may_refuse O.is_emptied_elsewhere) seat self.old task.cursor result self.new }
+        ensures commits { self.new.commits ≡ self.old.commits }
         ensures sound { IsSoundWorld C.is_cover self.new }
         ensures mailboxes { O.is_emptied_elsewhere ≡ true → MailboxesFit (words C.is_match C.is_consistent C.is_cover C.union_of O.may_take O.may_refuse O.is_emptied_elsewhere) self.old → MailboxesFit (words C.is_match C.is_consistent C.is_cover C.union_of O.may_take O.may_refuse O.is_emptied_elsewhere) self.new }
     {

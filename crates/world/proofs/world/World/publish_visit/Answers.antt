@@ -3,6 +3,7 @@ use Rattle.split.specs.Tests.{first_failing}
 use Rattle.cursor.specs.OpenCursors.{words}
 use Rattle.cursor.proofs.WordLaws.{WordLaws}
 use Rattle.world.proofs.Mailboxes.{step_fits_mailboxes}
+use Rattle.world.proofs.Stepping.{turn_commits}
 use Rattle.world.specs.Steps.{cursor_tests}
 use Rattle.world.proofs.Publishing.{visited_is_open, none_is_not_some}
 use Rattle.world.proofs.world.World.publish_visit.Goals as goal
@@ -22,3 +23,13 @@ returns-clause-mailboxes g c =
       exact = g.met.C.KeyClass.equal_keys_are_same;
     } in
     λ there. step_fits_mailboxes (words g.C.KeyClass.is_match g.C.KeyClass.is_consistent g.C.KeyClass.is_cover g.C.KeyClass.union_of g.O.Outlet.may_take g.O.Outlet.may_refuse g.O.Outlet.is_emptied_elsewhere) laws 0 c.args.self.now c.is_sound.ensures there _ c.publish_due-reply.result c.publish_due-reply.new.self (c.publish_due-reply.ensures 0)
+
+pub returns-clause-commits : goal.returns-clause-commits
+returns-clause-commits g c =
+    let laws : WordLaws (words g.C.KeyClass.is_match g.C.KeyClass.is_consistent g.C.KeyClass.is_cover g.C.KeyClass.union_of g.O.Outlet.may_take g.O.Outlet.may_refuse g.O.Outlet.is_emptied_elsewhere) = record {
+      keys = record { itself = g.met.C.KeyClass.covers_itself; through = g.met.C.KeyClass.covers_through; left = g.met.C.KeyClass.union_covers_left; right = g.met.C.KeyClass.union_covers_right; least = g.met.C.KeyClass.union_is_least };
+      consistent = g.met.C.KeyClass.consistent_above_match;
+      equal = g.C.Key.PartialEq.eq;
+      exact = g.met.C.KeyClass.equal_keys_are_same;
+    } in
+    turn_commits (words g.C.KeyClass.is_match g.C.KeyClass.is_consistent g.C.KeyClass.is_cover g.C.KeyClass.union_of g.O.Outlet.may_take g.O.Outlet.may_refuse g.O.Outlet.is_emptied_elsewhere) laws 0 c.args.self.now c.is_sound.ensures _ c.publish_due-reply.result c.publish_due-reply.new.self (c.publish_due-reply.ensures 0)

@@ -1,0 +1,19 @@
+-- A visit that closes a cursor, and what it tells of a receipt.
+use Rattle.std.proofs.Common.{◌≡◌, ◌∙◌, List}
+use Rattle.change_list.specs.declared.write.Write.{Write}
+use Rattle.cursor.specs.OpenCursors.{Words}
+use Rattle.world.specs.States.{State}
+use Rattle.desk.specs.Receipts.{IfReceipt}
+use Rattle.desk.specs.Visits.{IsVisit}
+use Rattle.desk.specs.declared.ending.Ended.{Ended}
+use Rattle.desk.specs.declared.ending.Ended.TheVariants as ended
+
+module _ {K A : Type 0} (w : Words K A) where
+  -- a visit that does more tells less
+  pub visit_less : (P Q : State K A → State K A → Type 0) → ((old new : State K A) → P old new → Q old new) → IsVisit w P → IsVisit w Q
+  visit_less P Q less v = record { old = v.old; new = v.new; found = v.found; did = less v.old v.new v.did; left = v.left }
+
+-- a receipt of the commits that a view has tells those of which the view is
+pub of_view : {K : Type 0} (e : Ended K) (commits list : List (Write K)) → IfReceipt e (λ r. r.commits ≡ commits) → commits ≡ list → IfReceipt e (λ r. r.commits ≡ list)
+of_view (ended.Receipt r) commits list is same = is ∙ same
+of_view ended.NoReceipt commits list is same = tt

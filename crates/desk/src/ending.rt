@@ -1,0 +1,50 @@
+//! What closing a cursor gives.
+ghost use Rattle.std.specs.Prelude.{◌≡◌};
+ghost use Rattle.key_class.specs.Queries.{query_of, matches_query};
+ghost use Rattle.change_list.specs.Changes.{IsLegal};
+ghost use Rattle.listing.specs.Deliveries.{IsDelivered};
+ghost use Rattle.desk.specs.Receipts.{IfReceipt};
+ghost use Rattle.desk.specs.Weaving.{SeatStands};
+
+use crate::checks::seat_stands;
+use crate::receipt::Receipt;
+use crate::seat::Seat;
+use change_list::{Item, View};
+use key_class::{KeyClass, Pred};
+use listing::is_delivered;
+use std::alloc::Global;
+use std::sync::ledger::Ledger;
+
+/// What closing a cursor gives.
+#[derive(Drop)]
+pub enum Ended<K> {
+    Receipt(Receipt<K>),
+    /// The check failed, or memory was wanting.
+    NoReceipt,
+}
+
+/// A receipt, where what a client took of a query since an opening is a delivery of the commits, and where the seat's
+/// stamps stand in them.
+pub(crate) fn checked<C: KeyClass, L: Ledger>(
+    alloc: Global,
+    commits: View<C::Key>,
+    seat: &Seat<C, L>,
+    query: &Pred<C::Atom>,
+    opened: u64,
+    taken: &[Item<C::Key>],
+) -> Ended<C::Key>
+    ensures opened { IfReceipt result (λ r. r.opened ≡ opened) }
+    ensures list { IfReceipt result (λ r. r.commits ≡ commits) }
+    ensures legal { IfReceipt result (λ r. IsLegal r.commits) }
+    ensures stamps { IfReceipt result (λ r. SeatStands r.commits seat.now) }
+    ensures taken { IfReceipt result (λ r. IsDelivered (matches_query C.is_match (query_of query.now)) opened r.commits taken.now) }
+{
+    let _count = commits.len();
+    if !seat_stands(&commits, seat) {
+        return Ended::NoReceipt;
+    }
+    match is_delivered::<C>(alloc, &commits, query, opened, taken) {
+        Ok(true) => return Ended::Receipt(Receipt::new(opened, commits)),
+        _ => return Ended::NoReceipt,
+    }
+}

@@ -1,0 +1,28 @@
+-- What a client may be given behind the rows of its snapshot.
+use Rattle.std.specs.Prelude.{◌≡◌, ℕ, ◌≤◌, Bool, List, [], ◌∷◌, ◌++◌, length, None}
+use Rattle.change_list.specs.declared.write.Write.{Write}
+use Rattle.change_list.specs.declared.item.Item.{Item}
+use Rattle.change_list.specs.declared.item.Item.TheVariants as item
+use Rattle.change_list.specs.Changes.{item_at, changes}
+use Rattle.change_list.specs.Listings.{without_marks}
+
+module _ {K : Type 0} where
+  -- the items are all changes after s up to n
+  pub record AreChanges (wanted : K → Bool) (s n : ℕ) (commits : List (Write K)) (items : List (Item K)) : Type 0 where
+    pub from_before : s ≤ n
+    pub within : n ≤ length commits
+    pub is : items ≡ changes wanted s n commits
+
+  -- the items, marks left out, are the first changes after s, and what stands before each mark is all of them up to it
+  pub record IsFollowed (wanted : K → Bool) (s : ℕ) (commits : List (Write K)) (items : List (Item K)) : Type 0 where
+    pub rest : List (Item K)
+    pub begins : changes wanted s (length commits) commits ≡ without_marks items ++ rest
+    pub marks : (before after : List (Item K)) (n : ℕ) → items ≡ before ++ item.Mark n ∷ after
+        → AreChanges wanted s n commits (without_marks before)
+
+  -- the first place from another on whose commit has an item; the length of the list where there is none
+  pub record IsNext (wanted : K → Bool) (commits : List (Write K)) (from place : ℕ) : Type 0 where
+    pub from_before : from ≤ place
+    pub within : place ≤ length commits
+    pub none_before : changes wanted from place commits ≡ []
+    pub at_end : item_at wanted commits place ≡ None → place ≡ length commits

@@ -1,0 +1,3 @@
+pub mod Deliveries
+pub mod Following
+pub mod Remaining

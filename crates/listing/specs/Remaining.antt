@@ -1,0 +1,50 @@
+-- The rows of a snapshot that a client has still to be given.
+use Rattle.std.specs.Prelude.{◌≡◌, ℕ, ◌+◌, ◌-◌, ◌≤◌, Bool, List, [], ◌∷◌, ◌++◌, length, map, take, drop, filter, filter_map, cond, Option, Some, None, slice_get, slice_set, IsPermutation}
+use Rattle.change_list.specs.declared.write.Write.{Write}
+use Rattle.change_list.specs.declared.write.Write.TheVariants.{Insert, Delete}
+use Rattle.change_list.specs.declared.item.Row.{Row}
+use Rattle.change_list.specs.declared.item.Item.{Item}
+use Rattle.change_list.specs.declared.item.Item.TheVariants as item
+use Rattle.change_list.specs.Changes.{IsLegal, rows}
+
+module _ {K : Type 0} where
+  -- the rows that stand in slots
+  abbrev pub rows_in : List (Option (Row K)) → List (Row K)
+  rows_in slots = filter_map (λ slot. slot) slots
+
+  -- row n stands in slot n - 1 or in none
+  pub record IsPlaced (slots : List (Option (Row K))) : Type 0 where
+    pub each : (place : ℕ) (row : Row K) → slice_get slots place ≡ Some (Some row) → row.row ≡ place + 1
+
+  -- the slots with one for a further commit; a delete empties that of its row
+  abbrev pub slots_with : (K → Bool) → List (Option (Row K)) → Write K → List (Option (Row K))
+  slots_with wanted slots (Insert key tag) =
+      slots ++ cond (wanted key) (Some (record { row = length slots + 1; key = key; tag = tag })) None ∷ []
+  slots_with wanted slots (Delete row) = slice_set (slots ++ None ∷ []) (row - 1) None
+
+  -- a slot for each commit, with the row that it made where that lives and is wanted
+  pub record IsRoll (wanted : K → Bool) (commits : List (Write K)) (slots : List (Option (Row K))) : Type 0 where
+    pub legal : IsLegal commits
+    pub one_each : length slots ≡ length commits
+    pub placed : IsPlaced slots
+    pub is : rows_in slots ≡ filter (λ r. wanted r.key) (rows commits)
+
+  -- the first n items are rows, and all those rows are they and what is left
+  pub record IsTaken (all : List (Row K)) (items : List (Item K)) (n : ℕ) (left : List (Row K)) : Type 0 where
+    pub within : n ≤ length items
+    pub given : List (Row K)
+    pub is : take n items ≡ map item.Row given
+    pub each_once : IsPermutation all (given ++ left)
+
+  -- no further row follows
+  pub record AllTaken (all : List (Row K)) (items : List (Item K)) (n : ℕ) (left : List (Row K)) : Type 0 where
+    pub taken : IsTaken all items n left
+    pub ends : (row : Row K) (rest : List (Item K)) → drop n items ≡ item.Row row ∷ rest → ⊥
+
+  -- the items begin with rows that no arrangement of all rows begins with
+  pub record HasWrongRow (all : List (Row K)) (items : List (Item K)) : Type 0 where
+    pub given : List (Row K)
+    pub row : Row K
+    pub rest : List (Item K)
+    pub is : items ≡ map item.Row given ++ item.Row row ∷ rest
+    pub wrong : (more : List (Row K)) → IsPermutation all (given ++ row ∷ more) → ⊥

@@ -1,0 +1,44 @@
+ghost use Rattle.std.specs.Prelude.{◌≡◌, ◌↔◌, IsTrue, IfOk, IfErr};
+ghost use Rattle.key_class.specs.Queries.{query_of, matches_query};
+ghost use Rattle.key_class.specs.declared.refusal.Refusal.TheVariants as Refusal;
+ghost use Rattle.listing.specs.Deliveries.{IsDelivered};
+
+use crate::following::is_followed;
+use crate::remaining::{snapshot, take_rows};
+use change_list::{Item, View};
+use key_class::{KeyClass, Pred, Refusal};
+use std::alloc::Global;
+
+/// Whether a client of a query, opened after so many commits, may have been given these items: the rows of its
+/// snapshot, each once and in any order, then the later changes in the order of their commits, as far as they were
+/// given, and each mark behind all that it stands for.
+///
+/// # Errors
+/// Want of memory.
+pub fn is_delivered<C: KeyClass>(
+    alloc: Global,
+    commits: &View<C::Key>,
+    query: &Pred<C::Atom>,
+    opened: u64,
+    items: &[Item<C::Key>],
+) -> Result<bool, Refusal>
+    ensures delivered { IfOk result (λ told. IsTrue told ↔ IsDelivered (matches_query C.is_match (query_of query.now)) opened commits.now items.now) }
+    ensures refusals { IfErr result (λ why. why ≡ Refusal.OutOfMemory) }
+{
+    if opened > commits.len() as u64 {
+        return Ok(false);
+    }
+    let mut remaining = snapshot::<C>(alloc, commits, query, opened)?;
+    match take_rows::<C>(&mut remaining, items) {
+        None => Ok(false),
+        Some(count) => {
+            if count == items.len() {
+                return Ok(true);
+            }
+            if !remaining.is_empty() {
+                return Ok(false);
+            }
+            Ok(is_followed::<C>(commits, query, opened, &items[count..]))
+        }
+    }
+}

@@ -1,0 +1,9 @@
+//! Whether the items that a client of a query was given are such as it may be given.
+#![tactic(auto)]
+
+mod delivery;
+mod following;
+mod remaining;
+mod sameness;
+
+pub use delivery::is_delivered;

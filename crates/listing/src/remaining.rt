@@ -1,0 +1,150 @@
+ghost use Rattle.std.specs.Prelude.{◌≡◌, ◌<◌, ◌≤◌, ◌-◌, ◌↔◌, [], ◌∷◌, length, slice_get, Some, IsTrue, IfOk, IfErr, MatchOption, Contains, IsPermutation};
+ghost use Rattle.std.specs.Bool.{OnTrue};
+ghost use Rattle.key_class.specs.Queries.{query_of, matches_query};
+ghost use Rattle.key_class.specs.declared.refusal.Refusal.TheVariants as Refusal;
+ghost use Rattle.change_list.specs.Changes.{snapshot, IsLegal};
+ghost use Rattle.change_list.specs.Roomy.{NamesEarlier};
+ghost use Rattle.listing.specs.Remaining.{slots_with, rows_in, AllTaken, HasWrongRow};
+
+use crate::sameness::is_same_row;
+use change_list::{Item, Row, View, Write};
+use key_class::{KeyClass, Pred, Refusal};
+use std::alloc::Global;
+use std::marker::Model;
+
+/// The rows of a snapshot that were not yet given.
+#[derive(Drop)]
+pub(crate) struct Remaining<K> {
+    /// At place n - 1 row n, where it remains.
+    slots: Vec<Option<Row<K>>>,
+}
+
+impl<K> Model for Remaining<K> {
+    ghost use Rattle.std.specs.Prelude.{List};
+    ghost use Rattle.change_list.specs.declared.item.Row.{Row};
+    ghost use Rattle.listing.specs.Remaining.{rows_in, IsPlaced};
+
+    ghost Value = { List (Row K) };
+
+    ghost view = { λ remaining. rows_in remaining.slots.items };
+
+    ghost invariant = { λ remaining. IsPlaced remaining.slots.items };
+}
+
+impl<K: Copy> Remaining<K> {
+    /// Takes a row, if it remains.
+    #[tactic(auto, using(crate::proofs::Slots::taken, crate::proofs::Slots::stands_placed, crate::proofs::Slots::placed_set))]
+    pub(crate) fn take<C: KeyClass<Key = K>>(&mut self, row: Row<K>) -> bool
+        ensures told { IsTrue result ↔ Contains self.old row }
+        ensures taken { OnTrue result (IsPermutation self.old (row ∷ self.new)) }
+    {
+        if !has_row::<C>(self.slots.as_slice(), row) {
+            return false;
+        }
+        self.slots[(row.row - 1) as usize] = None;
+        true
+    }
+
+    /// Whether no row remains.
+    pub(crate) fn is_empty(&self) -> bool
+        ensures { IsTrue result ↔ (self.now ≡ []) }
+    {
+        are_empty(self.slots.as_slice())
+    }
+}
+
+/// Whether a row stands in the slot of its number.
+fn has_row<C: KeyClass>(slots: &[Option<Row<C::Key>>], row: Row<C::Key>) -> bool
+    ensures { IsTrue result ↔ ((0 < row.row) × (slice_get slots.now (row.row - 1) ≡ Some (Some row))) }
+{
+    if row.row == 0 {
+        return false;
+    }
+    match slots.get((row.row - 1) as usize) {
+        Some(Some(found)) => is_same_row::<C>(*found, row),
+        _ => false,
+    }
+}
+
+/// Whether no row stands in the slots.
+fn are_empty<K: Copy>(slots: &[Option<Row<K>>]) -> bool
+    ensures { IsTrue result ↔ (rows_in slots.now ≡ []) }
+{
+    for slot in slots {
+        if slot.is_some() {
+            return false;
+        }
+    }
+    true
+}
+
+/// The rows of a query's snapshot after so many commits.
+///
+/// # Errors
+/// Want of memory.
+pub(crate) fn snapshot<C: KeyClass>(
+    alloc: Global,
+    commits: &View<C::Key>,
+    query: &Pred<C::Atom>,
+    opened: u64,
+) -> Result<Remaining<C::Key>, Refusal>
+    requires opened { opened ≤ length commits.now }
+    requires legal { IsLegal commits.now }
+    ensures rows { IfOk result (λ remaining. remaining ≡ snapshot (matches_query C.is_match (query_of query.now)) opened commits.now) }
+    ensures refusals { IfErr result (λ why. why ≡ Refusal.OutOfMemory) }
+{
+    let mut slots = Vec::new(alloc);
+    for place in 0..opened {
+        match commits.get(place + 1) {
+            Some(write) => slots = with_slot::<C>(slots, query, write)?,
+            None => unreachable!(),
+        }
+    }
+    Ok(Remaining { slots })
+}
+
+/// The slots with one for a further commit. A delete empties that of its row.
+///
+/// # Errors
+/// Want of memory.
+fn with_slot<C: KeyClass>(
+    slots: Vec<Option<Row<C::Key>>>,
+    query: &Pred<C::Atom>,
+    write: Write<C::Key>,
+) -> Result<Vec<Option<Row<C::Key>>>, Refusal>
+    requires { NamesEarlier (length slots.items) write }
+    ensures slots { IfOk result (λ longer. longer.items ≡ slots_with (matches_query C.is_match (query_of query.now)) slots.items write) }
+    ensures refusals { IfErr result (λ why. why ≡ Refusal.OutOfMemory) }
+{
+    let mut slots = slots;
+    match write {
+        Write::Insert(key, tag) => {
+            let row = slots.len() as u64 + 1;
+            slots.push(query.matches::<C>(key).then_some(Row { row, key, tag }))?;
+            Ok(slots)
+        }
+        Write::Delete(row) => {
+            slots.push(None)?;
+            slots[(row - 1) as usize] = None;
+            Ok(slots)
+        }
+    }
+}
+
+/// Takes the rows with which the items begin. Gives how many they are, or nothing where one of them doesn't remain.
+pub(crate) fn take_rows<C: KeyClass>(
+    remaining: &mut Remaining<C::Key>,
+    items: &[Item<C::Key>],
+) -> Option<usize>
+    ensures { MatchOption result (HasWrongRow remaining.old items.now) (λ count. AllTaken remaining.old items.now count remaining.new) }
+{
+    for (place, item) in items.iter().enumerate() {
+        let Item::Row(row) = item else {
+            return Some(place);
+        };
+        if !remaining.take::<C>(*row) {
+            return None;
+        }
+    }
+    Some(items.len())
+}

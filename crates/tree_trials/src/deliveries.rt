@@ -1,0 +1,108 @@
+use crate::limits::Limits;
+use change_list::{ChangeList, Item, Row, Status, View, Write};
+use key_class::{Pred, Refusal};
+use listing::is_delivered;
+use std::alloc::Global;
+use std::test::Fail;
+
+/// Openings, items by their letters, and whether a client may have been given them. A query for key 5 asks for rows 1, 2
+/// and 5 of seven commits, of which the fourth deletes row 1 and the last row 2.
+static DELIVERIES: [(u64, &str, bool); 24] = [
+    (8, "", false),
+    (7, "", true),
+    (3, "21", true),
+    (3, "2", true),
+    (3, "11", false),
+    (3, "x", false),
+    (3, "3", false),
+    (3, "9", false),
+    (4, "1", false),
+    (3, "1d", false),
+    (3, "12dd", true),
+    (3, "12c", false),
+    (3, "12e", false),
+    (3, "1d2", false),
+    (3, "12Pe", true),
+    (3, "12Pd", false),
+    (3, "12PQgf", true),
+    (3, "12QP", false),
+    (3, "12PP", false),
+    (3, "12S", false),
+    (3, "12PQRh", true),
+    (3, "12PQRi", false),
+    (7, "Qh", false),
+    (0, "AB", true),
+];
+
+fn row(row: u64, key: u8, tag: u64) -> Row<u8> {
+    Row { row, key, tag }
+}
+
+/// The item of a letter. A small one is a mark: `a` tells 0, `b` 1.
+fn item(letter: u8) -> Item<u8> {
+    match letter {
+        b'1' => Item::Row(row(1, 5, 10)),
+        b'2' => Item::Row(row(2, 5, 20)),
+        b'3' => Item::Row(row(3, 3, 30)),
+        b'9' => Item::Row(row(9, 5, 90)),
+        b'x' => Item::Row(row(1, 5, 11)),
+        b'A' => Item::Inserted(row(1, 5, 10)),
+        b'B' => Item::Inserted(row(2, 5, 20)),
+        b'P' => Item::Deleted(4, 1),
+        b'Q' => Item::Inserted(row(5, 5, 50)),
+        b'R' => Item::Deleted(7, 2),
+        b'S' => Item::Deleted(4, 2),
+        mark => Item::Mark(u64::from(mark.wrapping_sub(b'a'))),
+    }
+}
+
+fn items(alloc: Global, letters: &[u8]) -> Result<Vec<Item<u8>>, Refusal> {
+    let mut items = Vec::new(alloc);
+    for letter in letters {
+        items.push(item(*letter))?;
+    }
+    Ok(items)
+}
+
+/// Adds a commit, if a row that it deletes lives.
+fn commit(changes: &mut ChangeList<u8>, write: Write<u8>) -> Result<(), Refusal> {
+    if let Write::Delete(row) = write {
+        if changes.status(row) != Status::Live {
+            return Err(Refusal::NoSuchRow);
+        }
+    }
+    Ok(changes.push(write)?)
+}
+
+/// The commits.
+fn seven_commits(alloc: Global) -> Result<View<u8>, Refusal> {
+    let mut changes = ChangeList::new(alloc);
+    for write in [
+        Write::Insert(5, 10),
+        Write::Insert(5, 20),
+        Write::Insert(3, 30),
+        Write::Delete(1),
+        Write::Insert(5, 50),
+        Write::Insert(3, 60),
+        Write::Delete(2),
+    ] {
+        commit(&mut changes, write)?;
+    }
+    changes.view()
+}
+
+/// Whether a client may have been given the items of these letters.
+fn told(alloc: Global, opened: u64, letters: &str) -> Result<bool, Refusal> {
+    let commits = seven_commits(alloc)?;
+    let items = items(alloc, letters.as_bytes())?;
+    is_delivered::<Limits>(alloc, &commits, &Pred::Atom(5), opened, items.as_slice())
+}
+
+#[test]
+fn deliveries_are_told(rt: HostRuntime) -> Result<(), Fail> {
+    for (opened, letters, delivered) in &DELIVERIES {
+        let told = told(rt.alloc(), *opened, letters)?;
+        assert!(rt; told == *delivered, "{opened} {letters}");
+    }
+    Ok(())
+}
