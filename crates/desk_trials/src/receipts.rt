@@ -202,6 +202,25 @@ fn closing_closes(rt: HostRuntime) -> Result<(), Fail> {
     closing_at_a_desk::<Brand, _>(&rt, rt.alloc(), Blank::new(1))
 }
 
+/// Whether a cursor that is opened and closed while others insert gives a receipt of no fewer commits than the seat's.
+fn is_received<L: Ledger, R: Wait>(
+    rt: &R,
+    desk: &Desk<Intervals, L>,
+    seat: &mut Seat<Intervals, L>,
+) -> bool {
+    let taker = match all() {
+        Ok(all) => desk.open_cursor(rt, seat, all, 4),
+        Err(why) => Err(why),
+    };
+    match taker {
+        Ok(taker) => match taker.close(rt, seat, &[]) {
+            Ended::Receipt(receipt) => receipt.commits() >= seat.share(),
+            Ended::NoReceipt => false,
+        },
+        Err(_) => false,
+    }
+}
+
 /// What a client does that inserts.
 trait Inserts<L: Ledger> {
     fn insert_rows<R: Wait + Abort>(&self, rt: &R, seat: &mut Seat<Intervals, L>);
@@ -211,6 +230,9 @@ impl<L: Ledger> Inserts<L> for Desk<Intervals, L> {
     fn insert_rows<R: Wait + Abort>(&self, rt: &R, seat: &mut Seat<Intervals, L>) {
         for nth in 0..300 {
             assert!(rt; insert(rt, self, seat, nth).is_ok());
+            if nth % 30 == 0 {
+                assert!(rt; is_received(rt, self, seat));
+            }
         }
     }
 }
@@ -222,10 +244,19 @@ where
     L: Ledger + Send + Sync,
     R: Threads + Wait + Abort + Sync,
 {
-    thread::for_each_mut(rt, seats, 3, &|_, seat| desk.insert_rows(rt, seat))
+    thread::for_each_mut(rt, seats, 4, &|_, seat| desk.insert_rows(rt, seat))
 }
 
-/// The receipt of a cursor that is opened, followed and closed while others insert.
+/// Lets all seats of a desk insert at once.
+fn insert_by_all<L: Ledger + Send + Sync, R: Threads + Wait + Abort + Sync>(
+    rt: &R,
+    desk: &Desk<Intervals, L>,
+    seats: &mut [Seat<Intervals, L>],
+) {
+    insert_at_once(rt, desk, seats)
+}
+
+/// The receipt of a cursor that is opened, followed and closed.
 fn receipt<L: Ledger, R: Wait>(
     rt: &R,
     alloc: Global,
@@ -241,7 +272,7 @@ fn receipt<L: Ledger, R: Wait>(
     }
 }
 
-/// The receipts of some cursors, one after the other.
+/// The receipts of some cursors, one after the other, with an insert before each.
 fn receipts<L: Ledger, R: Wait + Abort>(
     rt: &R,
     alloc: Global,
@@ -249,7 +280,8 @@ fn receipts<L: Ledger, R: Wait + Abort>(
     seat: &mut Seat<Intervals, L>,
 ) -> Result<Vec<Receipt<Interval>>, Refusal> {
     let mut receipts = Vec::new(alloc);
-    for _ in 0..10 {
+    for low in 0..10 {
+        let _number = insert(rt, desk, seat, low)?;
         let Some(receipt) = receipt(rt, alloc, desk, seat)? else {
             return Err(Refusal::NotHere);
         };
@@ -280,36 +312,6 @@ fn all_begin(receipts: &[Receipt<Interval>], commits: &ChangeList<Interval>) -> 
     true
 }
 
-/// Three seats insert at once while a fourth follows and closes.
-fn close_while_others_insert<L: Ledger + Send + Sync, R: Threads + Wait + Abort + Sync>(
-    rt: &R,
-    alloc: Global,
-    desk: &Desk<Intervals, L>,
-    seats: &mut [Seat<Intervals, L>],
-) -> Result<Vec<Receipt<Interval>>, Refusal> {
-    let (inserting, closing) = seats.split_at_mut(3);
-    let Some(seat) = closing.first_mut() else {
-        return Err(Refusal::BadConfig);
-    };
-    both(rt, desk, inserting, || receipts(rt, alloc, desk, seat))
-}
-
-/// Lets seats insert while something else is done.
-fn both<D, L, R, T: Drop, F: FnOnce() -> T>(
-    rt: &R,
-    desk: &D,
-    seats: &mut [Seat<Intervals, L>],
-    other: F,
-) -> T
-where
-    D: Inserts<L> + Sync,
-    L: Ledger + Send + Sync,
-    R: Threads + Wait + Abort + Sync,
-{
-    let (_, done) = thread::join(rt, || insert_at_once(rt, desk, seats), other);
-    done
-}
-
 fn four_seats<L: Ledger + Send + Sync, R: Threads + Wait + Abort + Sync>(
     rt: &R,
     alloc: Global,
@@ -320,10 +322,11 @@ fn four_seats<L: Ledger + Send + Sync, R: Threads + Wait + Abort + Sync>(
     requires four { blank.parts ≡ 4 }
 {
     let (desk, mut seats) = Desk::<Intervals, L>::new(alloc, blank, CONFIG, 4)?;
-    let receipts = close_while_others_insert(rt, alloc, &desk, seats.as_mut_slice())?;
+    insert_by_all(rt, &desk, seats.as_mut_slice());
+    let receipts = receipts(rt, alloc, &desk, &mut seats[0])?;
     match desk.finish(seats) {
         Finished::Closing(closing) => {
-            assert!(rt; closing.sum() == 900);
+            assert!(rt; closing.sum() == 1_210);
             assert!(rt; all_begin(receipts.as_slice(), closing.commits()));
         }
         _ => assert!(rt; false, "the seats fit"),
