@@ -13,7 +13,7 @@ pub fn change_item<C: KeyClass>(
     query: &Pred<C::Atom>,
     place: u64,
 ) -> Option<Item<C::Key>>
-    ensures { result ≡ item_at (matches_query C.is_match (query_of query.now)) commits.now place }
+    ensures { result ≡ item_at (matches_query C.rules.is_match (query_of query.now)) commits.now place }
 {
     if place >= commits.len() as u64 {
         return None;
@@ -37,7 +37,7 @@ fn delete_item<C: KeyClass>(
     number: u64,
     row: u64,
 ) -> Option<Item<C::Key>>
-    ensures { result ≡ deleted_item (matches_query C.is_match (query_of query.now)) number row (commit_at commits.now row) }
+    ensures { result ≡ deleted_item (matches_query C.rules.is_match (query_of query.now)) number row (commit_at commits.now row) }
 {
     match commits.get(row) {
         Some(Write::Insert(key, _)) => query

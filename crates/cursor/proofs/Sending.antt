@@ -1,6 +1,8 @@
 -- Each turn sends one item or none.
 use Rattle.std.proofs.Common.{◌≡◌, ◌+◌, ◌<◌, ◌≤◌, true, List, [], ◌∷◌, ◌++◌, length, Result, Ok, Err, refl, sym, ap, ◌∙◌, arith, subst}
 use Rattle.std.proofs.lemmas.List.{append-nil}
+use Rattle.key_class.specs.Rules.{Rules}
+use Rattle.mailbox.specs.Outlets.{Rule}
 use Rattle.key_class.specs.declared.refusal.Refusal.{Refusal}
 use Rattle.key_class.specs.declared.refusal.Refusal.TheVariants as refusal
 use Rattle.change_list.specs.declared.write.Write.{Write}
@@ -11,13 +13,13 @@ use Rattle.page_table.specs.Stacks.{StackItem}
 use Rattle.page_table.specs.Trees.{Tree}
 use Rattle.cursor.specs.declared.cursor.Turned.{Turned}
 use Rattle.cursor.specs.declared.cursor.Turned.TheVariants as turned
-use Rattle.cursor.specs.OpenCursors.{Words, OpenCursor, sent, Turns}
+use Rattle.cursor.specs.OpenCursors.{OpenCursor, sent, Turns}
 use Rattle.cursor.specs.Sending.{SendsItem, TurnsTo}
 use Rattle.change_list.proofs.Items.{IsChange}
 use Rattle.cursor.proofs.Tasks as tasks
 use Rattle.cursor.proofs.Tasks.{IsNext, IsAtEnd, Offers, of_row, of_change, of_mark}
 
-module _ {K A : Type 0} (w : Words K A) (commits : List (Write K)) where
+module _ {K A : Type 0} (rules : Rules K A) (rule : Rule) (commits : List (Write K)) where
   module _ (old : OpenCursor K A) where
     stays : TurnsTo commits old old
     stays = record {
@@ -103,16 +105,16 @@ module _ {K A : Type 0} (w : Words K A) (commits : List (Write K)) where
       within = λ h. h;
     }
 
-  pub turn_sends : (t : Tree K) (old new : OpenCursor K A) (result : Result Turned Refusal) → Turns w t commits old result new → TurnsTo commits old new
-  turn_sends t old new (Ok turned.Offered) s = by_item (tasks.offered w commits old s.item s.due)
+  pub turn_sends : (t : Tree K) (old new : OpenCursor K A) (result : Result Turned Refusal) → Turns rules rule t commits old result new → TurnsTo commits old new
+  turn_sends t old new (Ok turned.Offered) s = by_item (tasks.offered rules rule commits old s.item s.due)
     where
-      by_item : Offers w commits old s.item → TurnsTo commits old new
+      by_item : Offers rules rule commits old s.item → TurnsTo commits old new
       by_item (of_row row f e) = subst (TurnsTo commits old) (sym (s.after ∙ ap (λ x. sent x old) e)) (sends_row old row)
       by_item (of_change n c i) = subst (TurnsTo commits old) (sym (s.after ∙ c)) (sends_change old s.item n.within i)
       by_item (of_mark a q e) = subst (TurnsTo commits old) (sym (s.after ∙ ap (λ x. sent x old) e)) (sends_mark old q a.at_end)
   turn_sends t old new (Ok (turned.Visited page)) h = subst (TurnsTo commits old) (sym h.1.after) (visits old h.1.stack h.1.noted)
   turn_sends t old new (Ok (turned.Passed n)) h =
-      subst (TurnsTo commits old) (sym (h.2 ∙ ap (λ p. record old { position = p }) h.1)) (passes old (tasks.passed w commits old h.0).within)
+      subst (TurnsTo commits old) (sym (h.2 ∙ ap (λ p. record old { position = p }) h.1)) (passes old (tasks.passed rules rule commits old h.0).within)
   turn_sends t old new (Err refusal.NoRoom) h = subst (TurnsTo commits old) (sym h.unchanged) (stays old)
   turn_sends t old new (Err refusal.Idle) h = subst (TurnsTo commits old) (sym h.1) (stays old)
   turn_sends t old new (Err refusal.OutOfMemory) h = subst (TurnsTo commits old) (sym h.1) (stays old)

@@ -1,9 +1,11 @@
 -- What a turn does to the lists that fit a cursor, to its work and to its stack.
-use Rattle.std.proofs.Common.{◌≡◌, ◌+◌, ◌<◌, ◌≤◌, ℕ, true, false, cond, List, [], ◌∷◌, ◌++◌, length, drop, Some, None, Result, Ok, Err, inl, inr, ⊎_elim, refl, sym, ap, ◌∙◌, arith, subst}
+use Rattle.std.proofs.Common.{Bool, ◌≡◌, ◌+◌, ◌<◌, ◌≤◌, ℕ, true, false, cond, List, [], ◌∷◌, ◌++◌, length, drop, Some, None, Result, Ok, Err, inl, inr, ⊎_elim, refl, sym, ap, ◌∙◌, arith, subst}
 use Rattle.std.specs.Prelude.{slice_get, option_to_list, IsPermutation, OnOk}
 use Rattle.std.proofs.lemmas.Bool.{both_ways}
 use Rattle.std.proofs.lemmas.List.{append-nil, append_cancel_left}
 use Rattle.std.proofs.lemmas.List.Sorted.{IsPermutation-refl, IsPermutation-sym, IsPermutation-append_right, length_permutation}
+use Rattle.mailbox.specs.Outlets.{Rule}
+use Rattle.key_class.specs.Rules.{IsLawful, Rules}
 use Rattle.key_class.specs.declared.refusal.Refusal.{Refusal}
 use Rattle.key_class.specs.declared.refusal.Refusal.TheVariants as refusal
 use Rattle.change_list.specs.declared.write.Write.{Write}
@@ -23,10 +25,10 @@ use Rattle.scan.specs.Scanning.{to_find}
 use Rattle.scan.proofs.Visiting.{visit_stack, visit_pages, visit_find}
 use Rattle.cursor.specs.declared.cursor.Turned.{Turned}
 use Rattle.cursor.specs.declared.cursor.Turned.TheVariants as turned
-use Rattle.cursor.specs.OpenCursors.{Words, OpenCursor, is_scanning, sent, wants, admits, VisitsPage, Turns, shown, tree_work}
+use Rattle.cursor.specs.OpenCursors.{OpenCursor, is_scanning, sent, wants, admits, VisitsPage, Turns, shown, tree_work}
 use Rattle.cursor.specs.Offering.{IsOffered}
 use Rattle.change_list.proofs.Items.{IsChange, one_change}
-use Rattle.cursor.proofs.WordLaws.{WordLaws, prunes, rows_arranged}
+use Rattle.cursor.proofs.Lawful.{prunes, rows_arranged}
 use Rattle.cursor.proofs.Remaining.{fits_arranged}
 use Rattle.cursor.proofs.Tasks as tasks
 use Rattle.cursor.proofs.Tasks.{HasScanned, IsNext, IsAtEnd, Offers, of_row, of_change, of_mark, row_is_due}
@@ -37,175 +39,175 @@ no_mark (item.Inserted row) h = refl
 no_mark (item.Deleted n row) h = refl
 no_mark (item.Mark n) h = absurd h
 
-module _ {K A : Type 0} (w : Words K A) where
+module _ {K A : Type 0} (rules : Rules K A) (rule : Rule) where
   -- what the outlet got in a turn, and that it goes on where the items before it fitted
   pub record KeepsFit (t : Tree K) (commits : List (Write K)) (old new : OpenCursor K A) : Type 0 where
     pub offered : List (Item K)
     pub unread : new.unread ≡ old.unread ++ offered
-    pub fits : (items : List (Item K)) → Fits w.matching commits (shown w t old) items → Fits w.matching commits (shown w t new) (items ++ offered)
+    pub fits : (items : List (Item K)) → Fits rules.is_match commits (shown rules rule t old) items → Fits rules.is_match commits (shown rules rule t new) (items ++ offered)
 
   module _ (t : Tree K) (commits : List (Write K)) (old : OpenCursor K A) where
-    following : HasScanned w commits old → IsFollowing w.matching (shown w t old)
+    following : HasScanned rules rule commits old → IsFollowing rules.is_match (shown rules rule t old)
     following h = record {
       scanned = ap is_scanning h.none_left;
-      none_remaining = ap (λ p. p ++ to_find (wants w old) old.opened t old.stack) h.none_pending ∙ ap (to_find (wants w old) old.opened t) h.none_left;
+      none_remaining = ap (λ p. p ++ to_find (wants rules rule old) old.opened t old.stack) h.none_pending ∙ ap (to_find (wants rules rule old) old.opened t) h.none_left;
     }
 
     front : (row : Row K) → slice_get old.pending 0 ≡ Some row
-        → old.pending ++ to_find (wants w old) old.opened t old.stack ≡ row ∷ (drop 1 old.pending ++ to_find (wants w old) old.opened t old.stack)
-    front row h = ap (λ p. p ++ to_find (wants w old) old.opened t old.stack) (sym (slice_get_drop old.pending row h))
+        → old.pending ++ to_find (wants rules rule old) old.opened t old.stack ≡ row ∷ (drop 1 old.pending ++ to_find (wants rules rule old) old.opened t old.stack)
+    front row h = ap (λ p. p ++ to_find (wants rules rule old) old.opened t old.stack) (sym (slice_get_drop old.pending row h))
 
     stays : KeepsFit t commits old old
     stays = record {
       offered = [];
       unread = sym (append-nil old.unread);
-      fits = λ items f. subst (λ l. Fits w.matching commits (shown w t old) l) (sym (append-nil items)) f;
+      fits = λ items f. subst (λ l. Fits rules.is_match commits (shown rules rule t old) l) (sym (append-nil items)) f;
     }
 
     sends_row : (row : Row K) → slice_get old.pending 0 ≡ Some row → KeepsFit t commits old (sent (item.Row row) old)
     sends_row row h = record {
       offered = item.Row row ∷ [];
       unread = refl;
-      fits = λ items f. fits_row w.matching commits (shown w t old) items f row (is_scanning old.stack) _ (front row h);
+      fits = λ items f. fits_row rules.is_match commits (shown rules rule t old) items f row (is_scanning old.stack) _ (front row h);
     }
 
-    sends_change : (x : Item K) → IsNext w commits old (Some x) → IsChange x → KeepsFit t commits old (record old { position = old.position + 1; unread = old.unread ++ x ∷ [] })
+    sends_change : (x : Item K) → IsNext rules rule commits old (Some x) → IsChange x → KeepsFit t commits old (record old { position = old.position + 1; unread = old.unread ++ x ∷ [] })
     sends_change x n i = record {
       offered = x ∷ [];
       unread = refl;
-      fits = λ items f. fits_changes w.matching commits (shown w t old) items f (Some x) (old.position + 1) (following n.scanned)
-          (omega arith) (omega (arith, n.within)) (one_change (wants w old) commits old.position ∙ ap option_to_list n.is) (no_mark x i);
+      fits = λ items f. fits_changes rules.is_match commits (shown rules rule t old) items f (Some x) (old.position + 1) (following n.scanned)
+          (omega arith) (omega (arith, n.within)) (one_change (wants rules rule old) commits old.position ∙ ap option_to_list n.is) (no_mark x i);
     }
 
-    passes : IsNext w commits old None → KeepsFit t commits old (record old { position = old.position + 1 })
+    passes : IsNext rules rule commits old None → KeepsFit t commits old (record old { position = old.position + 1 })
     passes n = record {
       offered = [];
       unread = sym (append-nil old.unread);
-      fits = λ items f. fits_changes w.matching commits (shown w t old) items f None (old.position + 1) (following n.scanned)
-          (omega arith) (omega (arith, n.within)) (one_change (wants w old) commits old.position ∙ ap option_to_list n.is) tt;
+      fits = λ items f. fits_changes rules.is_match commits (shown rules rule t old) items f None (old.position + 1) (following n.scanned)
+          (omega arith) (omega (arith, n.within)) (one_change (wants rules rule old) commits old.position ∙ ap option_to_list n.is) tt;
     }
 
-    sends_mark : IsAtEnd w commits old → KeepsFit t commits old (sent (item.Mark old.position) old)
+    sends_mark : IsAtEnd rules rule commits old → KeepsFit t commits old (sent (item.Mark old.position) old)
     sends_mark a = record {
       offered = item.Mark old.position ∷ [];
       unread = refl;
       fits = λ items f.
           let e : length commits ≡ old.position = omega (arith, a.at_end, f.within) in
-          subst (λ n. Fits w.matching commits (record (shown w t old) { asked = false }) (items ++ item.Mark n ∷ [])) e
-          (fits_mark w.matching commits (shown w t old) items f false (following a.scanned) a.at_end);
+          subst (λ n. Fits rules.is_match commits (record (shown rules rule t old) { asked = false }) (items ++ item.Mark n ∷ [])) e
+          (fits_mark rules.is_match commits (shown rules rule t old) items f false (following a.scanned) a.at_end);
     }
 
     -- a visit by which the same rows are still to come
     visits : (stack : List StackItem) (noted : List (Row K)) → old.pending ≡ [] → is_scanning old.stack ≡ true
-        → IsPermutation (to_find (wants w old) old.opened t old.stack) (noted ++ to_find (wants w old) old.opened t stack)
+        → IsPermutation (to_find (wants rules rule old) old.opened t old.stack) (noted ++ to_find (wants rules rule old) old.opened t stack)
         → KeepsFit t commits old (record old { stack = stack; pending = noted })
     visits stack noted p s r = record {
       offered = [];
       unread = sym (append-nil old.unread);
       fits = λ items f.
-          let same : IsPermutation (old.pending ++ to_find (wants w old) old.opened t old.stack) (noted ++ to_find (wants w old) old.opened t stack) =
-          subst (λ l. IsPermutation (l ++ to_find (wants w old) old.opened t old.stack) (noted ++ to_find (wants w old) old.opened t stack)) (sym p) r in
-          subst (λ l. Fits w.matching commits (shown w t (record old { stack = stack; pending = noted })) l) (sym (append-nil items))
-          (fits_arranged w.matching commits (shown w t old) items f (is_scanning stack) _ (λ h. absurd (both_ways (is_scanning old.stack) h.scanned s)) same);
+          let same : IsPermutation (old.pending ++ to_find (wants rules rule old) old.opened t old.stack) (noted ++ to_find (wants rules rule old) old.opened t stack) =
+          subst (λ l. IsPermutation (l ++ to_find (wants rules rule old) old.opened t old.stack) (noted ++ to_find (wants rules rule old) old.opened t stack)) (sym p) r in
+          subst (λ l. Fits rules.is_match commits (shown rules rule t (record old { stack = stack; pending = noted })) l) (sym (append-nil items))
+          (fits_arranged rules.is_match commits (shown rules rule t old) items f (is_scanning stack) _ (λ h. absurd (both_ways (is_scanning old.stack) h.scanned s)) same);
     }
 
-    row_works : (row : Row K) → slice_get old.pending 0 ≡ Some row → tree_work w t commits (sent (item.Row row) old) < tree_work w t commits old
+    row_works : (row : Row K) → slice_get old.pending 0 ≡ Some row → tree_work rules rule t commits (sent (item.Row row) old) < tree_work rules rule t commits old
     row_works row h = omega (arith, ap length (front row h))
 
-    change_works : (unread : List (Item K)) → old.position < length commits → tree_work w t commits (record old { position = old.position + 1; unread = unread }) < tree_work w t commits old
+    change_works : (unread : List (Item K)) → old.position < length commits → tree_work rules rule t commits (record old { position = old.position + 1; unread = unread }) < tree_work rules rule t commits old
     change_works unread h = omega (arith, h)
 
-    mark_works : old.asked ≡ true → tree_work w t commits (sent (item.Mark old.position) old) < tree_work w t commits old
+    mark_works : old.asked ≡ true → tree_work rules rule t commits (sent (item.Mark old.position) old) < tree_work rules rule t commits old
     mark_works h = let one : ℕ = 1 in let e : cond old.asked one 0 ≡ 1 = ap (λ b. cond b one 0) h in omega (arith, e)
 
     visit_works : (stack : List StackItem) (noted : List (Row K)) → old.pending ≡ []
-        → IsPermutation (to_find (wants w old) old.opened t old.stack) (noted ++ to_find (wants w old) old.opened t stack)
+        → IsPermutation (to_find (wants rules rule old) old.opened t old.stack) (noted ++ to_find (wants rules rule old) old.opened t stack)
         → length (pages_left t stack) + 1 ≤ length (pages_left t old.stack)
-        → tree_work w t commits (record old { stack = stack; pending = noted }) < tree_work w t commits old
+        → tree_work rules rule t commits (record old { stack = stack; pending = noted }) < tree_work rules rule t commits old
     visit_works stack noted p r l =
-        let a : length (noted ++ to_find (wants w old) old.opened t stack) ≡ length (to_find (wants w old) old.opened t old.stack) = length_permutation _ _ r in
-        let b : length (old.pending ++ to_find (wants w old) old.opened t old.stack) ≡ length (to_find (wants w old) old.opened t old.stack) =
-        ap (λ q. length (q ++ to_find (wants w old) old.opened t old.stack)) p in
+        let a : length (noted ++ to_find (wants rules rule old) old.opened t stack) ≡ length (to_find (wants rules rule old) old.opened t old.stack) = length_permutation _ _ r in
+        let b : length (old.pending ++ to_find (wants rules rule old) old.opened t old.stack) ≡ length (to_find (wants rules rule old) old.opened t old.stack) =
+        ap (λ q. length (q ++ to_find (wants rules rule old) old.opened t old.stack)) p in
         omega (arith, a, b, l)
 
-  module _ (laws : WordLaws w) (fan : ℕ) (t : Tree K) (sound : IsSound w.is_cover fan t) (commits : List (Write K)) (old new : OpenCursor K A) (stack : IsStack t old.stack) where
-    found : (page : ℕ) (v : VisitsPage w t old page new) → IsPermutation (to_find (wants w old) old.opened t old.stack) (v.noted ++ to_find (wants w old) old.opened t v.stack)
-    found page v = IsPermutation-sym _ _ (rows_arranged w laws _ _
-        (visit_find w.is_cover t fan sound (wants w old) (admits w old) old.opened old.stack v.stack page v.noted stack v.visits laws.keys.through (prunes w laws old)))
+  module _ {same_key : K → K → Bool} {same_atom : A → A → Bool} (lawful : IsLawful rules same_key same_atom) (fan : ℕ) (t : Tree K) (sound : IsSound rules.is_cover fan t) (commits : List (Write K)) (old new : OpenCursor K A) (stack : IsStack t old.stack) where
+    found : (page : ℕ) (v : VisitsPage rules rule t old page new) → IsPermutation (to_find (wants rules rule old) old.opened t old.stack) (v.noted ++ to_find (wants rules rule old) old.opened t v.stack)
+    found page v = IsPermutation-sym _ _ (rows_arranged rules rule lawful _ _
+        (visit_find rules.is_cover t fan sound (wants rules rule old) (admits rules rule old) old.opened old.stack v.stack page v.noted stack v.visits lawful.bounds.through (prunes rules rule lawful old)))
 
     -- a turn offers what fits
-    pub turn_keeps_fit : (result : Result Turned Refusal) → Turns w t commits old result new → KeepsFit t commits old new
-    turn_keeps_fit (Ok turned.Offered) s = by_item (tasks.offered w commits old s.item s.due)
+    pub turn_keeps_fit : (result : Result Turned Refusal) → Turns rules rule t commits old result new → KeepsFit t commits old new
+    turn_keeps_fit (Ok turned.Offered) s = by_item (tasks.offered rules rule commits old s.item s.due)
       where
-        by_item : Offers w commits old s.item → KeepsFit t commits old new
+        by_item : Offers rules rule commits old s.item → KeepsFit t commits old new
         by_item (of_row row f e) = subst (KeepsFit t commits old) (sym (s.after ∙ ap (λ x. sent x old) e)) (sends_row t commits old row f)
         by_item (of_change n c i) = subst (KeepsFit t commits old) (sym (s.after ∙ c)) (sends_change t commits old s.item n i)
         by_item (of_mark a q e) = subst (KeepsFit t commits old) (sym (s.after ∙ ap (λ x. sent x old) e)) (sends_mark t commits old a)
     turn_keeps_fit (Ok (turned.Visited page)) h =
-        let d = tasks.visited w commits old h.0 in
+        let d = tasks.visited rules rule commits old h.0 in
         subst (KeepsFit t commits old) (sym h.1.after) (visits t commits old h.1.stack h.1.noted d.0 d.1 (found page h.1))
     turn_keeps_fit (Ok (turned.Passed n)) h =
-        subst (KeepsFit t commits old) (sym (h.2 ∙ ap (λ p. record old { position = p }) h.1)) (passes t commits old (tasks.passed w commits old h.0))
+        subst (KeepsFit t commits old) (sym (h.2 ∙ ap (λ p. record old { position = p }) h.1)) (passes t commits old (tasks.passed rules rule commits old h.0))
     turn_keeps_fit (Err refusal.NoRoom) h = subst (KeepsFit t commits old) (sym h.unchanged) (stays t commits old)
     turn_keeps_fit (Err refusal.Idle) h = subst (KeepsFit t commits old) (sym h.1) (stays t commits old)
     turn_keeps_fit (Err refusal.OutOfMemory) h = subst (KeepsFit t commits old) (sym h.1) (stays t commits old)
     turn_keeps_fit (Err why) h = absurd h
 
     -- what fitted, with what the outlet got in a turn, fits
-    pub turn_fits : (result : Result Turned Refusal) → Turns w t commits old result new → (items offered : List (Item K)) → new.unread ≡ old.unread ++ offered
-        → Fits w.matching commits (shown w t old) items → Fits w.matching commits (shown w t new) (items ++ offered)
+    pub turn_fits : (result : Result Turned Refusal) → Turns rules rule t commits old result new → (items offered : List (Item K)) → new.unread ≡ old.unread ++ offered
+        → Fits rules.is_match commits (shown rules rule t old) items → Fits rules.is_match commits (shown rules rule t new) (items ++ offered)
     turn_fits result h items offered u f =
         let k = turn_keeps_fit result h in
-        subst (λ o. Fits w.matching commits (shown w t new) (items ++ o)) (append_cancel_left old.unread _ _ (sym k.unread ∙ u)) (k.fits items f)
+        subst (λ o. Fits rules.is_match commits (shown rules rule t new) (items ++ o)) (append_cancel_left old.unread _ _ (sym k.unread ∙ u)) (k.fits items f)
 
     -- a turn that isn't refused lowers the work
-    pub turn_less_work : (done : Turned) → Turns w t commits old (Ok done) new → tree_work w t commits new < tree_work w t commits old
-    turn_less_work turned.Offered s = by_item (tasks.offered w commits old s.item s.due)
+    pub turn_less_work : (done : Turned) → Turns rules rule t commits old (Ok done) new → tree_work rules rule t commits new < tree_work rules rule t commits old
+    turn_less_work turned.Offered s = by_item (tasks.offered rules rule commits old s.item s.due)
       where
-        by_item : Offers w commits old s.item → tree_work w t commits new < tree_work w t commits old
-        by_item (of_row row f e) = subst (λ k. tree_work w t commits k < tree_work w t commits old) (sym (s.after ∙ ap (λ x. sent x old) e)) (row_works t commits old row f)
-        by_item (of_change n c i) = subst (λ k. tree_work w t commits k < tree_work w t commits old) (sym (s.after ∙ c)) (change_works t commits old (old.unread ++ s.item ∷ []) n.within)
-        by_item (of_mark a q e) = subst (λ k. tree_work w t commits k < tree_work w t commits old) (sym (s.after ∙ ap (λ x. sent x old) e)) (mark_works t commits old q)
+        by_item : Offers rules rule commits old s.item → tree_work rules rule t commits new < tree_work rules rule t commits old
+        by_item (of_row row f e) = subst (λ k. tree_work rules rule t commits k < tree_work rules rule t commits old) (sym (s.after ∙ ap (λ x. sent x old) e)) (row_works t commits old row f)
+        by_item (of_change n c i) = subst (λ k. tree_work rules rule t commits k < tree_work rules rule t commits old) (sym (s.after ∙ c)) (change_works t commits old (old.unread ++ s.item ∷ []) n.within)
+        by_item (of_mark a q e) = subst (λ k. tree_work rules rule t commits k < tree_work rules rule t commits old) (sym (s.after ∙ ap (λ x. sent x old) e)) (mark_works t commits old q)
     turn_less_work (turned.Visited page) h =
-        let d = tasks.visited w commits old h.0 in
-        let l = visit_pages w.is_cover t fan sound (wants w old) (admits w old) old.opened old.stack h.1.stack page h.1.noted stack h.1.visits in
-        subst (λ k. tree_work w t commits k < tree_work w t commits old) (sym h.1.after) (visit_works t commits old h.1.stack h.1.noted d.0 (found page h.1) l)
+        let d = tasks.visited rules rule commits old h.0 in
+        let l = visit_pages rules.is_cover t fan sound (wants rules rule old) (admits rules rule old) old.opened old.stack h.1.stack page h.1.noted stack h.1.visits in
+        subst (λ k. tree_work rules rule t commits k < tree_work rules rule t commits old) (sym h.1.after) (visit_works t commits old h.1.stack h.1.noted d.0 (found page h.1) l)
     turn_less_work (turned.Passed n) h =
-        let d = tasks.passed w commits old h.0 in
-        subst (λ k. tree_work w t commits k < tree_work w t commits old) (sym (h.2 ∙ ap (λ p. record old { position = p }) h.1)) (change_works t commits old old.unread d.within)
+        let d = tasks.passed rules rule commits old h.0 in
+        subst (λ k. tree_work rules rule t commits k < tree_work rules rule t commits old) (sym (h.2 ∙ ap (λ p. record old { position = p }) h.1)) (change_works t commits old old.unread d.within)
 
     -- an offer leaves less to be given
-    pub offer_less : Turns w t commits old (Ok turned.Offered) new → work commits (shown w t new) < work commits (shown w t old)
-    offer_less s = by_item (tasks.offered w commits old s.item s.due)
+    pub offer_less : Turns rules rule t commits old (Ok turned.Offered) new → work commits (shown rules rule t new) < work commits (shown rules rule t old)
+    offer_less s = by_item (tasks.offered rules rule commits old s.item s.due)
       where
-        by_item : Offers w commits old s.item → work commits (shown w t new) < work commits (shown w t old)
-        by_item (of_row row f e) = subst (λ k. work commits (shown w t k) < work commits (shown w t old)) (sym (s.after ∙ ap (λ x. sent x old) e)) (omega (arith, row_works t commits old row f))
-        by_item (of_change n c i) = subst (λ k. work commits (shown w t k) < work commits (shown w t old)) (sym (s.after ∙ c)) (omega (arith, change_works t commits old (old.unread ++ s.item ∷ []) n.within))
-        by_item (of_mark a q e) = subst (λ k. work commits (shown w t k) < work commits (shown w t old)) (sym (s.after ∙ ap (λ x. sent x old) e)) (omega (arith, mark_works t commits old q))
+        by_item : Offers rules rule commits old s.item → work commits (shown rules rule t new) < work commits (shown rules rule t old)
+        by_item (of_row row f e) = subst (λ k. work commits (shown rules rule t k) < work commits (shown rules rule t old)) (sym (s.after ∙ ap (λ x. sent x old) e)) (omega (arith, row_works t commits old row f))
+        by_item (of_change n c i) = subst (λ k. work commits (shown rules rule t k) < work commits (shown rules rule t old)) (sym (s.after ∙ c)) (omega (arith, change_works t commits old (old.unread ++ s.item ∷ []) n.within))
+        by_item (of_mark a q e) = subst (λ k. work commits (shown rules rule t k) < work commits (shown rules rule t old)) (sym (s.after ∙ ap (λ x. sent x old) e)) (omega (arith, mark_works t commits old q))
 
     -- no turn leaves more
-    pub turn_no_more : (done : Turned) → Turns w t commits old (Ok done) new → work commits (shown w t new) ≤ work commits (shown w t old)
+    pub turn_no_more : (done : Turned) → Turns rules rule t commits old (Ok done) new → work commits (shown rules rule t new) ≤ work commits (shown rules rule t old)
     turn_no_more turned.Offered s = omega (arith, offer_less s)
     turn_no_more (turned.Visited page) h =
-        let d = tasks.visited w commits old h.0 in
+        let d = tasks.visited rules rule commits old h.0 in
         let a = length_permutation _ _ (found page h.1) in
-        let b : length (old.pending ++ to_find (wants w old) old.opened t old.stack) ≡ length (to_find (wants w old) old.opened t old.stack) =
-        ap (λ q. length (q ++ to_find (wants w old) old.opened t old.stack)) d.0 in
-        subst (λ k. work commits (shown w t k) ≤ work commits (shown w t old)) (sym h.1.after) (omega (arith, a, b))
+        let b : length (old.pending ++ to_find (wants rules rule old) old.opened t old.stack) ≡ length (to_find (wants rules rule old) old.opened t old.stack) =
+        ap (λ q. length (q ++ to_find (wants rules rule old) old.opened t old.stack)) d.0 in
+        subst (λ k. work commits (shown rules rule t k) ≤ work commits (shown rules rule t old)) (sym h.1.after) (omega (arith, a, b))
     turn_no_more (turned.Passed n) h =
-        let d = tasks.passed w commits old h.0 in
-        subst (λ k. work commits (shown w t k) ≤ work commits (shown w t old)) (sym (h.2 ∙ ap (λ p. record old { position = p }) h.1)) (omega (arith, d.within))
+        let d = tasks.passed rules rule commits old h.0 in
+        subst (λ k. work commits (shown rules rule t k) ≤ work commits (shown rules rule t old)) (sym (h.2 ∙ ap (λ p. record old { position = p }) h.1)) (omega (arith, d.within))
 
     -- the stack stays one of the tree
-    pub turn_stack : (result : Result Turned Refusal) → Turns w t commits old result new → IsStack t new.stack
-    turn_stack (Ok turned.Offered) s = by_item (tasks.offered w commits old s.item s.due)
+    pub turn_stack : (result : Result Turned Refusal) → Turns rules rule t commits old result new → IsStack t new.stack
+    turn_stack (Ok turned.Offered) s = by_item (tasks.offered rules rule commits old s.item s.due)
       where
-        by_item : Offers w commits old s.item → IsStack t new.stack
+        by_item : Offers rules rule commits old s.item → IsStack t new.stack
         by_item (of_row row f e) = subst (λ k. IsStack t k.stack) (sym (s.after ∙ ap (λ x. sent x old) e)) stack
         by_item (of_change n c i) = subst (λ k. IsStack t k.stack) (sym (s.after ∙ c)) stack
         by_item (of_mark a q e) = subst (λ k. IsStack t k.stack) (sym (s.after ∙ ap (λ x. sent x old) e)) stack
     turn_stack (Ok (turned.Visited page)) h =
-        let l = visit_stack w.is_cover t fan sound (wants w old) (admits w old) old.opened old.stack h.1.stack page h.1.noted stack h.1.visits in
+        let l = visit_stack rules.is_cover t fan sound (wants rules rule old) (admits rules rule old) old.opened old.stack h.1.stack page h.1.noted stack h.1.visits in
         subst (λ k. IsStack t k.stack) (sym h.1.after) l
     turn_stack (Ok (turned.Passed n)) h = subst (λ k. IsStack t k.stack) (sym h.2) stack
     turn_stack (Err refusal.NoRoom) h = subst (λ k. IsStack t k.stack) (sym h.unchanged) stack
@@ -214,29 +216,29 @@ module _ {K A : Type 0} (w : Words K A) where
     turn_stack (Err why) h = absurd h
 
   -- as a clause of a turn has it
-  pub turn_lowers : WordLaws w → (t : Tree K) (commits : List (Write K)) (old new : OpenCursor K A) → IsStack t old.stack → (result : Result Turned Refusal) → Turns w t commits old result new
-      → OnOk result ((fan : ℕ) → IsSound w.is_cover fan t → tree_work w t commits new < tree_work w t commits old)
-  turn_lowers laws t commits old new stack (Ok done) h = λ fan sound. turn_less_work laws fan t sound commits old new stack done h
-  turn_lowers laws t commits old new stack (Err why) h = tt
+  pub turn_lowers : {same_key : K → K → Bool} {same_atom : A → A → Bool} → IsLawful rules same_key same_atom → (t : Tree K) (commits : List (Write K)) (old new : OpenCursor K A) → IsStack t old.stack → (result : Result Turned Refusal) → Turns rules rule t commits old result new
+      → OnOk result ((fan : ℕ) → IsSound rules.is_cover fan t → tree_work rules rule t commits new < tree_work rules rule t commits old)
+  turn_lowers lawful t commits old new stack (Ok done) h = λ fan sound. turn_less_work lawful fan t sound commits old new stack done h
+  turn_lowers lawful t commits old new stack (Err why) h = tt
 
   -- a row that is due is offered in a turn
   pub row_turns : (t : Tree K) (commits : List (Write K)) (old new : OpenCursor K A) (row : Row K) → slice_get old.pending 0 ≡ Some row
-      → (result : Result Turned Refusal) → IsOffered w (item.Row row) old result new → Turns w t commits old result new
-  row_turns t commits old new row f (Ok turned.Offered) h = record { item = item.Row row; due = row_is_due w commits old row f; taken = h.0; after = h.1 }
+      → (result : Result Turned Refusal) → IsOffered rules rule (item.Row row) old result new → Turns rules rule t commits old result new
+  row_turns t commits old new row f (Ok turned.Offered) h = record { item = item.Row row; due = row_is_due rules rule commits old row f; taken = h.0; after = h.1 }
   row_turns t commits old new row f (Ok (turned.Visited page)) h = absurd h
   row_turns t commits old new row f (Ok (turned.Passed n)) h = absurd h
-  row_turns t commits old new row f (Err refusal.NoRoom) h = record { item = item.Row row; due = row_is_due w commits old row f; refused = h.0; unchanged = h.1 }
+  row_turns t commits old new row f (Err refusal.NoRoom) h = record { item = item.Row row; due = row_is_due rules rule commits old row f; refused = h.0; unchanged = h.1 }
   row_turns t commits old new row f (Err why) h = absurd h
 
   -- asking for a mark changes nothing of what fits
-  pub ask_fits : (t : Tree K) (commits : List (Write K)) (k : OpenCursor K A) (items : List (Item K)) → Fits w.matching commits (shown w t k) items
-      → Fits w.matching commits (shown w t (record k { asked = true })) items
+  pub ask_fits : (t : Tree K) (commits : List (Write K)) (k : OpenCursor K A) (items : List (Item K)) → Fits rules.is_match commits (shown rules rule t k) items
+      → Fits rules.is_match commits (shown rules rule t (record k { asked = true })) items
   ask_fits t commits k items f = record {
     rows = f.rows;
     is = f.is;
     each_once = f.each_once;
     in_order = ⊎_elim
-        (λ (h : IsFollowing w.matching (shown w t k)). inl (record { scanned = h.scanned; none_remaining = h.none_remaining }))
+        (λ (h : IsFollowing rules.is_match (shown rules rule t k)). inl (record { scanned = h.scanned; none_remaining = h.none_remaining }))
         (λ (h : k.position ≡ k.opened). inr h)
         f.in_order;
     from_opening = f.from_opening;
@@ -245,28 +247,28 @@ module _ {K A : Type 0} (w : Words K A) where
   }
 
   -- taking an item changes nothing of what fits
-  pub take_fits : (t : Tree K) (commits : List (Write K)) (k : OpenCursor K A) (unread items : List (Item K)) → Fits w.matching commits (shown w t k) items
-      → Fits w.matching commits (shown w t (record k { unread = unread })) items
+  pub take_fits : (t : Tree K) (commits : List (Write K)) (k : OpenCursor K A) (unread items : List (Item K)) → Fits rules.is_match commits (shown rules rule t k) items
+      → Fits rules.is_match commits (shown rules rule t (record k { unread = unread })) items
   take_fits t commits k unread items f = f
 
   -- a step of the tree after which a scan has the same still to find
-  pub same_fits : WordLaws w → (t t' : Tree K) (commits : List (Write K)) (k : OpenCursor K A) (items : List (Item K))
-      → Same (to_find (wants w k) k.opened t' k.stack) (to_find (wants w k) k.opened t k.stack)
-      → Fits w.matching commits (shown w t k) items → Fits w.matching commits (shown w t' k) items
-  same_fits laws t t' commits k items s f =
-      fits_arranged w.matching commits (shown w t k) items f (is_scanning k.stack) _ (λ h. h.scanned)
-      (IsPermutation-append_right k.pending _ _ (IsPermutation-sym _ _ (rows_arranged w laws _ _ s)))
+  pub same_fits : {same_key : K → K → Bool} {same_atom : A → A → Bool} → IsLawful rules same_key same_atom → (t t' : Tree K) (commits : List (Write K)) (k : OpenCursor K A) (items : List (Item K))
+      → Same (to_find (wants rules rule k) k.opened t' k.stack) (to_find (wants rules rule k) k.opened t k.stack)
+      → Fits rules.is_match commits (shown rules rule t k) items → Fits rules.is_match commits (shown rules rule t' k) items
+  same_fits lawful t t' commits k items s f =
+      fits_arranged rules.is_match commits (shown rules rule t k) items f (is_scanning k.stack) _ (λ h. h.scanned)
+      (IsPermutation-append_right k.pending _ _ (IsPermutation-sym _ _ (rows_arranged rules rule lawful _ _ s)))
 
   -- a commit changes nothing of what fits
   pub commit_fits : (t : Tree K) (commits : List (Write K)) (write : Write K) (k : OpenCursor K A) (items : List (Item K))
-      → Fits w.matching commits (shown w t k) items → Fits w.matching (commits ++ write ∷ []) (shown w t k) items
-  commit_fits t commits write k items f = fits_push w.matching commits (shown w t k) items f write _ (IsPermutation-refl _)
+      → Fits rules.is_match commits (shown rules rule t k) items → Fits rules.is_match (commits ++ write ∷ []) (shown rules rule t k) items
+  commit_fits t commits write k items f = fits_push rules.is_match commits (shown rules rule t k) items f write _ (IsPermutation-refl _)
 
   -- nothing given fits a new cursor
-  pub open_fits : WordLaws w → (t : Tree K) (commits : List (Write K)) (k : OpenCursor K A) → k.opened ≡ length commits → k.position ≡ length commits → k.pending ≡ []
-      → Same (to_find (wants w k) k.opened t k.stack) (snapshot (wants w k) (length commits) commits)
-      → Fits w.matching commits (shown w t k) []
-  open_fits laws t commits k o p n s =
-      let all : IsPermutation (snapshot (wants w k) (length commits) commits) (to_find (wants w k) k.opened t k.stack) = IsPermutation-sym _ _ (rows_arranged w laws _ _ s) in
-      fits_new w.matching commits (shown w t k) o p
-      (subst (λ l. IsPermutation (snapshot (wants w k) (length commits) commits) (l ++ to_find (wants w k) k.opened t k.stack)) (sym n) all)
+  pub open_fits : {same_key : K → K → Bool} {same_atom : A → A → Bool} → IsLawful rules same_key same_atom → (t : Tree K) (commits : List (Write K)) (k : OpenCursor K A) → k.opened ≡ length commits → k.position ≡ length commits → k.pending ≡ []
+      → Same (to_find (wants rules rule k) k.opened t k.stack) (snapshot (wants rules rule k) (length commits) commits)
+      → Fits rules.is_match commits (shown rules rule t k) []
+  open_fits lawful t commits k o p n s =
+      let all : IsPermutation (snapshot (wants rules rule k) (length commits) commits) (to_find (wants rules rule k) k.opened t k.stack) = IsPermutation-sym _ _ (rows_arranged rules rule lawful _ _ s) in
+      fits_new rules.is_match commits (shown rules rule t k) o p
+      (subst (λ l. IsPermutation (snapshot (wants rules rule k) (length commits) commits) (l ++ to_find (wants rules rule k) k.opened t k.stack)) (sym n) all)

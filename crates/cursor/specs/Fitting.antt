@@ -1,15 +1,17 @@
 -- What fits a cursor over a tree, before and after a step.
 use Rattle.std.specs.Prelude.{◌≡◌, List, ◌++◌}
+use Rattle.key_class.specs.Rules.{Rules}
+use Rattle.mailbox.specs.Outlets.{Rule}
 use Rattle.change_list.specs.declared.write.Write.{Write}
 use Rattle.change_list.specs.declared.item.Item.{Item}
 use Rattle.change_list.specs.Cursors.{Fits}
 use Rattle.page_table.specs.Trees.{Tree}
-use Rattle.cursor.specs.OpenCursors.{Words, OpenCursor, shown}
+use Rattle.cursor.specs.OpenCursors.{OpenCursor, shown}
 
-module _ {K A : Type 0} (w : Words K A) where
+module _ {K A : Type 0} (rules : Rules K A) (rule : Rule) where
   -- the cursor may have given these items
   abbrev pub FitsOver : Tree K → List (Write K) → OpenCursor K A → List (Item K) → Type 0
-  FitsOver t commits k items = Fits w.matching commits (shown w t k) items
+  FitsOver t commits k items = Fits rules.is_match commits (shown rules rule t k) items
 
   -- what fitted before fits after
   abbrev pub KeepsFitting : Tree K → List (Write K) → OpenCursor K A → OpenCursor K A → Type 0

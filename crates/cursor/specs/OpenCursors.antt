@@ -1,5 +1,6 @@
 -- What contracts see of an open cursor, and a turn of it.
 use Rattle.std.specs.Prelude.{◌≡◌, ℕ, ◌+◌, Bool, true, false, nat_lt, List, [], ◌∷◌, ◌++◌, length, drop, Option, Some, None, Result, Ok, Err, slice_get, if◌then◌else◌}
+use Rattle.key_class.specs.Rules.{Rules}
 use Rattle.key_class.specs.Queries.{Query, matches_query, consistent_with_query}
 use Rattle.key_class.specs.declared.refusal.Refusal.{Refusal}
 use Rattle.key_class.specs.declared.refusal.Refusal.TheVariants as refusal
@@ -9,26 +10,12 @@ use Rattle.change_list.specs.declared.item.Item.{Item}
 use Rattle.change_list.specs.declared.item.Item.TheVariants as item
 use Rattle.change_list.specs.Changes.{item_at}
 use Rattle.change_list.specs.Cursors.{CursorState, work}
+use Rattle.mailbox.specs.Outlets.{Rule}
 use Rattle.page_table.specs.Trees.{Tree}
 use Rattle.page_table.specs.Stacks.{StackItem, pages_left}
 use Rattle.scan.specs.Scanning.{Visits, VisitGrows, to_find}
 use Rattle.cursor.specs.declared.cursor.Turned.{Turned}
 use Rattle.cursor.specs.declared.cursor.Turned.TheVariants as turned
-
--- what a turn rests on: the calls of the key class, and the rule of the outlet
-pub record Words (K A : Type 0) : Type 0 where
-  pub matching : A → K → Bool
-  pub consistent : A → K → Bool
-  pub is_cover : K → K → Bool
-  pub union : K → K → K
-  pub may_take : ℕ → ℕ → Bool
-  pub may_refuse : ℕ → ℕ → Bool
-  pub elsewhere : Bool
-
--- the same, word by word
-abbrev pub words : {K A : Type 0} → (A → K → Bool) → (A → K → Bool) → (K → K → Bool) → (K → K → K) → (ℕ → ℕ → Bool) → (ℕ → ℕ → Bool) → Bool → Words K A
-words matching consistent is_cover union may_take may_refuse elsewhere =
-    record { matching = matching; consistent = consistent; is_cover = is_cover; union = union; may_take = may_take; may_refuse = may_refuse; elsewhere = elsewhere }
 
 -- an open cursor over a tree
 pub record OpenCursor (K A : Type 0) : Type 0 where
@@ -77,13 +64,13 @@ module _ {K A : Type 0} where
   sent (item.Deleted n row) k = record k { position = k.position + 1; unread = k.unread ++ item.Deleted n row ∷ [] }
   sent (item.Mark n) k = record k { asked = false; unread = k.unread ++ item.Mark n ∷ [] }
 
-module _ {K A : Type 0} (w : Words K A) where
+module _ {K A : Type 0} (rules : Rules K A) (rule : Rule) where
   -- the keys that a cursor's query asks for, and the bounds below which such a key may lie
   abbrev pub wants : OpenCursor K A → K → Bool
-  wants k = matches_query w.matching k.query
+  wants k = matches_query rules.is_match k.query
 
   abbrev pub admits : OpenCursor K A → K → Bool
-  admits k = consistent_with_query w.consistent k.query
+  admits k = consistent_with_query rules.is_consistent k.query
 
   -- the next commit, where there is one, and its item, where it is wanted
   abbrev pub next_change : List (Write K) → OpenCursor K A → Option (Option (Item K))
@@ -104,13 +91,13 @@ module _ {K A : Type 0} (w : Words K A) where
   pub record Sends (commits : List (Write K)) (old new : OpenCursor K A) : Type 0 where
     pub item : Item K
     pub due : task commits old ≡ offer item
-    pub taken : w.may_take old.room (length old.unread) ≡ true
+    pub taken : rule.may_take old.room (length old.unread) ≡ true
     pub after : new ≡ sent item old
 
   pub record IsHandedBack (commits : List (Write K)) (old new : OpenCursor K A) : Type 0 where
     pub item : Item K
     pub due : task commits old ≡ offer item
-    pub refused : w.may_refuse old.room (length old.unread) ≡ true
+    pub refused : rule.may_refuse old.room (length old.unread) ≡ true
     pub unchanged : new ≡ old
 
   -- one turn

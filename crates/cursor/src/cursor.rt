@@ -11,7 +11,7 @@ ghost use Rattle.page_table.specs.Trees.{Tree};
 ghost use Rattle.page_table.specs.Weights.{Same};
 ghost use Rattle.scan.specs.Scanning.{to_find};
 ghost use Rattle.mailbox.specs.Outlets.{Takes};
-ghost use Rattle.cursor.specs.OpenCursors.{words, wants, Turns, tree_work, is_scanning};
+ghost use Rattle.cursor.specs.OpenCursors.{wants, Turns, tree_work, is_scanning};
 ghost use Rattle.cursor.specs.Fitting.{FitsOver, KeepsFitting, GivesFitting};
 ghost use Rattle.cursor.specs.Offering.{IsOffered};
 ghost use Rattle.cursor.specs.Sending.{TurnsTo};
@@ -76,7 +76,7 @@ impl<C: KeyClass, O: Outlet<C::Key>> Cursor<C, O> {
         outlet: O,
     ) -> Self
         ensures new { result ≡ record { serial = serial; query = query_of (arc_value query); opened = opened; stack = (record { page = 0; memo = counter }) ∷ []; pending = []; position = opened; asked = false; room = O.room_of outlet; unread = O.unread outlet } }
-        ensures fits { let w = words C.is_match C.is_consistent C.is_cover C.union_of O.may_take O.may_refuse O.is_emptied_elsewhere in (tree : Tree C.Key) (commits : List (Write C.Key)) → opened ≡ length commits → Same (to_find (wants w result) opened tree result.stack) (snapshot (wants w result) opened commits) → FitsOver w tree commits result [] }
+        ensures fits { (tree : Tree C.Key) (commits : List (Write C.Key)) → opened ≡ length commits → Same (to_find (wants C.rules O.rule result) opened tree result.stack) (snapshot (wants C.rules O.rule result) opened commits) → FitsOver C.rules O.rule tree commits result [] }
     {
         Cursor {
             serial,
@@ -114,23 +114,23 @@ impl<C: KeyClass, O: Outlet<C::Key>> Cursor<C, O> {
     /// Asks for a mark once all before it was given.
     pub fn ask_mark(&mut self)
         ensures asked { self.new ≡ record self.old { asked = true } }
-        ensures fits { (tree : Tree C.Key) (commits : List (Write C.Key)) → KeepsFitting (words C.is_match C.is_consistent C.is_cover C.union_of O.may_take O.may_refuse O.is_emptied_elsewhere) tree commits self.old self.new }
+        ensures fits { (tree : Tree C.Key) (commits : List (Write C.Key)) → KeepsFitting C.rules O.rule tree commits self.old self.new }
     {
         self.asked = true;
     }
 
     /// Takes out the item at the front of the outlet.
     pub fn take(&mut self) -> Taken<C::Key>
-        ensures takes { Takes O.is_emptied_elsewhere self.old.unread result self.new.unread }
+        ensures takes { Takes O.rule.is_emptied_elsewhere self.old.unread result self.new.unread }
         ensures others { self.new ≡ record self.old { unread = self.new.unread } }
-        ensures fits { (tree : Tree C.Key) (commits : List (Write C.Key)) → KeepsFitting (words C.is_match C.is_consistent C.is_cover C.union_of O.may_take O.may_refuse O.is_emptied_elsewhere) tree commits self.old self.new }
+        ensures fits { (tree : Tree C.Key) (commits : List (Write C.Key)) → KeepsFitting C.rules O.rule tree commits self.old self.new }
     {
         self.outlet.take()
     }
 
     /// Offers a pending row.
     fn offer_row(&mut self, row: Row<C::Key>) -> Result<Turned, Refusal>
-        ensures { IsOffered (words C.is_match C.is_consistent C.is_cover C.union_of O.may_take O.may_refuse O.is_emptied_elsewhere) (Item.Row row) self.old result self.new }
+        ensures { IsOffered C.rules O.rule (Item.Row row) self.old result self.new }
     {
         match self.outlet.offer(Item::Row(row)) {
             Ok(()) => {
@@ -149,7 +149,7 @@ impl<C: KeyClass, O: Outlet<C::Key>> Cursor<C, O> {
         requires stack { IsStack table.now self.old.stack }
         requires none_pending { self.old.pending ≡ [] }
         requires scanning { is_scanning self.old.stack ≡ true }
-        ensures { (commits : List (Write C.Key)) → Turns (words C.is_match C.is_consistent C.is_cover C.union_of O.may_take O.may_refuse O.is_emptied_elsewhere) table.now commits self.old result self.new }
+        ensures { (commits : List (Write C.Key)) → Turns C.rules O.rule table.now commits self.old result self.new }
     {
         match self
             .stack
@@ -214,7 +214,7 @@ impl<C: KeyClass, O: Outlet<C::Key>> Cursor<C, O> {
         requires stack { IsStack table.now self.old.stack }
         requires due { IsDue table.now self.old visit }
         requires worked { visit.worked ≡ true }
-        ensures { (commits : List (Write C.Key)) → Turns (words C.is_match C.is_consistent C.is_cover C.union_of O.may_take O.may_refuse O.is_emptied_elsewhere) table.now commits self.old result self.new }
+        ensures { (commits : List (Write C.Key)) → Turns C.rules O.rule table.now commits self.old result self.new }
     {
         match self.stack.visit_prepared::<C>(table.counter(), visit) {
             Ok(visited) => {
@@ -230,7 +230,7 @@ impl<C: KeyClass, O: Outlet<C::Key>> Cursor<C, O> {
     fn follow(&mut self, changes: &ChangeList<C::Key>) -> Result<Turned, Refusal>
         requires none_pending { self.old.pending ≡ [] }
         requires scanned { self.old.stack ≡ [] }
-        ensures { (tree : Tree C.Key) → Turns (words C.is_match C.is_consistent C.is_cover C.union_of O.may_take O.may_refuse O.is_emptied_elsewhere) tree changes.now self.old result self.new }
+        ensures { (tree : Tree C.Key) → Turns C.rules O.rule tree changes.now self.old result self.new }
     {
         if self.position >= changes.len() as u64 {
             return self.offer_mark();
@@ -255,7 +255,7 @@ impl<C: KeyClass, O: Outlet<C::Key>> Cursor<C, O> {
     fn offer_mark(&mut self) -> Result<Turned, Refusal>
         requires none_pending { self.old.pending ≡ [] }
         requires scanned { self.old.stack ≡ [] }
-        ensures { (tree : Tree C.Key) (commits : List (Write C.Key)) → length commits ≤ self.old.position → Turns (words C.is_match C.is_consistent C.is_cover C.union_of O.may_take O.may_refuse O.is_emptied_elsewhere) tree commits self.old result self.new }
+        ensures { (tree : Tree C.Key) (commits : List (Write C.Key)) → length commits ≤ self.old.position → Turns C.rules O.rule tree commits self.old result self.new }
     {
         if !self.asked {
             return Err(Refusal::Idle);
@@ -277,7 +277,7 @@ impl<C: KeyClass, O: Outlet<C::Key>> Cursor<C, O> {
         changes: &ChangeList<C::Key>,
     ) -> Result<Turned, Refusal>
         requires { IsStack table.now self.old.stack }
-        ensures { Turns (words C.is_match C.is_consistent C.is_cover C.union_of O.may_take O.may_refuse O.is_emptied_elsewhere) table.now changes.now self.old result self.new }
+        ensures { Turns C.rules O.rule table.now changes.now self.old result self.new }
     {
         if let Some(row) = self.pending.front() {
             let row = *row;
@@ -302,11 +302,11 @@ impl<C: KeyClass, O: Outlet<C::Key>> Cursor<C, O> {
         changes: &ChangeList<C::Key>,
     ) -> Result<Turned, Refusal>
         requires { IsStack table.now self.old.stack }
-        ensures turns { Turns (words C.is_match C.is_consistent C.is_cover C.union_of O.may_take O.may_refuse O.is_emptied_elsewhere) table.now changes.now self.old result self.new }
+        ensures turns { Turns C.rules O.rule table.now changes.now self.old result self.new }
         ensures sends { TurnsTo changes.now self.old self.new }
-        ensures fits { (fan : ℕ) → IsSound C.is_cover fan table.now → GivesFitting (words C.is_match C.is_consistent C.is_cover C.union_of O.may_take O.may_refuse O.is_emptied_elsewhere) table.now changes.now self.old self.new }
-        ensures less_work { let w = words C.is_match C.is_consistent C.is_cover C.union_of O.may_take O.may_refuse O.is_emptied_elsewhere in OnOk result ((fan : ℕ) → IsSound C.is_cover fan table.now → tree_work w table.now changes.now self.new < tree_work w table.now changes.now self.old) }
-        ensures stack { (fan : ℕ) → IsSound C.is_cover fan table.now → IsStack table.now self.new.stack }
+        ensures fits { (fan : ℕ) → IsSound C.rules.is_cover fan table.now → GivesFitting C.rules O.rule table.now changes.now self.old self.new }
+        ensures less_work { OnOk result ((fan : ℕ) → IsSound C.rules.is_cover fan table.now → tree_work C.rules O.rule table.now changes.now self.new < tree_work C.rules O.rule table.now changes.now self.old) }
+        ensures stack { (fan : ℕ) → IsSound C.rules.is_cover fan table.now → IsStack table.now self.new.stack }
     {
         self.advance(alloc, table, changes)
     }

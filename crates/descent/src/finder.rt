@@ -72,13 +72,13 @@ impl<C: KeyClass> Finder<C> {
     pub fn seek(&mut self, table: &PageTable<C::Key>) -> Result<Sought, AllocError>
         requires stack { IsStack table.now self.old.stack }
         requires unfinished { ¬ (self.old.stack ≡ []) }
-        ensures sought { IfOk result (λ met. SeeksRow C.is_cover table.now self.old met self.new) }
+        ensures sought { IfOk result (λ met. SeeksRow C.rules.is_cover table.now self.old met self.new) }
         ensures refused { OnErr result (self.new ≡ self.old) }
         ensures refused_further { OnErr result (is_at_row table.now self.old ≡ false) }
-        ensures memory { OnErr result (PushesSome (λ bound. C.is_cover bound self.old.key) table.now self.old.stack) }
-        ensures seeking { (fan : ℕ) (commits : List (Write C.Key)) → IsSound C.is_cover fan table.now → Agrees table.now commits → IsSeeking table.now commits self.old → IsSeeking table.now commits self.new }
-        ensures stack { (fan : ℕ) → IsSound C.is_cover fan table.now → IsStack table.now self.new.stack }
-        ensures less_work { IfOk result (λ met. SeeksLess C.is_cover table.now self.old.stack met self.new.stack) }
+        ensures memory { OnErr result (PushesSome (λ bound. C.rules.is_cover bound self.old.key) table.now self.old.stack) }
+        ensures seeking { (fan : ℕ) (commits : List (Write C.Key)) → IsSound C.rules.is_cover fan table.now → Agrees table.now commits → IsSeeking table.now commits self.old → IsSeeking table.now commits self.new }
+        ensures stack { (fan : ℕ) → IsSound C.rules.is_cover fan table.now → IsStack table.now self.new.stack }
+        ensures less_work { IfOk result (λ met. SeeksLess C.rules.is_cover table.now self.old.stack met self.new.stack) }
     {
         let Some(sought) = self.stack.seek::<C>(table, self.key, self.row)? else {
             unreachable!()

@@ -1,16 +1,17 @@
 -- A visit that closes a cursor, and what it tells of a receipt.
 use Rattle.std.proofs.Common.{◌≡◌, ◌∙◌, List}
+use Rattle.key_class.specs.Rules.{Rules}
+use Rattle.mailbox.specs.Outlets.{Rule}
 use Rattle.change_list.specs.declared.write.Write.{Write}
-use Rattle.cursor.specs.OpenCursors.{Words}
 use Rattle.world.specs.States.{State}
 use Rattle.desk.specs.Receipts.{IfReceipt}
 use Rattle.desk.specs.Visits.{IsVisit}
 use Rattle.desk.specs.declared.ending.Ended.{Ended}
 use Rattle.desk.specs.declared.ending.Ended.TheVariants as ended
 
-module _ {K A : Type 0} (w : Words K A) where
+module _ {K A : Type 0} (rules : Rules K A) (rule : Rule) where
   -- a visit that does more tells less
-  pub visit_less : (P Q : State K A → State K A → Type 0) → ((old new : State K A) → P old new → Q old new) → IsVisit w P → IsVisit w Q
+  pub visit_less : (P Q : State K A → State K A → Type 0) → ((old new : State K A) → P old new → Q old new) → IsVisit rules rule P → IsVisit rules rule Q
   visit_less P Q less v = record { old = v.old; new = v.new; found = v.found; did = less v.old v.new v.did; left = v.left }
 
 -- a receipt of the commits that a view has tells those of which the view is

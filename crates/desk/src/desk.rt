@@ -6,7 +6,7 @@ ghost use Rattle.change_list.specs.Configs.{IsWithinLimits};
 ghost use Rattle.change_list.specs.declared.write.Write.TheVariants.{Insert, Delete};
 ghost use Rattle.removal.specs.Visits.{RefusesDelete};
 ghost use Rattle.world.specs.declared.event.Event.TheVariants as event;
-ghost use Rattle.world.specs.Rings.{ring_words};
+ghost use Rattle.mailbox.specs.Rings.{ring_rule};
 ghost use Rattle.world.specs.Steps.{Step, Opens};
 ghost use Rattle.desk.specs.Seats.{fresh_seat};
 ghost use Rattle.desk.specs.Visits.{Closes, CountsSearch, IsDelete, IsVisit, IsCommitted, IsSearchCommitted, IsRefusedWhere, RefusesInsert, RefusesOpening};
@@ -150,8 +150,8 @@ impl<C: KeyClass, L: Ledger> DeskOver<World<C, Ring<C::Key>>, L> {
         ensures number { IfOk result (λ s. length seat.new.stamps ≤ s.number) }
         ensures seat { seat.new.number ≡ seat.old.number }
         ensures refused { OnErr result (seat.new ≡ seat.old) }
-        ensures committed { IfOk result (IsCommitted (ring_words C.is_match C.is_consistent C.is_cover C.union_of)) }
-        ensures refusals { IfErr result (λ why. (why ≡ Refusal.OutOfMemory) ⊎ IsRefusedWhere (ring_words C.is_match C.is_consistent C.is_cover C.union_of) (λ world. RefusesInsert world why)) }
+        ensures committed { IfOk result (IsCommitted C.rules ring_rule) }
+        ensures refusals { IfErr result (λ why. (why ≡ Refusal.OutOfMemory) ⊎ IsRefusedWhere C.rules ring_rule (λ world. RefusesInsert world why)) }
     {
         if seat.stamps.try_reserve(1).is_err() {
             return Err(Refusal::OutOfMemory);
@@ -176,8 +176,8 @@ impl<C: KeyClass, L: Ledger> DeskOver<World<C, Ring<C::Key>>, L> {
         ensures share { IfOk result (λ s. (share.new.amount ≡ share.old.amount + 1) × (share.new.amount ≤ s.number)) }
         ensures parts { share.new.parts ≡ share.old.parts }
         ensures refused { OnErr result (share.new.amount ≡ share.old.amount) }
-        ensures committed { IfOk result (IsCommitted (ring_words C.is_match C.is_consistent C.is_cover C.union_of)) }
-        ensures refusals { IfErr result (λ why. (why ≡ Refusal.OutOfMemory) ⊎ IsRefusedWhere (ring_words C.is_match C.is_consistent C.is_cover C.union_of) (λ world. RefusesInsert world why)) }
+        ensures committed { IfOk result (IsCommitted C.rules ring_rule) }
+        ensures refusals { IfErr result (λ why. (why ≡ Refusal.OutOfMemory) ⊎ IsRefusedWhere C.rules ring_rule (λ world. RefusesInsert world why)) }
     {
         let alloc = self.alloc;
         let mut page = 0;
@@ -201,7 +201,7 @@ impl<C: KeyClass, L: Ledger> DeskOver<World<C, Ring<C::Key>>, L> {
     /// Splits a page on an insertion's way. The sides are worked out without the lock, while nobody else works on the page;
     /// where it was changed meanwhile, again and again, it is split in one visit.
     fn split_for<R: Wait>(&self, rt: &R, number: u32, page: u32) -> Result<(), Refusal>
-        ensures refusals { IfErr result (λ why. (why ≡ Refusal.OutOfMemory) ⊎ IsRefusedWhere (ring_words C.is_match C.is_consistent C.is_cover C.union_of) (λ world. RefusesInsert world why)) }
+        ensures refusals { IfErr result (λ why. (why ≡ Refusal.OutOfMemory) ⊎ IsRefusedWhere C.rules ring_rule (λ world. RefusesInsert world why)) }
     {
         let _latch = self.latches.of(page).lock(rt);
         for _ in 0..PUBLICATIONS {
@@ -234,8 +234,8 @@ impl<C: KeyClass, L: Ledger> DeskOver<World<C, Ring<C::Key>>, L> {
         ensures number { IfOk result (λ s. length seat.new.stamps ≤ s.number) }
         ensures seat { seat.new.number ≡ seat.old.number }
         ensures refused { OnErr result (seat.new ≡ seat.old) }
-        ensures committed { IfOk result (IsCommitted (ring_words C.is_match C.is_consistent C.is_cover C.union_of)) }
-        ensures refusals { IfErr result (λ why. (why ≡ Refusal.OutOfMemory) ⊎ IsRefusedWhere (ring_words C.is_match C.is_consistent C.is_cover C.union_of) (λ world. RefusesDelete world row why)) }
+        ensures committed { IfOk result (IsCommitted C.rules ring_rule) }
+        ensures refusals { IfErr result (λ why. (why ≡ Refusal.OutOfMemory) ⊎ IsRefusedWhere C.rules ring_rule (λ world. RefusesDelete world row why)) }
     {
         if seat.stamps.try_reserve(1).is_err() {
             return Err(Refusal::OutOfMemory);
@@ -259,8 +259,8 @@ impl<C: KeyClass, L: Ledger> DeskOver<World<C, Ring<C::Key>>, L> {
         ensures share { IfOk result (λ s. (share.new.amount ≡ share.old.amount + 1) × (share.new.amount ≤ s.number)) }
         ensures parts { share.new.parts ≡ share.old.parts }
         ensures refused { OnErr result (share.new.amount ≡ share.old.amount) }
-        ensures committed { IfOk result (IsCommitted (ring_words C.is_match C.is_consistent C.is_cover C.union_of)) }
-        ensures refusals { IfErr result (λ why. (why ≡ Refusal.OutOfMemory) ⊎ IsRefusedWhere (ring_words C.is_match C.is_consistent C.is_cover C.union_of) (λ world. RefusesDelete world row why)) }
+        ensures committed { IfOk result (IsCommitted C.rules ring_rule) }
+        ensures refusals { IfErr result (λ why. (why ≡ Refusal.OutOfMemory) ⊎ IsRefusedWhere C.rules ring_rule (λ world. RefusesDelete world row why)) }
     {
         let mut finder = self.find_for(rt, row)?;
         for _ in rt.forever() {
@@ -276,7 +276,7 @@ impl<C: KeyClass, L: Ledger> DeskOver<World<C, Ring<C::Key>>, L> {
 
     /// A finder of a row; its serial.
     fn find_for<R: Wait>(&self, rt: &R, row: u64) -> Result<u64, Refusal>
-        ensures refusals { IfErr result (λ why. IsRefusedWhere (ring_words C.is_match C.is_consistent C.is_cover C.union_of) (λ world. RefusesDelete world row why)) }
+        ensures refusals { IfErr result (λ why. IsRefusedWhere C.rules ring_rule (λ world. RefusesDelete world row why)) }
     {
         self.locked.lock(rt).find(row)
     }
@@ -295,8 +295,8 @@ impl<C: KeyClass, L: Ledger> DeskOver<World<C, Ring<C::Key>>, L> {
         ensures share { IfOk result (λ search. CountsSearch share.old.amount search share.new.amount) }
         ensures parts { share.new.parts ≡ share.old.parts }
         ensures refused { OnErr result (share.new.amount ≡ share.old.amount) }
-        ensures committed { IfOk result (λ search. IsSearchCommitted (ring_words C.is_match C.is_consistent C.is_cover C.union_of) search) }
-        ensures refusals { IfErr result (λ why. IsRefusedWhere (ring_words C.is_match C.is_consistent C.is_cover C.union_of) (λ world. RefusesDelete world row why)) }
+        ensures committed { IfOk result (λ search. IsSearchCommitted C.rules ring_rule search) }
+        ensures refusals { IfErr result (λ why. IsRefusedWhere C.rules ring_rule (λ world. RefusesDelete world row why)) }
     {
         let search = self.locked.lock(rt).seek(number, share, finder, row);
         if search.is_err() {
@@ -321,8 +321,8 @@ impl<C: KeyClass, L: Ledger> DeskOver<World<C, Ring<C::Key>>, L> {
         ensures query { IfOk result (λ t. t.query ≡ query_of query) }
         ensures opened { IfOk result (λ t. length seat.old.stamps ≤ t.opened) }
         ensures taken { IfOk result (λ t. t.taken ≡ []) }
-        ensures opens { IfOk result (λ t. IsVisit (ring_words C.is_match C.is_consistent C.is_cover C.union_of) (λ old new. (t.opened ≡ length old.commits) × Opens old query room t.cursor new)) }
-        ensures refusals { IfErr result (λ why. (why ≡ Refusal.OutOfMemory) ⊎ IsRefusedWhere (ring_words C.is_match C.is_consistent C.is_cover C.union_of) (λ world. RefusesOpening world query room why)) }
+        ensures opens { IfOk result (λ t. IsVisit C.rules ring_rule (λ old new. (t.opened ≡ length old.commits) × Opens old query room t.cursor new)) }
+        ensures refusals { IfErr result (λ why. (why ≡ Refusal.OutOfMemory) ⊎ IsRefusedWhere C.rules ring_rule (λ world. RefusesOpening world query room why)) }
     {
         let Ok(copy) = query.copy(self.alloc) else {
             return Err(Refusal::OutOfMemory);
@@ -341,7 +341,7 @@ impl<C: KeyClass, L: Ledger> DeskOver<World<C, Ring<C::Key>>, L> {
     /// # Errors
     /// `NoSuchCursor`, `CursorClosed`, `NoRoom` where its ring is full, `Idle`, or want of memory, as a reply.
     pub fn turn<R: Wait>(&self, rt: &R, cursor: u64) -> Reply<C, Ring<C::Key>>
-        ensures visit { IsVisit (ring_words C.is_match C.is_consistent C.is_cover C.union_of) (λ old new. Step (ring_words C.is_match C.is_consistent C.is_cover C.union_of) 0 old (event.Turn cursor) result new) }
+        ensures visit { IsVisit C.rules ring_rule (λ old new. Step C.rules ring_rule 0 old (event.Turn cursor) result new) }
     {
         let turned = self.locked.lock(rt).turn_unless_visit(cursor);
         let page = match turned {
@@ -357,7 +357,7 @@ impl<C: KeyClass, L: Ledger> DeskOver<World<C, Ring<C::Key>>, L> {
     /// A turn that visits a page. None where its next turn is no visit any more, or where what it reads was changed again
     /// and again.
     fn visit_for<R: Wait>(&self, rt: &R, cursor: u64, page: u32) -> Option<Reply<C, Ring<C::Key>>>
-        ensures visit { IfSome result (λ reply. IsVisit (ring_words C.is_match C.is_consistent C.is_cover C.union_of) (λ old new. Step (ring_words C.is_match C.is_consistent C.is_cover C.union_of) 0 old (event.Turn cursor) reply new)) }
+        ensures visit { IfSome result (λ reply. IsVisit C.rules ring_rule (λ old new. Step C.rules ring_rule 0 old (event.Turn cursor) reply new)) }
     {
         let _latch = self.latches.of(page).lock(rt);
         for _ in 0..PUBLICATIONS {
@@ -385,7 +385,7 @@ impl<C: KeyClass, L: Ledger> DeskOver<World<C, Ring<C::Key>>, L> {
         task: VisitTask<C>,
     ) -> Option<Reply<C, Ring<C::Key>>>
         requires { task.cursor ≡ cursor }
-        ensures { IfSome result (λ reply. IsVisit (ring_words C.is_match C.is_consistent C.is_cover C.union_of) (λ old new. Step (ring_words C.is_match C.is_consistent C.is_cover C.union_of) 0 old (event.Turn cursor) reply new)) }
+        ensures { IfSome result (λ reply. IsVisit C.rules ring_rule (λ old new. Step C.rules ring_rule 0 old (event.Turn cursor) reply new)) }
     {
         let turned = self.locked.lock(rt).turn_prepared(cursor, task);
         match turned {
@@ -399,7 +399,7 @@ impl<C: KeyClass, L: Ledger> DeskOver<World<C, Ring<C::Key>>, L> {
     /// # Errors
     /// `NoSuchCursor` or `CursorClosed`, as a reply.
     pub fn ask_mark<R: Wait>(&self, rt: &R, cursor: u64) -> Reply<C, Ring<C::Key>>
-        ensures visit { IsVisit (ring_words C.is_match C.is_consistent C.is_cover C.union_of) (λ old new. Step (ring_words C.is_match C.is_consistent C.is_cover C.union_of) 0 old (event.AskMark cursor) result new) }
+        ensures visit { IsVisit C.rules ring_rule (λ old new. Step C.rules ring_rule 0 old (event.AskMark cursor) result new) }
     {
         self.locked.lock(rt).ask_mark(cursor)
     }
@@ -409,13 +409,13 @@ impl<C: KeyClass, L: Ledger> DeskOver<World<C, Ring<C::Key>>, L> {
     /// # Errors
     /// `NotHere` where there is no such leaf, or want of memory, as a reply.
     pub fn sweep<R: Wait>(&self, rt: &R, leaf: u64) -> Reply<C, Ring<C::Key>>
-        ensures visit { IsVisit (ring_words C.is_match C.is_consistent C.is_cover C.union_of) (λ old new. Step (ring_words C.is_match C.is_consistent C.is_cover C.union_of) 0 old (event.Sweep leaf) result new) }
+        ensures visit { IsVisit C.rules ring_rule (λ old new. Step C.rules ring_rule 0 old (event.Sweep leaf) result new) }
     {
         self.locked.lock(rt).sweep(leaf)
     }
     /// Closes a cursor.
     pub(crate) fn close_cursor<R: Wait>(&self, rt: &R, cursor: u64) -> Reply<C, Ring<C::Key>>
-        ensures visit { IsVisit (ring_words C.is_match C.is_consistent C.is_cover C.union_of) (λ old new. Step (ring_words C.is_match C.is_consistent C.is_cover C.union_of) 0 old (event.Close cursor) result new) }
+        ensures visit { IsVisit C.rules ring_rule (λ old new. Step C.rules ring_rule 0 old (event.Close cursor) result new) }
     {
         self.locked.lock(rt).close(cursor)
     }
@@ -428,7 +428,7 @@ impl<C: KeyClass, L: Ledger> DeskOver<World<C, Ring<C::Key>>, L> {
         cursor: u64,
     ) -> Option<View<C::Key>>
         ensures seat { seat.new ≡ seat.old }
-        ensures visit { IsVisit (ring_words C.is_match C.is_consistent C.is_cover C.union_of) (λ old new. IfSome result (λ view. view ≡ old.commits) × Closes (ring_words C.is_match C.is_consistent C.is_cover C.union_of) C old cursor new) }
+        ensures visit { IsVisit C.rules ring_rule (λ old new. IfSome result (λ view. view ≡ old.commits) × Closes C.rules ring_rule C old cursor new) }
         ensures share { IfSome result (λ view. length seat.old.stamps ≤ length view) }
     {
         self.locked

@@ -37,7 +37,7 @@ pub(crate) fn checked<C: KeyClass, L: Ledger>(
     ensures list { IfReceipt result (λ r. r.commits ≡ commits) }
     ensures legal { IfReceipt result (λ r. IsLegal r.commits) }
     ensures stamps { IfReceipt result (λ r. SeatStands r.commits seat.now) }
-    ensures taken { IfReceipt result (λ r. IsDelivered (matches_query C.is_match (query_of query.now)) opened r.commits taken.now) }
+    ensures taken { IfReceipt result (λ r. IsDelivered (matches_query C.rules.is_match (query_of query.now)) opened r.commits taken.now) }
 {
     let _count = commits.len();
     if !seat_stands(&commits, seat) {

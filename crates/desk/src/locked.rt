@@ -2,7 +2,7 @@
 ghost use Rattle.std.specs.Prelude.{ℕ, ◌≡◌, ◌↔◌, ◌<◌, ◌≤◌, ◌+◌, [], length, Err, IfSome, IfNone, IfOk, IfErr, OnOk, OnErr};
 ghost use Rattle.rtrb.specs.Ring.{received};
 ghost use Rattle.world.specs.declared.event.Event.TheVariants as event;
-ghost use Rattle.world.specs.Rings.{ring_words};
+ghost use Rattle.mailbox.specs.Rings.{ring_rule};
 ghost use Rattle.world.specs.Steps.{Step, Opens};
 ghost use Rattle.insertion.specs.Visits.{Goes};
 ghost use Rattle.removal.specs.Deleting.{Looks};
@@ -31,12 +31,12 @@ pub trait Guarded: Drop {
 
 impl<C: KeyClass> Guarded for World<C, Ring<C::Key>> {
     ghost use Rattle.std.specs.Prelude.{length};
-    ghost use Rattle.world.specs.Rings.{ring_words};
+    ghost use Rattle.mailbox.specs.Rings.{ring_rule};
     ghost use Rattle.desk.specs.Visits.{IsHeld};
 
     ghost commits_of = { λ world. length world.commits };
 
-    ghost is_held = { λ world. IsHeld (ring_words C.is_match C.is_consistent C.is_cover C.union_of) world };
+    ghost is_held = { λ world. IsHeld C.rules ring_rule world };
 }
 
 /// The world, beside the book of all shares.
@@ -68,7 +68,7 @@ impl<C: KeyClass, L: Ledger> Locked<World<C, Ring<C::Key>>, L> {
 
     /// The book of all shares. The clauses state what stands under the lock before and after each visit.
     pub fn book(&self) -> &Book<L>
-        ensures held { IsHeld (ring_words C.is_match C.is_consistent C.is_cover C.union_of) self.now }
+        ensures held { IsHeld C.rules ring_rule self.now }
         ensures total { result.now.total ≡ length self.now.commits }
     {
         &self.book
@@ -95,12 +95,12 @@ impl<C: KeyClass, L: Ledger> Locked<World<C, Ring<C::Key>>, L> {
         ensures goes { IfOk result (λ way. Goes self.old seat key tag way self.new) }
         ensures share { IfOk result (λ way. Counts share.old.amount way share.new.amount) }
         ensures parts { share.new.parts ≡ share.old.parts }
-        ensures one_event { MakesOneEvent (ring_words C.is_match C.is_consistent C.is_cover C.union_of) C seat self.old self.new }
-        ensures held { IsHeld (ring_words C.is_match C.is_consistent C.is_cover C.union_of) self.old × IsHeld (ring_words C.is_match C.is_consistent C.is_cover C.union_of) self.new }
+        ensures one_event { MakesOneEvent C.rules ring_rule C seat self.old self.new }
+        ensures held { IsHeld C.rules ring_rule self.old × IsHeld C.rules ring_rule self.new }
         ensures unchanged { OnErr result ((self.new ≡ self.old) × (share.new.amount ≡ share.old.amount)) }
         ensures full { (result ≡ Err Refusal.CommitsFull) ↔ (self.old.limit ≤ length self.old.commits) }
-        ensures committed { IfOk result (λ way. IsWayCommitted (ring_words C.is_match C.is_consistent C.is_cover C.union_of) way) }
-        ensures refusals { IfErr result (λ why. IsRefusedWhere (ring_words C.is_match C.is_consistent C.is_cover C.union_of) (λ world. RefusesInsert world why)) }
+        ensures committed { IfOk result (λ way. IsWayCommitted C.rules ring_rule way) }
+        ensures refusals { IfErr result (λ why. IsRefusedWhere C.rules ring_rule (λ world. RefusesInsert world why)) }
     {
         let Locked { world, book } = self;
         match insert_step(alloc, world, seat, page, key, tag)? {
@@ -127,22 +127,22 @@ impl<C: KeyClass, L: Ledger> Locked<World<C, Ring<C::Key>>, L> {
 
     /// Splits a page by a task; whether the task came in time.
     pub(crate) fn split_prepared(&mut self, seat: u32, task: SplitTask<C>) -> Result<bool, Refusal>
-        ensures splits { IfOk result (λ made. IsSplitInTime (ring_words C.is_match C.is_consistent C.is_cover C.union_of) C seat self.old task made self.new) }
+        ensures splits { IfOk result (λ made. IsSplitInTime C.rules ring_rule C seat self.old task made self.new) }
         ensures commits { self.new.commits ≡ self.old.commits }
-        ensures held { IsHeld (ring_words C.is_match C.is_consistent C.is_cover C.union_of) self.old × IsHeld (ring_words C.is_match C.is_consistent C.is_cover C.union_of) self.new }
+        ensures held { IsHeld C.rules ring_rule self.old × IsHeld C.rules ring_rule self.new }
         ensures unchanged { OnErr result (self.new ≡ self.old) }
-        ensures refusals { IfErr result (λ why. IsRefusedWhere (ring_words C.is_match C.is_consistent C.is_cover C.union_of) (λ world. RefusesInsert world why)) }
+        ensures refusals { IfErr result (λ why. IsRefusedWhere C.rules ring_rule (λ world. RefusesInsert world why)) }
     {
         split_prepared(&mut self.world, seat, task)
     }
 
     /// Splits a page in this one visit.
     pub(crate) fn split_at_once(&mut self, seat: u32, page: u32) -> Result<(), Refusal>
-        ensures splits { IsSplitAtMost (ring_words C.is_match C.is_consistent C.is_cover C.union_of) C seat self.old page self.new }
+        ensures splits { IsSplitAtMost C.rules ring_rule C seat self.old page self.new }
         ensures commits { self.new.commits ≡ self.old.commits }
-        ensures held { IsHeld (ring_words C.is_match C.is_consistent C.is_cover C.union_of) self.old × IsHeld (ring_words C.is_match C.is_consistent C.is_cover C.union_of) self.new }
+        ensures held { IsHeld C.rules ring_rule self.old × IsHeld C.rules ring_rule self.new }
         ensures unchanged { OnErr result (self.new ≡ self.old) }
-        ensures refusals { IfErr result (λ why. IsRefusedWhere (ring_words C.is_match C.is_consistent C.is_cover C.union_of) (λ world. RefusesInsert world why)) }
+        ensures refusals { IfErr result (λ why. IsRefusedWhere C.rules ring_rule (λ world. RefusesInsert world why)) }
     {
         split_at_once(&mut self.world, seat, page)
     }
@@ -151,10 +151,10 @@ impl<C: KeyClass, L: Ledger> Locked<World<C, Ring<C::Key>>, L> {
     pub(crate) fn find(&mut self, row: u64) -> Result<u64, Refusal>
         ensures looks { OnOk result (Looks self.old row self.new) }
         ensures serial { IfOk result (λ finder. finder ≡ self.old.last_finder + 1) }
-        ensures one_event { MakesOneEvent (ring_words C.is_match C.is_consistent C.is_cover C.union_of) C 0 self.old self.new }
-        ensures held { IsHeld (ring_words C.is_match C.is_consistent C.is_cover C.union_of) self.old × IsHeld (ring_words C.is_match C.is_consistent C.is_cover C.union_of) self.new }
+        ensures one_event { MakesOneEvent C.rules ring_rule C 0 self.old self.new }
+        ensures held { IsHeld C.rules ring_rule self.old × IsHeld C.rules ring_rule self.new }
         ensures unchanged { OnErr result (self.new ≡ self.old) }
-        ensures refusals { IfErr result (λ why. IsRefusedWhere (ring_words C.is_match C.is_consistent C.is_cover C.union_of) (λ world. RefusesDelete world row why)) }
+        ensures refusals { IfErr result (λ why. IsRefusedWhere C.rules ring_rule (λ world. RefusesDelete world row why)) }
     {
         find_row(&mut self.world, row)
     }
@@ -171,11 +171,11 @@ impl<C: KeyClass, L: Ledger> Locked<World<C, Ring<C::Key>>, L> {
         ensures seeks { IfOk result (λ search. Seeks self.old seat row search self.new) }
         ensures share { IfOk result (λ search. CountsSearch share.old.amount search share.new.amount) }
         ensures parts { share.new.parts ≡ share.old.parts }
-        ensures one_event { MakesOneEvent (ring_words C.is_match C.is_consistent C.is_cover C.union_of) C seat self.old self.new }
-        ensures held { IsHeld (ring_words C.is_match C.is_consistent C.is_cover C.union_of) self.old × IsHeld (ring_words C.is_match C.is_consistent C.is_cover C.union_of) self.new }
+        ensures one_event { MakesOneEvent C.rules ring_rule C seat self.old self.new }
+        ensures held { IsHeld C.rules ring_rule self.old × IsHeld C.rules ring_rule self.new }
         ensures unchanged { OnErr result ((self.new ≡ self.old) × (share.new.amount ≡ share.old.amount)) }
-        ensures committed { IfOk result (λ search. IsSearchCommitted (ring_words C.is_match C.is_consistent C.is_cover C.union_of) search) }
-        ensures refusals { IfErr result (λ why. IsRefusedWhere (ring_words C.is_match C.is_consistent C.is_cover C.union_of) (λ world. RefusesDelete world row why)) }
+        ensures committed { IfOk result (λ search. IsSearchCommitted C.rules ring_rule search) }
+        ensures refusals { IfErr result (λ why. IsRefusedWhere C.rules ring_rule (λ world. RefusesDelete world row why)) }
     {
         let Locked { world, book } = self;
         match seek_row(world, seat, finder, row)? {
@@ -191,8 +191,8 @@ impl<C: KeyClass, L: Ledger> Locked<World<C, Ring<C::Key>>, L> {
 
     /// Ends a finder.
     pub(crate) fn unfind(&mut self, finder: u64) -> Reply<C, Ring<C::Key>>
-        ensures step { Step (ring_words C.is_match C.is_consistent C.is_cover C.union_of) 0 self.old (event.Unfind finder) result self.new }
-        ensures held { IsHeld (ring_words C.is_match C.is_consistent C.is_cover C.union_of) self.old × IsHeld (ring_words C.is_match C.is_consistent C.is_cover C.union_of) self.new }
+        ensures step { Step C.rules ring_rule 0 self.old (event.Unfind finder) result self.new }
+        ensures held { IsHeld C.rules ring_rule self.old × IsHeld C.rules ring_rule self.new }
     {
         self.world.step(Event::Unfind(finder))
     }
@@ -208,10 +208,10 @@ impl<C: KeyClass, L: Ledger> Locked<World<C, Ring<C::Key>>, L> {
         ensures opened { IfOk result (λ made. (made.1 ≡ length self.old.commits) × (share.new.amount ≤ made.1)) }
         ensures fresh { IfOk result (λ made. received made.2 ≡ []) }
         ensures share { (share.new.amount ≡ share.old.amount) × (share.new.parts ≡ share.old.parts) }
-        ensures one_event { MakesOneEvent (ring_words C.is_match C.is_consistent C.is_cover C.union_of) C 0 self.old self.new }
-        ensures held { IsHeld (ring_words C.is_match C.is_consistent C.is_cover C.union_of) self.old × IsHeld (ring_words C.is_match C.is_consistent C.is_cover C.union_of) self.new }
+        ensures one_event { MakesOneEvent C.rules ring_rule C 0 self.old self.new }
+        ensures held { IsHeld C.rules ring_rule self.old × IsHeld C.rules ring_rule self.new }
         ensures unchanged { OnErr result (self.new ≡ self.old) }
-        ensures refusals { IfErr result (λ why. IsRefusedWhere (ring_words C.is_match C.is_consistent C.is_cover C.union_of) (λ world. RefusesOpening world query room why)) }
+        ensures refusals { IfErr result (λ why. IsRefusedWhere C.rules ring_rule (λ world. RefusesOpening world query room why)) }
     {
         let Locked { world, book } = self;
         book.audit(share);
@@ -225,17 +225,17 @@ impl<C: KeyClass, L: Ledger> Locked<World<C, Ring<C::Key>>, L> {
 
     /// A cursor's turn.
     pub(crate) fn turn(&mut self, cursor: u64) -> Reply<C, Ring<C::Key>>
-        ensures step { Step (ring_words C.is_match C.is_consistent C.is_cover C.union_of) 0 self.old (event.Turn cursor) result self.new }
-        ensures held { IsHeld (ring_words C.is_match C.is_consistent C.is_cover C.union_of) self.old × IsHeld (ring_words C.is_match C.is_consistent C.is_cover C.union_of) self.new }
+        ensures step { Step C.rules ring_rule 0 self.old (event.Turn cursor) result self.new }
+        ensures held { IsHeld C.rules ring_rule self.old × IsHeld C.rules ring_rule self.new }
     {
         self.world.step(Event::Turn(cursor))
     }
 
     /// A cursor's turn, where it visits no page. Else the number of the page; nothing is done then.
     pub(crate) fn turn_unless_visit(&mut self, cursor: u64) -> Result<Reply<C, Ring<C::Key>>, u32>
-        ensures step { IfOk result (λ reply. Step (ring_words C.is_match C.is_consistent C.is_cover C.union_of) 0 self.old (event.Turn cursor) reply self.new) }
+        ensures step { IfOk result (λ reply. Step C.rules ring_rule 0 self.old (event.Turn cursor) reply self.new) }
         ensures unchanged { OnErr result (self.new ≡ self.old) }
-        ensures held { IsHeld (ring_words C.is_match C.is_consistent C.is_cover C.union_of) self.old × IsHeld (ring_words C.is_match C.is_consistent C.is_cover C.union_of) self.new }
+        ensures held { IsHeld C.rules ring_rule self.old × IsHeld C.rules ring_rule self.new }
     {
         match self.world.prepare_visit(cursor) {
             Ok(task) => return Err(task.page()),
@@ -257,9 +257,9 @@ impl<C: KeyClass, L: Ledger> Locked<World<C, Ring<C::Key>>, L> {
         task: VisitTask<C>,
     ) -> Option<Reply<C, Ring<C::Key>>>
         requires { task.cursor ≡ cursor }
-        ensures step { IfSome result (λ reply. Step (ring_words C.is_match C.is_consistent C.is_cover C.union_of) 0 self.old (event.Turn cursor) reply self.new) }
+        ensures step { IfSome result (λ reply. Step C.rules ring_rule 0 self.old (event.Turn cursor) reply self.new) }
         ensures late { IfNone result (self.new ≡ self.old) }
-        ensures held { IsHeld (ring_words C.is_match C.is_consistent C.is_cover C.union_of) self.old × IsHeld (ring_words C.is_match C.is_consistent C.is_cover C.union_of) self.new }
+        ensures held { IsHeld C.rules ring_rule self.old × IsHeld C.rules ring_rule self.new }
     {
         match self.world.publish_visit(0, task) {
             Reply::Refused(Refusal::NotHere) => None,
@@ -269,24 +269,24 @@ impl<C: KeyClass, L: Ledger> Locked<World<C, Ring<C::Key>>, L> {
 
     /// Asks a cursor for a mark.
     pub(crate) fn ask_mark(&mut self, cursor: u64) -> Reply<C, Ring<C::Key>>
-        ensures step { Step (ring_words C.is_match C.is_consistent C.is_cover C.union_of) 0 self.old (event.AskMark cursor) result self.new }
-        ensures held { IsHeld (ring_words C.is_match C.is_consistent C.is_cover C.union_of) self.old × IsHeld (ring_words C.is_match C.is_consistent C.is_cover C.union_of) self.new }
+        ensures step { Step C.rules ring_rule 0 self.old (event.AskMark cursor) result self.new }
+        ensures held { IsHeld C.rules ring_rule self.old × IsHeld C.rules ring_rule self.new }
     {
         self.world.step(Event::AskMark(cursor))
     }
 
     /// Sweeps a leaf.
     pub(crate) fn sweep(&mut self, leaf: u64) -> Reply<C, Ring<C::Key>>
-        ensures step { Step (ring_words C.is_match C.is_consistent C.is_cover C.union_of) 0 self.old (event.Sweep leaf) result self.new }
-        ensures held { IsHeld (ring_words C.is_match C.is_consistent C.is_cover C.union_of) self.old × IsHeld (ring_words C.is_match C.is_consistent C.is_cover C.union_of) self.new }
+        ensures step { Step C.rules ring_rule 0 self.old (event.Sweep leaf) result self.new }
+        ensures held { IsHeld C.rules ring_rule self.old × IsHeld C.rules ring_rule self.new }
     {
         self.world.step(Event::Sweep(leaf))
     }
 
     /// Closes a cursor.
     pub(crate) fn close(&mut self, cursor: u64) -> Reply<C, Ring<C::Key>>
-        ensures step { Step (ring_words C.is_match C.is_consistent C.is_cover C.union_of) 0 self.old (event.Close cursor) result self.new }
-        ensures held { IsHeld (ring_words C.is_match C.is_consistent C.is_cover C.union_of) self.old × IsHeld (ring_words C.is_match C.is_consistent C.is_cover C.union_of) self.new }
+        ensures step { Step C.rules ring_rule 0 self.old (event.Close cursor) result self.new }
+        ensures held { IsHeld C.rules ring_rule self.old × IsHeld C.rules ring_rule self.new }
     {
         self.world.step(Event::Close(cursor))
     }
@@ -298,11 +298,11 @@ impl<C: KeyClass, L: Ledger> Locked<World<C, Ring<C::Key>>, L> {
         share: &mut Share<L>,
         cursor: u64,
     ) -> Option<View<C::Key>>
-        ensures closed { Closes (ring_words C.is_match C.is_consistent C.is_cover C.union_of) C self.old cursor self.new }
+        ensures closed { Closes C.rules ring_rule C self.old cursor self.new }
         ensures view { IfSome result (λ view. view ≡ self.old.commits) }
         ensures number { share.new.amount ≤ length self.old.commits }
         ensures share { (share.new.amount ≡ share.old.amount) × (share.new.parts ≡ share.old.parts) }
-        ensures held { IsHeld (ring_words C.is_match C.is_consistent C.is_cover C.union_of) self.old × IsHeld (ring_words C.is_match C.is_consistent C.is_cover C.union_of) self.new }
+        ensures held { IsHeld C.rules ring_rule self.old × IsHeld C.rules ring_rule self.new }
     {
         let Locked { world, book } = self;
         book.audit(share);

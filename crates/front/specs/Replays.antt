@@ -1,12 +1,12 @@
 -- Which texts answer which event lines, and what becomes of the world.
 use Rattle.std.specs.Prelude.{◌≡◌, ℕ, List, [], ◌∷◌, Result, Ok, Err, ◌⊎◌}
+use Rattle.key_class.specs.Rules.{Rules}
 use Rattle.key_class.specs.declared.refusal.Refusal.{Refusal}
 use Rattle.key_class.specs.declared.refusal.Refusal.TheVariants as refusal
 use Rattle.key_class.specs.declared.sides.Rel.{Rel}
-use Rattle.mailbox.specs.Outlets.{Tray}
+use Rattle.mailbox.specs.Outlets.{Tray, Rule}
 use Rattle.query_text.specs.Tokens.{Placed}
 use Rattle.query_text.specs.Keys.{Reading}
-use Rattle.cursor.specs.OpenCursors.{Words}
 use Rattle.world.specs.States.{State}
 use Rattle.world.specs.Steps.{Step}
 use Rattle.world.specs.declared.event.Event.{Event}
@@ -21,12 +21,12 @@ abbrev pub TrayReply : Type 0 → Type 0 → Type 0 → Type 0
 TrayReply C K A = Reply C (Tray K) K A Unit
 
 -- C: the class
-module _ (C : Type 0) {K A : Type 0} (key_at : ℕ → List Placed → Reading K) (atom_of : Rel → K → A) (key_text : K → List ℕ) (w : Words K A) where
+module _ (C : Type 0) {K A : Type 0} (key_at : ℕ → List Placed → Reading K) (atom_of : Rel → K → A) (key_text : K → List ℕ) (rules : Rules K A) (rule : Rule) where
   -- What a line of so many bytes asks is answered so: the event is one step of the world, with this reply; or there is
   -- no event, and nothing changes.
   abbrev pub RepliesTo : ℕ → State K A → Asked C K A → TrayReply C K A → State K A → Type 0
   RepliesTo len old asked said new =
-      ((event : Event C K A) × IsEvent key_at atom_of len asked event × Step w 0 old event said new)
+      ((event : Event C K A) × IsEvent key_at atom_of len asked event × Step rules rule 0 old event said new)
       ⊎ ((why : Refusal) × IsNoEvent key_at atom_of len asked why × (said ≡ reply.Refused why) × (new ≡ old))
 
   -- what is asked is answered by the line of its reply; a fault of the line is refused at its place

@@ -1,9 +1,9 @@
 //! Events of a world from lines.
 ghost use Rattle.std.specs.Prelude.{◌≡◌, length, map, IfOk, IfErr, OnOk, Err, ◌⊎◌};
 ghost use Rattle.std.specs.Io.KnownBytes.{IsAtEnd};
+ghost use Rattle.mailbox.specs.Outlets.{tray_rule};
 ghost use Rattle.front.specs.EventLines.{side_of, asked_of, IsEvent, IsNoEvent};
 ghost use Rattle.front.specs.Replays.{RepliesTo, AnswersTokens};
-ghost use Rattle.world.specs.Trays.{tray_words};
 ghost use Rattle.front.specs.Conversations.{AnsweredAll, AnsweredWhole, AnsweredFirst};
 
 use crate::answers::{Gathered, gather_refusal};
@@ -83,7 +83,7 @@ fn carry_out<C: ClassText>(
     text: &[u8],
     request: EventRequest<'_, C::Key>,
 ) -> Reply<C, Tray<C::Key>>
-    ensures { RepliesTo C C.key_at C.atom_of C.key_text (tray_words C.is_match C.is_consistent C.is_cover C.union_of) (length text.now) world.old (asked_of text.now request.entry) result world.new }
+    ensures { RepliesTo C C.key_at C.atom_of C.key_text C.rules tray_rule (length text.now) world.old (asked_of text.now request.entry) result world.new }
 {
     match event_of::<C>(alloc, text, request) {
         Ok(event) => world.step(event),
@@ -92,7 +92,7 @@ fn carry_out<C: ClassText>(
 }
 
 impl<C: ClassText> Responder for World<C, Tray<C::Key>> {
-    ghost answers = { λ len old ts text new. AnswersTokens C C.key_at C.atom_of C.key_text (tray_words C.is_match C.is_consistent C.is_cover C.union_of) len old ts text new };
+    ghost answers = { λ len old ts text new. AnswersTokens C C.key_at C.atom_of C.key_text C.rules tray_rule len old ts text new };
 
     fn answer<W: Write>(
         &mut self,
@@ -131,9 +131,9 @@ pub fn replay<C: ClassText, R: Read, W: Write>(
     writer: &mut W,
     world: &mut World<C, Tray<C::Key>>,
 ) -> Result<(), Fault>
-    ensures ok { OnOk result (IsAtEnd (R.remaining reader.new) × AnsweredAll (AnswersTokens C C.key_at C.atom_of C.key_text (tray_words C.is_match C.is_consistent C.is_cover C.union_of)) (R.remaining reader.old) (R.remaining reader.new) (W.contents writer.old) (W.contents writer.new) world.old world.new) }
-    ensures read { result ≡ Err Fault.Read → AnsweredWhole (AnswersTokens C C.key_at C.atom_of C.key_text (tray_words C.is_match C.is_consistent C.is_cover C.union_of)) (R.remaining reader.old) (R.remaining reader.new) (W.contents writer.old) (W.contents writer.new) world.old world.new }
-    ensures write { result ≡ Err Fault.Write → AnsweredFirst (AnswersTokens C C.key_at C.atom_of C.key_text (tray_words C.is_match C.is_consistent C.is_cover C.union_of)) (R.remaining reader.old) (R.remaining reader.new) (W.contents writer.old) (W.contents writer.new) world.old world.new }
+    ensures ok { OnOk result (IsAtEnd (R.remaining reader.new) × AnsweredAll (AnswersTokens C C.key_at C.atom_of C.key_text C.rules tray_rule) (R.remaining reader.old) (R.remaining reader.new) (W.contents writer.old) (W.contents writer.new) world.old world.new) }
+    ensures read { result ≡ Err Fault.Read → AnsweredWhole (AnswersTokens C C.key_at C.atom_of C.key_text C.rules tray_rule) (R.remaining reader.old) (R.remaining reader.new) (W.contents writer.old) (W.contents writer.new) world.old world.new }
+    ensures write { result ≡ Err Fault.Write → AnsweredFirst (AnswersTokens C C.key_at C.atom_of C.key_text C.rules tray_rule) (R.remaining reader.old) (R.remaining reader.new) (W.contents writer.old) (W.contents writer.new) world.old world.new }
     ensures memory { result ≡ Err Fault.OutOfMemory → (reader.new ≡ reader.old) × (writer.new ≡ writer.old) × (world.new ≡ world.old) }
     ensures faults { IfErr result (λ e. (e ≡ Fault.OutOfMemory) ⊎ (e ≡ Fault.Read) ⊎ (e ≡ Fault.Write)) }
 {

@@ -29,7 +29,7 @@ fn open_query<C: ClassText>(
     room: u64,
     lexemes: &[Lexeme],
 ) -> Reply<C::Key>
-    ensures { (told : Told C.Key C.Atom) → IsAsTold C.is_match store.old told → (after : Told C.Key C.Atom) × WithQuery C.key_at C.atom_of (length text.now) (placed text.now lexemes.now) (λ q. RepliesOpen told room q result after) told result after × IsAsTold C.is_match store.new after }
+    ensures { (told : Told C.Key C.Atom) → IsAsTold C.rules.is_match store.old told → (after : Told C.Key C.Atom) × WithQuery C.key_at C.atom_of (length text.now) (placed text.now lexemes.now) (λ q. RepliesOpen told room q result after) told result after × IsAsTold C.rules.is_match store.new after }
 {
     match parse_tokens::<C>(alloc, text, lexemes) {
         Ok(query) => open(store, room, query),
@@ -44,7 +44,7 @@ fn find_query<C: ClassText>(
     text: &[u8],
     lexemes: &[Lexeme],
 ) -> Reply<C::Key>
-    ensures { (told : Told C.Key C.Atom) → IsAsTold C.is_match store.old told → (after : Told C.Key C.Atom) × WithQuery C.key_at C.atom_of (length text.now) (placed text.now lexemes.now) (λ q. RepliesFind C.is_match told q result after) told result after × IsAsTold C.is_match store.new after }
+    ensures { (told : Told C.Key C.Atom) → IsAsTold C.rules.is_match store.old told → (after : Told C.Key C.Atom) × WithQuery C.key_at C.atom_of (length text.now) (placed text.now lexemes.now) (λ q. RepliesFind C.rules.is_match told q result after) told result after × IsAsTold C.rules.is_match store.new after }
 {
     match parse_tokens::<C>(alloc, text, lexemes) {
         Ok(query) => find(store, &query),
@@ -59,7 +59,7 @@ fn carry_out<C: ClassText>(
     text: &[u8],
     request: Request<'_, C::Key>,
 ) -> Reply<C::Key>
-    ensures { (told : Told C.Key C.Atom) → IsAsTold C.is_match store.old told → (after : Told C.Key C.Atom) × RepliesTo C.key_at C.atom_of C.is_match (length text.now) told (command_of text.now request.entry) result after × IsAsTold C.is_match store.new after }
+    ensures { (told : Told C.Key C.Atom) → IsAsTold C.rules.is_match store.old told → (after : Told C.Key C.Atom) × RepliesTo C.key_at C.atom_of C.rules.is_match (length text.now) told (command_of text.now request.entry) result after × IsAsTold C.rules.is_match store.new after }
 {
     match request {
         Request::Insert(key, tag) => insert(store, key, tag),
@@ -80,7 +80,7 @@ fn reply_to_tokens<C: ClassText>(
     text: &[u8],
     lexemes: &[Lexeme],
 ) -> Option<Reply<C::Key>>
-    ensures { (told : Told C.Key C.Atom) → IsAsTold C.is_match store.old told → (after : Told C.Key C.Atom) × RepliesTokens C.key_at C.atom_of C.is_match (length text.now) told (placed text.now lexemes.now) result after × IsAsTold C.is_match store.new after }
+    ensures { (told : Told C.Key C.Atom) → IsAsTold C.rules.is_match store.old told → (after : Told C.Key C.Atom) × RepliesTokens C.key_at C.atom_of C.rules.is_match (length text.now) told (placed text.now lexemes.now) result after × IsAsTold C.rules.is_match store.new after }
 {
     let (first, rest) = first_of(lexemes)?;
     match read_request::<C>(text, first, rest) {
@@ -90,7 +90,7 @@ fn reply_to_tokens<C: ClassText>(
 }
 
 impl<C: ClassText> Responder for Store<C> {
-    ghost answers = { λ len old ts text new. AnswersTokens C.key_at C.atom_of C.is_match C.key_text len old ts text new };
+    ghost answers = { λ len old ts text new. AnswersTokens C.key_at C.atom_of C.rules.is_match C.key_text len old ts text new };
 
     fn answer<W: Write>(
         &mut self,
@@ -122,9 +122,9 @@ pub fn session<C: ClassText, R: Read, W: Write>(
     store: &mut Store<C>,
 ) -> Result<(), Fault>
     requires { (config : Config) × (store.old ≡ new_state config) }
-    ensures ok { OnOk result (IsAtEnd (R.remaining reader.new) × AnsweredAll C.key_at C.atom_of C.is_match C.key_text (R.remaining reader.old) (R.remaining reader.new) (W.contents writer.old) (W.contents writer.new) store.old store.new) }
-    ensures read { result ≡ Err Fault.Read → AnsweredWhole C.key_at C.atom_of C.is_match C.key_text (R.remaining reader.old) (R.remaining reader.new) (W.contents writer.old) (W.contents writer.new) store.old store.new }
-    ensures write { result ≡ Err Fault.Write → Stands C.key_at C.atom_of C.is_match C.key_text (R.remaining reader.old) (R.remaining reader.new) (W.contents writer.old) (W.contents writer.new) store.old store.new }
+    ensures ok { OnOk result (IsAtEnd (R.remaining reader.new) × AnsweredAll C.key_at C.atom_of C.rules.is_match C.key_text (R.remaining reader.old) (R.remaining reader.new) (W.contents writer.old) (W.contents writer.new) store.old store.new) }
+    ensures read { result ≡ Err Fault.Read → AnsweredWhole C.key_at C.atom_of C.rules.is_match C.key_text (R.remaining reader.old) (R.remaining reader.new) (W.contents writer.old) (W.contents writer.new) store.old store.new }
+    ensures write { result ≡ Err Fault.Write → Stands C.key_at C.atom_of C.rules.is_match C.key_text (R.remaining reader.old) (R.remaining reader.new) (W.contents writer.old) (W.contents writer.new) store.old store.new }
     ensures memory { result ≡ Err Fault.OutOfMemory → (reader.new ≡ reader.old) × (writer.new ≡ writer.old) × (store.new ≡ store.old) }
     ensures faults { IfErr result (λ e. (e ≡ Fault.OutOfMemory) ⊎ (e ≡ Fault.Read) ⊎ (e ≡ Fault.Write)) }
 {

@@ -1,6 +1,7 @@
 -- What a program that ended well did.
 use Rattle.std.specs.Prelude.{ℕ, List, Option, Bool}
 use Rattle.std.specs.Io.KnownBytes.{IsAtEnd}
+use Rattle.mailbox.specs.Outlets.{tray_rule}
 use Rattle.change_list.specs.Configs.{IsWithinLimits}
 use Rattle.change_list.specs.declared.config.Config.{Config}
 use Rattle.key_class.specs.declared.sides.Rel.{Rel}
@@ -9,15 +10,15 @@ use Rattle.world.specs.States.{State as World, new_state as new_world}
 use Rattle.interval_class.specs.declared.class.Intervals.{Intervals}
 use Rattle.interval_class.specs.declared.interval.Interval.{Interval}
 use Rattle.interval_class.specs.declared.atom.Atom.{Atom as IntervalAtom}
-use Rattle.interval_class.specs.Intervals.{matches_atom as matches_interval, may_match_atom as may_match_interval, is_cover as covers_interval, union_of as union_of_intervals}
+use Rattle.interval_class.specs.Intervals.{matches_atom as matches_interval, interval_rules}
 use Rattle.box_class.specs.declared.class.Boxes.{Boxes}
 use Rattle.box_class.specs.declared.boxes.BoxKey.{BoxKey}
 use Rattle.box_class.specs.declared.atom.Atom.{Atom as BoxAtom}
-use Rattle.box_class.specs.Boxes.{matches_atom as matches_box, may_match_atom as may_match_box, is_cover as covers_box, union_of as union_of_boxes}
+use Rattle.box_class.specs.Boxes.{matches_atom as matches_box, box_rules}
 use Rattle.set_class.specs.declared.class.Sets.{Sets}
 use Rattle.set_class.specs.declared.elements.Elements.{Elements}
 use Rattle.set_class.specs.declared.atom.Atom.{Atom as SetAtom}
-use Rattle.set_class.specs.Sets.{matches_atom as matches_set, may_match_atom as may_match_set, is_cover as covers_set, union_of as union_of_sets}
+use Rattle.set_class.specs.Sets.{matches_atom as matches_set, set_rules}
 use Rattle.query_text.specs.Tokens.{Placed}
 use Rattle.query_text.specs.Keys.{Reading}
 use Rattle.query_text.specs.IntervalTexts.{interval_at, interval_text, atom_of as interval_atom}
@@ -26,7 +27,6 @@ use Rattle.query_text.specs.SetTexts.{set_at, set_text, atom_of as set_atom}
 use Rattle.front.specs.Sessions.{AnsweredAll}
 use Rattle.front.specs.Conversations.{AnsweredAll as EventsAnswered}
 use Rattle.front.specs.Replays.{AnswersTokens}
-use Rattle.world.specs.Trays.{tray_words}
 use Rattle.clap.specs.Words.{Text}
 use Rattle.gist.specs.CommandLine.{AreWellFormed, Gives}
 use Rattle.gist.specs.declared.options.Class.{Class}
@@ -58,9 +58,9 @@ module _ (before after held written : Option (List ℕ)) where
 
   -- All bytes of the reader were lines of events, which were steps of a new world, and what was written answers them.
   abbrev pub AnswersEvents : Class → Config → Type 0
-  AnswersEvents classes.Interval config = (last : World Interval IntervalAtom) × EventsAnswered (AnswersTokens Intervals interval_at interval_atom interval_text (tray_words matches_interval may_match_interval covers_interval union_of_intervals)) before after held written (new_world config) last
-  AnswersEvents classes.Box config = (last : World BoxKey BoxAtom) × EventsAnswered (AnswersTokens Boxes box_at box_atom box_text (tray_words matches_box may_match_box covers_box union_of_boxes)) before after held written (new_world config) last
-  AnswersEvents classes.Set config = (last : World Elements SetAtom) × EventsAnswered (AnswersTokens Sets set_at set_atom set_text (tray_words matches_set may_match_set covers_set union_of_sets)) before after held written (new_world config) last
+  AnswersEvents classes.Interval config = (last : World Interval IntervalAtom) × EventsAnswered (AnswersTokens Intervals interval_at interval_atom interval_text interval_rules tray_rule) before after held written (new_world config) last
+  AnswersEvents classes.Box config = (last : World BoxKey BoxAtom) × EventsAnswered (AnswersTokens Boxes box_at box_atom box_text box_rules tray_rule) before after held written (new_world config) last
+  AnswersEvents classes.Set config = (last : World Elements SetAtom) × EventsAnswered (AnswersTokens Sets set_at set_atom set_text set_rules tray_rule) before after held written (new_world config) last
 
   -- the limits are in their ranges, and every line of events was answered
   abbrev pub Replays : StoreOptions → Type 0

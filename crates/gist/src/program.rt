@@ -1,11 +1,11 @@
 ghost use Rattle.std.specs.Prelude.{◌≡◌, ◌≢◌, ◌↔◌, ◌⊎◌, ◌<◌, ℕ, List, map, Ok, Err, IfErr};
 ghost use Rattle.std.specs.Io.KnownBytes.{IsAtEnd};
+ghost use Rattle.mailbox.specs.Outlets.{tray_rule};
 ghost use Rattle.store.specs.States.{new_state};
 ghost use Rattle.change_list.specs.Configs.{IsWithinLimits};
 ghost use Rattle.world.specs.States.{State as WorldState, new_state as new_world};
 ghost use Rattle.front.specs.Conversations.{AnsweredAll as EventsAnswered};
 ghost use Rattle.front.specs.Replays.{AnswersTokens};
-ghost use Rattle.world.specs.Trays.{tray_words};
 ghost use Rattle.clap.specs.Words.{kind_of};
 ghost use Rattle.clap.specs.declared.error.ErrorKind.{ErrorKind};
 ghost use Rattle.gist.specs.declared.options.Settings.{Settings};
@@ -52,7 +52,7 @@ fn serve_store<C: ClassText, R: Read, W: Write>(
     writer: &mut W,
 ) -> Result<(), Fault>
     ensures at_end { result ≡ Ok tt → IsAtEnd (R.remaining reader.new) }
-    ensures answered { result ≡ Ok tt → AnsweredOver (R.remaining reader.old) (R.remaining reader.new) (W.contents writer.old) (W.contents writer.new) C.key_at C.atom_of C.is_match C.key_text (new_state config) }
+    ensures answered { result ≡ Ok tt → AnsweredOver (R.remaining reader.old) (R.remaining reader.new) (W.contents writer.old) (W.contents writer.new) C.key_at C.atom_of C.rules.is_match C.key_text (new_state config) }
     ensures within { result ≡ Ok tt → IsWithinLimits config }
     ensures bad { (result ≡ Err (Fault.Refused Refusal.BadConfig)) ↔ (¬ IsWithinLimits config) }
     ensures unread { ¬ IsWithinLimits config → (reader.new ≡ reader.old) × (writer.new ≡ writer.old) }
@@ -94,7 +94,7 @@ fn replay_world<C: ClassText, R: Read, W: Write>(
     reader: &mut R,
     writer: &mut W,
 ) -> Result<(), Fault>
-    ensures ok { result ≡ Ok tt → (last : WorldState C.Key C.Atom) × IsAtEnd (R.remaining reader.new) × EventsAnswered (AnswersTokens C C.key_at C.atom_of C.key_text (tray_words C.is_match C.is_consistent C.is_cover C.union_of)) (R.remaining reader.old) (R.remaining reader.new) (W.contents writer.old) (W.contents writer.new) (new_world config) last }
+    ensures ok { result ≡ Ok tt → (last : WorldState C.Key C.Atom) × IsAtEnd (R.remaining reader.new) × EventsAnswered (AnswersTokens C C.key_at C.atom_of C.key_text C.rules tray_rule) (R.remaining reader.old) (R.remaining reader.new) (W.contents writer.old) (W.contents writer.new) (new_world config) last }
     ensures within { result ≡ Ok tt → IsWithinLimits config }
     ensures bad { (result ≡ Err (Fault.Refused Refusal.BadConfig)) ↔ (¬ IsWithinLimits config) }
     ensures unread { ¬ IsWithinLimits config → (reader.new ≡ reader.old) × (writer.new ≡ writer.old) }

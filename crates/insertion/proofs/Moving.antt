@@ -3,6 +3,8 @@ use Rattle.std.proofs.Common.{◌≡◌, ◌⊎◌, ◌+◌, ◌<◌, ◌≤◌,
 use Rattle.std.specs.Prelude.{nat_eq, nat_le, nat_lt, IsPermutation}
 use Rattle.std.proofs.lemmas.Option.{same_Some}
 use Rattle.std.proofs.lemmas.List.Sorted.{IsPermutation-refl, IsPermutation-trans}
+use Rattle.key_class.specs.Rules.{Rules}
+use Rattle.mailbox.specs.Outlets.{Rule}
 use Rattle.key_class.specs.declared.sides.Side.{Side}
 use Rattle.key_class.specs.declared.refusal.Refusal.{Refusal}
 use Rattle.key_class.specs.declared.refusal.Refusal.TheVariants as refusal
@@ -14,7 +16,6 @@ use Rattle.page_table.specs.Trees.{Tree, page_at, after_rows}
 use Rattle.split.specs.SearchTrees.{SearchTree}
 use Rattle.split.specs.Steps.{after_enlarge, after_grow, after_post, after_split}
 use Rattle.split.specs.Tests.{first_failing, parts_well, place_tests, enlarge_tests, split_tests, post_tests, grow_tests}
-use Rattle.cursor.specs.OpenCursors.{Words}
 use Rattle.world.proofs.Placing.{page_exists}
 use Rattle.world.proofs.Resting.{deaths_kept, deaths_placed, rests_refl, rests_trans, step_rests}
 use Rattle.world.specs.declared.event.Event.{Event}
@@ -82,9 +83,9 @@ module _ {K : Type 0} (s : SearchTree K) where
   wanting_from failing why (inl none) full cause = inl (cause_passed failing why none cause)
   wanting_from failing why (inr e) full cause = inr (cause_full failing why e cause, full e)
 
-module _ {C K A : Type 0} (w : Words K A) (old new : State K A) where
-  wants_pages : (e : Event C K A) (why : Refusal) → MayMove w.is_cover old e → IsRefused w old e why new → IsWanting old.search why
-  wants_pages (event.Enlarge page child key) why may r = inl (cause_passed (first_failing (enlarge_tests w.is_cover old.search page child key)) why may r.cause)
+module _ {C K A : Type 0} (rules : Rules K A) (rule : Rule) (old new : State K A) where
+  wants_pages : (e : Event C K A) (why : Refusal) → MayMove rules.is_cover old e → IsRefused rules rule old e why new → IsWanting old.search why
+  wants_pages (event.Enlarge page child key) why may r = inl (cause_passed (first_failing (enlarge_tests rules.is_cover old.search page child key)) why may r.cause)
   wants_pages (event.Post page child) why may r = inl (cause_passed (first_failing (post_tests old.search page child)) why may r.cause)
   wants_pages (event.Split page sides) why may r =
       wanting_from old.search (first_failing (split_tests old.search page sides)) why may (λ full. omega (arith, split_full old.search page sides full)) r.cause
@@ -92,36 +93,36 @@ module _ {C K A : Type 0} (w : Words K A) (old new : State K A) where
   wants_pages e why may r = absurd may
 
   -- where it was refused
-  pub refused_wanting : (e : Event C K A) (why : Refusal) → MayMove w.is_cover old e → IsRefused w old e why new → IsWanting new.search why
+  pub refused_wanting : (e : Event C K A) (why : Refusal) → MayMove rules.is_cover old e → IsRefused rules rule old e why new → IsWanting new.search why
   refused_wanting e why may r = subst (λ (s : State K A). IsWanting s.search why) (sym r.unchanged) (wants_pages e why may r)
 
-module _ {K A : Type 0} (w : Words K A) where
-  pub moves_none : (s : State K A) → MovesPages w s s
-  moves_none s = record { rests = rests_refl w s; commits = refl; dead = IsPermutation-refl (deaths s.search.tree); finders = refl; last_finder = refl }
+module _ {K A : Type 0} (rules : Rules K A) (rule : Rule) where
+  pub moves_none : (s : State K A) → MovesPages rules rule s s
+  moves_none s = record { rests = rests_refl rules rule s; commits = refl; dead = IsPermutation-refl (deaths s.search.tree); finders = refl; last_finder = refl }
 
-  pub moves_more : (a b c : State K A) → MovesPages w a b → MovesPages w b c → MovesPages w a c
+  pub moves_more : (a b c : State K A) → MovesPages rules rule a b → MovesPages rules rule b c → MovesPages rules rule a c
   moves_more a b c m n = record {
-    rests = rests_trans w a b c m.rests n.rests;
+    rests = rests_trans rules rule a b c m.rests n.rests;
     commits = n.commits ∙ m.commits;
     dead = IsPermutation-trans (deaths a.search.tree) (deaths b.search.tree) (deaths c.search.tree) m.dead n.dead;
     finders = n.finders ∙ m.finders;
     last_finder = n.last_finder ∙ m.last_finder;
   }
 
-  pub refused_moves : (old new : State K A) → new ≡ old → MovesPages w old new
-  refused_moves old new same = subst (λ (s : State K A). MovesPages w old s) (sym same) (moves_none old)
+  pub refused_moves : (old new : State K A) → new ≡ old → MovesPages rules rule old new
+  refused_moves old new same = subst (λ (s : State K A). MovesPages rules rule old s) (sym same) (moves_none old)
 
 rows_pages : {K : Type 0} (t : Tree K) (p : ℕ) (rows : List (Entry K)) → length (after_rows t p rows).pages ≡ length t.pages
 unfolding after_rows
 rows_pages t p rows = replaced-length t p (with_rows (page_at t p) rows)
 
-module _ {C O K A E : Type 0} (w : Words K A) (old new : State K A) where
+module _ {C O K A E : Type 0} (rules : Rules K A) (rule : Rule) (old new : State K A) where
   -- an answer that doesn't refuse
-  done_of : (seat : ℕ) (e : Event C K A) (r : Reply C O K A E) → ((why : Refusal) → r ≡ reply.Refused why → ⊥) → Step w seat old e r new → IsDone w seat old e r new
+  done_of : (seat : ℕ) (e : Event C K A) (r : Reply C O K A E) → ((why : Refusal) → r ≡ reply.Refused why → ⊥) → Step rules rule seat old e r new → IsDone rules rule seat old e r new
   done_of seat e (reply.Refused why) not d = absurd (not why refl)
   done_of seat e r not d = d
 
-  changed_pages : (seat : ℕ) (e : Event C K A) (r : Reply C O K A E) → MayMove w.is_cover old e → Changes w seat old e r new → Moves w.union old e new
+  changed_pages : (seat : ℕ) (e : Event C K A) (r : Reply C O K A E) → MayMove rules.is_cover old e → Changes rules rule seat old e r new → Moves rules.union_of old e new
   changed_pages seat (event.Enlarge page child key) reply.Enlarged may d = d
   changed_pages seat (event.Enlarge page child key) r may d = absurd d
   changed_pages seat (event.Split page sides) (reply.Split sibling) may d = d.1
@@ -133,12 +134,12 @@ module _ {C O K A E : Type 0} (w : Words K A) (old new : State K A) where
   changed_pages seat e r may d = absurd may
 
   -- where it wasn't refused
-  pub made_moves : (seat : ℕ) (e : Event C K A) (r : Reply C O K A E) → MayMove w.is_cover old e → ((why : Refusal) → r ≡ reply.Refused why → ⊥) → Step w seat old e r new → Moves w.union old e new
+  pub made_moves : (seat : ℕ) (e : Event C K A) (r : Reply C O K A E) → MayMove rules.is_cover old e → ((why : Refusal) → r ≡ reply.Refused why → ⊥) → Step rules rule seat old e r new → Moves rules.union_of old e new
   made_moves seat e r may not d = changed_pages seat e r may (done_of seat e r not d).change
 
-  moved_to : (e : Event C K A) (r : Reply C O K A E) (tree : Tree K) → new ≡ with_pages old tree → ServesAll w old e r new → ((c : ℕ) → taken_by c (e, r) ≡ None) → KeepsRows old.search.tree new.search.tree → MovesPages w old new
+  moved_to : (e : Event C K A) (r : Reply C O K A E) (tree : Tree K) → new ≡ with_pages old tree → ServesAll rules rule old e r new → ((c : ℕ) → taken_by c (e, r) ≡ None) → KeepsRows old.search.tree new.search.tree → MovesPages rules rule old new
   moved_to e r tree is serves none kept = record {
-    rests = step_rests w old e r new serves none (ap (λ (s : State K A). s.limit) is) (ap (λ (s : State K A). s.search.limit) is) kept.pages (ap (λ (s : State K A). s.last) is) (ap (λ (s : State K A). s.cursors) is);
+    rests = step_rests rules rule old e r new serves none (ap (λ (s : State K A). s.limit) is) (ap (λ (s : State K A). s.search.limit) is) kept.pages (ap (λ (s : State K A). s.last) is) (ap (λ (s : State K A). s.cursors) is);
     commits = ap (λ (s : State K A). s.commits) is;
     dead = deaths_kept old.search.tree new.search.tree kept;
     finders = ap (λ (s : State K A). s.finders) is;
@@ -146,20 +147,20 @@ module _ {C O K A E : Type 0} (w : Words K A) (old new : State K A) where
   }
 
   -- where it was made
-  pub moves_pages : (e : Event C K A) (r : Reply C O K A E) → Moves w.union old e new → ServesAll w old e r new → KeepsRowsUnder old e new → MovesPages w old new
-  moves_pages (event.Enlarge page child key) r m serves kept = moved_to (event.Enlarge page child key) r (after_enlarge w.union old.search.tree page child key) m serves (λ c. refl) kept
-  moves_pages (event.Split page sides) r m serves kept = moved_to (event.Split page sides) r (after_split w.union old.search.tree page sides) m serves (λ c. refl) kept
+  pub moves_pages : (e : Event C K A) (r : Reply C O K A E) → Moves rules.union_of old e new → ServesAll rules rule old e r new → KeepsRowsUnder old e new → MovesPages rules rule old new
+  moves_pages (event.Enlarge page child key) r m serves kept = moved_to (event.Enlarge page child key) r (after_enlarge rules.union_of old.search.tree page child key) m serves (λ c. refl) kept
+  moves_pages (event.Split page sides) r m serves kept = moved_to (event.Split page sides) r (after_split rules.union_of old.search.tree page sides) m serves (λ c. refl) kept
   moves_pages (event.Post page child) r m serves kept = moved_to (event.Post page child) r (after_post old.search.tree page child m.sibling) m.after serves (λ c. refl) kept
-  moves_pages (event.Grow sides) r m serves kept = moved_to (event.Grow sides) r (after_grow w.union old.search.tree sides) m serves (λ c. refl) kept
+  moves_pages (event.Grow sides) r m serves kept = moved_to (event.Grow sides) r (after_grow rules.union_of old.search.tree sides) m serves (λ c. refl) kept
   moves_pages e r m serves kept = absurd m
 
   module _ (seat page : ℕ) (key : K) (tag : ℕ) (stamp : Stamp K) (p : Places seat old page key tag stamp new) where
-    pub place_rests : (r : Reply C O K A E) → ServesAll w old (event.Place page key tag) r new → Rests w old new
-    place_rests r serves = step_rests w old (event.Place page key tag) r new serves (λ c. refl) (ap (λ (s : State K A). s.limit) p.after) (ap (λ (s : State K A). s.search.limit) p.after)
+    pub place_rests : (r : Reply C O K A E) → ServesAll rules rule old (event.Place page key tag) r new → Rests rules rule old new
+    place_rests r serves = step_rests rules rule old (event.Place page key tag) r new serves (λ c. refl) (ap (λ (s : State K A). s.limit) p.after) (ap (λ (s : State K A). s.search.limit) p.after)
         (omega (arith, ap (λ (s : State K A). length s.search.tree.pages) p.after, rows_pages old.search.tree page ((page_at old.search.tree page).rows ++ (record { key = key; row = length old.commits + 1; tag = tag; died = None }) ∷ []))) (ap (λ (s : State K A). s.last) p.after) (ap (λ (s : State K A). s.cursors) p.after)
 
-module _ {K A : Type 0} (w : Words K A) (old new : State K A) (seat page : ℕ) (key : K) (tag : ℕ) (stamp : Stamp K) where
-  pub place_deaths : IsSoundWorld w.is_cover old → first_failing (place_tests w.is_cover old.search page key) ≡ None → Places seat old page key tag stamp new → IsPermutation (deaths old.search.tree) (deaths new.search.tree)
+module _ {K A : Type 0} (rules : Rules K A) (rule : Rule) (old new : State K A) (seat page : ℕ) (key : K) (tag : ℕ) (stamp : Stamp K) where
+  pub place_deaths : IsSoundWorld rules.is_cover old → first_failing (place_tests rules.is_cover old.search page key) ≡ None → Places seat old page key tag stamp new → IsPermutation (deaths old.search.tree) (deaths new.search.tree)
   place_deaths sound passes p =
       subst (λ (s : State K A). IsPermutation (deaths old.search.tree) (deaths s.search.tree)) (sym p.after)
-      (deaths_placed w.is_cover old.search.tree old.search.fan sound.tree.sound page (page_exists w old page key tag passes) key (length old.commits + 1) tag)
+      (deaths_placed rules.is_cover old.search.tree old.search.fan sound.tree.sound page (page_exists rules rule old page key tag passes) key (length old.commits + 1) tag)

@@ -1,10 +1,11 @@
 -- Where the way of an insertion stands, and how much of it is left at most.
 use Rattle.std.proofs.Common.{◌≡◌, ◌≢◌, ◌+◌, ◌*◌, ◌-◌, ◌<◌, ℕ, Bool, true, Option, length, refl, sym, ap, arith, subst}
+use Rattle.key_class.specs.Rules.{Rules}
+use Rattle.mailbox.specs.Outlets.{Rule}
 use Rattle.node.specs.Pages.{Page, is_within}
 use Rattle.page_table.specs.Trees.{Tree, page_at}
 use Rattle.split.specs.SearchTrees.{SearchTree, IsSearchTree}
 use Rattle.split.specs.Steps.{after_enlarge}
-use Rattle.cursor.specs.OpenCursors.{Words}
 use Rattle.descent.proofs.Rising.{made, few_made}
 use Rattle.descent.proofs.Widening.{enlarged_child, enlarged_length, goes_on_below}
 use Rattle.descent.specs.NextSteps.{HasRoom, IsOpenBelow}
@@ -12,41 +13,41 @@ use Rattle.world.specs.States.{State, with_pages, IsSoundWorld}
 use Rattle.insertion.proofs.Moving.{moves_more}
 use Rattle.insertion.specs.PageSteps.{MovesPages}
 
-module _ {K A : Type 0} (w : Words K A) (key : K) where
+module _ {K A : Type 0} (rules : Rules K A) (rule : Rule) (key : K) where
   -- the way has come to a page, where it may go on, and pages alone have changed
   pub record IsOnWay (old now : State K A) (page : ℕ) : Type 0 where
-    pub moved : MovesPages w old now
+    pub moved : MovesPages rules rule old now
     pub exists : page < length now.search.tree.pages
-    pub covers : is_within w.is_cover (page_at now.search.tree page).cover key ≡ true
+    pub covers : is_within rules.is_cover (page_at now.search.tree page).cover key ≡ true
     pub room : page ≢ 0 → HasRoom now.search page
 
   -- at the root
-  pub on_root : (old now : State K A) → IsSoundWorld w.is_cover now → MovesPages w old now → IsOnWay old now 0
+  pub on_root : (old now : State K A) → IsSoundWorld rules.is_cover now → MovesPages rules rule old now → IsOnWay old now 0
   on_root old now sound moved = record {
     moved = moved;
     exists = sound.tree.sound.root_exists;
-    covers = subst (λ (o : Option K). is_within w.is_cover o key ≡ true) (sym sound.tree.sound.root.no_cover) refl;
+    covers = subst (λ (o : Option K). is_within rules.is_cover o key ≡ true) (sym sound.tree.sound.root.no_cover) refl;
     room = λ other. absurd (other refl);
   }
 
   -- at a child that covers the key
-  pub on_child : (old now : State K A) (p c : ℕ) → IsOnWay old now p → IsOpenBelow now.search p c → is_within w.is_cover (page_at now.search.tree c).cover key ≡ true → IsOnWay old now c
+  pub on_child : (old now : State K A) (p c : ℕ) → IsOnWay old now p → IsOpenBelow now.search p c → is_within rules.is_cover (page_at now.search.tree c).cover key ≡ true → IsOnWay old now c
   on_child old now p c on below covers = record { moved = on.moved; exists = below.exists; covers = covers; room = λ other. below.room }
 
   -- at a child that was enlarged
-  pub on_enlarged : ((a b : K) → w.is_cover (w.union a b) b ≡ true) → (old now new : State K A) (p c : ℕ) → IsOnWay old now p → IsOpenBelow now.search p c → MovesPages w now new
-      → new ≡ with_pages now (after_enlarge w.union now.search.tree p c key) → IsOnWay old new c
+  pub on_enlarged : ((a b : K) → rules.is_cover (rules.union_of a b) b ≡ true) → (old now new : State K A) (p c : ℕ) → IsOnWay old now p → IsOpenBelow now.search p c → MovesPages rules rule now new
+      → new ≡ with_pages now (after_enlarge rules.union_of now.search.tree p c key) → IsOnWay old new c
   on_enlarged right old now new p c on below moved is =
-      let further = goes_on_below w.union key w.is_cover right now.search p c below in record {
-        moved = moves_more w old now new on.moved moved;
+      let further = goes_on_below rules.union_of key rules.is_cover right now.search p c below in record {
+        moved = moves_more rules rule old now new on.moved moved;
         exists = subst (λ (s : State K A). c < length s.search.tree.pages) (sym is) further.0;
-        covers = subst (λ (s : State K A). is_within w.is_cover (page_at s.search.tree c).cover key ≡ true) (sym is) further.2;
+        covers = subst (λ (s : State K A). is_within rules.is_cover (page_at s.search.tree c).cover key ≡ true) (sym is) further.2;
         room = λ other. subst (λ (s : State K A). HasRoom s.search c) (sym is) further.1;
       }
 
   -- after a step at which the way begins anew
-  pub on_root_again : (old now new : State K A) (p : ℕ) → IsOnWay old now p → IsSoundWorld w.is_cover new → MovesPages w now new → IsOnWay old new 0
-  on_root_again old now new p on sound moved = on_root old new sound (moves_more w old now new on.moved moved)
+  pub on_root_again : (old now new : State K A) (p : ℕ) → IsOnWay old now p → IsSoundWorld rules.is_cover new → MovesPages rules rule now new → IsOnWay old new 0
+  on_root_again old now new p on sound moved = on_root old new sound (moves_more rules rule old now new on.moved moved)
 
 lower : (most before after level below : ℕ) → before < after → after < most → below < 65537 → (most - after) * 65537 + below < (most - before) * 65537 + level
 lower most before after level below more few l = omega (arith, more, few, l)

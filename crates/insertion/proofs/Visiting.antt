@@ -2,10 +2,11 @@
 use Rattle.std.proofs.Common.{◌≡◌, ◌⊎◌, ◌+◌, ◌<◌, ℕ, Bool, true, false, List, [], ◌∷◌, ◌++◌, length, Some, None, Result, Ok, Err, IfErr, inl, inr, sym, ◌∙◌, arith}
 use Rattle.std.specs.Prelude.{nat_le}
 use Rattle.std.proofs.lemmas.Option.{same_Some}
+use Rattle.key_class.specs.Rules.{Rules}
+use Rattle.mailbox.specs.Outlets.{Rule}
 use Rattle.key_class.specs.declared.refusal.Refusal.{Refusal}
 use Rattle.key_class.specs.declared.refusal.Refusal.TheVariants as refusal
 use Rattle.split.specs.Tests.{first_failing, place_tests, enlarge_tests, post_tests}
-use Rattle.cursor.specs.OpenCursors.{Words}
 use Rattle.world.specs.declared.event.Event.{Event}
 use Rattle.world.specs.declared.event.Event.TheVariants as event
 use Rattle.world.specs.States.{State}
@@ -20,16 +21,16 @@ never_full [] n e = absurd cc
 never_full ((true, why) ∷ tests) n e = n.0 (same_Some why refusal.PagesFull e)
 never_full ((false, why) ∷ tests) n e = never_full tests n.1 e
 
-module _ {C K A : Type 0} (w : Words K A) (old new : State K A) where
-  full_pages : (e : Event C K A) → IsStep e → first_failing (tests w old e) ≡ Some refusal.PagesFull → old.search.limit < length old.search.tree.pages + 2
-  full_pages (event.Place page k t) own f = absurd (never_full (place_tests w.is_cover old.search page k ++ (nat_le old.limit (length old.commits), refusal.CommitsFull) ∷ []) ((λ h. cc), ((λ h. cc), ((λ h. cc), ((λ h. cc), tt)))) f)
-  full_pages (event.Enlarge parent child k) own f = absurd (never_full (enlarge_tests w.is_cover old.search parent child k) ((λ h. cc), ((λ h. cc), tt)) f)
+module _ {C K A : Type 0} (rules : Rules K A) (rule : Rule) (old new : State K A) where
+  full_pages : (e : Event C K A) → IsStep e → first_failing (tests rules rule old e) ≡ Some refusal.PagesFull → old.search.limit < length old.search.tree.pages + 2
+  full_pages (event.Place page k t) own f = absurd (never_full (place_tests rules.is_cover old.search page k ++ (nat_le old.limit (length old.commits), refusal.CommitsFull) ∷ []) ((λ h. cc), ((λ h. cc), ((λ h. cc), ((λ h. cc), tt)))) f)
+  full_pages (event.Enlarge parent child k) own f = absurd (never_full (enlarge_tests rules.is_cover old.search parent child k) ((λ h. cc), ((λ h. cc), tt)) f)
   full_pages (event.Split page sides) own f = omega (arith, split_full old.search page sides f)
   full_pages (event.Post parent child) own f = absurd (never_full (post_tests old.search parent child) ((λ h. cc), ((λ h. cc), tt)) f)
   full_pages (event.Grow sides) own f = grow_full old.search sides f
   full_pages e own f = absurd own
 
-  later_memory : (e : Event C K A) (why : Refusal) → IsStep e → RefusesLater w old e why → why ≡ refusal.OutOfMemory
+  later_memory : (e : Event C K A) (why : Refusal) → IsStep e → RefusesLater rules rule old e why → why ≡ refusal.OutOfMemory
   later_memory (event.Place page k t) why own h = h
   later_memory (event.Enlarge parent child k) why own h = h
   later_memory (event.Split page sides) why own h = h
@@ -37,12 +38,12 @@ module _ {C K A : Type 0} (w : Words K A) (old new : State K A) where
   later_memory (event.Grow sides) why own h = h
   later_memory e why own h = absurd own
 
-  from_cause : (e : Event C K A) (why : Refusal) → IsStep e → why ≡ refusal.PagesFull → (first_failing (tests w old e) ≡ Some why) ⊎ ((first_failing (tests w old e) ≡ None) × RefusesLater w old e why) → old.search.limit < length old.search.tree.pages + 2
+  from_cause : (e : Event C K A) (why : Refusal) → IsStep e → why ≡ refusal.PagesFull → (first_failing (tests rules rule old e) ≡ Some why) ⊎ ((first_failing (tests rules rule old e) ≡ None) × RefusesLater rules rule old e why) → old.search.limit < length old.search.tree.pages + 2
   from_cause e why own full (inl failing) = full_pages e own (rw full at failing)
   from_cause e why own full (inr later) = absurd (let h : refusal.OutOfMemory ≡ refusal.PagesFull = sym (later_memory e why own later.1) ∙ full in cc)
 
   -- a refusal that is told, by want of pages or memory alone
-  pub told_wanting : {B : Type 0} (e : Event C K A) (why : Refusal) (told : Result B Refusal) → IsStep e → IsRefused w old e why new
+  pub told_wanting : {B : Type 0} (e : Event C K A) (why : Refusal) (told : Result B Refusal) → IsStep e → IsRefused rules rule old e why new
       → IfErr told (λ r. r ≡ why) → IfErr told (λ r. (r ≡ refusal.OutOfMemory) ⊎ (r ≡ refusal.PagesFull)) → IfErr told (IsWanting old.search)
   told_wanting e why (Ok b) own refused same some = tt
   told_wanting e why (Err r) own refused same (inl memory) = inl memory

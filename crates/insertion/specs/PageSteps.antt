@@ -1,11 +1,12 @@
 -- The steps of an insertion that change pages alone.
 use Rattle.std.specs.Prelude.{◌≡◌, ◌⊎◌, ◌+◌, ◌<◌, Bool, length, None, IsPermutation}
+use Rattle.key_class.specs.Rules.{Rules}
+use Rattle.mailbox.specs.Outlets.{Rule}
 use Rattle.key_class.specs.declared.refusal.Refusal.{Refusal}
 use Rattle.key_class.specs.declared.refusal.Refusal.TheVariants as refusal
 use Rattle.split.specs.SearchTrees.{SearchTree}
 use Rattle.split.specs.Steps.{after_split, after_grow, after_enlarge}
 use Rattle.split.specs.Tests.{first_failing, enlarge_tests, split_tests, post_tests, grow_tests}
-use Rattle.cursor.specs.OpenCursors.{Words}
 use Rattle.descent.specs.NextSteps.{OnlyPagesFull}
 use Rattle.world.specs.declared.event.Event.{Event}
 use Rattle.world.specs.declared.event.Event.TheVariants as event
@@ -34,10 +35,10 @@ module _ {C K A : Type 0} where
   Moves union old (event.Grow sides) new = new ≡ with_pages old (after_grow union old.search.tree sides)
   Moves union old event new = ⊥
 
-module _ {K A : Type 0} (w : Words K A) where
+module _ {K A : Type 0} (rules : Rules K A) (rule : Rule) where
   -- pages alone have changed, and none of their rows
   pub record MovesPages (old new : State K A) : Type 0 where
-    pub rests : Rests w old new
+    pub rests : Rests rules rule old new
     pub commits : new.commits ≡ old.commits
     pub dead : IsPermutation (deaths old.search.tree) (deaths new.search.tree)
     pub finders : new.finders ≡ old.finders

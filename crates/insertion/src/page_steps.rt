@@ -2,7 +2,6 @@
 ghost use Rattle.std.specs.Prelude.{◌≡◌, ◌⊎◌, ◌<◌, ◌+◌, [], ◌∷◌, ◌++◌, length, None, IfOk, IfErr, OnOk, OnErr, IsPermutation};
 ghost use Rattle.change_list.specs.declared.write.Write.TheVariants.{Insert};
 ghost use Rattle.split.specs.Tests.{first_failing, place_tests};
-ghost use Rattle.cursor.specs.OpenCursors.{words};
 ghost use Rattle.world.specs.Resting.{Rests, deaths};
 ghost use Rattle.world.specs.States.{IsSoundWorld};
 ghost use Rattle.insertion.specs.PageSteps.{MayMove, Moves, MovesPages, IsWanting};
@@ -19,10 +18,10 @@ pub(crate) fn move_pages<C: KeyClass, O: Outlet<C::Key>>(
     world: &mut World<C, O>,
     event: Event<C>,
 ) -> Result<(), Refusal>
-    requires may { MayMove C.is_cover world.old event }
-    ensures moved { OnOk result (Moves C.union_of world.old event world.new) }
-    ensures kept { MovesPages (words C.is_match C.is_consistent C.is_cover C.union_of O.may_take O.may_refuse O.is_emptied_elsewhere) world.old world.new }
-    ensures sound { IsSoundWorld C.is_cover world.new }
+    requires may { MayMove C.rules.is_cover world.old event }
+    ensures moved { OnOk result (Moves C.rules.union_of world.old event world.new) }
+    ensures kept { MovesPages C.rules O.rule world.old world.new }
+    ensures sound { IsSoundWorld C.rules.is_cover world.new }
     ensures refusals { IfErr result (IsWanting world.new.search) }
 {
     match world.step(event) {
@@ -41,12 +40,12 @@ pub(crate) fn place<C: KeyClass, O: Outlet<C::Key>>(
     key: C::Key,
     tag: u64,
 ) -> Result<u64, Refusal>
-    requires passes { first_failing (place_tests C.is_cover world.old.search leaf key) ≡ None }
+    requires passes { first_failing (place_tests C.rules.is_cover world.old.search leaf key) ≡ None }
     requires room { length world.old.commits < world.old.limit }
     ensures number { IfOk result (λ number. number ≡ length world.old.commits + 1) }
     ensures committed { OnOk result (world.new.commits ≡ world.old.commits ++ Insert key tag ∷ []) }
     ensures unchanged { OnErr result (world.new ≡ world.old) }
-    ensures rests { Rests (words C.is_match C.is_consistent C.is_cover C.union_of O.may_take O.may_refuse O.is_emptied_elsewhere) world.old world.new }
+    ensures rests { Rests C.rules O.rule world.old world.new }
     ensures dead { IsPermutation (deaths world.old.search.tree) (deaths world.new.search.tree) }
     ensures finders { world.new.finders ≡ world.old.finders }
     ensures last_finder { world.new.last_finder ≡ world.old.last_finder }

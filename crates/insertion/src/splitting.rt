@@ -1,6 +1,5 @@
 //! Splits of an insertion by visits: their sides may be worked out beside the world.
 ghost use Rattle.std.specs.Prelude.{◌≡◌, true, IfOk, IfErr, OnErr};
-ghost use Rattle.cursor.specs.OpenCursors.{words};
 ghost use Rattle.world.specs.Promises.{MailboxesFit};
 ghost use Rattle.world.specs.States.{IsSoundWorld};
 ghost use Rattle.insertion.specs.PageSteps.{IsWanting};
@@ -21,10 +20,10 @@ pub fn split_prepared<C: KeyClass, O: Outlet<C::Key>>(
     seat: u32,
     task: SplitTask<C>,
 ) -> Result<bool, Refusal>
-    ensures splits { IfOk result (λ made. SplitsInTime C O O.End (words C.is_match C.is_consistent C.is_cover C.union_of O.may_take O.may_refuse O.is_emptied_elsewhere) seat world.old task made world.new) }
+    ensures splits { IfOk result (λ made. SplitsInTime C O O.End C.rules O.rule seat world.old task made world.new) }
     ensures commits { world.new.commits ≡ world.old.commits }
-    ensures sound { IsSoundWorld C.is_cover world.new }
-    ensures mailboxes { O.is_emptied_elsewhere ≡ true → MailboxesFit (words C.is_match C.is_consistent C.is_cover C.union_of O.may_take O.may_refuse O.is_emptied_elsewhere) world.old → MailboxesFit (words C.is_match C.is_consistent C.is_cover C.union_of O.may_take O.may_refuse O.is_emptied_elsewhere) world.new }
+    ensures sound { IsSoundWorld C.rules.is_cover world.new }
+    ensures mailboxes { O.rule.is_emptied_elsewhere ≡ true → MailboxesFit C.rules O.rule world.old → MailboxesFit C.rules O.rule world.new }
     ensures unchanged { OnErr result (world.new ≡ world.old) }
     ensures refusals { IfErr result (IsWanting world.old.search) }
 {
@@ -57,10 +56,10 @@ pub fn split_at_once<C: KeyClass, O: Outlet<C::Key>>(
     seat: u32,
     page: u32,
 ) -> Result<(), Refusal>
-    ensures splits { SplitsAtMost C O O.End (words C.is_match C.is_consistent C.is_cover C.union_of O.may_take O.may_refuse O.is_emptied_elsewhere) seat world.old page world.new }
+    ensures splits { SplitsAtMost C O O.End C.rules O.rule seat world.old page world.new }
     ensures commits { world.new.commits ≡ world.old.commits }
-    ensures sound { IsSoundWorld C.is_cover world.new }
-    ensures mailboxes { O.is_emptied_elsewhere ≡ true → MailboxesFit (words C.is_match C.is_consistent C.is_cover C.union_of O.may_take O.may_refuse O.is_emptied_elsewhere) world.old → MailboxesFit (words C.is_match C.is_consistent C.is_cover C.union_of O.may_take O.may_refuse O.is_emptied_elsewhere) world.new }
+    ensures sound { IsSoundWorld C.rules.is_cover world.new }
+    ensures mailboxes { O.rule.is_emptied_elsewhere ≡ true → MailboxesFit C.rules O.rule world.old → MailboxesFit C.rules O.rule world.new }
     ensures unchanged { OnErr result (world.new ≡ world.old) }
     ensures refusals { IfErr result (IsWanting world.old.search) }
 {

@@ -3,7 +3,6 @@ ghost use Rattle.std.specs.Prelude.{◌≡◌, ◌⊎◌, ◌↔◌, ◌<◌, �
 ghost use Rattle.node.specs.Pages.{is_within};
 ghost use Rattle.page_table.specs.Trees.{page_at};
 ghost use Rattle.descent.specs.NextSteps.{HasRoom};
-ghost use Rattle.cursor.specs.OpenCursors.{words};
 ghost use Rattle.world.specs.Promises.{MailboxesFit};
 ghost use Rattle.world.specs.States.{IsSoundWorld};
 ghost use Rattle.world.specs.Visits.{IsOneEvent, Makes};
@@ -42,7 +41,7 @@ enum Next<C: KeyClass> {
 /// Whether a way for the key may go on at the page.
 fn may_go_on<C: KeyClass>(search: &SearchTree<C>, page: u32, key: C::Key) -> bool
     ensures exists { IsTrue result → page < length search.now.tree.pages }
-    ensures covers { IsTrue result → is_within C.is_cover (page_at search.now.tree page).cover key ≡ true }
+    ensures covers { IsTrue result → is_within C.rules.is_cover (page_at search.now.tree page).cover key ≡ true }
     ensures room { IsTrue result → HasRoom search.now page }
 {
     let table = search.pages();
@@ -117,11 +116,11 @@ pub(crate) fn make<C: KeyClass, O: Outlet<C::Key>>(
     then: u32,
 ) -> Result<Way<C::Key>, Refusal>
     requires own { IsStep event }
-    ensures makes { Makes C O O.End (words C.is_match C.is_consistent C.is_cover C.union_of O.may_take O.may_refuse O.is_emptied_elsewhere) seat world.old event world.new }
+    ensures makes { Makes C O O.End C.rules O.rule seat world.old event world.new }
     ensures goes { IfOk result (λ way. GoesBy world.old seat event way world.new) }
-    ensures one_event { IsOneEvent C O O.End (words C.is_match C.is_consistent C.is_cover C.union_of O.may_take O.may_refuse O.is_emptied_elsewhere) seat world.old world.new }
-    ensures sound { IsSoundWorld C.is_cover world.new }
-    ensures mailboxes { O.is_emptied_elsewhere ≡ true → MailboxesFit (words C.is_match C.is_consistent C.is_cover C.union_of O.may_take O.may_refuse O.is_emptied_elsewhere) world.old → MailboxesFit (words C.is_match C.is_consistent C.is_cover C.union_of O.may_take O.may_refuse O.is_emptied_elsewhere) world.new }
+    ensures one_event { IsOneEvent C O O.End C.rules O.rule seat world.old world.new }
+    ensures sound { IsSoundWorld C.rules.is_cover world.new }
+    ensures mailboxes { O.rule.is_emptied_elsewhere ≡ true → MailboxesFit C.rules O.rule world.old → MailboxesFit C.rules O.rule world.new }
     ensures unchanged { OnErr result (world.new ≡ world.old) }
     ensures refusals { IfErr result (IsWanting world.old.search) }
 {
@@ -147,9 +146,9 @@ pub fn insert_step<C: KeyClass, O: Outlet<C::Key>>(
     tag: u64,
 ) -> Result<Way<C::Key>, Refusal>
     ensures goes { IfOk result (λ way. Goes world.old seat key tag way world.new) }
-    ensures one_event { IsOneEvent C O O.End (words C.is_match C.is_consistent C.is_cover C.union_of O.may_take O.may_refuse O.is_emptied_elsewhere) seat world.old world.new }
-    ensures sound { IsSoundWorld C.is_cover world.new }
-    ensures mailboxes { O.is_emptied_elsewhere ≡ true → MailboxesFit (words C.is_match C.is_consistent C.is_cover C.union_of O.may_take O.may_refuse O.is_emptied_elsewhere) world.old → MailboxesFit (words C.is_match C.is_consistent C.is_cover C.union_of O.may_take O.may_refuse O.is_emptied_elsewhere) world.new }
+    ensures one_event { IsOneEvent C O O.End C.rules O.rule seat world.old world.new }
+    ensures sound { IsSoundWorld C.rules.is_cover world.new }
+    ensures mailboxes { O.rule.is_emptied_elsewhere ≡ true → MailboxesFit C.rules O.rule world.old → MailboxesFit C.rules O.rule world.new }
     ensures unchanged { OnErr result (world.new ≡ world.old) }
     ensures full { (result ≡ Err Refusal.CommitsFull) ↔ (world.old.limit ≤ length world.old.commits) }
     ensures refusals { IfErr result (λ why. (why ≡ Refusal.CommitsFull) ⊎ IsWanting world.old.search why) }

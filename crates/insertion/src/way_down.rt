@@ -1,7 +1,6 @@
 ghost use Rattle.std.specs.Prelude.{◌≡◌, ◌⊎◌, ◌↔◌, ◌<◌, ◌≤◌, ◌+◌, [], ◌∷◌, ◌++◌, length, None, Err, IfOk, IfErr, OnOk, OnErr, IsPermutation};
 ghost use Rattle.change_list.specs.declared.write.Write.TheVariants.{Insert};
 ghost use Rattle.split.specs.Tests.{first_failing, place_tests};
-ghost use Rattle.cursor.specs.OpenCursors.{words};
 ghost use Rattle.world.specs.Resting.{Rests, deaths};
 ghost use Rattle.insertion.specs.PageSteps.{IsWanting, MovesPages};
 
@@ -30,7 +29,7 @@ pub fn insert<C: KeyClass, O: Outlet<C::Key>>(
     ensures number { IfOk result (λ number. number ≡ length world.old.commits + 1) }
     ensures committed { OnOk result (world.new.commits ≡ world.old.commits ++ Insert key tag ∷ []) }
     ensures unchanged { OnErr result (world.new.commits ≡ world.old.commits) }
-    ensures rests { Rests (words C.is_match C.is_consistent C.is_cover C.union_of O.may_take O.may_refuse O.is_emptied_elsewhere) world.old world.new }
+    ensures rests { Rests C.rules O.rule world.old world.new }
     ensures dead { IsPermutation (deaths world.old.search.tree) (deaths world.new.search.tree) }
     ensures finders { world.new.finders ≡ world.old.finders }
     ensures last_finder { world.new.last_finder ≡ world.old.last_finder }
@@ -53,8 +52,8 @@ fn make_way<C: KeyClass, O: Outlet<C::Key>>(
     world: &mut World<C, O>,
     key: C::Key,
 ) -> Result<u32, Refusal>
-    ensures leaf { IfOk result (λ leaf. first_failing (place_tests C.is_cover world.new.search leaf key) ≡ None) }
-    ensures moved { MovesPages (words C.is_match C.is_consistent C.is_cover C.union_of O.may_take O.may_refuse O.is_emptied_elsewhere) world.old world.new }
+    ensures leaf { IfOk result (λ leaf. first_failing (place_tests C.rules.is_cover world.new.search leaf key) ≡ None) }
+    ensures moved { MovesPages C.rules O.rule world.old world.new }
     ensures refusals { IfErr result (IsWanting world.new.search) }
 {
     world.is_sound();

@@ -71,7 +71,7 @@ impl<A: Copy> Pred<A> {
 impl<A: Copy + Eq> Pred<A> {
     /// Whether a row's key matches.
     pub fn matches<C: KeyClass<Atom = A>>(&self, key: C::Key) -> bool
-        ensures { result ≡ matches_query C.is_match (query_of self.now) key }
+        ensures { result ≡ matches_query C.rules.is_match (query_of self.now) key }
     {
         match self {
             Pred::Atom(atom) => C::matches(atom, key),
@@ -83,7 +83,7 @@ impl<A: Copy + Eq> Pred<A> {
 
     /// Whether a key below a bound may match.
     pub fn consistent<C: KeyClass<Atom = A>>(&self, bound: C::Key) -> bool
-        ensures { result ≡ consistent_with_query C.is_consistent (query_of self.now) bound }
+        ensures { result ≡ consistent_with_query C.rules.is_consistent (query_of self.now) bound }
     {
         match self {
             Pred::Atom(atom) => C::consistent(atom, bound),
@@ -110,6 +110,6 @@ impl<A: Copy + Eq> Pred<A> {
 /// Nothing is done. The clauses say that a bound which covers a matching key is consistent with the query, and so
 /// that a bound which isn't consistent has no matching key below it.
 pub fn bounds_miss_no_match<C: KeyClass>()
-    ensures consistent { (q : Query C.Atom) (b k : C.Key) → C.is_cover b k ≡ true → matches_query C.is_match q k ≡ true → consistent_with_query C.is_consistent q b ≡ true }
-    ensures no_match { (q : Query C.Atom) (b k : C.Key) → C.is_cover b k ≡ true → consistent_with_query C.is_consistent q b ≡ false → matches_query C.is_match q k ≡ false }
+    ensures consistent { (q : Query C.Atom) (b k : C.Key) → C.rules.is_cover b k ≡ true → matches_query C.rules.is_match q k ≡ true → consistent_with_query C.rules.is_consistent q b ≡ true }
+    ensures no_match { (q : Query C.Atom) (b k : C.Key) → C.rules.is_cover b k ≡ true → consistent_with_query C.rules.is_consistent q b ≡ false → matches_query C.rules.is_match q k ≡ false }
 {}

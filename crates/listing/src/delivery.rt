@@ -22,7 +22,7 @@ pub fn is_delivered<C: KeyClass>(
     opened: u64,
     items: &[Item<C::Key>],
 ) -> Result<bool, Refusal>
-    ensures delivered { IfOk result (λ told. IsTrue told ↔ IsDelivered (matches_query C.is_match (query_of query.now)) opened commits.now items.now) }
+    ensures delivered { IfOk result (λ told. IsTrue told ↔ IsDelivered (matches_query C.rules.is_match (query_of query.now)) opened commits.now items.now) }
     ensures refusals { IfErr result (λ why. why ≡ Refusal.OutOfMemory) }
 {
     if opened > commits.len() as u64 {

@@ -90,7 +90,7 @@ pub(crate) fn snapshot<C: KeyClass>(
 ) -> Result<Remaining<C::Key>, Refusal>
     requires opened { opened ≤ length commits.now }
     requires legal { IsLegal commits.now }
-    ensures rows { IfOk result (λ remaining. remaining ≡ snapshot (matches_query C.is_match (query_of query.now)) opened commits.now) }
+    ensures rows { IfOk result (λ remaining. remaining ≡ snapshot (matches_query C.rules.is_match (query_of query.now)) opened commits.now) }
     ensures refusals { IfErr result (λ why. why ≡ Refusal.OutOfMemory) }
 {
     let mut slots = Vec::new(alloc);
@@ -113,7 +113,7 @@ fn with_slot<C: KeyClass>(
     write: Write<C::Key>,
 ) -> Result<Vec<Option<Row<C::Key>>>, Refusal>
     requires { NamesEarlier (length slots.items) write }
-    ensures slots { IfOk result (λ longer. longer.items ≡ slots_with (matches_query C.is_match (query_of query.now)) slots.items write) }
+    ensures slots { IfOk result (λ longer. longer.items ≡ slots_with (matches_query C.rules.is_match (query_of query.now)) slots.items write) }
     ensures refusals { IfErr result (λ why. why ≡ Refusal.OutOfMemory) }
 {
     let mut slots = slots;

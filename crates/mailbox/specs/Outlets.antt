@@ -1,8 +1,21 @@
 -- What contracts see of an outlet: the items that are still to be taken, and what an offer and a take do to them.
-use Rattle.std.specs.Prelude.{◌≡◌, ℕ, Bool, true, false, List, [], ◌∷◌}
+use Rattle.std.specs.Prelude.{◌≡◌, ℕ, nat_lt, nat_le, Bool, true, false, List, [], ◌∷◌}
 use Rattle.change_list.specs.declared.item.Item.{Item}
 use Rattle.mailbox.specs.declared.outlet.Taken.{Taken}
 use Rattle.mailbox.specs.declared.outlet.Taken.TheVariants as taken
+
+-- what is known of offers to a kind of outlet
+pub record Rule : Type 0 where
+  -- whether an offer may be taken, at that room and with that many unread items
+  pub may_take : ℕ → ℕ → Bool
+  -- whether an offer may be handed back, at that room and with that many unread items
+  pub may_refuse : ℕ → ℕ → Bool
+  -- whether somebody else empties it
+  pub is_emptied_elsewhere : Bool
+
+-- a tray takes where it has room, and refuses where it has none
+abbrev pub tray_rule : Rule
+tray_rule = record { may_take = λ room count. nat_lt count room; may_refuse = λ room count. nat_le room count; is_emptied_elsewhere = false }
 
 -- a bounded list of items
 pub record Tray (K : Type 0) : Type 0 where

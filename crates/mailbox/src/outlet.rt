@@ -1,6 +1,6 @@
-ghost use Rattle.std.specs.Prelude.{◌≡◌, ℕ, Bool, true, List, [], ◌∷◌, ◌++◌, length, IfOk, IfErr, OnOk, OnErr};
+ghost use Rattle.std.specs.Prelude.{◌≡◌, ℕ, true, List, [], ◌∷◌, ◌++◌, length, IfOk, IfErr, OnOk, OnErr};
 ghost use Rattle.change_list.specs.declared.item.Item.{Item};
-ghost use Rattle.mailbox.specs.Outlets.{Takes};
+ghost use Rattle.mailbox.specs.Outlets.{Rule, Takes};
 
 use change_list::Item;
 use std::alloc::{AllocError, Global};
@@ -27,14 +27,8 @@ pub trait Outlet<K>: Drop {
     /// The items that it was offered and that this side hasn't taken, in their order.
     ghost unread: { Self → List (Item K) };
 
-    /// Whether an offer may be taken, at that room and with that many unread items.
-    ghost may_take: { ℕ → ℕ → Bool };
-
-    /// Whether an offer may be handed back, at that room and with that many unread items.
-    ghost may_refuse: { ℕ → ℕ → Bool };
-
-    /// Whether somebody else empties it.
-    ghost is_emptied_elsewhere: { Bool };
+    /// When an offer may be taken or handed back, and where it is emptied.
+    ghost rule: { Rule };
 
     /// Whether an end is the other end of an outlet.
     ghost is_end_of: { Self.End → Self → Type 0 };
@@ -55,20 +49,20 @@ pub trait Outlet<K>: Drop {
     /// Adds an item, or hands it back.
     fn offer(&mut self, item: Item<K>) -> Result<(), Item<K>>
         ensures taken { OnOk result (unread self.new ≡ unread self.old ++ item ∷ []) }
-        ensures may_take { OnOk result (may_take (room_of self.old) (length (unread self.old)) ≡ true) }
+        ensures may_take { OnOk result (rule.may_take (room_of self.old) (length (unread self.old)) ≡ true) }
         ensures handed_back { IfErr result (λ back. back ≡ item) }
         ensures unchanged { OnErr result (unread self.new ≡ unread self.old) }
-        ensures may_refuse { OnErr result (may_refuse (room_of self.old) (length (unread self.old)) ≡ true) }
+        ensures may_refuse { OnErr result (rule.may_refuse (room_of self.old) (length (unread self.old)) ≡ true) }
         ensures room { room_of self.new ≡ room_of self.old }
         ensures end { (end : Self.End) → is_end_of end self.old → is_end_of end self.new };
 
     /// Takes out the item at the front.
     fn take(&mut self) -> Taken<K>
-        ensures takes { Takes is_emptied_elsewhere (unread self.old) result (unread self.new) }
+        ensures takes { Takes rule.is_emptied_elsewhere (unread self.old) result (unread self.new) }
         ensures room { room_of self.new ≡ room_of self.old }
         ensures end { (end : Self.End) → is_end_of end self.old → is_end_of end self.new };
 
     /// Whether somebody else empties outlets of this kind.
     fn is_emptied_elsewhere() -> bool
-        ensures { result ≡ is_emptied_elsewhere };
+        ensures { result ≡ rule.is_emptied_elsewhere };
 }

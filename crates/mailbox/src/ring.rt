@@ -13,9 +13,9 @@ pub struct Ring<K> {
 }
 
 impl<K: Copy> Outlet<K> for Ring<K> {
-    ghost use Rattle.std.specs.Prelude.{◌≡◌, true, []};
+    ghost use Rattle.std.specs.Prelude.{◌≡◌, []};
     ghost use Rattle.rtrb.specs.Ring.{received};
-    ghost use Rattle.mailbox.specs.Rings.{places, items_sent, IsOtherEnd};
+    ghost use Rattle.mailbox.specs.Rings.{places, items_sent, ring_rule, IsOtherEnd};
 
     type End = Consumer<Item<K>>;
 
@@ -23,11 +23,7 @@ impl<K: Copy> Outlet<K> for Ring<K> {
 
     ghost unread = { λ ring. items_sent ring };
 
-    ghost may_take = { λ room count. true };
-
-    ghost may_refuse = { λ room count. true };
-
-    ghost is_emptied_elsewhere = { true };
+    ghost rule = { ring_rule };
 
     ghost is_end_of = { λ end ring. IsOtherEnd end ring };
 

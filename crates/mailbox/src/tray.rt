@@ -1,5 +1,5 @@
-ghost use Rattle.std.specs.Prelude.{◌≡◌, ◌<◌, ◌≤◌, ◌↔◌, true, false, List, [], ◌∷◌, ◌++◌, length, nat_lt, nat_le, IfOk, IfErr, OnOk, OnErr, IsOk, IfSome, slice_get, drop};
-ghost use Rattle.mailbox.specs.Outlets.{Takes};
+ghost use Rattle.std.specs.Prelude.{◌≡◌, ◌<◌, ◌≤◌, ◌↔◌, true, false, List, [], ◌∷◌, ◌++◌, length, IfOk, IfErr, OnOk, OnErr, IsOk, IfSome, slice_get, drop};
+ghost use Rattle.mailbox.specs.Outlets.{Takes, tray_rule};
 
 use crate::outlet::{Outlet, Taken};
 use change_list::Item;
@@ -33,11 +33,7 @@ impl<K: Copy> Outlet<K> for Tray<K> {
 
     ghost unread = { λ tray. tray.held };
 
-    ghost may_take = { λ room count. nat_lt count room };
-
-    ghost may_refuse = { λ room count. nat_le room count };
-
-    ghost is_emptied_elsewhere = { false };
+    ghost rule = { tray_rule };
 
     ghost is_end_of = { λ end tray. Unit {0} };
 

@@ -151,7 +151,7 @@ impl<K: Copy> Page<K> {
 
     /// Whether the cover covers the key; page 0 has none, and every key counts as covered.
     pub fn covers<C: KeyClass<Key = K>>(&self, key: K) -> bool
-        ensures { result ≡ is_within C.is_cover self.now.cover key }
+        ensures { result ≡ is_within C.rules.is_cover self.now.cover key }
     {
         match self.cover {
             None => true,
@@ -192,7 +192,7 @@ impl<K: Copy> Page<K> {
     /// What a split by sides leaves here: the left entries, and a right sibling to be posted.
     pub fn keep_left<C: KeyClass<Key = K>>(&mut self, sides: &Sides, sibling: u32)
         requires { entries_of self.old ≡ length sides.now }
-        ensures { self.new ≡ split_left C.union_of self.old sides.now sibling }
+        ensures { self.new ≡ split_left C.rules.union_of self.old sides.now sibling }
     {
         keep_left(&mut self.rows, sides);
         keep_left(&mut self.branches, sides);
@@ -211,7 +211,7 @@ impl<K: Copy> Page<K> {
         sides: &Sides,
     ) -> Result<Page<K>, AllocError>
         requires { entries_of self.now ≡ length sides.now }
-        ensures { IfOk result (λ page. page ≡ split_right C.union_of self.now sides.now) }
+        ensures { IfOk result (λ page. page ≡ split_right C.rules.union_of self.now sides.now) }
     {
         let rows = right_entries(alloc, &self.rows, sides)?;
         let branches = right_entries(alloc, &self.branches, sides)?;
@@ -239,7 +239,7 @@ impl<K: Copy> Page<K> {
         right: u32,
     ) -> Result<Page<K>, AllocError>
         requires { entries_of self.now ≡ length sides.now }
-        ensures { IfOk result (λ page. page ≡ grown_left C.union_of self.now sides.now right) }
+        ensures { IfOk result (λ page. page ≡ grown_left C.rules.union_of self.now sides.now right) }
     {
         let rows = left_entries(alloc, &self.rows, sides)?;
         let branches = left_entries(alloc, &self.branches, sides)?;
@@ -266,7 +266,7 @@ impl<K: Copy> Page<K> {
         sides: &Sides,
     ) -> Result<Page<K>, AllocError>
         requires { entries_of self.now ≡ length sides.now }
-        ensures { IfOk result (λ page. page ≡ grown_right C.union_of self.now sides.now) }
+        ensures { IfOk result (λ page. page ≡ grown_right C.rules.union_of self.now sides.now) }
     {
         let mut lower = self.right_half::<C>(alloc, sides)?;
         lower.nsn = 0;
@@ -287,14 +287,14 @@ impl<K: Copy> Page<K> {
 
     /// Has the branch to the child take in the key.
     pub fn widen_branch<C: KeyClass<Key = K>>(&mut self, child: u32, key: K)
-        ensures { self.new ≡ enlarge_parent C.union_of child key self.old }
+        ensures { self.new ≡ enlarge_parent C.rules.union_of child key self.old }
     {
         widen::<C>(&mut self.branches, child, key);
     }
 
     /// Has the cover take in the key.
     pub fn widen_cover<C: KeyClass<Key = K>>(&mut self, key: K)
-        ensures { self.new ≡ enlarge_child C.union_of key self.old }
+        ensures { self.new ≡ enlarge_child C.rules.union_of key self.old }
     {
         if let Some(bound) = self.cover {
             self.cover = Some(C::union(bound, key));
@@ -357,7 +357,7 @@ impl<K> Page<K> {
 
 /// The union of all keys.
 fn cover_of<C: KeyClass>(rows: &[Entry<C::Key>], branches: &[Branch<C::Key>]) -> Option<C::Key>
-    ensures { result ≡ cover_of C.union_of (keys_of rows.now branches.now) }
+    ensures { result ≡ cover_of C.rules.union_of (keys_of rows.now branches.now) }
 {
     let bound = join_rows::<C>(None, rows);
     join_branches::<C>(bound, branches)

@@ -71,11 +71,3 @@ pub record IsSound {K : Type 0} (is_cover : K → K → Bool) (fan : ℕ) (t : T
   pub shape : (p : ℕ) → p < length t.pages → IsShaped t fan (page_at t p)
   pub reached : (p : ℕ) → p < length t.pages → IsReached t p (page_at t p)
   pub bounded : (p : ℕ) → p < length t.pages → IsBounded is_cover t (page_at t p)
-
--- the laws of keys that a tree rests on
-pub record KeyLaws {K : Type 0} (is_cover : K → K → Bool) (union : K → K → K) : Type 0 where
-  pub itself : (a : K) → is_cover a a ≡ true
-  pub through : (a b c : K) → is_cover a b ≡ true → is_cover b c ≡ true → is_cover a c ≡ true
-  pub left : (a b : K) → is_cover (union a b) a ≡ true
-  pub right : (a b : K) → is_cover (union a b) b ≡ true
-  pub least : (a b c : K) → is_cover c a ≡ true → is_cover c b ≡ true → is_cover c (union a b) ≡ true

@@ -129,7 +129,7 @@ impl<K: Copy> PageTable<K> {
         requires one_a_place { entries_of (page_at self.old page) ≡ length sides.now }
         requires numbered { length self.old.pages < 2 ^ 32 }
         ensures number { IfOk result (λ number. number ≡ length self.old.pages) }
-        ensures parted { OnOk result (self.new ≡ added (replaced self.old page (split_left C.union_of (page_at self.old page) sides.now (length self.old.pages))) right) }
+        ensures parted { OnOk result (self.new ≡ added (replaced self.old page (split_left C.rules.union_of (page_at self.old page) sides.now (length self.old.pages))) right) }
         ensures unchanged { OnErr result (self.new ≡ self.old) }
     {
         let number = self.pages.len() as u32;
@@ -181,7 +181,7 @@ impl<K: Copy> PageTable<K> {
         requires parent_exists { parent < length self.old.pages }
         requires child_exists { child < length self.old.pages }
         requires apart { parent ≢ child }
-        ensures widened { OnOk result (self.new ≡ replaced (replaced self.old child (enlarge_child C.union_of key (page_at self.old child))) parent (enlarge_parent C.union_of child key (page_at self.old parent))) }
+        ensures widened { OnOk result (self.new ≡ replaced (replaced self.old child (enlarge_child C.rules.union_of key (page_at self.old child))) parent (enlarge_parent C.rules.union_of child key (page_at self.old parent))) }
         ensures unchanged { OnErr result (self.new ≡ self.old) }
     {
         mem::swap(&mut self.pages[child as usize], &mut self.aside);
@@ -284,8 +284,8 @@ fn widen_both<C: KeyClass>(
     child: u32,
     key: C::Key,
 ) -> Result<(), AllocError>
-    ensures upper { OnOk result (upper.new ≡ enlarge_parent C.union_of child key upper.old) }
-    ensures lower { OnOk result (lower.new ≡ enlarge_child C.union_of key lower.old) }
+    ensures upper { OnOk result (upper.new ≡ enlarge_parent C.rules.union_of child key upper.old) }
+    ensures lower { OnOk result (lower.new ≡ enlarge_child C.rules.union_of key lower.old) }
     ensures upper_stays { OnErr result (upper.new ≡ upper.old) }
     ensures lower_stays { OnErr result (lower.new ≡ lower.old) }
 {

@@ -4,11 +4,12 @@ use Rattle.std.proofs.Common.{length-append}
 use Rattle.std.specs.Prelude.{nat_lt, option_to_list}
 use Rattle.std.specs.List.{AllByRecursion, filter_map}
 use Rattle.std.proofs.lemmas.List.Elements.{All-cons, All-nil}
+use Rattle.key_class.specs.Rules.{Rules}
+use Rattle.mailbox.specs.Outlets.{Rule}
 use Rattle.key_class.specs.declared.refusal.Refusal.{Refusal}
 use Rattle.key_class.specs.declared.refusal.Refusal.TheVariants as refusal
 use Rattle.change_list.proofs.Lists.{filter_map_cons}
 use Rattle.collector.specs.Horizons.{IsHorizon}
-use Rattle.cursor.specs.OpenCursors.{Words}
 use Rattle.page_table.proofs.Arranged.{arranged}
 use Rattle.page_table.proofs.PageLists.{is_or_not}
 use Rattle.page_table.proofs.RowChanges.{rows_at, rows_off}
@@ -128,7 +129,7 @@ needed_past : (f : ℕ × ℕ → ℕ) (horizon row : ℕ) (o : Option ℕ) → 
 needed_past f horizon row None h = refl
 needed_past f horizon row (Some n) h = let e : cond (nat_lt horizon n) (f (row, n)) 0 ≡ f (row, n) = ap (λ b. cond b (f (row, n)) 0) h in omega (arith, e)
 
-module _ {K A : Type 0} (w : Words K A) where
+module _ {K A : Type 0} (rules : Rules K A) (rule : Rule) where
   -- the pages before one are swept, and this many rows went
   pub record HasSwept (old : State K A) (page number : ℕ) (now : State K A) : Type 0 where
     pub horizon : ℕ
@@ -140,14 +141,14 @@ module _ {K A : Type 0} (w : Words K A) where
     -- no page holds more than 64 rows
     pub few : number ≤ 64 * page
     pub clean : (q : ℕ) → q < page → All (λ e. is_needed horizon e ≡ true) (page_at now.search.tree q).rows
-    pub sound : IsSoundWorld w.is_cover now
-    pub rests : Rests w old now
+    pub sound : IsSoundWorld rules.is_cover now
+    pub rests : Rests rules rule old now
     pub commits : now.commits ≡ old.commits
     pub pages : length now.search.tree.pages ≡ length old.search.tree.pages
     pub finders : now.finders ≡ old.finders
     pub last_finder : now.last_finder ≡ old.last_finder
 
-  pub swept_none : (old : State K A) → IsSoundWorld w.is_cover old → HasSwept old 0 0 old
+  pub swept_none : (old : State K A) → IsSoundWorld rules.is_cover old → HasSwept old 0 0 old
   swept_none old sound = let h = a_horizon (length old.commits) old.cursors in record {
     horizon = h.0;
     is = h.1;
@@ -158,7 +159,7 @@ module _ {K A : Type 0} (w : Words K A) where
     few = omega arith;
     clean = λ q l. absurd (omega (arith, l));
     sound = sound;
-    rests = rests_refl w old;
+    rests = rests_refl rules rule old;
     commits = refl;
     pages = refl;
     finders = refl;
@@ -233,14 +234,14 @@ module _ {K A : Type 0} (w : Words K A) where
         nothing = (h.sound.tree.sound.shape page within).inner level
 
     -- a leaf is swept
-    pub swept_leaf : {C O E : Type 0} (new : State K A) (count : ℕ) → page < length old.search.tree.pages → ServesAll {C = C} {O = O} {E = E} w now (event.Sweep page) (reply.Swept count) new → Sweeps now page count new → IsSoundWorld w.is_cover new → HasSwept old (page + 1) (number + count) new
+    pub swept_leaf : {C O E : Type 0} (new : State K A) (count : ℕ) → page < length old.search.tree.pages → ServesAll {C = C} {O = O} {E = E} rules rule now (event.Sweep page) (reply.Swept count) new → Sweeps now page count new → IsSoundWorld rules.is_cover new → HasSwept old (page + 1) (number + count) new
     swept_leaf {C} {O} {E} new count l serves s sound = record {
       horizon = h.horizon;
       is = h.is;
       gone = h.gone ++ lost h.horizon rows;
       parted = λ f.
           let a = weigh-append f h.gone (lost h.horizon rows) in
-          let b = rows_changed w.is_cover now.search.tree now.search.fan h.sound.tree.sound page within (filter (is_needed h.horizon) rows) (death_weight f) in
+          let b = rows_changed rules.is_cover now.search.tree now.search.fan h.sound.tree.sound page within (filter (is_needed h.horizon) rows) (death_weight f) in
           let c : weigh f (deaths now.search.tree) ≡ weigh (death_weight f) (rows_of_tree now.search.tree) = weigh_filter_map f death (rows_of_tree now.search.tree) in
           let d : weigh f (deaths swept) ≡ weigh (death_weight f) (rows_of_tree swept) = weigh_filter_map f death (rows_of_tree swept) in
           let e : weigh f (deaths new.search.tree) ≡ weigh f (deaths swept) = ap (λ t. weigh f (deaths t)) tree_is in
@@ -258,8 +259,8 @@ module _ {K A : Type 0} (w : Words K A) where
             (h.clean q (search (arith, k, d))))
       ];
       sound = sound;
-      rests = rests_trans w old now new h.rests
-          (step_rests {C = C} {O = O} {E = E} w now (event.Sweep page) (reply.Swept count) new serves (λ c. refl) (ap (λ s. s.limit) s.after) (ap (λ s. s.search.limit) s.after)
+      rests = rests_trans rules rule old now new h.rests
+          (step_rests {C = C} {O = O} {E = E} rules rule now (event.Sweep page) (reply.Swept count) new serves (λ c. refl) (ap (λ s. s.limit) s.after) (ap (λ s. s.search.limit) s.after)
           (omega (arith, pages)) (ap (λ s. s.last) s.after) (ap (λ s. s.cursors) s.after));
       commits = ap (λ s. s.commits) s.after ∙ h.commits;
       pages = pages ∙ h.pages;
@@ -273,7 +274,7 @@ module _ {K A : Type 0} (w : Words K A) where
         within : page < length now.search.tree.pages
         within = omega (arith, l, h.pages)
 
-        tree_sound : IsSound w.is_cover now.search.fan now.search.tree
+        tree_sound : IsSound rules.is_cover now.search.fan now.search.tree
         tree_sound = h.sound.tree.sound
 
         swept : Tree K
@@ -299,7 +300,7 @@ module _ {K A : Type 0} (w : Words K A) where
         small = omega (arith, counted, (tree_sound.shape page within).fits, h.sound.tree.fan_limit)
 
     -- a sweep of a leaf is refused for want of memory alone
-    pub sweep_refused : {C : Type 0} (new : State K A) (why : Refusal) → is_leaf now.search.tree page ≡ true → IsRefused {C = C} w now (event.Sweep page) why new → (why ≡ refusal.OutOfMemory) × HasSwept old page number new
+    pub sweep_refused : {C : Type 0} (new : State K A) (why : Refusal) → is_leaf now.search.tree page ≡ true → IsRefused {C = C} rules rule now (event.Sweep page) why new → (why ≡ refusal.OutOfMemory) × HasSwept old page number new
     sweep_refused new why leaf r = (
       elim r.cause [
         | inl failed ↦ absurd (let e : None ≡ Some why = sym passed ∙ failed in cc)

@@ -1,7 +1,8 @@
 -- A finder under way for a row, and how its search ends.
 use Rattle.std.specs.Prelude.{◌≡◌, ℕ, ◌+◌, ◌≤◌, [], ◌∷◌, ◌++◌, length, IsPermutation}
+use Rattle.key_class.specs.Rules.{Rules}
+use Rattle.mailbox.specs.Outlets.{Rule}
 use Rattle.change_list.specs.declared.write.Write.TheVariants.{Delete}
-use Rattle.cursor.specs.OpenCursors.{Words}
 use Rattle.descent.specs.Finders.{OpenFinder}
 use Rattle.world.specs.Resting.{deaths, Rests}
 use Rattle.world.specs.States.{State}
@@ -20,12 +21,12 @@ module _ {K A : Type 0} where
     pub few : last_finder ≤ old.last_finder + 1
     pub is : new ≡ record old { last_finder = last_finder }
 
-module _ {K A : Type 0} (w : Words K A) where
+module _ {K A : Type 0} (rules : Rules K A) (rule : Rule) where
   -- the next commit deletes the row, and one row more is dead in the tree
   pub record Deletes (old : State K A) (row number : ℕ) (new : State K A) : Type 0 where
     pub number_is : number ≡ length old.commits + 1
     pub commits : new.commits ≡ old.commits ++ Delete row ∷ []
-    pub rests : Rests w old new
+    pub rests : Rests rules rule old new
     pub dead : IsPermutation ((row, length old.commits + 1) ∷ deaths old.search.tree) (deaths new.search.tree)
     pub pages : length new.search.tree.pages ≡ length old.search.tree.pages
     pub finders : new.finders ≡ old.finders

@@ -1,6 +1,5 @@
 ghost use Rattle.std.specs.Prelude.{◌≡◌, ◌≢◌, ◌↔◌, ◌⊎◌, ◌<◌, ◌≤◌, ◌+◌, ◌++◌, ◌∷◌, [], length, IsPermutation, IfOk, IfErr, OnOk, OnErr};
 ghost use Rattle.change_list.specs.Changes.{status_of};
-ghost use Rattle.cursor.specs.OpenCursors.{words};
 ghost use Rattle.removal.specs.Deleting.{Deletes, Leaves};
 ghost use Rattle.world.specs.Resting.{deaths, Rests};
 
@@ -23,7 +22,7 @@ pub fn delete<C: KeyClass, O: Outlet<C::Key>>(
     ensures number { IfOk result (λ n. n ≡ length world.old.commits + 1) }
     ensures committed { OnOk result (world.new.commits ≡ world.old.commits ++ Write.Delete row ∷ []) }
     ensures unchanged { OnErr result (world.new.commits ≡ world.old.commits) }
-    ensures rests { Rests (words C.is_match C.is_consistent C.is_cover C.union_of O.may_take O.may_refuse O.is_emptied_elsewhere) world.old world.new }
+    ensures rests { Rests C.rules O.rule world.old world.new }
     ensures dead { OnOk result (IsPermutation ((row, length world.old.commits + 1) ∷ deaths world.old.search.tree) (deaths world.new.search.tree)) }
     ensures dead_kept { OnErr result (deaths world.new.search.tree ≡ deaths world.old.search.tree) }
     ensures pages { length world.new.search.tree.pages ≡ length world.old.search.tree.pages }
@@ -55,7 +54,7 @@ fn find_and_bury<C: KeyClass, O: Outlet<C::Key>>(
 ) -> Result<u64, Refusal>
     requires live { status_of world.old.commits row ≡ Status.Live }
     requires room { length world.old.commits < world.old.limit }
-    ensures deleted { IfOk result (λ number. Deletes (words C.is_match C.is_consistent C.is_cover C.union_of O.may_take O.may_refuse O.is_emptied_elsewhere) world.old row number world.new) }
+    ensures deleted { IfOk result (λ number. Deletes C.rules O.rule world.old row number world.new) }
     ensures left { OnErr result (Leaves world.old world.new) }
     ensures unfound { IfErr result (λ why. why ≢ Refusal.OutOfMemory → world.new ≡ world.old) }
     ensures full { (result ≡ Err Refusal.FindersFull) ↔ ((64 ≤ length world.old.finders) ⊎ (4294967295 ≤ world.old.last_finder)) }

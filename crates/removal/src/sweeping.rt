@@ -1,5 +1,4 @@
 ghost use Rattle.std.specs.Prelude.{◌≡◌, length, IfOk, IfErr, OnErr};
-ghost use Rattle.cursor.specs.OpenCursors.{words};
 ghost use Rattle.removal.specs.Sweeping.{SweepsAll, SweepsSome};
 ghost use Rattle.world.specs.Resting.{Rests};
 
@@ -12,7 +11,7 @@ use world::{Event, Reply, World};
 /// # Errors
 /// Want of memory; some of those rows may be removed then.
 pub fn sweep_all<C: KeyClass, O: Outlet<C::Key>>(world: &mut World<C, O>) -> Result<u64, Refusal>
-    ensures rests { Rests (words C.is_match C.is_consistent C.is_cover C.union_of O.may_take O.may_refuse O.is_emptied_elsewhere) world.old world.new }
+    ensures rests { Rests C.rules O.rule world.old world.new }
     ensures commits { world.new.commits ≡ world.old.commits }
     ensures pages { length world.new.search.tree.pages ≡ length world.old.search.tree.pages }
     ensures finders { world.new.finders ≡ world.old.finders }

@@ -1,7 +1,6 @@
 //! A deletion by visits, between which others may change the world.
 ghost use Rattle.std.specs.Prelude.{◌≡◌, ◌⊎◌, ◌↔◌, ◌+◌, ◌≤◌, true, Err, length, IfOk, IfErr, OnOk, OnErr};
 ghost use Rattle.change_list.specs.Changes.{status_of};
-ghost use Rattle.cursor.specs.OpenCursors.{words};
 ghost use Rattle.removal.specs.Deleting.{Looks};
 ghost use Rattle.removal.specs.Visits.{IsFullOfFinders, RefusesDelete, Seeks};
 ghost use Rattle.world.specs.Promises.{MailboxesFit};
@@ -35,9 +34,9 @@ pub fn find_row<C: KeyClass, O: Outlet<C::Key>>(
 ) -> Result<u64, Refusal>
     ensures serial { IfOk result (λ finder. finder ≡ world.old.last_finder + 1) }
     ensures looks { OnOk result (Looks world.old row world.new) }
-    ensures one_event { IsOneEvent C O O.End (words C.is_match C.is_consistent C.is_cover C.union_of O.may_take O.may_refuse O.is_emptied_elsewhere) 0 world.old world.new }
-    ensures sound { IsSoundWorld C.is_cover world.new }
-    ensures mailboxes { O.is_emptied_elsewhere ≡ true → MailboxesFit (words C.is_match C.is_consistent C.is_cover C.union_of O.may_take O.may_refuse O.is_emptied_elsewhere) world.old → MailboxesFit (words C.is_match C.is_consistent C.is_cover C.union_of O.may_take O.may_refuse O.is_emptied_elsewhere) world.new }
+    ensures one_event { IsOneEvent C O O.End C.rules O.rule 0 world.old world.new }
+    ensures sound { IsSoundWorld C.rules.is_cover world.new }
+    ensures mailboxes { O.rule.is_emptied_elsewhere ≡ true → MailboxesFit C.rules O.rule world.old → MailboxesFit C.rules O.rule world.new }
     ensures unchanged { OnErr result (world.new ≡ world.old) }
     ensures no_such_row { (result ≡ Err Refusal.NoSuchRow) ↔ (status_of world.old.commits row ≡ Status.NeverIssued) }
     ensures already_deleted { (result ≡ Err Refusal.AlreadyDeleted) ↔ (status_of world.old.commits row ≡ Status.Dead) }
@@ -60,9 +59,9 @@ fn open_finder<C: KeyClass, O: Outlet<C::Key>>(
     requires live { status_of world.old.commits row ≡ Status.Live }
     ensures serial { IfOk result (λ finder. finder ≡ world.old.last_finder + 1) }
     ensures looks { OnOk result (Looks world.old row world.new) }
-    ensures one_event { IsOneEvent C O O.End (words C.is_match C.is_consistent C.is_cover C.union_of O.may_take O.may_refuse O.is_emptied_elsewhere) 0 world.old world.new }
-    ensures sound { IsSoundWorld C.is_cover world.new }
-    ensures mailboxes { O.is_emptied_elsewhere ≡ true → MailboxesFit (words C.is_match C.is_consistent C.is_cover C.union_of O.may_take O.may_refuse O.is_emptied_elsewhere) world.old → MailboxesFit (words C.is_match C.is_consistent C.is_cover C.union_of O.may_take O.may_refuse O.is_emptied_elsewhere) world.new }
+    ensures one_event { IsOneEvent C O O.End C.rules O.rule 0 world.old world.new }
+    ensures sound { IsSoundWorld C.rules.is_cover world.new }
+    ensures mailboxes { O.rule.is_emptied_elsewhere ≡ true → MailboxesFit C.rules O.rule world.old → MailboxesFit C.rules O.rule world.new }
     ensures unchanged { OnErr result (world.new ≡ world.old) }
     ensures full { (result ≡ Err Refusal.FindersFull) ↔ IsFullOfFinders world.old }
     ensures refusals { IfErr result (λ why. (why ≡ Refusal.OutOfMemory) ⊎ ((why ≡ Refusal.FindersFull) × IsFullOfFinders world.old)) }
@@ -86,9 +85,9 @@ pub fn seek_row<C: KeyClass, O: Outlet<C::Key>>(
     row: u64,
 ) -> Result<Search<C::Key>, Refusal>
     ensures seeks { IfOk result (λ search. Seeks world.old seat row search world.new) }
-    ensures one_event { IsOneEvent C O O.End (words C.is_match C.is_consistent C.is_cover C.union_of O.may_take O.may_refuse O.is_emptied_elsewhere) seat world.old world.new }
-    ensures sound { IsSoundWorld C.is_cover world.new }
-    ensures mailboxes { O.is_emptied_elsewhere ≡ true → MailboxesFit (words C.is_match C.is_consistent C.is_cover C.union_of O.may_take O.may_refuse O.is_emptied_elsewhere) world.old → MailboxesFit (words C.is_match C.is_consistent C.is_cover C.union_of O.may_take O.may_refuse O.is_emptied_elsewhere) world.new }
+    ensures one_event { IsOneEvent C O O.End C.rules O.rule seat world.old world.new }
+    ensures sound { IsSoundWorld C.rules.is_cover world.new }
+    ensures mailboxes { O.rule.is_emptied_elsewhere ≡ true → MailboxesFit C.rules O.rule world.old → MailboxesFit C.rules O.rule world.new }
     ensures unchanged { OnErr result (world.new ≡ world.old) }
     ensures no_such_row { (result ≡ Err Refusal.NoSuchRow) ↔ (status_of world.old.commits row ≡ Status.NeverIssued) }
     ensures already_deleted { (result ≡ Err Refusal.AlreadyDeleted) ↔ (status_of world.old.commits row ≡ Status.Dead) }
@@ -111,9 +110,9 @@ fn seek_live<C: KeyClass, O: Outlet<C::Key>>(
 ) -> Result<Search<C::Key>, Refusal>
     requires live { status_of world.old.commits row ≡ Status.Live }
     ensures seeks { IfOk result (λ search. Seeks world.old seat row search world.new) }
-    ensures one_event { IsOneEvent C O O.End (words C.is_match C.is_consistent C.is_cover C.union_of O.may_take O.may_refuse O.is_emptied_elsewhere) seat world.old world.new }
-    ensures sound { IsSoundWorld C.is_cover world.new }
-    ensures mailboxes { O.is_emptied_elsewhere ≡ true → MailboxesFit (words C.is_match C.is_consistent C.is_cover C.union_of O.may_take O.may_refuse O.is_emptied_elsewhere) world.old → MailboxesFit (words C.is_match C.is_consistent C.is_cover C.union_of O.may_take O.may_refuse O.is_emptied_elsewhere) world.new }
+    ensures one_event { IsOneEvent C O O.End C.rules O.rule seat world.old world.new }
+    ensures sound { IsSoundWorld C.rules.is_cover world.new }
+    ensures mailboxes { O.rule.is_emptied_elsewhere ≡ true → MailboxesFit C.rules O.rule world.old → MailboxesFit C.rules O.rule world.new }
     ensures unchanged { OnErr result (world.new ≡ world.old) }
     ensures refusals { IfErr result (λ why. (why ≡ Refusal.OutOfMemory) ⊎ ((why ≡ Refusal.CommitsFull) × (world.old.limit ≤ length world.old.commits))) }
 {

@@ -1,5 +1,5 @@
 -- A visit that was worked out beside the table is one of the table, where the page is as it was.
-use Rattle.std.proofs.Common.{◌≡◌, ◌+◌, ◌-◌, ◌<◌, ℕ, Bool, List, [], ◌∷◌, ◌++◌, length, map, filter, reverse, take, refl, sym, ap, ◌∙◌, arith}
+use Rattle.std.proofs.Common.{◌≡◌, ◌-◌, ◌<◌, ℕ, Bool, List, [], ◌∷◌, ◌++◌, length, map, filter, reverse, take, refl, sym, ap, ◌∙◌, arith}
 use Rattle.std.proofs.lemmas.List.{map-append, reverse-append, length-map}
 use Rattle.change_list.specs.declared.item.Row.{Row}
 use Rattle.node.specs.declared.branch.Branch.{Branch}

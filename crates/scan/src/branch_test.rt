@@ -18,7 +18,7 @@ pub struct Covering<K> {
 }
 
 impl<C: KeyClass> BranchTest<C> for Covering<C::Key> {
-    ghost wants = { λ test bound. C.is_cover bound test.key };
+    ghost wants = { λ test bound. C.rules.is_cover bound test.key };
 
     fn is_wanted(&self, bound: C::Key) -> bool {
         C::covers(bound, self.key)
@@ -26,7 +26,7 @@ impl<C: KeyClass> BranchTest<C> for Covering<C::Key> {
 }
 
 impl<C: KeyClass> BranchTest<C> for Pred<C::Atom> {
-    ghost wants = { λ query bound. consistent_with_query C.is_consistent (query_of query) bound };
+    ghost wants = { λ query bound. consistent_with_query C.rules.is_consistent (query_of query) bound };
 
     fn is_wanted(&self, bound: C::Key) -> bool {
         self.consistent::<C>(bound)

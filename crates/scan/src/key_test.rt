@@ -19,7 +19,7 @@ pub struct OneAtom<A> {
 }
 
 impl<C: KeyClass> KeyTest<C> for OneAtom<C::Atom> {
-    ghost accepts = { λ test key. C.is_match test.atom key };
+    ghost accepts = { λ test key. C.rules.is_match test.atom key };
 
     fn is_accepted(&self, key: C::Key) -> bool {
         C::matches(&self.atom, key)
@@ -27,7 +27,7 @@ impl<C: KeyClass> KeyTest<C> for OneAtom<C::Atom> {
 }
 
 impl<C: KeyClass> BranchTest<C> for OneAtom<C::Atom> {
-    ghost wants = { λ test bound. C.is_consistent test.atom bound };
+    ghost wants = { λ test bound. C.rules.is_consistent test.atom bound };
 
     fn is_wanted(&self, bound: C::Key) -> bool {
         C::consistent(&self.atom, bound)
@@ -35,7 +35,7 @@ impl<C: KeyClass> BranchTest<C> for OneAtom<C::Atom> {
 }
 
 impl<C: KeyClass> KeyTest<C> for Pred<C::Atom> {
-    ghost accepts = { λ query key. matches_query C.is_match (query_of query) key };
+    ghost accepts = { λ query key. matches_query C.rules.is_match (query_of query) key };
 
     fn is_accepted(&self, key: C::Key) -> bool {
         self.matches::<C>(key)

@@ -20,8 +20,8 @@ pub fn seen_rows<C: KeyClass>(
     query: &Pred<C::Atom>,
     commit: u32,
 ) -> Result<VecDeque<Row<C::Key>>, AllocError>
-    ensures seen { IfOk result (λ rows. rows.items ≡ seen (matches_query C.is_match (query_of query.now)) commit entries.now) }
-    ensures memory { OnErr result (seen (matches_query C.is_match (query_of query.now)) commit entries.now ≢ []) }
+    ensures seen { IfOk result (λ rows. rows.items ≡ seen (matches_query C.rules.is_match (query_of query.now)) commit entries.now) }
+    ensures memory { OnErr result (seen (matches_query C.rules.is_match (query_of query.now)) commit entries.now ≢ []) }
 {
     match query {
         Pred::Atom(atom) => {
@@ -61,7 +61,7 @@ pub fn note_rows<C: KeyClass>(
     rows: &mut Vec<Row<C::Key>>,
 )
     requires room { vec_len rows.old + length entries.now ≤ vec_capacity rows.old }
-    ensures { rows.new.items ≡ rows.old.items ++ seen (matches_query C.is_match (query_of query.now)) commit entries.now }
+    ensures { rows.new.items ≡ rows.old.items ++ seen (matches_query C.rules.is_match (query_of query.now)) commit entries.now }
 {
     match query {
         Pred::Atom(atom) => {

@@ -103,11 +103,11 @@ impl Stack {
         opened: u32,
     ) -> Result<Option<Visited<C::Key>>, AllocError>
         requires { IsStack table.now self.old }
-        ensures visited { IfOk result (λ r. MatchOption r ((self.old ≡ []) × (self.new ≡ self.old)) (λ v. Visits (consistent_with_query C.is_consistent (query_of query.now)) (matches_query C.is_match (query_of query.now)) opened table.now self.old v.page v.rows.items self.new)) }
-        ensures lost_nothing { IfOk result (λ r. MatchOption r (Unit {0}) (λ v. LosesNothing C.is_cover (matches_query C.is_match (query_of query.now)) opened table.now self.old v.rows.items self.new)) }
-        ensures less_work { IfOk result (λ r. MatchOption r (Unit {0}) (λ v. LowersWork C.is_cover table.now self.old self.new)) }
+        ensures visited { IfOk result (λ r. MatchOption r ((self.old ≡ []) × (self.new ≡ self.old)) (λ v. Visits (consistent_with_query C.rules.is_consistent (query_of query.now)) (matches_query C.rules.is_match (query_of query.now)) opened table.now self.old v.page v.rows.items self.new)) }
+        ensures lost_nothing { IfOk result (λ r. MatchOption r (Unit {0}) (λ v. LosesNothing C.rules.is_cover (matches_query C.rules.is_match (query_of query.now)) opened table.now self.old v.rows.items self.new)) }
+        ensures less_work { IfOk result (λ r. MatchOption r (Unit {0}) (λ v. LowersWork C.rules.is_cover table.now self.old self.new)) }
         ensures refused { OnErr result (self.new ≡ self.old) }
-        ensures memory { OnErr result (VisitGrows (consistent_with_query C.is_consistent (query_of query.now)) (matches_query C.is_match (query_of query.now)) opened table.now self.old) }
+        ensures memory { OnErr result (VisitGrows (consistent_with_query C.rules.is_consistent (query_of query.now)) (matches_query C.rules.is_match (query_of query.now)) opened table.now self.old) }
     {
         let Some(item) = self.last() else {
             return Ok(None);
@@ -132,10 +132,10 @@ impl Stack {
         rows: &mut Vec<Row<C::Key>>,
     ) -> Result<Option<u32>, AllocError>
         requires { IsStack table.now self.old }
-        ensures visited { IfOk result (λ r. let wanted = matches_query C.is_match (query_of query.now) in MatchOption r ((self.old ≡ []) × (self.new ≡ self.old)) (λ page. Visits (consistent_with_query C.is_consistent (query_of query.now)) wanted opened table.now self.old page (seen_on wanted opened table.now page) self.new)) }
-        ensures noted { IfOk result (λ r. MatchOption r (rows.new.items ≡ rows.old.items) (λ page. rows.new.items ≡ rows.old.items ++ seen_on (matches_query C.is_match (query_of query.now)) opened table.now page)) }
-        ensures lost_nothing { IfOk result (λ r. let wanted = matches_query C.is_match (query_of query.now) in MatchOption r (Unit {0}) (λ page. LosesNothing C.is_cover wanted opened table.now self.old (seen_on wanted opened table.now page) self.new)) }
-        ensures less_work { IfOk result (λ r. MatchOption r (Unit {0}) (λ page. LowersWork C.is_cover table.now self.old self.new)) }
+        ensures visited { IfOk result (λ r. let wanted = matches_query C.rules.is_match (query_of query.now) in MatchOption r ((self.old ≡ []) × (self.new ≡ self.old)) (λ page. Visits (consistent_with_query C.rules.is_consistent (query_of query.now)) wanted opened table.now self.old page (seen_on wanted opened table.now page) self.new)) }
+        ensures noted { IfOk result (λ r. MatchOption r (rows.new.items ≡ rows.old.items) (λ page. rows.new.items ≡ rows.old.items ++ seen_on (matches_query C.rules.is_match (query_of query.now)) opened table.now page)) }
+        ensures lost_nothing { IfOk result (λ r. let wanted = matches_query C.rules.is_match (query_of query.now) in MatchOption r (Unit {0}) (λ page. LosesNothing C.rules.is_cover wanted opened table.now self.old (seen_on wanted opened table.now page) self.new)) }
+        ensures less_work { IfOk result (λ r. MatchOption r (Unit {0}) (λ page. LowersWork C.rules.is_cover table.now self.old self.new)) }
         ensures refused { OnErr result (self.new ≡ self.old) }
         ensures none_noted { OnErr result (rows.new.items ≡ rows.old.items) }
     {
@@ -203,9 +203,9 @@ impl Stack {
     ) -> Result<Visited<C::Key>, AllocError>
         requires next { IsNext self.old visit.item }
         requires worked { visit.worked ≡ true }
-        ensures visited { IfOk result (λ v. (table : Tree C.Key) → table.counter ≡ counter → page_at table visit.item.page ≡ visit.page → Visits (consistent_with_query C.is_consistent visit.query) (matches_query C.is_match visit.query) visit.opened table self.old v.page v.rows.items self.new) }
+        ensures visited { IfOk result (λ v. (table : Tree C.Key) → table.counter ≡ counter → page_at table visit.item.page ≡ visit.page → Visits (consistent_with_query C.rules.is_consistent visit.query) (matches_query C.rules.is_match visit.query) visit.opened table self.old v.page v.rows.items self.new) }
         ensures refused { OnErr result (self.new ≡ self.old) }
-        ensures memory { OnErr result ((table : Tree C.Key) → table.counter ≡ counter → page_at table visit.item.page ≡ visit.page → PushesSome (consistent_with_query C.is_consistent visit.query) table self.old) }
+        ensures memory { OnErr result ((table : Tree C.Key) → table.counter ≡ counter → page_at table visit.item.page ≡ visit.page → PushesSome (consistent_with_query C.rules.is_consistent visit.query) table self.old) }
     {
         let PreparedVisit {
             item,
@@ -236,12 +236,12 @@ impl Stack {
         row: u32,
     ) -> Result<Option<Sought>, AllocError>
         requires { IsStack table.now self.old }
-        ensures sought { IfOk result (λ r. MatchOption r ((self.old ≡ []) × (self.new ≡ self.old)) (λ met. Seeks (λ bound. C.is_cover bound key) row table.now self.old met self.new)) }
-        ensures lost_nothing { IfOk result (λ r. MatchOption r (Unit {0}) (λ met. KeepsFinder C.is_cover key row table.now self.old self.new)) }
-        ensures less_work { IfOk result (λ r. MatchOption r (Unit {0}) (λ met. SeeksLess C.is_cover table.now self.old met self.new)) }
+        ensures sought { IfOk result (λ r. MatchOption r ((self.old ≡ []) × (self.new ≡ self.old)) (λ met. Seeks (λ bound. C.rules.is_cover bound key) row table.now self.old met self.new)) }
+        ensures lost_nothing { IfOk result (λ r. MatchOption r (Unit {0}) (λ met. KeepsFinder C.rules.is_cover key row table.now self.old self.new)) }
+        ensures less_work { IfOk result (λ r. MatchOption r (Unit {0}) (λ met. SeeksLess C.rules.is_cover table.now self.old met self.new)) }
         ensures refused { OnErr result (self.new ≡ self.old) }
         ensures refused_further { OnErr result (LacksNext row table.now self.old) }
-        ensures memory { OnErr result (PushesSome (λ bound. C.is_cover bound key) table.now self.old) }
+        ensures memory { OnErr result (PushesSome (λ bound. C.rules.is_cover bound key) table.now self.old) }
     {
         let Some(item) = self.last() else {
             return Ok(None);
@@ -273,9 +273,9 @@ impl Stack {
     ) -> Result<(), AllocError>
         requires next { IsNext self.old item }
         requires exists { item.page < length table.now.pages }
-        ensures ok { OnOk result (GoesOn (consistent_with_query C.is_consistent (query_of query.now)) table.now self.old item self.new) }
+        ensures ok { OnOk result (GoesOn (consistent_with_query C.rules.is_consistent (query_of query.now)) table.now self.old item self.new) }
         ensures refused { OnErr result (self.new ≡ self.old) }
-        ensures memory { OnErr result (PushesSome (consistent_with_query C.is_consistent (query_of query.now)) table.now self.old) }
+        ensures memory { OnErr result (PushesSome (consistent_with_query C.rules.is_consistent (query_of query.now)) table.now self.old) }
     {
         match query {
             Pred::Atom(atom) => {

@@ -5,7 +5,8 @@ use Rattle.node.specs.Pages.{keys_of}
 use Rattle.node.specs.Parts.{cover_of}
 use Rattle.node.specs.declared.branch.Branch.{Branch}
 use Rattle.page_table.proofs.Lists.{All-back, All-front, All-unmap}
-use Rattle.page_table.specs.Soundness.{IsBelow, IsWithin, KeyLaws}
+use Rattle.key_class.specs.Rules.{KeyLaws}
+use Rattle.page_table.specs.Soundness.{IsBelow, IsWithin}
 use Rattle.row_version.specs.Entries.{Entry}
 
 module _ {K : Type 0} (is_cover : K → K → Bool) (union : K → K → K) (laws : KeyLaws is_cover union) where

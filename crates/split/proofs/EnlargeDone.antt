@@ -3,7 +3,8 @@ use Rattle.std.proofs.Common.{◌≡◌, ◌≢◌, ℕ, ◌<◌, Bool, ◌&&◌
 use Rattle.std.proofs.lemmas.Bool.{ltb-true, and_parts}
 use Rattle.node.specs.Pages.{names, is_within}
 use Rattle.page_table.specs.Trees.{Tree, page_at, naming, rows_under, Falls}
-use Rattle.page_table.specs.Soundness.{KeyLaws, IsWithin}
+use Rattle.key_class.specs.Rules.{KeyLaws}
+use Rattle.page_table.specs.Soundness.{IsWithin}
 use Rattle.page_table.specs.Keeping.{StandsIn}
 use Rattle.page_table.proofs.Counting.{named-All}
 use Rattle.page_table.proofs.Entries.{entries_stay}

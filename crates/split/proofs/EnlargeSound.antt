@@ -13,7 +13,8 @@ use Rattle.page_table.proofs.Pruning.{below_below}
 use Rattle.page_table.proofs.SameLinks.{SameLinks, same_under}
 use Rattle.page_table.proofs.Under.{All-both, under_exist}
 use Rattle.page_table.proofs.Weights.{flat_map-each, weigh-at, weigh-at_two, weigh-each, weigh-map, weigh-set}
-use Rattle.page_table.specs.Soundness.{BoundsBelow, IsBelow, IsBounded, IsReached, IsRoot, IsShaped, IsSound, IsWithin, KeyLaws}
+use Rattle.key_class.specs.Rules.{KeyLaws}
+use Rattle.page_table.specs.Soundness.{BoundsBelow, IsBelow, IsBounded, IsReached, IsRoot, IsShaped, IsSound, IsWithin}
 use Rattle.page_table.specs.Trees.{Falls, LinksFall, Tree, linking, naming, no_page, owing, page_at, pages_under, replaced, rows_of, rows_under}
 use Rattle.page_table.specs.Weights.{one_if_equal, weigh}
 use Rattle.row_version.specs.Entries.{Entry}

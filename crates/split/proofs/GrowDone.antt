@@ -6,7 +6,7 @@ use Rattle.key_class.specs.declared.sides.Side.{Side}
 use Rattle.node.specs.Pages.{entries_of}
 use Rattle.page_table.specs.Weights.{Same}
 use Rattle.page_table.specs.Trees.{Tree, page_at, rows_under}
-use Rattle.page_table.specs.Soundness.{KeyLaws}
+use Rattle.key_class.specs.Rules.{KeyLaws}
 use Rattle.page_table.specs.Keeping.{StandsIn}
 use Rattle.page_table.proofs.Entries.{entries_stay}
 use Rattle.split.specs.SearchTrees.{SearchTree, IsSearchTree}

@@ -10,7 +10,8 @@ use Rattle.node.specs.declared.branch.Branch.{Branch}
 use Rattle.page_table.proofs.Counting.{false_true, not_named, one-different, one-equal}
 use Rattle.page_table.proofs.Under.{All-both, under_weigh}
 use Rattle.page_table.proofs.Weights.{weigh-append, weigh-at, weigh-zero, weigh_one}
-use Rattle.page_table.specs.Soundness.{BoundsBelow, IsBelow, IsBounded, IsReached, IsRoot, IsShaped, IsSound, IsWithin, KeyLaws}
+use Rattle.key_class.specs.Rules.{KeyLaws}
+use Rattle.page_table.specs.Soundness.{BoundsBelow, IsBelow, IsBounded, IsReached, IsRoot, IsShaped, IsSound, IsWithin}
 use Rattle.page_table.specs.Trees.{Falls, IsRanked, Tree, linking, naming, no_page, owing, page_at, pages_under}
 use Rattle.page_table.specs.Weights.{one_if_equal, weigh}
 use Rattle.row_version.specs.Entries.{Entry}

@@ -3,7 +3,7 @@ use Rattle.std.proofs.Common.{◌≡◌, ◌≢◌, ℕ, ◌<◌, Bool, true, �
 use Rattle.std.proofs.lemmas.Bool.{ltb-true, leb-false, and_parts}
 use Rattle.node.specs.Pages.{entries_of, names}
 use Rattle.page_table.specs.Trees.{Tree, page_at, naming}
-use Rattle.page_table.specs.Soundness.{KeyLaws}
+use Rattle.key_class.specs.Rules.{KeyLaws}
 use Rattle.page_table.specs.Keeping.{StandsIn}
 use Rattle.page_table.proofs.Entries.{entries_stay}
 use Rattle.split.specs.SearchTrees.{SearchTree, IsSearchTree}

@@ -12,7 +12,8 @@ use Rattle.page_table.proofs.Facts.{Settled, sibling_settled}
 use Rattle.page_table.proofs.PageLists.{is_or_not, replaced-length}
 use Rattle.page_table.proofs.Under.{All-both}
 use Rattle.page_table.proofs.Weights.{weigh-append, weigh-set, weigh_one}
-use Rattle.page_table.specs.Soundness.{BoundsBelow, IsBelow, IsBounded, IsReached, IsRoot, IsShaped, IsSound, IsWithin, KeyLaws}
+use Rattle.key_class.specs.Rules.{KeyLaws}
+use Rattle.page_table.specs.Soundness.{BoundsBelow, IsBelow, IsBounded, IsReached, IsRoot, IsShaped, IsSound, IsWithin}
 use Rattle.page_table.specs.Trees.{Falls, IsRanked, Tree, linking, naming, no_page, owing, page_at, pages_under, replaced}
 use Rattle.page_table.specs.Weights.{one_if_equal, weigh}
 use Rattle.split.proofs.CanPost.{below_some}

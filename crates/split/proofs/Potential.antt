@@ -6,7 +6,8 @@ use Rattle.key_class.specs.declared.sides.Side.{Side}
 use Rattle.row_version.specs.Entries.{Entry}
 use Rattle.node.specs.Pages.{Page, entries_of}
 use Rattle.node.specs.Changes.{branch_to, rekeyed, widened, enlarge_parent, with_rows, split_left, split_right, grown_left, grown_right}
-use Rattle.page_table.specs.Soundness.{IsSound, IsShaped, IsWithin, KeyLaws}
+use Rattle.key_class.specs.Rules.{KeyLaws}
+use Rattle.page_table.specs.Soundness.{IsSound, IsShaped, IsWithin}
 use Rattle.page_table.specs.Trees.{Tree, page_at, naming, new_tree, after_rows}
 use Rattle.page_table.specs.Weights.{weigh}
 use Rattle.split.specs.Potential.{page_potential, potential}

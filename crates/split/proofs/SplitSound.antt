@@ -12,7 +12,8 @@ use Rattle.page_table.proofs.Facts.{Settled, siblings_settled}
 use Rattle.page_table.proofs.PageLists.{is_or_not}
 use Rattle.page_table.proofs.Pruning.{within_below}
 use Rattle.page_table.proofs.Under.{All-both}
-use Rattle.page_table.specs.Soundness.{BoundsBelow, IsBelow, IsBounded, IsRoot, IsShaped, IsSound, IsWithin, KeyLaws}
+use Rattle.key_class.specs.Rules.{KeyLaws}
+use Rattle.page_table.specs.Soundness.{BoundsBelow, IsBelow, IsBounded, IsRoot, IsShaped, IsSound, IsWithin}
 use Rattle.page_table.specs.Trees.{Falls, IsRanked, Tree, page_at}
 use Rattle.page_table.specs.Weights.{weigh}
 use Rattle.row_version.specs.Entries.{Entry}

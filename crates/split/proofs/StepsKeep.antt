@@ -5,7 +5,8 @@ use Rattle.split.proofs.PostUnder as post
 use Rattle.split.proofs.EnlargeSound as enlarge
 use Rattle.key_class.specs.declared.sides.Side.{Side}
 use Rattle.page_table.specs.Keeping.{EachEntry, KeepsRows}
-use Rattle.page_table.specs.Soundness.{IsSound, IsWithin, KeyLaws}
+use Rattle.key_class.specs.Rules.{KeyLaws}
+use Rattle.page_table.specs.Soundness.{IsSound, IsWithin}
 use Rattle.page_table.specs.Trees.{Tree, naming, page_at}
 use Rattle.page_table.specs.Weights.{weigh}
 use Rattle.row_version.specs.Entries.{Entry}

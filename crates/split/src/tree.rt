@@ -35,7 +35,7 @@ impl<C: KeyClass> Model for SearchTree<C> {
 
     ghost view = { λ t. record { tree = t.table; fan = t.fan; least = t.least; limit = t.limit } };
 
-    ghost invariant = { λ t. IsSearchTree C.is_cover t.table t.fan t.least t.limit };
+    ghost invariant = { λ t. IsSearchTree C.rules.is_cover t.table t.fan t.least t.limit };
 }
 
 impl<C: KeyClass> SearchTree<C> {
@@ -65,7 +65,7 @@ impl<C: KeyClass> SearchTree<C> {
     /// The pages.
     pub fn pages(&self) -> &PageTable<C::Key>
         ensures table { result.now ≡ self.now.tree }
-        ensures sound { IsSound C.is_cover self.now.fan self.now.tree }
+        ensures sound { IsSound C.rules.is_cover self.now.fan self.now.tree }
         ensures few { length self.now.tree.pages ≤ 65536 }
     {
         &self.table
@@ -100,16 +100,16 @@ impl<C: KeyClass> SearchTree<C> {
     /// NotHere where the parent is no inner page or has no branch to the child, Uncovered where its cover doesn't cover
     /// the key, else want of memory. Nothing is changed then.
     pub fn enlarge(&mut self, parent: u64, child: u64, key: C::Key) -> Result<(), Refusal>
-        ensures passed { OnOk result (first_failing (enlarge_tests C.is_cover self.old parent child key) ≡ None) }
-        ensures enlarged { OnOk result (self.new ≡ with_tree self.old (after_enlarge C.union_of self.old.tree parent child key)) }
-        ensures refused { IfErr result (IsRefusedBy (enlarge_tests C.is_cover self.old parent child key)) }
+        ensures passed { OnOk result (first_failing (enlarge_tests C.rules.is_cover self.old parent child key) ≡ None) }
+        ensures enlarged { OnOk result (self.new ≡ with_tree self.old (after_enlarge C.rules.union_of self.old.tree parent child key)) }
+        ensures refused { IfErr result (IsRefusedBy (enlarge_tests C.rules.is_cover self.old parent child key)) }
         ensures unchanged { OnErr result (self.new ≡ self.old) }
 
         // The bounds alone have changed.
         ensures same_rows { (q m : ℕ) → q < length self.old.tree.pages → rows_under self.new.tree q m ≡ rows_under self.old.tree q m }
         ensures kept { KeepsRows self.old.tree self.new.tree }
         ensures entries { EachEntry (StandsIn self.old.tree) self.new.tree }
-        ensures sound { IsSound C.is_cover self.new.fan self.new.tree }
+        ensures sound { IsSound C.rules.is_cover self.new.fan self.new.tree }
     {
         if let Some(refusal) = self.enlarge_refusal(parent, child, key) {
             return Err(refusal);
@@ -127,7 +127,7 @@ impl<C: KeyClass> SearchTree<C> {
     pub fn split(&mut self, page: u64, sides: &Sides) -> Result<u32, Refusal>
         ensures passed { OnOk result (first_failing (split_tests self.old page sides.now) ≡ None) }
         ensures sibling { IfOk result (λ sibling. sibling ≡ length self.old.tree.pages) }
-        ensures split { OnOk result (self.new ≡ with_tree self.old (after_split C.union_of self.old.tree page sides.now)) }
+        ensures split { OnOk result (self.new ≡ with_tree self.old (after_split C.rules.union_of self.old.tree page sides.now)) }
         ensures refused { IfErr result (IsRefusedBy (split_tests self.old page sides.now)) }
         ensures unchanged { OnErr result (self.new ≡ self.old) }
 
@@ -135,7 +135,7 @@ impl<C: KeyClass> SearchTree<C> {
         ensures same_rows { (q m : ℕ) → q < length self.old.tree.pages → Same (rows_under self.new.tree q m) (rows_under self.old.tree q m) }
         ensures kept { KeepsRows self.old.tree self.new.tree }
         ensures entries { EachEntry (StandsIn self.old.tree) self.new.tree }
-        ensures sound { IsSound C.is_cover self.new.fan self.new.tree }
+        ensures sound { IsSound C.rules.is_cover self.new.fan self.new.tree }
     {
         if let Some(refusal) = self.split_refusal(page, sides) {
             return Err(refusal);
@@ -158,7 +158,7 @@ impl<C: KeyClass> SearchTree<C> {
 
         ensures kept { KeepsRows self.old.tree self.new.tree }
         ensures entries { EachEntry (StandsIn self.old.tree) self.new.tree }
-        ensures sound { IsSound C.is_cover self.new.fan self.new.tree }
+        ensures sound { IsSound C.rules.is_cover self.new.fan self.new.tree }
     {
         if let Some(refusal) = self.post_refusal(parent, child) {
             return Err(refusal);
@@ -179,7 +179,7 @@ impl<C: KeyClass> SearchTree<C> {
     pub fn grow(&mut self, sides: &Sides) -> Result<(u32, u32), Refusal>
         ensures passed { OnOk result (first_failing (grow_tests self.old sides.now) ≡ None) }
         ensures pages { IfOk result (λ pages. (pages.0 ≡ length self.old.tree.pages) × (pages.1 ≡ suc (length self.old.tree.pages))) }
-        ensures grown { OnOk result (self.new ≡ with_tree self.old (after_grow C.union_of self.old.tree sides.now)) }
+        ensures grown { OnOk result (self.new ≡ with_tree self.old (after_grow C.rules.union_of self.old.tree sides.now)) }
         ensures refused { IfErr result (IsRefusedBy (grow_tests self.old sides.now)) }
         ensures unchanged { OnErr result (self.new ≡ self.old) }
 
@@ -187,7 +187,7 @@ impl<C: KeyClass> SearchTree<C> {
         ensures same_rows { (q m : ℕ) → q < length self.old.tree.pages → Same (rows_under self.new.tree q m) (rows_under self.old.tree q m) }
         ensures kept { KeepsRows self.old.tree self.new.tree }
         ensures entries { EachEntry (StandsIn self.old.tree) self.new.tree }
-        ensures sound { IsSound C.is_cover self.new.fan self.new.tree }
+        ensures sound { IsSound C.rules.is_cover self.new.fan self.new.tree }
     {
         if let Some(refusal) = self.grow_refusal(sides) {
             return Err(refusal);
@@ -202,14 +202,14 @@ impl<C: KeyClass> SearchTree<C> {
     /// By the first of these that holds: NotHere where the page is no leaf, Uncovered where its cover doesn't cover the
     /// key, NodeFull; else want of memory. Nothing is changed then.
     pub fn place(&mut self, leaf: u64, entry: Entry<C::Key>) -> Result<(), Refusal>
-        ensures passed { OnOk result (first_failing (place_tests C.is_cover self.old leaf entry.key) ≡ None) }
+        ensures passed { OnOk result (first_failing (place_tests C.rules.is_cover self.old leaf entry.key) ≡ None) }
         ensures placed { OnOk result (self.new ≡ with_tree self.old (after_rows self.old.tree leaf ((page_at self.old.tree leaf).rows ++ entry ∷ []))) }
-        ensures refused { IfErr result (IsRefusedBy (place_tests C.is_cover self.old leaf entry.key)) }
+        ensures refused { IfErr result (IsRefusedBy (place_tests C.rules.is_cover self.old leaf entry.key)) }
         ensures unchanged { OnErr result (self.new ≡ self.old) }
 
         // Below the root the entry stands once more, and nothing else has changed.
         ensures once { OnOk result ((weight : model.Entry C.Key → ℕ) → weigh weight (rows_of_tree self.new.tree) ≡ weigh weight (rows_of_tree self.old.tree) + weight entry) }
-        ensures sound { IsSound C.is_cover self.new.fan self.new.tree }
+        ensures sound { IsSound C.rules.is_cover self.new.fan self.new.tree }
     {
         if let Some(refusal) = self.place_refusal(leaf, entry.key()) {
             return Err(refusal);
@@ -228,7 +228,7 @@ impl<C: KeyClass> SearchTree<C> {
         ensures buried { OnOk result (self.new ≡ with_tree self.old (after_rows self.old.tree leaf (map (marked row commit) (page_at self.old.tree leaf).rows))) }
         ensures refused { IfErr result (λ why. why ≡ Refusal.OutOfMemory) }
         ensures unchanged { OnErr result (self.new ≡ self.old) }
-        ensures sound { IsSound C.is_cover self.new.fan self.new.tree }
+        ensures sound { IsSound C.rules.is_cover self.new.fan self.new.tree }
     {
         self.table.bury(leaf, row, commit)?;
         Ok(())
@@ -247,7 +247,7 @@ impl<C: KeyClass> SearchTree<C> {
         ensures refused { IfErr result (IsRefusedBy (sweep_tests self.old leaf)) }
         ensures memory { IfErr result (λ why. why ≡ Refusal.OutOfMemory → HasUnneeded horizon self.old.tree leaf) }
         ensures unchanged { OnErr result (self.new ≡ self.old) }
-        ensures sound { IsSound C.is_cover self.new.fan self.new.tree }
+        ensures sound { IsSound C.rules.is_cover self.new.fan self.new.tree }
     {
         if !self.is_leaf(leaf) {
             return Err(Refusal::NotHere);
@@ -264,7 +264,7 @@ impl<C: KeyClass> SearchTree<C> {
 
     /// Why a row with the key can't be placed on a leaf.
     pub fn place_refusal(&self, page: u64, key: C::Key) -> Option<Refusal>
-        ensures { result ≡ first_failing (place_tests C.is_cover self.now page key) }
+        ensures { result ≡ first_failing (place_tests C.rules.is_cover self.now page key) }
     {
         if page >= self.table.len() as u64 {
             return Some(Refusal::NotHere);
@@ -283,7 +283,7 @@ impl<C: KeyClass> SearchTree<C> {
     }
 
     fn enlarge_refusal(&self, parent: u64, child: u64, key: C::Key) -> Option<Refusal>
-        ensures { result ≡ first_failing (enlarge_tests C.is_cover self.now parent child key) }
+        ensures { result ≡ first_failing (enlarge_tests C.rules.is_cover self.now parent child key) }
     {
         if parent >= self.table.len() as u64 {
             return Some(Refusal::NotHere);

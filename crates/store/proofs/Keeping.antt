@@ -5,13 +5,15 @@ use Rattle.std.proofs.lemmas.Bool.{and_from, and_parts, eq-eqb, eqb-true}
 use Rattle.std.proofs.lemmas.List.{length-map}
 use Rattle.std.proofs.lemmas.List.Sorted.{sum_by-IsPermutation}
 use Rattle.std.proofs.lemmas.List.Sums.{sum_by-cons}
+use Rattle.key_class.specs.Rules.{Rules}
+use Rattle.mailbox.specs.Outlets.{Rule}
 use Rattle.key_class.specs.declared.refusal.Refusal.{Refusal}
 use Rattle.key_class.specs.declared.refusal.Refusal.TheVariants as refusal
 use Rattle.change_list.proofs.Collections.{permuted_from_weights}
 use Rattle.change_list.specs.declared.config.Config.{Config}
 use Rattle.change_list.specs.declared.write.Write.{Write}
 use Rattle.page_table.specs.Trees.{new_tree, pages_under, pages_within}
-use Rattle.cursor.specs.OpenCursors.{Words, OpenCursor, shown}
+use Rattle.cursor.specs.OpenCursors.{OpenCursor, shown}
 use Rattle.world.specs.Resting.{deaths, Rests}
 use Rattle.world.specs.States as world
 use Rattle.store.specs.States.{DeadRow, Stays, SameOrStays, KeepsCursors, Commits, Keeps, open_or_closed, new_state}
@@ -68,35 +70,35 @@ dead_rows_permuted xs ys p =
             let second : x.died ≡ y.died = eqb-true x.died y.died parts.1 in
             λ i. record { row = first i; died = second i }
 
-module _ {K A : Type 0} (w : Words K A) (old new : world.State K A) (rests : Rests w old new) where
-  stays : (c : ℕ) (k : OpenCursor K A) → world.cursor_at old c ≡ Some k → Stays w.matching old.commits new.commits (shown w old.search.tree k) (shown w new.search.tree k)
+module _ {K A : Type 0} (rules : Rules K A) (rule : Rule) (old new : world.State K A) (rests : Rests rules rule old new) where
+  stays : (c : ℕ) (k : OpenCursor K A) → world.cursor_at old c ≡ Some k → Stays rules.is_match old.commits new.commits (shown rules rule old.search.tree k) (shown rules rule new.search.tree k)
   stays c k h = record { query = refl; opened = refl; scanning = refl; asked = refl; fits = rests.fits c k h }
 
   by_test : (c : ℕ) (b : Bool) (o : Option (OpenCursor K A)) → world.cursor_at old c ≡ o
-      → SameOrStays w.matching old.commits new.commits
-      (if b then Err refusal.NoSuchCursor else open_or_closed (shown_if w old.search.tree o))
-      (if b then Err refusal.NoSuchCursor else open_or_closed (shown_if w new.search.tree o))
+      → SameOrStays rules.is_match old.commits new.commits
+      (if b then Err refusal.NoSuchCursor else open_or_closed (shown_if rules rule old.search.tree o))
+      (if b then Err refusal.NoSuchCursor else open_or_closed (shown_if rules rule new.search.tree o))
   by_test c true o h = refl
   by_test c false None h = refl
   by_test c false (Some k) h = stays c k h
 
-  pub keeps_cursors : KeepsCursors w.matching (store_state w old) (store_state w new)
+  pub keeps_cursors : KeepsCursors rules.is_match (store_state rules rule old) (store_state rules rule new)
   keeps_cursors c =
       let last : old.last ≡ new.last = sym rests.last in
       let here : world.cursor_at old c ≡ world.cursor_at new c = ap (λ ks. world.cursor_at (record old { cursors = ks }) c) (sym rests.cursors) in
       let test : (nat_eq c 0 || nat_lt old.last c) ≡ (nat_eq c 0 || nat_lt new.last c) = ap (λ n. nat_eq c 0 || nat_lt n c) last in
-      rw (found_shown w old.search.tree c old.cursors, found_shown w new.search.tree c new.cursors, ← test, ← here) (by_test c (nat_eq c 0 || nat_lt old.last c) (world.cursor_at old c) refl)
+      rw (found_shown rules rule old.search.tree c old.cursors, found_shown rules rule new.search.tree c new.cursors, ← test, ← here) (by_test c (nat_eq c 0 || nat_lt old.last c) (world.cursor_at old c) refl)
 
-  pub as_many : length (map (shown w new.search.tree) new.cursors) ≡ length (map (shown w old.search.tree) old.cursors)
-  as_many = length-map new.cursors (shown w new.search.tree) ∙ ap length rests.cursors ∙ sym (length-map old.cursors (shown w old.search.tree))
+  pub as_many : length (map (shown rules rule new.search.tree) new.cursors) ≡ length (map (shown rules rule old.search.tree) old.cursors)
+  as_many = length-map new.cursors (shown rules rule new.search.tree) ∙ ap length rests.cursors ∙ sym (length-map old.cursors (shown rules rule old.search.tree))
 
   fewer_left : new.search.limit - length new.search.tree.pages ≤ old.search.limit - length old.search.tree.pages
   fewer_left = omega (arith, rests.pages, rests.page_limit)
 
-  pub commits_write : (write : Write K) → new.commits ≡ old.commits ++ write ∷ [] → Commits w.matching (store_state w old) write (store_state w new)
+  pub commits_write : (write : Write K) → new.commits ≡ old.commits ++ write ∷ [] → Commits rules.is_match (store_state rules rule old) write (store_state rules rule new)
   commits_write write e = record { limit = rests.limit; page_limit = rests.page_limit; commits = e; last = rests.last; cursors = keeps_cursors; as_many = as_many; pages = fewer_left }
 
-  pub keeps : new.commits ≡ old.commits → IsPermutation (deaths old.search.tree) (deaths new.search.tree) → Keeps w.matching (store_state w old) (store_state w new)
+  pub keeps : new.commits ≡ old.commits → IsPermutation (deaths old.search.tree) (deaths new.search.tree) → Keeps rules.is_match (store_state rules rule old) (store_state rules rule new)
   keeps e dead = record {
     limit = rests.limit;
     page_limit = rests.page_limit;
@@ -112,6 +114,6 @@ module _ {K A : Type 0} (w : Words K A) (old new : world.State K A) (rests : Res
   still_quiet quiet e = record { no_finder = e ∙ quiet.no_finder; emptied = rw rests.cursors quiet.emptied }
 
 -- a new world's dead are none, and it has one page
-pub new_is : {K A : Type 0} (w : Words K A) (config : Config) → store_state w (world.new_state config) ≡ new_state {K = K} {A = A} config
+pub new_is : {K A : Type 0} (rules : Rules K A) (rule : Rule) (config : Config) → store_state rules rule (world.new_state config) ≡ new_state {K = K} {A = A} config
 unfolding new_tree pages_under pages_within
-new_is w config = refl
+new_is rules rule config = refl

@@ -1,12 +1,14 @@
 -- A cursor that is opened, one that is asked for a mark, and one that is closed.
 use Rattle.std.proofs.Common.{◌≡◌, ◌+◌, ◌≤◌, ℕ, Bool, true, false, List, [], ◌∷◌, ◌++◌, length, map, Some, None, Ok, refl, sym, ap, ◌∙◌, arith, subst}
+use Rattle.key_class.specs.Rules.{Rules}
+use Rattle.mailbox.specs.Outlets.{Rule}
 use Rattle.change_list.proofs.Lists.{slice_get_end}
 use Rattle.std.specs.Prelude.{nat_eq, slice_get}
 use Rattle.std.proofs.lemmas.List.{length-map, map-append}
 use Rattle.key_class.specs.Queries.{query_of}
 use Rattle.key_class.specs.declared.pred.Pred.{Pred}
 use Rattle.change_list.specs.Cursors.{CursorState, Fits}
-use Rattle.cursor.specs.OpenCursors.{Words, OpenCursor, shown}
+use Rattle.cursor.specs.OpenCursors.{OpenCursor, shown}
 use Rattle.split.specs.Tests.{first_failing}
 use Rattle.world.proofs.Refusing.{open_from_tests, open_passes}
 use Rattle.world.proofs.Serials.{member_at, all_push, all_put, all_without, member_all}
@@ -17,9 +19,9 @@ use Rattle.store.specs.States.{State, IsOpened, Changes, Closes, with_asking}
 use Rattle.store.specs.Worlds.{store_state, IsQuiet, IsEmptied}
 use Rattle.store.proofs.Worlds.{open_as, with_as, without_shown}
 
-module _ {K A : Type 0} (w : Words K A) (old new : world.State K A) where
-  module _ (sound : world.IsSoundWorld w.is_cover new) (query : Pred A) (c : ℕ) (o : Opens old query 1 c new)
-      (opening : (k : OpenCursor K A) → world.cursor_at new c ≡ Some k → Fits w.matching new.commits (shown w new.search.tree k) []) where
+module _ {K A : Type 0} (rules : Rules K A) (rule : Rule) (old new : world.State K A) where
+  module _ (sound : world.IsSoundWorld rules.is_cover new) (query : Pred A) (c : ℕ) (o : Opens old query 1 c new)
+      (opening : (k : OpenCursor K A) → world.cursor_at new c ≡ Some k → Fits rules.is_match new.commits (shown rules rule new.search.tree k) []) where
     abbrev opened : OpenCursor K A
     opened = opened_cursor old query 1
 
@@ -31,22 +33,22 @@ module _ {K A : Type 0} (w : Words K A) (old new : world.State K A) where
     new_passes = open_passes new c opened new_open (omega (arith, o.serial)) (subst (λ (s : world.State K A). c ≤ s.last) (sym o.after) (omega (arith, o.serial)))
 
     abbrev appended : ℕ → List (CursorState K A) → State K A
-    appended last cursors = record (store_state w old) { last = last; cursors = cursors }
+    appended last cursors = record (store_state rules rule old) { last = last; cursors = cursors }
 
-    pub is_opened : IsOpened w.matching (store_state w old) (query_of query) c (store_state w new)
+    pub is_opened : IsOpened rules.is_match (store_state rules rule old) (query_of query) c (store_state rules rule new)
     is_opened = record {
       serial = o.serial;
-      cursor = shown w old.search.tree opened;
+      cursor = shown rules rule old.search.tree opened;
       after =
-          ap (store_state w) o.after
-          ∙ ap (appended (old.last + 1)) (map-append (shown w old.search.tree) old.cursors (opened ∷ []))
-          ∙ ap (λ n. appended n (map (shown w old.search.tree) old.cursors ++ shown w old.search.tree opened ∷ [])) (sym o.serial);
+          ap (store_state rules rule) o.after
+          ∙ ap (appended (old.last + 1)) (map-append (shown rules rule old.search.tree) old.cursors (opened ∷ []))
+          ∙ ap (λ n. appended n (map (shown rules rule old.search.tree) old.cursors ++ shown rules rule old.search.tree opened ∷ [])) (sym o.serial);
       number = sym o.serial;
-      is_open = open_as w new c opened new_passes new_open ∙ ap (λ (s : world.State K A). Ok (shown w s.search.tree opened)) o.after;
+      is_open = open_as rules rule new c opened new_passes new_open ∙ ap (λ (s : world.State K A). Ok (shown rules rule s.search.tree opened)) o.after;
       query = refl;
       opened = refl;
       unasked = refl;
-      fits = subst (λ (s : world.State K A). Fits w.matching s.commits (shown w s.search.tree opened) []) o.after (opening opened new_open);
+      fits = subst (λ (s : world.State K A). Fits rules.is_match s.commits (shown rules rule s.search.tree opened) []) o.after (opening opened new_open);
     }
 
     pub opened_quiet : IsQuiet old → IsQuiet new
@@ -57,11 +59,11 @@ module _ {K A : Type 0} (w : Words K A) (old new : world.State K A) where
         })
 
   module _ (c : ℕ) (passed : first_failing (cursor_tests old c) ≡ None) where
-    pub asks : Asks old c new → Changes with_asking (store_state w old) c (store_state w new)
+    pub asks : Asks old c new → Changes with_asking (store_state rules rule old) c (store_state rules rule new)
     asks a = record {
-      before = shown w old.search.tree a.before;
-      is_open = open_as w old c a.before passed a.is_open;
-      is = ap (store_state w) a.after ∙ with_as w old (record a.before { asked = true });
+      before = shown rules rule old.search.tree a.before;
+      is_open = open_as rules rule old c a.before passed a.is_open;
+      is = ap (store_state rules rule) a.after ∙ with_as rules rule old (record a.before { asked = true });
     }
 
     pub asked_quiet : IsQuiet old → Asks old c new → IsQuiet new
@@ -77,20 +79,20 @@ module _ {K A : Type 0} (w : Words K A) (old new : world.State K A) where
       closed_quiet quiet =
           subst IsQuiet (sym is) (record { no_finder = quiet.no_finder; emptied = all_without (λ k. k.serial) IsEmptied c old.cursors quiet.emptied })
 
-      pub closes : world.IsSoundWorld w.is_cover old → Closes (store_state w old) c (store_state w new)
+      pub closes : world.IsSoundWorld rules.is_cover old → Closes (store_state rules rule old) c (store_state rules rule new)
       closes sound =
           let o = open_from_tests old c passed in
           record {
-            cursor = shown w old.search.tree o.cursor;
-            was_open = open_as w old c o.cursor passed o.is_open;
+            cursor = shown rules rule old.search.tree o.cursor;
+            was_open = open_as rules rule old c o.cursor passed o.is_open;
             one_less =
-                let m : length (map (shown w new.search.tree) new.cursors) ≡ length new.cursors = length-map new.cursors (shown w new.search.tree) in
-                let a : length (map (shown w new.search.tree) new.cursors) ≡ length (without (λ k. k.serial) c old.cursors) = m ∙ ap (λ (s : world.State K A). length s.cursors) is in
-                let b : length (map (shown w old.search.tree) old.cursors) ≡ length old.cursors = length-map old.cursors (shown w old.search.tree) in
+                let m : length (map (shown rules rule new.search.tree) new.cursors) ≡ length new.cursors = length-map new.cursors (shown rules rule new.search.tree) in
+                let a : length (map (shown rules rule new.search.tree) new.cursors) ≡ length (without (λ k. k.serial) c old.cursors) = m ∙ ap (λ (s : world.State K A). length s.cursors) is in
+                let b : length (map (shown rules rule old.search.tree) old.cursors) ≡ length old.cursors = length-map old.cursors (shown rules rule old.search.tree) in
                 omega (arith, a, b, one_less 0 old.cursors o.cursor sound.serials o.is_open);
             is =
-                let kept : List (CursorState K A) → State K A = λ ks. record (store_state w old) { cursors = ks } in
-                ap (store_state w) is ∙ ap kept (without_shown w old.search.tree c old.cursors);
+                let kept : List (CursorState K A) → State K A = λ ks. record (store_state rules rule old) { cursors = ks } in
+                ap (store_state rules rule) is ∙ ap kept (without_shown rules rule old.search.tree c old.cursors);
           }
         where
           all_others : (above : ℕ) (ks : List (OpenCursor K A)) → c ≤ above → Rise (λ k. k.serial) above old.last ks → without (λ k. k.serial) c ks ≡ ks

@@ -6,9 +6,11 @@ use Rattle.std.proofs.lemmas.Bool.{both_ways}
 use Rattle.std.proofs.lemmas.List.{length-map, map-append}
 use Rattle.std.proofs.lemmas.List.Elements.{All-nil, All-cons, All-head, All-tail}
 use Rattle.std.proofs.lemmas.List.Sorted.{All-permutation}
+use Rattle.key_class.specs.Rules.{Rules}
+use Rattle.mailbox.specs.Outlets.{Rule}
 use Rattle.change_list.proofs.Lists.{filter_map_cons}
 use Rattle.change_list.proofs.Tracking.{commit_within}
-use Rattle.cursor.specs.OpenCursors.{Words, OpenCursor, shown, is_scanning}
+use Rattle.cursor.specs.OpenCursors.{OpenCursor, shown, is_scanning}
 use Rattle.collector.specs.Horizons.{IsHorizon, ScansFrom}
 use Rattle.page_table.specs.Trees.{Tree, rows_of_tree}
 use Rattle.page_table.proofs.Under.{entries_under}
@@ -25,17 +27,17 @@ use Rattle.store.specs.Worlds.{dead_row, store_state}
 use Rattle.store.proofs.Worlds.{open_as}
 use Rattle.store.proofs.Keeping.{keeps_cursors, as_many, dead_rows_permuted}
 
-module _ {K A : Type 0} (w : Words K A) (t : Tree K) (commits : ℕ) where
+module _ {K A : Type 0} (rules : Rules K A) (rule : Rule) (t : Tree K) (commits : ℕ) where
   later : (k : OpenCursor K A) (ks : List (OpenCursor K A)) (opened : ℕ) → ScansFrom ks opened → ScansFrom (k ∷ ks) opened
   later k ks opened scan = record { at = suc scan.at; cursor = scan.cursor; is = scan.is; scanning = scan.scanning; opened_is = scan.opened_is }
 
   -- the horizon that a store shows is that of its world
-  pub shown_horizon : (ks : List (OpenCursor K A)) → IsHorizon commits ks (horizon_of commits (map (shown w t) ks))
+  pub shown_horizon : (ks : List (OpenCursor K A)) → IsHorizon commits ks (horizon_of commits (map (shown rules rule t) ks))
   shown_horizon [] = record { within = omega arith; least = λ opened scan. absurd (let e = scan.is in cc); reached = inl refl }
   shown_horizon (k ∷ ks) = go (is_scanning k.stack) refl (shown_horizon ks)
     where
       rest : ℕ
-      rest = horizon_of commits (map (shown w t) ks)
+      rest = horizon_of commits (map (shown rules rule t) ks)
 
       first_or_later : (at : ℕ) (c : OpenCursor K A) → slice_get (k ∷ ks) at ≡ Some c → (k ≡ c) ⊎ ((i : ℕ) × (slice_get ks i ≡ Some c))
       first_or_later zero c h = inl (cc)
@@ -53,13 +55,13 @@ module _ {K A : Type 0} (w : Words K A) (t : Tree K) (commits : ℕ) where
       either_one : (a b : ℕ) → ((min a b ≡ a) × (a ≤ b)) ⊎ ((min a b ≡ b) × (b ≤ a))
       either_one a b = search arith
 
-      go : (b : Bool) → is_scanning k.stack ≡ b → IsHorizon commits ks (horizon_of commits (map (shown w t) ks)) → IsHorizon commits (k ∷ ks) (if b then min k.opened (horizon_of commits (map (shown w t) ks)) else horizon_of commits (map (shown w t) ks))
+      go : (b : Bool) → is_scanning k.stack ≡ b → IsHorizon commits ks (horizon_of commits (map (shown rules rule t) ks)) → IsHorizon commits (k ∷ ks) (if b then min k.opened (horizon_of commits (map (shown rules rule t) ks)) else horizon_of commits (map (shown rules rule t) ks))
       go false e is = record {
         within = is.within;
-        least = least_of (horizon_of commits (map (shown w t) ks)) is.least (λ scans. absurd (both_ways (is_scanning k.stack) e scans));
+        least = least_of (horizon_of commits (map (shown rules rule t) ks)) is.least (λ scans. absurd (both_ways (is_scanning k.stack) e scans));
         reached = elim is.reached [ inl all ↦ inl all | inr scan ↦ inr (later k ks _ scan) ];
       }
-      go true e is = elim (either_one k.opened (horizon_of commits (map (shown w t) ks))) [
+      go true e is = elim (either_one k.opened (horizon_of commits (map (shown rules rule t) ks))) [
         | inl own ↦ rw (own.0) (record {
           within = omega (arith, own.1, is.within);
           least = least_of k.opened (λ opened scan. omega (arith, own.1, is.least opened scan)) (λ s. omega arith);
@@ -67,34 +69,34 @@ module _ {K A : Type 0} (w : Words K A) (t : Tree K) (commits : ℕ) where
         })
         | inr old ↦ rw (old.0) (record {
           within = is.within;
-          least = least_of (horizon_of commits (map (shown w t) ks)) is.least (λ s. old.1);
+          least = least_of (horizon_of commits (map (shown rules rule t) ks)) is.least (λ s. old.1);
           reached = elim is.reached [ inl all ↦ inl all | inr scan ↦ inr (later k ks _ scan) ];
         })
       ]
 
-module _ {K A : Type 0} (w : Words K A) (old : world.State K A) (sound : world.IsSoundWorld w.is_cover old) (horizon : ℕ) (is : IsHorizon (length old.commits) old.cursors horizon) where
+module _ {K A : Type 0} (rules : Rules K A) (rule : Rule) (old : world.State K A) (sound : world.IsSoundWorld rules.is_cover old) (horizon : ℕ) (is : IsHorizon (length old.commits) old.cursors horizon) where
   -- what a store says that a scan needs
-  same_horizon : horizon_of (length old.commits) (map (shown w old.search.tree) old.cursors) ≡ horizon
-  same_horizon = horizon_unique (length old.commits) old.cursors _ horizon (shown_horizon w old.search.tree (length old.commits) old.cursors) is
+  same_horizon : horizon_of (length old.commits) (map (shown rules rule old.search.tree) old.cursors) ≡ horizon
+  same_horizon = horizon_unique (length old.commits) old.cursors _ horizon (shown_horizon rules rule old.search.tree (length old.commits) old.cursors) is
 
-  needed_as : (d : ℕ × ℕ) → is_needed (store_state w old) (dead_row d) ≡ is_past horizon d
+  needed_as : (d : ℕ × ℕ) → is_needed (store_state rules rule old) (dead_row d) ≡ is_past horizon d
   needed_as d = ap (λ h. nat_lt h d.1) same_horizon
 
-  filter_as : (ds : List (ℕ × ℕ)) → filter (is_needed (store_state w old)) (map dead_row ds) ≡ map dead_row (filter (is_past horizon) ds)
+  filter_as : (ds : List (ℕ × ℕ)) → filter (is_needed (store_state rules rule old)) (map dead_row ds) ≡ map dead_row (filter (is_past horizon) ds)
   filter_as [] = refl
   filter_as (d ∷ ds) = rw (needed_as d) (go (is_past horizon d) (filter_as ds))
     where
-      go : (b : Bool) → filter (is_needed (store_state w old)) (map dead_row ds) ≡ map dead_row (filter (is_past horizon) ds)
-          → cond b (dead_row d ∷ filter (is_needed (store_state w old)) (map dead_row ds)) (filter (is_needed (store_state w old)) (map dead_row ds)) ≡ map dead_row (cond b (d ∷ filter (is_past horizon) ds) (filter (is_past horizon) ds))
+      go : (b : Bool) → filter (is_needed (store_state rules rule old)) (map dead_row ds) ≡ map dead_row (filter (is_past horizon) ds)
+          → cond b (dead_row d ∷ filter (is_needed (store_state rules rule old)) (map dead_row ds)) (filter (is_needed (store_state rules rule old)) (map dead_row ds)) ≡ map dead_row (cond b (d ∷ filter (is_past horizon) ds) (filter (is_past horizon) ds))
       go true e = ap (λ l. dead_row d ∷ l) e
       go false e = e
 
-  unneeded_as : (ds : List (ℕ × ℕ)) → AllByRecursion (λ d. is_past horizon d ≡ false) ds → AllByRecursion (λ d. is_needed (store_state w old) d ≡ false) (map dead_row ds)
+  unneeded_as : (ds : List (ℕ × ℕ)) → AllByRecursion (λ d. is_past horizon d ≡ false) ds → AllByRecursion (λ d. is_needed (store_state rules rule old) d ≡ false) (map dead_row ds)
   unneeded_as [] a = tt
   unneeded_as (d ∷ ds) a = (needed_as d ∙ a.0, unneeded_as ds a.1)
 
   -- a dead row past the horizon is needed by an open cursor
-  needed_by : (d : ℕ × ℕ) → d.1 ≤ length old.commits → horizon < d.1 → IsNeededBy (store_state w old) (dead_row d)
+  needed_by : (d : ℕ × ℕ) → d.1 ≤ length old.commits → horizon < d.1 → IsNeededBy (store_state rules rule old) (dead_row d)
   needed_by d l past = elim is.reached [
     | inl all ↦ absurd (omega (arith, all, l, past))
     | inr scan ↦
@@ -102,8 +104,8 @@ module _ {K A : Type 0} (w : Words K A) (old : world.State K A) (sound : world.I
         let n = member_within (λ k. k.serial) scan.cursor.serial 0 old.last old.cursors scan.cursor sound.serials m in
         record {
           serial = scan.cursor.serial;
-          cursor = shown w old.search.tree scan.cursor;
-          is_open = open_as w old scan.cursor.serial scan.cursor (open_passes old scan.cursor.serial scan.cursor m n.0 n.1) m;
+          cursor = shown rules rule old.search.tree scan.cursor;
+          is_open = open_as rules rule old scan.cursor.serial scan.cursor (open_passes old scan.cursor.serial scan.cursor m n.0 n.1) m;
           scanning = scan.scanning;
           opened = omega (arith, scan.opened_is, past);
         }
@@ -131,7 +133,7 @@ module _ {K A : Type 0} (w : Words K A) (old : world.State K A) (sound : world.I
       go true e r = All-cons IsKept d (filter (is_past horizon) ds) (All-head (λ (d : ℕ × ℕ). d.1 ≤ length old.commits) d ds a, search (arith, e)) r
       go false e r = r
 
-  needed_all : (ds : List (ℕ × ℕ)) → All IsKept ds → AllByRecursion (λ d. IsNeededBy (store_state w old) d) (map dead_row ds)
+  needed_all : (ds : List (ℕ × ℕ)) → All IsKept ds → AllByRecursion (λ d. IsNeededBy (store_state rules rule old) d) (map dead_row ds)
   needed_all [] a = tt
   needed_all (d ∷ ds) a = let k = All-head IsKept d ds a in (needed_by d k.0 k.1, needed_all ds (All-tail IsKept d ds a))
 
@@ -139,32 +141,32 @@ module _ {K A : Type 0} (w : Words K A) (old : world.State K A) (sound : world.I
   old_kept = kept_filtered (deaths old.search.tree) (deaths_within (rows_of_tree old.search.tree)
       (entries_under old.search.tree sound.tree.sound.rank sound.tree.sound.ranked (λ e. IsEntryOf old.commits e) sound.agrees.entries 0 old.search.tree.counter sound.tree.sound.root_exists))
 
-module _ {K A : Type 0} (w : Words K A) (old new : world.State K A) (sound : world.IsSoundWorld w.is_cover old) (rests : Rests w old new) (commits : new.commits ≡ old.commits)
+module _ {K A : Type 0} (rules : Rules K A) (rule : Rule) (old new : world.State K A) (sound : world.IsSoundWorld rules.is_cover old) (rests : Rests rules rule old new) (commits : new.commits ≡ old.commits)
     (pages : length new.search.tree.pages ≡ length old.search.tree.pages) (last_finder : new.last_finder ≡ old.last_finder) where
-  keeps_living : KeepsLiving w.matching (store_state w old) (store_state w new)
+  keeps_living : KeepsLiving rules.is_match (store_state rules rule old) (store_state rules rule new)
   keeps_living = record {
     limit = rests.limit;
     page_limit = rests.page_limit;
     commits = commits;
     last = rests.last;
-    cursors = keeps_cursors w old new rests;
-    as_many = as_many w old new rests;
+    cursors = keeps_cursors rules rule old new rests;
+    as_many = as_many rules rule old new rests;
     pages = omega (arith, pages, rests.page_limit);
     finders = last_finder;
   }
 
-  pub sweeps : (number : ℕ) → SweepsAll old number new → Sweeps w.matching (store_state w old) number (store_state w new)
+  pub sweeps : (number : ℕ) → SweepsAll old number new → Sweeps rules.is_match (store_state rules rule old) number (store_state rules rule new)
   sweeps number s = record {
     rest = keeps_living;
     counted = let a : length (map dead_row (deaths new.search.tree)) ≡ length (deaths new.search.tree) = length-map (deaths new.search.tree) dead_row in let b : length (map dead_row (deaths old.search.tree)) ≡ length (deaths old.search.tree) = length-map (deaths old.search.tree) dead_row in omega (arith, a, b, s.counted);
-    left = rw (filter_as w old sound s.horizon s.is (deaths old.search.tree)) (dead_rows_permuted (filter (is_past s.horizon) (deaths old.search.tree)) (deaths new.search.tree) s.left);
-    needed = needed_all w old sound s.horizon s.is (deaths new.search.tree) (All-permutation (IsKept w old sound s.horizon s.is) (filter (is_past s.horizon) (deaths old.search.tree)) (deaths new.search.tree) s.left (old_kept w old sound s.horizon s.is));
+    left = rw (filter_as rules rule old sound s.horizon s.is (deaths old.search.tree)) (dead_rows_permuted (filter (is_past s.horizon) (deaths old.search.tree)) (deaths new.search.tree) s.left);
+    needed = needed_all rules rule old sound s.horizon s.is (deaths new.search.tree) (All-permutation (IsKept rules rule old sound s.horizon s.is) (filter (is_past s.horizon) (deaths old.search.tree)) (deaths new.search.tree) s.left (old_kept rules rule old sound s.horizon s.is));
   }
 
-  pub sweeps_some : SweepsSome old new → StoreSweepsSome w.matching (store_state w old) (store_state w new)
+  pub sweeps_some : SweepsSome old new → StoreSweepsSome rules.is_match (store_state rules rule old) (store_state rules rule new)
   sweeps_some s = record {
     rest = keeps_living;
     gone = map dead_row s.gone;
     parted = subst (λ l. IsPermutation (map dead_row (deaths old.search.tree)) l) (map-append dead_row s.gone (deaths new.search.tree)) (dead_rows_permuted (deaths old.search.tree) (s.gone ++ deaths new.search.tree) s.parted);
-    unneeded = unneeded_as w old sound s.horizon s.is s.gone s.unneeded;
+    unneeded = unneeded_as rules rule old sound s.horizon s.is s.gone s.unneeded;
   }

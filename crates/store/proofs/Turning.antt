@@ -2,6 +2,8 @@
 use Rattle.std.proofs.Common.{◌≡◌, ◌<◌, ◌≤◌, ℕ, Bool, true, false, List, [], ◌∷◌, ◌++◌, length, Option, Some, None, Ok, Err, ◌⊎◌, inl, inr, refl, sym, ap, ◌∙◌, arith, subst}
 use Rattle.std.proofs.lemmas.List.{append-nil, length-append}
 use Rattle.std.specs.Prelude.{nat_eq}
+use Rattle.mailbox.specs.Outlets.{Rule}
+use Rattle.key_class.specs.Rules.{IsLawful, Rules}
 use Rattle.key_class.specs.declared.refusal.Refusal.{Refusal}
 use Rattle.key_class.specs.declared.refusal.Refusal.TheVariants as refusal
 use Rattle.change_list.specs.declared.item.Item.{Item}
@@ -11,12 +13,11 @@ use Rattle.page_table.specs.Stacks.{IsStack}
 use Rattle.split.specs.Tests.{first_failing}
 use Rattle.cursor.specs.declared.cursor.Turned.{Turned}
 use Rattle.cursor.specs.declared.cursor.Turned.TheVariants as turned
-use Rattle.cursor.specs.OpenCursors.{Words, OpenCursor, shown, tree_work, Turns, is_scanning, sent, wants}
+use Rattle.cursor.specs.OpenCursors.{OpenCursor, shown, tree_work, Turns, is_scanning, sent, wants}
 use Rattle.cursor.specs.Sending.{TurnsTo, SendsItems}
 use Rattle.cursor.proofs.Sending.{turn_sends}
 use Rattle.cursor.proofs.Tasks.{HasScanned, rested}
 use Rattle.cursor.proofs.Turning.{turn_fits, turn_less_work, turn_no_more, offer_less}
-use Rattle.cursor.proofs.WordLaws.{WordLaws}
 use Rattle.scan.specs.Scanning.{to_find}
 use Rattle.world.proofs.Refusing.{open_from_tests, open_passes}
 use Rattle.world.proofs.Serials.{put_same, all_put, member_all, member_serial}
@@ -56,7 +57,7 @@ sent_unread (item.Inserted row) k = refl
 sent_unread (item.Deleted n row) k = refl
 sent_unread (item.Mark n) k = refl
 
-module _ {K A : Type 0} (w : Words K A) where
+module _ {K A : Type 0} (rules : Rules K A) (rule : Rule) where
   -- a cursor has got on, and gave nothing
   pub record GotOn (old now : world.State K A) (c : ℕ) : Type 0 where
     pub passed : first_failing (cursor_tests old c) ≡ None
@@ -65,14 +66,14 @@ module _ {K A : Type 0} (w : Words K A) where
     pub was_open : world.cursor_at old c ≡ Some before
     pub is : now ≡ world.with_cursor old later
     pub serial : later.serial ≡ c
-    pub strives : Strives w.matching old.commits (shown w old.search.tree before) (shown w old.search.tree later)
-    pub work_left : work old.commits (shown w old.search.tree later) ≤ work old.commits (shown w old.search.tree before)
+    pub strives : Strives rules.is_match old.commits (shown rules rule old.search.tree before) (shown rules rule old.search.tree later)
+    pub work_left : work old.commits (shown rules rule old.search.tree later) ≤ work old.commits (shown rules rule old.search.tree before)
     pub emptied : IsEmptied later
     pub quiet : IsQuiet old
 
   -- the work of the cursor with a serial
   abbrev pub work_if : world.State K A → Option (OpenCursor K A) → ℕ
-  work_if s (Some k) = tree_work w s.search.tree s.commits k
+  work_if s (Some k) = tree_work rules rule s.search.tree s.commits k
   work_if s None = 0
 
   abbrev pub work_at : world.State K A → ℕ → ℕ
@@ -126,20 +127,20 @@ module _ {K A : Type 0} (w : Words K A) where
     pub now_quiet : IsQuiet now
     now_quiet = subst IsQuiet (sym g.is) (record { no_finder = g.quiet.no_finder; emptied = all_put (λ k. k.serial) IsEmptied g.later old.cursors g.emptied g.quiet.emptied })
 
-    module _ (laws : WordLaws w) (sound : world.IsSoundWorld w.is_cover now) where
+    module _ {same_key : K → K → Bool} {same_atom : A → A → Bool} (lawful : IsLawful rules same_key same_atom) (sound : world.IsSoundWorld rules.is_cover now) where
       -- a turn, as one from the beginning
       pub record Moves (how : Turned) (new : world.State K A) : Type 0 where
         pub next : OpenCursor K A
-        pub turns : Turns w old.search.tree old.commits g.later (Ok how) next
+        pub turns : Turns rules rule old.search.tree old.commits g.later (Ok how) next
         pub to : TurnsTo old.commits g.later next
         pub is : new ≡ world.with_cursor old next
 
-      pub moves : (how : Turned) (new : world.State K A) → TurnsAt w now c (Ok how) new → Moves how new
+      pub moves : (how : Turned) (new : world.State K A) → TurnsAt rules rule now c (Ok how) new → Moves how new
       moves how new t =
           let same = is_later t.before t.is_open in
-          let here : Turns w old.search.tree old.commits t.before (Ok how) t.later = subst (λ (s : world.State K A). Turns w s.search.tree s.commits t.before (Ok how) t.later) g.is t.turn in
-          let turns : Turns w old.search.tree old.commits g.later (Ok how) t.later = subst (λ k. Turns w old.search.tree old.commits k (Ok how) t.later) same here in
-          let to = turn_sends w old.commits old.search.tree g.later t.later (Ok how) turns in
+          let here : Turns rules rule old.search.tree old.commits t.before (Ok how) t.later = subst (λ (s : world.State K A). Turns rules rule s.search.tree s.commits t.before (Ok how) t.later) g.is t.turn in
+          let turns : Turns rules rule old.search.tree old.commits g.later (Ok how) t.later = subst (λ k. Turns rules rule old.search.tree old.commits k (Ok how) t.later) same here in
+          let to = turn_sends rules rule old.commits old.search.tree g.later t.later (Ok how) turns in
           record {
             next = t.later;
             turns = turns;
@@ -148,18 +149,18 @@ module _ {K A : Type 0} (w : Words K A) where
           }
 
       old_stack : IsStack old.search.tree g.later.stack
-      old_stack = subst (λ (s : world.State K A). IsStack s.search.tree g.later.stack) g.is (at_work_of w.is_cover now sound c g.later now_open).stack
+      old_stack = subst (λ (s : world.State K A). IsStack s.search.tree g.later.stack) g.is (at_work_of rules.is_cover now sound c g.later now_open).stack
 
       old_within : g.later.position ≤ length old.commits
-      old_within = subst (λ (s : world.State K A). g.later.position ≤ length s.commits) g.is (at_work_of w.is_cover now sound c g.later now_open).within
+      old_within = subst (λ (s : world.State K A). g.later.position ≤ length s.commits) g.is (at_work_of rules.is_cover now sound c g.later now_open).within
 
-      old_sound : world.IsSoundWorld w.is_cover (world.with_cursor old g.later)
-      old_sound = subst (world.IsSoundWorld w.is_cover) g.is sound
+      old_sound : world.IsSoundWorld rules.is_cover (world.with_cursor old g.later)
+      old_sound = subst (world.IsSoundWorld rules.is_cover) g.is sound
 
-      pub moved_fits : (how : Turned) (new : world.State K A) (m : Moves how new) (items offered : List (Item K)) → m.next.unread ≡ g.later.unread ++ offered → Fits w.matching old.commits (shown w old.search.tree g.before) items
-          → Fits w.matching old.commits (shown w old.search.tree m.next) (items ++ offered)
+      pub moved_fits : (how : Turned) (new : world.State K A) (m : Moves how new) (items offered : List (Item K)) → m.next.unread ≡ g.later.unread ++ offered → Fits rules.is_match old.commits (shown rules rule old.search.tree g.before) items
+          → Fits rules.is_match old.commits (shown rules rule old.search.tree m.next) (items ++ offered)
       moved_fits how new m items offered u f =
-          turn_fits w laws old.search.fan old.search.tree old_sound.tree.sound old.commits g.later m.next old_stack (Ok how) m.turns items offered u (g.strives.fits items f)
+          turn_fits rules rule lawful old.search.fan old.search.tree old_sound.tree.sound old.commits g.later m.next old_stack (Ok how) m.turns items offered u (g.strives.fits items f)
 
       -- a turn that offers nothing
       pub got_on : (how : Turned) (new : world.State K A) (m : Moves how new) → m.next.unread ≡ g.later.unread → GotOn old new c
@@ -177,9 +178,9 @@ module _ {K A : Type 0} (w : Words K A) where
               query = m.to.query ∙ g.strives.query;
               opened = m.to.opened ∙ g.strives.opened;
               asked = subst (λ l. SendsItems old.commits g.later l m.next) none m.to.one ∙ g.strives.asked;
-              fits = λ items f. subst (λ l. Fits w.matching old.commits (shown w old.search.tree m.next) l) (append-nil items) (moved_fits how new m items [] (u ∙ sym (append-nil g.later.unread)) f);
+              fits = λ items f. subst (λ l. Fits rules.is_match old.commits (shown rules rule old.search.tree m.next) l) (append-nil items) (moved_fits how new m items [] (u ∙ sym (append-nil g.later.unread)) f);
             };
-            work_left = omega (arith, g.work_left, turn_no_more w laws old.search.fan old.search.tree old_sound.tree.sound old.commits g.later m.next old_stack how m.turns);
+            work_left = omega (arith, g.work_left, turn_no_more rules rule lawful old.search.fan old.search.tree old_sound.tree.sound old.commits g.later m.next old_stack how m.turns);
             emptied = record { empty = u ∙ g.emptied.empty; place = subst (λ n. 0 < n) (sym m.to.room) g.emptied.place };
             quiet = g.quiet;
           }
@@ -189,9 +190,9 @@ module _ {K A : Type 0} (w : Words K A) where
       less_work how new m u =
           let here : world.cursor_at (world.with_cursor old m.next) c ≡ Some m.next = put_same (λ k. k.serial) c m.next g.before old.cursors (m.to.serial ∙ g.serial) g.was_open in
           let there : world.cursor_at (world.with_cursor old g.later) c ≡ Some g.later = put_same (λ k. k.serial) c g.later g.before old.cursors g.serial g.was_open in
-          let a : work_at new c ≡ tree_work w old.search.tree old.commits m.next = ap (λ s. work_at s c) m.is ∙ ap (work_if (world.with_cursor old m.next)) here in
-          let b : work_at now c ≡ tree_work w old.search.tree old.commits g.later = ap (λ s. work_at s c) g.is ∙ ap (work_if (world.with_cursor old g.later)) there in
-          rw (a, b) (turn_less_work w laws old.search.fan old.search.tree old_sound.tree.sound old.commits g.later m.next old_stack how m.turns)
+          let a : work_at new c ≡ tree_work rules rule old.search.tree old.commits m.next = ap (λ s. work_at s c) m.is ∙ ap (work_if (world.with_cursor old m.next)) here in
+          let b : work_at now c ≡ tree_work rules rule old.search.tree old.commits g.later = ap (λ s. work_at s c) g.is ∙ ap (work_if (world.with_cursor old g.later)) there in
+          rw (a, b) (turn_less_work rules rule lawful old.search.fan old.search.tree old_sound.tree.sound old.commits g.later m.next old_stack how m.turns)
 
       -- a turn that offers an item, and what is taken then
       module _ (new : world.State K A) (m : Moves turned.Offered new) where
@@ -238,20 +239,20 @@ module _ {K A : Type 0} (w : Words K A) where
           just : m.to.offered ≡ taken ∷ []
           just = one_offered ∙ ap (λ l. taken ∷ l) none_left
 
-          answers : (x : Item K) → SendsItems old.commits g.later (x ∷ []) m.next → Answers w.matching old.commits (shown w old.search.tree g.before) (Some x) (shown w old.search.tree m.next)
+          answers : (x : Item K) → SendsItems old.commits g.later (x ∷ []) m.next → Answers rules.is_match old.commits (shown rules rule old.search.tree g.before) (Some x) (shown rules rule old.search.tree m.next)
           answers (item.Mark n) s = (sym g.strives.asked ∙ s.0, omega (arith, s.1, s.2, old_within), s.3)
           answers (item.Row row) s = s ∙ g.strives.asked
           answers (item.Inserted row) s = s ∙ g.strives.asked
           answers (item.Deleted n row) s = s ∙ g.strives.asked
 
-          pub gives : Gives w.matching old.commits (shown w old.search.tree g.before) (Some taken) (shown w old.search.tree m.next)
+          pub gives : Gives rules.is_match old.commits (shown rules rule old.search.tree g.before) (Some taken) (shown rules rule old.search.tree m.next)
           gives = record {
             serial = m.to.serial ∙ g.strives.serial;
             query = m.to.query ∙ g.strives.query;
             opened = m.to.opened ∙ g.strives.opened;
             fits = λ items f. moved_fits turned.Offered new m items (taken ∷ []) (m.to.unread ∙ ap (λ l. g.later.unread ++ l) just) f;
             answer = answers taken (subst (λ l. SendsItems old.commits g.later (taken ∷ l) m.next) none_left sends);
-            less_work = omega (arith, g.work_left, offer_less w laws old.search.fan old.search.tree old_sound.tree.sound old.commits g.later m.next old_stack m.turns);
+            less_work = omega (arith, g.work_left, offer_less rules rule lawful old.search.fan old.search.tree old_sound.tree.sound old.commits g.later m.next old_stack m.turns);
           }
 
           last_is : last ≡ world.with_cursor old final
@@ -261,13 +262,13 @@ module _ {K A : Type 0} (w : Words K A) where
               ∙ ap (λ s. world.with_cursor s final) m.is
               ∙ ap (λ ks. record old { cursors = ks }) (put_put (λ k. k.serial) m.next final old.cursors refl)
 
-          pub gives_next : Nexts w.matching (store_state w old) c (Some taken) (store_state w last)
+          pub gives_next : Nexts rules.is_match (store_state rules rule old) c (Some taken) (store_state rules rule last)
           gives_next = record {
-            before = shown w old.search.tree g.before;
-            after = shown w old.search.tree m.next;
-            is_open = open_as w old c g.before g.passed g.was_open;
+            before = shown rules rule old.search.tree g.before;
+            after = shown rules rule old.search.tree m.next;
+            is_open = open_as rules rule old c g.before g.passed g.was_open;
             gives = gives;
-            is = ap (store_state w) last_is ∙ with_as w old final;
+            is = ap (store_state rules rule) last_is ∙ with_as rules rule old final;
           }
 
           pub last_quiet : IsQuiet last
@@ -279,34 +280,34 @@ module _ {K A : Type 0} (w : Words K A) where
               })
 
     -- why a turn is refused
-    same_turn : (why : Refusal) → RefusesTurn w now c why → Turns w old.search.tree old.commits g.later (Err why) g.later
+    same_turn : (why : Refusal) → RefusesTurn rules rule now c why → Turns rules rule old.search.tree old.commits g.later (Err why) g.later
     same_turn why r =
         let same = is_later r.cursor r.is_open in
-        let here : Turns w old.search.tree old.commits r.cursor (Err why) r.cursor = subst (λ (s : world.State K A). Turns w s.search.tree s.commits r.cursor (Err why) r.cursor) g.is r.turn in
-        subst (λ k. Turns w old.search.tree old.commits k (Err why) k) same here
+        let here : Turns rules rule old.search.tree old.commits r.cursor (Err why) r.cursor = subst (λ (s : world.State K A). Turns rules rule s.search.tree s.commits r.cursor (Err why) r.cursor) g.is r.turn in
+        subst (λ k. Turns rules rule old.search.tree old.commits k (Err why) k) same here
 
-    now_as : store_state w now ≡ with_cursor (store_state w old) (shown w old.search.tree g.later)
-    now_as = ap (store_state w) g.is ∙ with_as w old g.later
+    now_as : store_state rules rule now ≡ with_cursor (store_state rules rule old) (shown rules rule old.search.tree g.later)
+    now_as = ap (store_state rules rule) g.is ∙ with_as rules rule old g.later
 
-    following : (k : OpenCursor K A) → HasScanned w old.commits k → IsFollowing w.matching (shown w old.search.tree k)
+    following : (k : OpenCursor K A) → HasScanned rules rule old.commits k → IsFollowing rules.is_match (shown rules rule old.search.tree k)
     following k h = record {
       scanned = ap is_scanning h.none_left;
-      none_remaining = ap (λ p. p ++ to_find (wants w k) k.opened old.search.tree k.stack) h.none_pending ∙ ap (to_find (wants w k) k.opened old.search.tree) h.none_left;
+      none_remaining = ap (λ p. p ++ to_find (wants rules rule k) k.opened old.search.tree k.stack) h.none_pending ∙ ap (to_find (wants rules rule k) k.opened old.search.tree) h.none_left;
     }
 
     -- nothing is left to do
-    pub gives_nothing : RefusesTurn w now c refusal.Idle → Nexts w.matching (store_state w old) c None (store_state w now)
+    pub gives_nothing : RefusesTurn rules rule now c refusal.Idle → Nexts rules.is_match (store_state rules rule old) c None (store_state rules rule now)
     gives_nothing r =
-        let rest = rested w old.commits g.later ((same_turn refusal.Idle r).0) in
+        let rest = rested rules rule old.commits g.later ((same_turn refusal.Idle r).0) in
         record {
-          before = shown w old.search.tree g.before;
-          after = shown w old.search.tree g.later;
-          is_open = open_as w old c g.before g.passed g.was_open;
+          before = shown rules rule old.search.tree g.before;
+          after = shown rules rule old.search.tree g.later;
+          is_open = open_as rules rule old c g.before g.passed g.was_open;
           gives = record {
             serial = g.strives.serial;
             query = g.strives.query;
             opened = g.strives.opened;
-            fits = λ items f. subst (λ l. Fits w.matching old.commits (shown w old.search.tree g.later) l) (sym (append-nil items)) (g.strives.fits items f);
+            fits = λ items f. subst (λ l. Fits rules.is_match old.commits (shown rules rule old.search.tree g.later) l) (sym (append-nil items)) (g.strives.fits items f);
             answer = (g.strives.asked, record { following = following g.later rest.0.scanned; at_end = rest.0.at_end; unasked = rest.1 });
             less_work = tt;
           };
@@ -314,10 +315,10 @@ module _ {K A : Type 0} (w : Words K A) where
         }
 
     -- memory is wanting
-    pub wants_memory : ((room count : ℕ) → w.may_refuse room count ≡ true → room ≤ count) → (why : Refusal) → (why ≡ refusal.Idle → ⊥) → RefusesTurn w now c why → RefusesNext w.matching (store_state w old) c why (store_state w now)
+    pub wants_memory : ((room count : ℕ) → rule.may_refuse room count ≡ true → room ≤ count) → (why : Refusal) → (why ≡ refusal.Idle → ⊥) → RefusesTurn rules rule now c why → RefusesNext rules.is_match (store_state rules rule old) c why (store_state rules rule now)
     wants_memory full why busy r = by_cause why busy (same_turn why r)
       where
-        by_cause : (why : Refusal) → (why ≡ refusal.Idle → ⊥) → Turns w old.search.tree old.commits g.later (Err why) g.later → RefusesNext w.matching (store_state w old) c why (store_state w now)
+        by_cause : (why : Refusal) → (why ≡ refusal.Idle → ⊥) → Turns rules rule old.search.tree old.commits g.later (Err why) g.later → RefusesNext rules.is_match (store_state rules rule old) c why (store_state rules rule now)
         by_cause refusal.NoRoom b h =
             let l : g.later.room ≤ length g.later.unread = full g.later.room (length g.later.unread) h.refused in
             absurd (omega (arith, l, ap length g.emptied.empty, g.emptied.place))
@@ -325,9 +326,9 @@ module _ {K A : Type 0} (w : Words K A) where
         by_cause refusal.OutOfMemory b h = inr (
           refl,
           record {
-            before = shown w old.search.tree g.before;
-            after = shown w old.search.tree g.later;
-            is_open = open_as w old c g.before g.passed g.was_open;
+            before = shown rules rule old.search.tree g.before;
+            after = shown rules rule old.search.tree g.later;
+            is_open = open_as rules rule old c g.before g.passed g.was_open;
             strives = g.strives;
             is = now_as;
           },
@@ -335,6 +336,6 @@ module _ {K A : Type 0} (w : Words K A) where
         by_cause why b h = absurd h
 
     -- a turn is refused by its rule alone
-    pub refused_turn : (why : Refusal) → (first_failing (cursor_tests now c) ≡ Some why) ⊎ ((first_failing (cursor_tests now c) ≡ None) × RefusesTurn w now c why) → RefusesTurn w now c why
+    pub refused_turn : (why : Refusal) → (first_failing (cursor_tests now c) ≡ Some why) ⊎ ((first_failing (cursor_tests now c) ≡ None) × RefusesTurn rules rule now c why) → RefusesTurn rules rule now c why
     refused_turn why (inl e) = absurd (let s : None ≡ Some why = sym now_passes ∙ e in cc)
     refused_turn why (inr r) = r.1

@@ -1,7 +1,9 @@
 -- What a store shows of the world on which it stands.
 use Rattle.std.specs.Prelude.{◌≡◌, ℕ, ◌-◌, ◌<◌, [], length, map, Some, Ok, All}
+use Rattle.key_class.specs.Rules.{Rules}
+use Rattle.mailbox.specs.Outlets.{Rule}
 use Rattle.change_list.specs.Cursors.{CursorState}
-use Rattle.cursor.specs.OpenCursors.{Words, OpenCursor, shown}
+use Rattle.cursor.specs.OpenCursors.{OpenCursor, shown}
 use Rattle.world.specs.Resting.{deaths}
 use Rattle.world.specs.States as world
 use Rattle.store.specs.States.{State, DeadRow, cursor_of}
@@ -11,12 +13,12 @@ dead_row (row, died) = record { row = row; died = died }
 
 module _ {K A : Type 0} where
   -- the state of a store, by that of its world
-  abbrev pub store_state : Words K A → world.State K A → State K A
-  store_state w s = record {
+  abbrev pub store_state : Rules K A → Rule → world.State K A → State K A
+  store_state rules rule s = record {
     limit = s.limit;
     commits = s.commits;
     page_limit = s.search.limit;
-    cursors = map (shown w s.search.tree) s.cursors;
+    cursors = map (shown rules rule s.search.tree) s.cursors;
     last = s.last;
     dead = map dead_row (deaths s.search.tree);
     pages_left = s.search.limit - length s.search.tree.pages;

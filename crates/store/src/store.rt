@@ -24,14 +24,14 @@ impl<C: KeyClass> Model for Store<C> {
     ghost use Rattle.key_class.specs.QueryCodes.{query_code};
     ghost use Rattle.std.specs.Coded.{codes};
     ghost use Rattle.store.specs.States.{State};
+    ghost use Rattle.mailbox.specs.Outlets.{tray_rule};
     ghost use Rattle.store.specs.Worlds.{store_state, IsQuiet};
-    ghost use Rattle.world.specs.Trays.{tray_words};
 
     ghost Value = { State C.Key C.Atom };
 
     ghost coded = { Prim.hlevel (codes, query_code) };
 
-    ghost view = { λ s. store_state (tray_words C.is_match C.is_consistent C.is_cover C.union_of) s.world };
+    ghost view = { λ s. store_state C.rules tray_rule s.world };
 
     ghost invariant = { λ s. IsQuiet s.world };
 }
@@ -80,10 +80,10 @@ impl<C: KeyClass> Store<C> {
     /// Adds a row.
     pub fn insert(&mut self, key: C::Key, tag: u64) -> Result<u64, Refusal>
         ensures number { IfOk result (λ n. n ≡ length self.old.commits + 1) }
-        ensures ok { OnOk result (Commits C.is_match self.old (Write.Insert key tag) self.new) }
+        ensures ok { OnOk result (Commits C.rules.is_match self.old (Write.Insert key tag) self.new) }
         ensures dead { OnOk result (IsPermutation self.old.dead self.new.dead) }
         ensures finders { self.new.finders ≡ self.old.finders }
-        ensures err { OnErr result (Keeps C.is_match self.old self.new) }
+        ensures err { OnErr result (Keeps C.rules.is_match self.old self.new) }
         ensures full { (result ≡ Err Refusal.CommitsFull) ↔ (self.old.limit ≤ length self.old.commits) }
         ensures refusals { IfErr result (λ e. (e ≡ Refusal.OutOfMemory) ⊎ (e ≡ Refusal.CommitsFull) ⊎ ((e ≡ Refusal.PagesFull) × (self.new.pages_left < 2))) }
         ensures legal { IsLegal self.new.commits }
@@ -102,9 +102,9 @@ impl<C: KeyClass> Store<C> {
     /// have used up a finder.
     pub fn delete(&mut self, row: u64) -> Result<u64, Refusal>
         ensures number { IfOk result (λ n. n ≡ length self.old.commits + 1) }
-        ensures ok { OnOk result (Commits C.is_match self.old (Write.Delete row) self.new) }
+        ensures ok { OnOk result (Commits C.rules.is_match self.old (Write.Delete row) self.new) }
         ensures dead { OnOk result (IsPermutation ((record { row = row; died = length self.old.commits + 1 }) ∷ self.old.dead) self.new.dead) }
-        ensures err { OnErr result (Keeps C.is_match self.old self.new) }
+        ensures err { OnErr result (Keeps C.rules.is_match self.old self.new) }
         ensures no_such_row { (result ≡ Err Refusal.NoSuchRow) ↔ (status_of self.old.commits row ≡ Status.NeverIssued) }
         ensures already_deleted { (result ≡ Err Refusal.AlreadyDeleted) ↔ (status_of self.old.commits row ≡ Status.Dead) }
         ensures full { (result ≡ Err Refusal.CommitsFull) ↔ ((status_of self.old.commits row ≡ Status.Live) × (self.old.limit ≤ length self.old.commits)) }
@@ -127,7 +127,7 @@ impl<C: KeyClass> Store<C> {
     /// `BadConfig` where the room isn't from 1 to 4,096 or the query is deeper than 32, else `CursorsFull`, else want of
     /// memory.
     pub fn open(&mut self, query: Pred<C::Atom>, room: u64) -> Result<u64, Refusal>
-        ensures ok { IfOk result (λ c. IsOpened C.is_match self.old (query_of query) c self.new) }
+        ensures ok { IfOk result (λ c. IsOpened C.rules.is_match self.old (query_of query) c self.new) }
         ensures err { OnErr result (self.new ≡ self.old) }
         ensures bad { (result ≡ Err Refusal.BadConfig) ↔ IsBadOpening (query_of query) room }
         ensures full { (result ≡ Err Refusal.CursorsFull) ↔ ((¬ IsBadOpening (query_of query) room) × IsFullOf self.old) }
@@ -145,8 +145,8 @@ impl<C: KeyClass> Store<C> {
 
     /// The next item of a cursor, or none where nothing is left and no mark is asked.
     pub fn next(&mut self, c: u64) -> Result<Option<Item<C::Key>>, Refusal>
-        ensures ok { IfOk result (λ item. Nexts C.is_match self.old c item self.new) }
-        ensures err { IfErr result (λ why. RefusesNext C.is_match self.old c why self.new) }
+        ensures ok { IfOk result (λ item. Nexts C.rules.is_match self.old c item self.new) }
+        ensures err { IfErr result (λ why. RefusesNext C.rules.is_match self.old c why self.new) }
     {
         next_item(&mut self.world, c)
     }
@@ -164,7 +164,7 @@ impl<C: KeyClass> Store<C> {
     /// # Errors
     /// `NoSuchCursor`, `CursorClosed`, and want of memory. What was given before stands in the list.
     pub fn drain(&mut self, c: u64, into: &mut Vec<Item<C::Key>>) -> Result<(), Refusal>
-        ensures { (given : List (Item C.Key)) × (into.new.items ≡ into.old.items ++ given) × Drains C.is_match self.old c given result self.new }
+        ensures { (given : List (Item C.Key)) × (into.new.items ≡ into.old.items ++ given) × Drains C.rules.is_match self.old c given result self.new }
     {
         'draining: loop {
             self.check(c)?;
@@ -183,8 +183,8 @@ impl<C: KeyClass> Store<C> {
     /// # Errors
     /// Want of memory; some of those rows may be removed then.
     pub fn sweep_all(&mut self) -> Result<u64, Refusal>
-        ensures ok { IfOk result (λ number. Sweeps C.is_match self.old number self.new) }
-        ensures err { OnErr result (SweepsSome C.is_match self.old self.new) }
+        ensures ok { IfOk result (λ number. Sweeps C.rules.is_match self.old number self.new) }
+        ensures err { OnErr result (SweepsSome C.rules.is_match self.old self.new) }
         ensures refusals { IfErr result (λ e. e ≡ Refusal.OutOfMemory) }
     {
         self.world.is_sound();
@@ -221,7 +221,7 @@ impl<C: KeyClass> Store<C> {
 
     /// The live rows that match, by rising number.
     pub fn find(&self, query: &Pred<C::Atom>) -> Result<Vec<Row<C::Key>>, Refusal>
-        ensures ok { IfOk result (λ rows. rows.items ≡ snapshot (matches_query C.is_match (query_of query.now)) (length self.now.commits) self.now.commits) }
+        ensures ok { IfOk result (λ rows. rows.items ≡ snapshot (matches_query C.rules.is_match (query_of query.now)) (length self.now.commits) self.now.commits) }
         ensures depth { (result ≡ Err Refusal.BadConfig) ↔ (32 < depth_of (query_of query.now)) }
         ensures refusals { IfErr result (λ e. (e ≡ Refusal.BadConfig) ⊎ (e ≡ Refusal.OutOfMemory)) }
     {

@@ -24,8 +24,8 @@ pub fn live_rows<C: KeyClass>(
     commits: u32,
     query: &Pred<C::Atom>,
 ) -> Result<Vec<Row<C::Key>>, AllocError>
-    requires sound { (fan : ℕ) × IsSound C.is_cover fan table.now }
-    ensures rows { IfOk result (λ rows. (list : List (Write C.Key)) → IsLegal list → Agrees table.now list → length list ≡ commits → rows.items ≡ snapshot (matches_query C.is_match (query_of query.now)) commits list) }
+    requires sound { (fan : ℕ) × IsSound C.rules.is_cover fan table.now }
+    ensures rows { IfOk result (λ rows. (list : List (Write C.Key)) → IsLegal list → Agrees table.now list → length list ≡ commits → rows.items ≡ snapshot (matches_query C.rules.is_match (query_of query.now)) commits list) }
 {
     let mut rows = found_rows::<C>(alloc, table, commits, query)?;
     rows.sort_unstable_by_key(|row| row.row);
@@ -39,8 +39,8 @@ fn found_rows<C: KeyClass>(
     commits: u32,
     query: &Pred<C::Atom>,
 ) -> Result<Vec<Row<C::Key>>, AllocError>
-    requires sound { (fan : ℕ) × IsSound C.is_cover fan table.now }
-    ensures { IfOk result (λ rows. Same rows.items (to_find (matches_query C.is_match (query_of query.now)) commits table.now (record { page = 0; memo = table.now.counter } ∷ []))) }
+    requires sound { (fan : ℕ) × IsSound C.rules.is_cover fan table.now }
+    ensures { IfOk result (λ rows. Same rows.items (to_find (matches_query C.rules.is_match (query_of query.now)) commits table.now (record { page = 0; memo = table.now.counter } ∷ []))) }
 {
     let mut stack = Stack::at_root(alloc, table.counter());
     let mut rows = Vec::new(alloc);

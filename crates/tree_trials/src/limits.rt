@@ -12,15 +12,13 @@ impl KeyClass for Limits {
 
     type Atom = u8;
 
-    ghost is_match = { nat_eq };
-
-    ghost is_consistent = { nat_le };
-
-    ghost union_of = { max };
-
-    ghost is_cover = { λ bound key. nat_le key bound };
-
-    ghost size_of = { λ key. key };
+    ghost rules = { record {
+      is_match = nat_eq;
+      is_consistent = nat_le;
+      union_of = max;
+      is_cover = λ bound key. nat_le key bound;
+      size_of = λ key. key;
+    } };
 
     fn matches(atom: &u8, key: u8) -> bool {
         *atom == key
@@ -57,19 +55,16 @@ impl KeyClass for Limits {
 
     ghost use Rattle.std.proofs.Common.{rules};
 
-    ghost covers_itself = { Prim.search rules };
-
-    ghost covers_through = { Prim.search rules };
-
-    ghost union_covers_left = { Prim.search rules };
-
-    ghost union_covers_right = { Prim.search rules };
-
-    ghost union_is_least = { Prim.search rules };
-
-    ghost consistent_above_match = { Prim.search rules };
-
-    ghost equal_keys_are_same = { Prim.search rules };
-
-    ghost equal_atoms_are_same = { Prim.search rules };
+    ghost lawful = { record {
+      bounds = record {
+        itself = Prim.search rules;
+        through = Prim.search rules;
+        left = Prim.search rules;
+        right = Prim.search rules;
+        least = Prim.search rules;
+      };
+      consistent_above_match = Prim.search rules;
+      equal_keys_are_same = Prim.search rules;
+      equal_atoms_are_same = Prim.search rules;
+    } };
 }

@@ -3,10 +3,12 @@ use Rattle.std.proofs.Common.{◌≡◌, ◌+◌, ◌<◌, ◌≤◌, ℕ, suc, 
 use Rattle.std.specs.Prelude.{slice_get, option_to_list, nat_eq}
 use Rattle.std.proofs.lemmas.List.{append-nil, take-append-le, take_all}
 use Rattle.std.proofs.lemmas.List.Elements.{filter_map-append}
+use Rattle.key_class.specs.Rules.{Rules}
+use Rattle.mailbox.specs.Outlets.{Rule}
 use Rattle.change_list.specs.declared.item.Item.{Item}
 use Rattle.change_list.specs.declared.item.Item.TheVariants as item
 use Rattle.change_list.proofs.Lists.{slice_get_push, slice_get_before, slice_get_end, slice_get_within, filter_map_push}
-use Rattle.cursor.specs.OpenCursors.{Words, OpenCursor}
+use Rattle.cursor.specs.OpenCursors.{OpenCursor}
 use Rattle.world.specs.declared.event.Event.{Event}
 use Rattle.world.specs.declared.event.Event.TheVariants as event
 use Rattle.world.specs.declared.reply.Reply.{Reply}
@@ -156,8 +158,8 @@ module _ {C O K A E : Type 0} where
 pub taken_same : (C O A E : Type 0) {K : Type 0} (c : ℕ) (x : Item K) → taken_by {C = C} {O = O} {K = K} {A = A} {E = E} c (event.Take c, reply.Taken x) ≡ Some x
 taken_same C O A E c x = let e : nat_eq c c ≡ true = search arith in rw e refl
 
-module _ {C O K A E : Type 0} (w : Words K A) (trace : Trace C O K A E) (old : State K A) (e : Event C K A) (r : Reply C O K A E) (new : State K A) (c : ℕ) (before after : OpenCursor K A)
-    (s : Serves w old e r new c before after) (counted : length old.commits ≡ length (commits_of trace)) (grown : length old.commits ≤ length new.commits)
+module _ {C O K A E : Type 0} (rules : Rules K A) (rule : Rule) (trace : Trace C O K A E) (old : State K A) (e : Event C K A) (r : Reply C O K A E) (new : State K A) (c : ℕ) (before after : OpenCursor K A)
+    (s : Serves rules rule old e r new c before after) (counted : length old.commits ≡ length (commits_of trace)) (grown : length old.commits ≤ length new.commits)
     (front : (x : Item K) → taken_by c (e, r) ≡ Some x → (rest : List (Item K)) × (before.unread ≡ x ∷ rest))
     (f : FullAskings trace c (marks_of (taken c trace ++ before.unread)) before.asked (length old.commits)) where
   last_taken : Last trace (e, r) c (marks_of (taken c trace ++ before.unread)) (length old.commits) (length new.commits) grown before.asked f
@@ -184,7 +186,7 @@ module _ {C O K A E : Type 0} (w : Words K A) (trace : Trace C O K A E) (old : S
                 subst (λ b. FullAskings (trace ++ (e, r) ∷ []) c (marks_of (taken c trace ++ before.unread)) b (length new.commits)) (sym p.2) g
           ])
 
-      go : (sent : List (Item K)) → Sends w old e r c before sent after → FullAskings (trace ++ (e, r) ∷ []) c (marks_of (taken c trace ++ before.unread) ++ marks_of sent) after.asked (length new.commits)
+      go : (sent : List (Item K)) → Sends rules rule old e r c before sent after → FullAskings (trace ++ (e, r) ∷ []) c (marks_of (taken c trace ++ before.unread) ++ marks_of sent) after.asked (length new.commits)
       go [] h = quiet after.asked h
       go (item.Row row ∷ []) h = quiet after.asked h
       go (item.Inserted row ∷ []) h = quiet after.asked h

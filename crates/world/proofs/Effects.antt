@@ -1,6 +1,8 @@
 -- What a trace needs to know of a step.
 use Rattle.std.proofs.Common.{◌≡◌, ◌+◌, ◌<◌, ◌≤◌, ℕ, false, List, [], ◌∷◌, ◌++◌, length, Some, None, ◌⊎◌}
 use Rattle.std.specs.Prelude.{option_to_list}
+use Rattle.key_class.specs.Rules.{Rules}
+use Rattle.mailbox.specs.Outlets.{Rule}
 use Rattle.key_class.specs.Queries.{query_of}
 use Rattle.key_class.specs.declared.pred.Pred.{Pred}
 use Rattle.key_class.specs.declared.refusal.Refusal.TheVariants as refusal
@@ -9,7 +11,7 @@ use Rattle.change_list.specs.declared.write.Write.TheVariants.{Insert, Delete}
 use Rattle.change_list.specs.declared.item.Item.{Item}
 use Rattle.change_list.specs.Changes.{IsLegal}
 use Rattle.change_list.specs.Cursors.{Fits}
-use Rattle.cursor.specs.OpenCursors.{Words, OpenCursor, shown}
+use Rattle.cursor.specs.OpenCursors.{OpenCursor, shown}
 use Rattle.descent.specs.Finders.{OpenFinder}
 use Rattle.world.specs.declared.event.Event.{Event}
 use Rattle.world.specs.declared.event.Event.TheVariants as event
@@ -35,7 +37,7 @@ module _ {K A : Type 0} where
     pub given : c ≤ s.last
     pub closed : cursor_at s c ≡ None
 
-module _ {K A : Type 0} (w : Words K A) where
+module _ {K A : Type 0} (rules : Rules K A) (rule : Rule) where
   -- a cursor that wasn't there before
   pub record IsFresh (old new : State K A) (query : Pred A) (c : ℕ) : Type 0 where
     pub serial : old.last < c
@@ -45,7 +47,7 @@ module _ {K A : Type 0} (w : Words K A) where
     pub query_is : cursor.query ≡ query_of query
     pub opened : cursor.opened ≡ length old.commits
     pub unread : cursor.unread ≡ []
-    pub fits : Fits w.matching new.commits (shown w new.search.tree cursor) []
+    pub fits : Fits rules.is_match new.commits (shown rules rule new.search.tree cursor) []
 
 module _ {C K A : Type 0} where
   -- a commit is the insert that was asked for, or the delete of the row that the finder looks for
@@ -54,9 +56,9 @@ module _ {C K A : Type 0} where
   WritesAs old (event.Seek f) write = (k : OpenFinder K) × (finder_at old f ≡ Some k) × (write ≡ Delete k.row)
   WritesAs old e write = ⊥
 
-module _ {C O K A E : Type 0} (w : Words K A) where
+module _ {C O K A E : Type 0} (rules : Rules K A) (rule : Rule) where
   abbrev pub Opening : State K A → State K A → Event C K A → Reply C O K A E → Type 0
-  Opening old new (event.Open query room) (reply.Opened c end) = IsFresh w old new query c
+  Opening old new (event.Open query room) (reply.Opened c end) = IsFresh rules rule old new query c
   Opening old new e r = Unit {0}
 
   -- the event is the opening of cursor c
@@ -96,13 +98,13 @@ module _ {C O K A E : Type 0} (w : Words K A) where
   pub record Effect (old : State K A) (e : Event C K A) (r : Reply C O K A E) (new : State K A) : Type 0 where
     pub commits : new.commits ≡ old.commits ++ option_to_list (written (e, r))
     pub legal : IsLegal new.commits
-    pub serves : ServesAll w old e r new
+    pub serves : ServesAll rules rule old e r new
     pub last : old.last ≤ new.last
     pub within : (c : ℕ) (k : OpenCursor K A) → cursor_at new c ≡ Some k → c ≤ new.last
     -- a closed serial stays closed
     pub shut : (c : ℕ) → c ≤ old.last → cursor_at old c ≡ None → cursor_at new c ≡ None
     -- a cursor that appears has a new serial, holds nothing, is asked for no mark, is opened by the event, and nothing given fits it
-    pub appears : (c : ℕ) (k : OpenCursor K A) → cursor_at old c ≡ None → cursor_at new c ≡ Some k → (old.last < c) × (k.unread ≡ []) × (k.asked ≡ false) × OpensIt e r c × Fits w.matching new.commits (shown w new.search.tree k) []
+    pub appears : (c : ℕ) (k : OpenCursor K A) → cursor_at old c ≡ None → cursor_at new c ≡ Some k → (old.last < c) × (k.unread ≡ []) × (k.asked ≡ false) × OpensIt e r c × Fits rules.is_match new.commits (shown rules rule new.search.tree k) []
     pub takes : (c : ℕ) (item : Item K) → taken_by c (e, r) ≡ Some item → Taking old c item new
     pub opening : Opening old new e r
     pub closing : Closing new e r

@@ -3,6 +3,8 @@ use Rattle.std.proofs.Common.{◌≡◌, ◌+◌, ◌<◌, ◌≤◌, ℕ, Bool,
 use Rattle.std.specs.Prelude.{slice_get, option_to_list}
 use Rattle.std.proofs.lemmas.List.{append-nil}
 use Rattle.std.proofs.lemmas.List.Elements.{filter-append}
+use Rattle.key_class.specs.Rules.{Rules}
+use Rattle.mailbox.specs.Outlets.{Rule}
 use Rattle.key_class.specs.Queries.{Query, query_of, matches_query}
 use Rattle.key_class.specs.declared.pred.Pred.{Pred}
 use Rattle.key_class.specs.declared.refusal.Refusal.TheVariants as refusal
@@ -15,7 +17,7 @@ use Rattle.change_list.specs.Cursors.{Fits}
 use Rattle.change_list.proofs.Lists.{slice_get_push, slice_get_before, slice_get_end, slice_get_within}
 use Rattle.change_list.proofs.Pushing.{changes_more, changes_push, snapshot_push}
 use Rattle.change_list.proofs.Fitting.{listing_push, fits_begins}
-use Rattle.cursor.specs.OpenCursors.{Words, OpenCursor, shown}
+use Rattle.cursor.specs.OpenCursors.{OpenCursor, shown}
 use Rattle.world.specs.declared.event.Event.{Event}
 use Rattle.world.specs.declared.event.Event.TheVariants as event
 use Rattle.world.specs.declared.reply.Reply.{Reply}
@@ -58,32 +60,32 @@ listing_grow : {K : Type 0} (wanted : K → Bool) (s n : ℕ) (commits later : L
 listing_grow wanted s n commits later None items h b = rw (h, append-nil commits) b
 listing_grow wanted s n commits later (Some write) items h b = rw h (listing_push wanted s n commits write items b)
 
-module _ {K A : Type 0} (w : Words K A) where
+module _ {K A : Type 0} (rules : Rules K A) (rule : Rule) where
   -- an open cursor with this query and opening number, which these items fit, what its mailbox holds included
   pub record OpenFits (s : State K A) (q : Query A) (n : ℕ) (items : List (Item K)) (k : OpenCursor K A) : Type 0 where
     pub query : k.query ≡ q
     pub opened : k.opened ≡ n
-    pub fits : Fits w.matching s.commits (shown w s.search.tree k) (items ++ k.unread)
+    pub fits : Fits rules.is_match s.commits (shown rules rule s.search.tree k) (items ++ k.unread)
 
   abbrev pub SlotFits : State K A → Query A → ℕ → List (Item K) → Option (OpenCursor K A) → Type 0
   SlotFits s q n items (Some k) = OpenFits s q n items k
-  SlotFits s q n items None = BeginsListing (matches_query w.matching q) n (length s.commits) s.commits (without_marks items)
+  SlotFits s q n items None = BeginsListing (matches_query rules.is_match q) n (length s.commits) s.commits (without_marks items)
 
-  open_begins : (s : State K A) (q : Query A) (n : ℕ) (items : List (Item K)) (k : OpenCursor K A) → OpenFits s q n items k → BeginsListing (matches_query w.matching q) n (length s.commits) s.commits (without_marks items)
+  open_begins : (s : State K A) (q : Query A) (n : ℕ) (items : List (Item K)) (k : OpenCursor K A) → OpenFits s q n items k → BeginsListing (matches_query rules.is_match q) n (length s.commits) s.commits (without_marks items)
   open_begins s q n items k f =
-      let b = fits_begins w.matching s.commits (shown w s.search.tree k) (items ++ k.unread) f.fits in
+      let b = fits_begins rules.is_match s.commits (shown rules rule s.search.tree k) (items ++ k.unread) f.fits in
       let whole : without_marks (items ++ k.unread) ≡ without_marks items ++ without_marks k.unread = filter-append (λ i. not (is_mark i)) items k.unread in
       rw (← f.query, ← f.opened) (record {
         rest = without_marks k.unread ++ b.rest;
-        listing = subst (λ l. IsListing (matches_query w.matching k.query) k.opened (length s.commits) s.commits l)
+        listing = subst (λ l. IsListing (matches_query rules.is_match k.query) k.opened (length s.commits) s.commits l)
             (ap (λ l. l ++ b.rest) whole ∙ append_assoc (without_marks items) (without_marks k.unread) b.rest) b.listing;
       })
 
-  pub slot_begins : (s : State K A) (q : Query A) (n : ℕ) (items : List (Item K)) (o : Option (OpenCursor K A)) → SlotFits s q n items o → BeginsListing (matches_query w.matching q) n (length s.commits) s.commits (without_marks items)
+  pub slot_begins : (s : State K A) (q : Query A) (n : ℕ) (items : List (Item K)) (o : Option (OpenCursor K A)) → SlotFits s q n items o → BeginsListing (matches_query rules.is_match q) n (length s.commits) s.commits (without_marks items)
   slot_begins s q n items (Some k) f = open_begins s q n items k f
   slot_begins s q n items None f = f
 
-module _ {C O K A E : Type 0} (w : Words K A) where
+module _ {C O K A E : Type 0} (rules : Rules K A) (rule : Rule) where
   abbrev pub AskingsOf : Trace C O K A E → State K A → ℕ → Option (OpenCursor K A) → Type 0
   AskingsOf trace s c (Some k) = FullAskings trace c (marks_of (taken c trace ++ k.unread)) k.asked (length s.commits)
   AskingsOf trace s c None = HasAskings trace c
@@ -96,12 +98,12 @@ module _ {C O K A E : Type 0} (w : Words K A) where
     pub seen : (c : ℕ) (k : OpenCursor K A) → cursor_at s c ≡ Some k → WasOpened trace c
     pub once : (i j c : ℕ) (query other : Pred A) → IsOpening trace i c query → IsOpening trace j c other → i ≡ j
     pub known : (j c : ℕ) (x : Item K) → slice_get trace j ≡ Some (event.Take c, reply.Taken x) → WasOpened (take j trace) c
-    pub opened : (i c : ℕ) (query : Pred A) → IsOpening trace i c query → (c ≤ s.last) × SlotFits w s (query_of query) (length (commits_of (take i trace))) (taken c trace) (cursor_at s c)
+    pub opened : (i c : ℕ) (query : Pred A) → IsOpening trace i c query → (c ≤ s.last) × SlotFits rules rule s (query_of query) (length (commits_of (take i trace))) (taken c trace) (cursor_at s c)
     pub untaken : (c : ℕ) → s.last < c → taken c trace ≡ []
     pub taken_given : (j c : ℕ) (x : Item K) → slice_get trace j ≡ Some (event.Take c, reply.Taken x) → c ≤ s.last
     pub within : (c : ℕ) (k : OpenCursor K A) → cursor_at s c ≡ Some k → c ≤ s.last
     pub marks : (i j c n : ℕ) (query : Pred A) → IsOpening trace i c query → slice_get trace j ≡ Some (event.Take c, reply.Taken (item.Mark n))
-        → IsListing (matches_query w.matching (query_of query)) (length (commits_of (take i trace))) n s.commits (delivered c (take j trace))
+        → IsListing (matches_query rules.is_match (query_of query)) (length (commits_of (take i trace))) n s.commits (delivered c (take j trace))
     pub askings : (c : ℕ) → AskingsOf trace s c (cursor_at s c)
     pub closed : (i c : ℕ) → slice_get trace i ≡ Some (event.Close c, reply.Closed) → IsShut s c
     pub silent : (i j c : ℕ) (later : Event C K A) (answer : Reply C O K A E) → slice_get trace i ≡ Some (event.Close c, reply.Closed) → i < j
@@ -109,7 +111,7 @@ module _ {C O K A E : Type 0} (w : Words K A) where
     pub numbered : (i : ℕ) (e : Event C K A) (stamp : Stamp K) → slice_get trace i ≡ Some (e, reply.Committed stamp) → stamp.number ≡ length (commits_of (take i trace)) + 1
     pub finders : Founds trace s
 
-  module _ (trace : Trace C O K A E) (old new : State K A) (e : Event C K A) (r : Reply C O K A E) (I : Inv trace old) (E' : Effect w old e r new) where
+  module _ (trace : Trace C O K A E) (old new : State K A) (e : Event C K A) (r : Reply C O K A E) (I : Inv trace old) (E' : Effect rules rule old e r new) where
     longer : Trace C O K A E
     longer = trace ++ (e, r) ∷ []
 
@@ -123,11 +125,11 @@ module _ {C O K A E : Type 0} (w : Words K A) where
     grown = omega (arith, ap length E'.commits, length-append old.commits (option_to_list (written (e, r))))
 
     -- an opening of the longer trace is one of the trace, or the last moment
-    opening_push : (i c : ℕ) (query : Pred A) → IsOpening (trace ++ (e, r) ∷ []) i c query → ((i < length trace) × IsOpening trace i c query) ⊎ ((i ≡ length trace) × IsFresh w old new query c)
+    opening_push : (i c : ℕ) (query : Pred A) → IsOpening (trace ++ (e, r) ∷ []) i c query → ((i < length trace) × IsOpening trace i c query) ⊎ ((i ≡ length trace) × IsFresh rules rule old new query c)
     opening_push i c query o =
         elim (slice_get_push trace (e, r) (event.Open query o.room, reply.Opened c o.end) i o.is) [
           | inl p ↦ inl (p.1, record { room = o.room; end = o.end; is = p.0 })
-          | inr p ↦ inr (p.0, subst (λ m. Opening w old new m.0 m.1) p.1 E'.opening)
+          | inr p ↦ inr (p.0, subst (λ m. Opening rules rule old new m.0 m.1) p.1 E'.opening)
         ]
 
     -- where nothing is given to a cursor that wasn't open
@@ -141,7 +143,7 @@ module _ {C O K A E : Type 0} (w : Words K A) where
     taken_stays : (c : ℕ) → taken_by c (e, r) ≡ None → taken c (trace ++ (e, r) ∷ []) ≡ taken c trace
     taken_stays c h = taken_push trace (e, r) c ∙ ap (λ o. taken c trace ++ option_to_list o) h ∙ append-nil (taken c trace)
 
-    slot_push : (q : Query A) (n c : ℕ) → c ≤ old.last → (o p : Option (OpenCursor K A)) → cursor_at old c ≡ o → cursor_at new c ≡ p → SlotFits w old q n (taken c trace) o → SlotFits w new q n (taken c (trace ++ (e, r) ∷ [])) p
+    slot_push : (q : Query A) (n c : ℕ) → c ≤ old.last → (o p : Option (OpenCursor K A)) → cursor_at old c ≡ o → cursor_at new c ≡ p → SlotFits rules rule old q n (taken c trace) o → SlotFits rules rule new q n (taken c (trace ++ (e, r) ∷ [])) p
     slot_push q n c l (Some before) (Some after) a b f =
         let s = E'.serves c before after a b in
         record {
@@ -151,14 +153,14 @@ module _ {C O K A E : Type 0} (w : Words K A) where
         }
     slot_push q n c l (Some before) None a b f =
         let none : taken_by c (e, r) ≡ None = gone (taken_by c (e, r)) refl in
-        rw (taken_stays c none) (begins_grow (matches_query w.matching q) n old.commits new.commits (written (e, r)) (without_marks (taken c trace)) E'.commits (slot_begins w old q n (taken c trace) (Some before) f))
+        rw (taken_stays c none) (begins_grow (matches_query rules.is_match q) n old.commits new.commits (written (e, r)) (without_marks (taken c trace)) E'.commits (slot_begins rules rule old q n (taken c trace) (Some before) f))
       where
         gone : (o : Option (Item K)) → taken_by c (e, r) ≡ o → taken_by c (e, r) ≡ None
         gone None t = t
         gone (Some x) t = let k = E'.takes c x t in absurd (let h : None ≡ Some k.after = sym b ∙ k.is_open in cc)
     slot_push q n c l None (Some after) a b f = absurd (let h : None ≡ Some after = sym (E'.shut c l a) ∙ b in cc)
     slot_push q n c l None None a b f =
-        rw (taken_stays c (not_taken c a)) (begins_grow (matches_query w.matching q) n old.commits new.commits (written (e, r)) (without_marks (taken c trace)) E'.commits f)
+        rw (taken_stays c (not_taken c a)) (begins_grow (matches_query rules.is_match q) n old.commits new.commits (written (e, r)) (without_marks (taken c trace)) E'.commits f)
 
     not_open : (s : State K A) → ((c : ℕ) (k : OpenCursor K A) → cursor_at s c ≡ Some k → c ≤ s.last) → (c : ℕ) → s.last < c → cursor_at s c ≡ None
     not_open s h c l = go (cursor_at s c) refl
@@ -168,7 +170,7 @@ module _ {C O K A E : Type 0} (w : Words K A) where
         go (Some k) t = absurd (omega (arith, l, h c k t))
 
     opened_push : (i c : ℕ) (query : Pred A) → IsOpening (trace ++ (e, r) ∷ []) i c query
-        → (c ≤ new.last) × SlotFits w new (query_of query) (length (commits_of (take i (trace ++ (e, r) ∷ [])))) (taken c (trace ++ (e, r) ∷ [])) (cursor_at new c)
+        → (c ≤ new.last) × SlotFits rules rule new (query_of query) (length (commits_of (take i (trace ++ (e, r) ∷ [])))) (taken c (trace ++ (e, r) ∷ [])) (cursor_at new c)
     opened_push i c query o =
         elim (opening_push i c query o) [
           | inl p ↦
@@ -232,19 +234,19 @@ module _ {C O K A E : Type 0} (w : Words K A) where
 
     -- the mark of the last moment
     mark_now : (i c n : ℕ) (query : Pred A) → IsOpening trace i c query → i < length trace → ◌≡◌ {A = Event C K A × Reply C O K A E} (e, r) (event.Take c, reply.Taken (item.Mark n))
-        → IsListing (matches_query w.matching (query_of query)) (length (commits_of (take i trace))) n old.commits (delivered c trace)
+        → IsListing (matches_query rules.is_match (query_of query)) (length (commits_of (take i trace))) n old.commits (delivered c trace)
     mark_now i c n query o l is =
         let t = E'.takes c (item.Mark n) (ap (λ m. taken_by c m) is ∙ taken_same C O A E c (item.Mark n)) in
-        let f = subst (λ o. SlotFits w old (query_of query) (length (commits_of (take i trace))) (taken c trace) o) t.was_open (I.opened i c query o).1 in
+        let f = subst (λ o. SlotFits rules rule old (query_of query) (length (commits_of (take i trace))) (taken c trace) o) t.was_open (I.opened i c query o).1 in
         rw (← f.query, ← f.opened) (f.fits.marks (taken c trace) t.rest n (ap (λ l. taken c trace ++ l) t.front))
 
     marks_push : (i j c n : ℕ) (query : Pred A) → IsOpening (trace ++ (e, r) ∷ []) i c query → slice_get (trace ++ (e, r) ∷ []) j ≡ Some (event.Take c, reply.Taken (item.Mark n))
-        → IsListing (matches_query w.matching (query_of query)) (length (commits_of (take i (trace ++ (e, r) ∷ [])))) n new.commits (delivered c (take j (trace ++ (e, r) ∷ [])))
+        → IsListing (matches_query rules.is_match (query_of query)) (length (commits_of (take i (trace ++ (e, r) ∷ [])))) n new.commits (delivered c (take j (trace ++ (e, r) ∷ [])))
     marks_push i j c n query o h =
         elim (opening_push i c query o) [
           | inl p ↦
               rw (before_push i (omega (arith, p.0)))
-              (listing_grow (matches_query w.matching (query_of query)) (length (commits_of (take i trace))) n old.commits new.commits (written (e, r)) _ E'.commits
+              (listing_grow (matches_query rules.is_match (query_of query)) (length (commits_of (take i trace))) n old.commits new.commits (written (e, r)) _ E'.commits
               (elim (slice_get_push trace (e, r) (event.Take c, reply.Taken (item.Mark n)) j h) [
                 | inl q ↦ rw (take_push trace (e, r) j (omega (arith, q.1))) (I.marks i j c n query p.1 q.0)
                 | inr q ↦ rw (q.0, take_end trace (e, r)) (mark_now i c n query p.1 p.0 q.1)
@@ -266,7 +268,7 @@ module _ {C O K A E : Type 0} (w : Words K A) where
         untouched none h = has_push trace (e, r) c h (λ n is. absurd (let t : None ≡ Some (item.Mark n) = sym none ∙ ap (λ m. taken_by c m) is ∙ taken_same C O A E c (item.Mark n) in cc))
 
         go : (o p : Option (OpenCursor K A)) → cursor_at old c ≡ o → cursor_at new c ≡ p → AskingsOf trace old c o → AskingsOf (trace ++ (e, r) ∷ []) new c p
-        go (Some before) (Some after) a b f = serve_askings w trace old e r new c before after (E'.serves c before after a b) (ap length I.commits) grown (fronts before a) f
+        go (Some before) (Some after) a b f = serve_askings rules rule trace old e r new c before after (E'.serves c before after a b) (ap length I.commits) grown (fronts before a) f
         go (Some before) None a b f = untouched (gone (taken_by c (e, r)) refl) f.has
           where
             gone : (o : Option (Item K)) → taken_by c (e, r) ≡ o → taken_by c (e, r) ≡ None
@@ -291,7 +293,7 @@ module _ {C O K A E : Type 0} (w : Words K A) where
     closed_push i c h =
         elim (slice_get_push trace (e, r) (event.Close c, reply.Closed) i h) [
           | inl p ↦ let was = I.closed i c p.0 in record { positive = was.positive; given = omega (arith, was.given, E'.last); closed = E'.shut c was.given was.closed }
-          | inr p ↦ subst (λ m. Closing {C = C} {O = O} {K = K} {A = A} {E = E} w new m.0 m.1) p.1 E'.closing
+          | inr p ↦ subst (λ m. Closing {C = C} {O = O} {K = K} {A = A} {E = E} rules rule new m.0 m.1) p.1 E'.closing
         ]
 
     silent_push : (i j c : ℕ) (later : Event C K A) (answer : Reply C O K A E) → slice_get (trace ++ (e, r) ∷ []) i ≡ Some (event.Close c, reply.Closed) → i < j
@@ -312,7 +314,7 @@ module _ {C O K A E : Type 0} (w : Words K A) where
           | inl p ↦ I.numbered i f stamp p.0 ∙ ap (λ t. length t + 1) (sym (before_push i (omega (arith, p.1))))
           | inr p ↦
               let at_end : commits_of (take i (trace ++ (e, r) ∷ [])) ≡ old.commits = ap (λ k. commits_of (take k (trace ++ (e, r) ∷ []))) p.0 ∙ before_end in
-              let number : stamp.number ≡ length old.commits + 1 = subst (λ (m : Moment C O K A E). Numbering w old m.1) p.1 E'.numbering in
+              let number : stamp.number ≡ length old.commits + 1 = subst (λ (m : Moment C O K A E). Numbering rules rule old m.1) p.1 E'.numbering in
               number ∙ ap (λ t. length t + 1) (sym at_end)
         ]
 
@@ -335,10 +337,10 @@ module _ {C O K A E : Type 0} (w : Words K A) where
       closed = closed_push;
       silent = silent_push;
       numbered = numbered_push;
-      finders = founds_push w trace old new e r I.finders E'.finders;
+      finders = founds_push rules rule trace old new e r I.finders E'.finders;
     }
 
-  pub faithful : (trace : Trace C O K A E) (s : State K A) → Inv trace s → IsFaithful w.matching trace
+  pub faithful : (trace : Trace C O K A E) (s : State K A) → Inv trace s → IsFaithful rules.is_match trace
   faithful trace s I = record {
     numbered = I.numbered;
     writes = I.finders.writes;
@@ -347,10 +349,10 @@ module _ {C O K A E : Type 0} (w : Words K A) where
     cursors = I.once;
     opened = I.known;
     delivers = λ i c query o.
-        subst (λ t. BeginsListing (matches_query w.matching (query_of query)) (length (commits_of (take i trace))) (length t) t (delivered c trace)) I.commits
-        (slot_begins w s (query_of query) (length (commits_of (take i trace))) (taken c trace) (cursor_at s c) (I.opened i c query o).1);
+        subst (λ t. BeginsListing (matches_query rules.is_match (query_of query)) (length (commits_of (take i trace))) (length t) t (delivered c trace)) I.commits
+        (slot_begins rules rule s (query_of query) (length (commits_of (take i trace))) (taken c trace) (cursor_at s c) (I.opened i c query o).1);
     marks = λ i j c n query o h.
-        subst (λ t. IsListing (matches_query w.matching (query_of query)) (length (commits_of (take i trace))) n t (delivered c (take j trace))) I.commits (I.marks i j c n query o h);
+        subst (λ t. IsListing (matches_query rules.is_match (query_of query)) (length (commits_of (take i trace))) n t (delivered c (take j trace))) I.commits (I.marks i j c n query o h);
     askings = λ c. go c (cursor_at s c) (I.askings c);
     closed = I.silent;
   }

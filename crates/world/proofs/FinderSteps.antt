@@ -3,6 +3,8 @@ use Rattle.std.proofs.Common.{◌≡◌, ◌+◌, ◌<◌, ℕ, Bool, true, fals
 use Rattle.std.proofs.Common.{Result, Ok, Err}
 use Rattle.std.specs.Prelude.{nat_le, nat_lt, nat_eq, OnOk, OnErr}
 use Rattle.std.proofs.lemmas.Bool.{and_parts}
+use Rattle.mailbox.specs.Outlets.{Rule}
+use Rattle.key_class.specs.Rules.{IsLawful, Rules}
 use Rattle.key_class.specs.declared.refusal.Refusal.{Refusal}
 use Rattle.key_class.specs.declared.refusal.Refusal.TheVariants as refusal
 use Rattle.change_list.specs.Changes.{commit_at, is_deleted, status_of}
@@ -15,8 +17,6 @@ use Rattle.split.specs.Tests.{first_failing, is_leaf, sweep_tests}
 use Rattle.split.proofs.RowsDone.{buried, swept, sweepable}
 use Rattle.descent.specs.Finders.{OpenFinder, IsSeeking, FindsRow, is_at_row}
 use Rattle.descent.proofs.Seeking.{seeking_begun, seeking_further, finds_at_row, finds_page, finds_weigh, finds_leaf}
-use Rattle.cursor.specs.OpenCursors.{Words}
-use Rattle.cursor.proofs.WordLaws.{WordLaws}
 use Rattle.world.specs.Serials.{without, put}
 use Rattle.world.specs.Stamps.{Stamp}
 use Rattle.world.specs.States.{State, finder_at, with_finder, IsSoundWorld}
@@ -128,7 +128,7 @@ module _ {K A : Type 0} (is_cover : K → K → Bool) (old : State K A) (inv : I
   sought_on_sound later new made seeking = subst (λ s. IsSoundWorld is_cover s) (sym made)
       (sought_sound is_cover old inv (put (λ k. k.serial) later old.finders) old.last_finder (finders_put old.search.tree old.commits old.finders old.last_finder inv.finders later seeking))
 
-module _ {K A : Type 0} (w : Words K A) (laws : WordLaws w) (old : State K A) (inv : IsSoundWorld w.is_cover old) where
-  pub seeks_on_sound : (f : ℕ) (new : State K A) → SeeksOn w old f new → IsSoundWorld w.is_cover new
-  seeks_on_sound f new d = sought_on_sound w.is_cover old inv d.later new d.after
-      (seeking_further w.is_cover old.search.fan old.search.tree inv.tree.sound old.commits d.before (finder_of w.is_cover old inv f d.before d.is_open) laws.keys.through inv.agrees d.page d.later d.further)
+module _ {K A : Type 0} (rules : Rules K A) (rule : Rule) {same_key : K → K → Bool} {same_atom : A → A → Bool} (lawful : IsLawful rules same_key same_atom) (old : State K A) (inv : IsSoundWorld rules.is_cover old) where
+  pub seeks_on_sound : (f : ℕ) (new : State K A) → SeeksOn rules rule old f new → IsSoundWorld rules.is_cover new
+  seeks_on_sound f new d = sought_on_sound rules.is_cover old inv d.later new d.after
+      (seeking_further rules.is_cover old.search.fan old.search.tree inv.tree.sound old.commits d.before (finder_of rules.is_cover old inv f d.before d.is_open) lawful.bounds.through inv.agrees d.page d.later d.further)

@@ -1,8 +1,9 @@
 -- Which row each finder of a trace was asked to find, and what its events wrote.
 use Rattle.std.proofs.Common.{◌≡◌, ◌<◌, ◌≤◌, ℕ, [], ◌∷◌, ◌++◌, length, take, Some, inl, inr, sym, ap, ◌∙◌, arith, subst}
 use Rattle.std.specs.Prelude.{slice_get}
+use Rattle.key_class.specs.Rules.{Rules}
+use Rattle.mailbox.specs.Outlets.{Rule}
 use Rattle.change_list.proofs.Lists.{slice_get_push, slice_get_before, slice_get_end, slice_get_within}
-use Rattle.cursor.specs.OpenCursors.{Words}
 use Rattle.descent.specs.Finders.{OpenFinder}
 use Rattle.world.specs.declared.event.Event.{Event}
 use Rattle.world.specs.declared.event.Event.TheVariants as event
@@ -25,14 +26,14 @@ module _ {C O K A E : Type 0} where
   found_push : (trace : Trace C O K A E) (m : Moment C O K A E) (f row : ℕ) → IsFound trace f row → IsFound (trace ++ m ∷ []) f row
   found_push trace m f row h = record { place = h.place; is = slice_get_before trace (m ∷ []) h.place (slice_get_within trace h.place _ h.is) ∙ h.is }
 
-module _ {C O K A E : Type 0} (w : Words K A) (trace : Trace C O K A E) (old new : State K A) (e : Event C K A) (r : Reply C O K A E) (F : Founds trace old) (E' : FinderEffect w old e r new) where
+module _ {C O K A E : Type 0} (rules : Rules K A) (rule : Rule) (trace : Trace C O K A E) (old new : State K A) (e : Event C K A) (r : Reply C O K A E) (F : Founds trace old) (E' : FinderEffect rules rule old e r new) where
   write_now : (stamp : Stamp K) → Founds trace old → (d : Event C K A) → WritesAs old d stamp.write → IsWriteOf trace d stamp.write
   write_now stamp F (event.Place page key tag) h = h
   write_now stamp F (event.Seek f) h = (h.0.row, F.found f h.0 h.1, h.2)
   write_now stamp F d h = absurd h
 
   finding_now : (f row : ℕ) → ◌≡◌ {A = Event C K A × Reply C O K A E} (e, r) (event.Find row, reply.Finder f) → (old.last_finder < f) × (f ≤ new.last_finder)
-  finding_now f row is = subst (λ m. Finding w old new m.0 m.1) is E'.finding
+  finding_now f row is = subst (λ m. Finding rules rule old new m.0 m.1) is E'.finding
 
   pub founds_push : Founds (trace ++ (e, r) ∷ []) new
   founds_push = record {
@@ -56,6 +57,6 @@ module _ {C O K A E : Type 0} (w : Words K A) (trace : Trace C O K A E) (old new
     ];
     writes = λ i d stamp h. elim (slice_get_push trace (e, r) (d, reply.Committed stamp) i h) [
       | inl p ↦ rw (take_push trace (e, r) i (omega (arith, p.1))) (F.writes i d stamp p.0)
-      | inr p ↦ rw (p.0, take_end trace (e, r)) (write_now stamp F d (subst (λ (m : Moment C O K A E). Writing w old m.0 m.1) p.1 E'.writing))
+      | inr p ↦ rw (p.0, take_end trace (e, r)) (write_now stamp F d (subst (λ (m : Moment C O K A E). Writing rules rule old m.0 m.1) p.1 E'.writing))
     ];
   }

@@ -1,6 +1,7 @@
 -- Ends of mailboxes are handed out by openings alone.
 use Rattle.std.proofs.Common.{ℕ}
-use Rattle.cursor.specs.OpenCursors.{Words}
+use Rattle.key_class.specs.Rules.{Rules}
+use Rattle.mailbox.specs.Outlets.{Rule}
 use Rattle.world.specs.declared.event.Event.{Event}
 use Rattle.world.specs.declared.event.Event.TheVariants as event
 use Rattle.world.specs.declared.reply.Reply.{Reply}
@@ -14,8 +15,8 @@ abbrev OpensNone : {C K A : Type 0} → Event C K A → Type 0
 OpensNone (event.Open query room) = ⊥
 OpensNone e = Unit {0}
 
-module _ {C O K A E : Type 0} (w : Words K A) (fresh : E → Type 0) (seat : ℕ) (old new : State K A) where
-  pub hands_none : (e : Event C K A) (r : Reply C O K A E) → OpensNone e → Step w seat old e r new → HandsOut fresh r
+module _ {C O K A E : Type 0} (rules : Rules K A) (rule : Rule) (fresh : E → Type 0) (seat : ℕ) (old new : State K A) where
+  pub hands_none : (e : Event C K A) (r : Reply C O K A E) → OpensNone e → Step rules rule seat old e r new → HandsOut fresh r
   hands_none (event.Open query room) (reply.Opened c end) none d = absurd none
   hands_none e (reply.Opened c end) none d = absurd d.change
   hands_none e r none d = tt

@@ -1,18 +1,19 @@
 -- Events that change one open cursor.
 use Rattle.std.proofs.Common.{◌≡◌, ◌<◌, ℕ, suc, zero, Bool, true, false, List, [], ◌∷◌, ◌++◌, length, take, drop, Some, None, inl, inr, refl, sym, ap, ◌∙◌, arith, subst, get_or, set, remove, Ok, Err}
 use Rattle.std.proofs.lemmas.Option.{get_or_from_slice_get}
+use Rattle.mailbox.specs.Outlets.{Rule}
+use Rattle.key_class.specs.Rules.{IsLawful, Rules}
 use Rattle.key_class.specs.declared.refusal.Refusal.{Refusal}
 use Rattle.key_class.specs.declared.refusal.Refusal.TheVariants as refusal
 use Rattle.change_list.specs.declared.item.Item.{Item}
 use Rattle.change_list.proofs.Lists.{slice_get_within}
 use Rattle.split.specs.Tests.{first_failing}
-use Rattle.cursor.specs.OpenCursors.{Words, OpenCursor, Turns}
+use Rattle.cursor.specs.OpenCursors.{OpenCursor, Turns}
 use Rattle.world.specs.Serials.{without}
 use Rattle.world.specs.declared.event.Event.TheVariants as event
 use Rattle.world.specs.declared.reply.Reply.TheVariants as reply
 use Rattle.world.specs.States.{State, cursor_at, with_cursor, IsAtWork, IsSoundWorld, IsAt}
 use Rattle.world.specs.Steps.{cursor_tests, tests, IsRefused, IsDone, TurnsAt}
-use Rattle.cursor.proofs.WordLaws.{WordLaws}
 use Rattle.cursor.specs.declared.cursor.Turned.{Turned}
 use Rattle.world.proofs.Turning.{turn_unchanged, turn_serial, turn_work}
 use Rattle.std.proofs.Common.{Result}
@@ -54,97 +55,97 @@ module _ {K A : Type 0} (is_cover : K → K → Bool) (old : State K A) (inv : I
       pub put_sound : IsAtWork old.search.tree old.commits later → IsSoundWorld is_cover (record old { cursors = set old.cursors at later })
       put_sound h = subst (λ s. IsSoundWorld is_cover s) (sym put_as) (turned_sound is_cover old inv later h)
 
-module _ {K A : Type 0} (w : Words K A) (old : State K A) (inv : IsSoundWorld w.is_cover old) (c at : ℕ) (a : IsAt old c at) (before : OpenCursor K A) (is : before ≡ get_or old.cursors at before) (later : OpenCursor K A) where
-  pub ask_sound : later ≡ record before { asked = true } → IsSoundWorld w.is_cover (record old { cursors = set old.cursors at later })
+module _ {K A : Type 0} (rules : Rules K A) (rule : Rule) (old : State K A) (inv : IsSoundWorld rules.is_cover old) (c at : ℕ) (a : IsAt old c at) (before : OpenCursor K A) (is : before ≡ get_or old.cursors at before) (later : OpenCursor K A) where
+  pub ask_sound : later ≡ record before { asked = true } → IsSoundWorld rules.is_cover (record old { cursors = set old.cursors at later })
   ask_sound e =
-      let h = at_work w.is_cover old inv c at a before is in
-      put_sound w.is_cover old inv c at a before is later (ap (λ (k : OpenCursor K A). k.serial) e)
+      let h = at_work rules.is_cover old inv c at a before is in
+      put_sound rules.is_cover old inv c at a before is later (ap (λ (k : OpenCursor K A). k.serial) e)
       (rw e (record { stack = h.stack; from_opening = h.from_opening; within = h.within }))
 
-  pub ask_done : (C O E : Type 0) (seat : ℕ) → later ≡ record before { asked = true } → IsDone {C = C} {O = O} {E = E} w seat old (event.AskMark c) reply.Asked (record old { cursors = set old.cursors at later })
+  pub ask_done : (C O E : Type 0) (seat : ℕ) → later ≡ record before { asked = true } → IsDone {C = C} {O = O} {E = E} rules rule seat old (event.AskMark c) reply.Asked (record old { cursors = set old.cursors at later })
   ask_done C O E seat e = record {
-    passed = at_passes w.is_cover old inv c at a;
+    passed = at_passes rules.is_cover old inv c at a;
     change = record {
       before = before;
-      is_open = at_open w.is_cover old inv c at a before is;
-      after = put_as w.is_cover old inv c at a before is later (ap (λ (k : OpenCursor K A). k.serial) e) ∙ ap (λ k. with_cursor old k) e;
+      is_open = at_open rules.is_cover old inv c at a before is;
+      after = put_as rules.is_cover old inv c at a before is later (ap (λ (k : OpenCursor K A). k.serial) e) ∙ ap (λ k. with_cursor old k) e;
     };
   }
 
-  pub take_sound : (unread : List (Item K)) → later ≡ record before { unread = unread } → IsSoundWorld w.is_cover (record old { cursors = set old.cursors at later })
+  pub take_sound : (unread : List (Item K)) → later ≡ record before { unread = unread } → IsSoundWorld rules.is_cover (record old { cursors = set old.cursors at later })
   take_sound unread e =
-      let h = at_work w.is_cover old inv c at a before is in
-      put_sound w.is_cover old inv c at a before is later (ap (λ (k : OpenCursor K A). k.serial) e)
+      let h = at_work rules.is_cover old inv c at a before is in
+      put_sound rules.is_cover old inv c at a before is later (ap (λ (k : OpenCursor K A). k.serial) e)
       (rw e (record { stack = h.stack; from_opening = h.from_opening; within = h.within }))
 
-  take_passes : (C : Type 0) → w.elsewhere ≡ false → first_failing (tests {C = C} w old (event.Take c)) ≡ None
-  take_passes C e = failing_later (cursor_tests old c) ((w.elsewhere, refusal.NotHere) ∷ []) (at_passes w.is_cover old inv c at a) ∙ passes_at w.elsewhere refusal.NotHere [] e
+  take_passes : (C : Type 0) → rule.is_emptied_elsewhere ≡ false → first_failing (tests {C = C} rules rule old (event.Take c)) ≡ None
+  take_passes C e = failing_later (cursor_tests old c) ((rule.is_emptied_elsewhere, refusal.NotHere) ∷ []) (at_passes rules.is_cover old inv c at a) ∙ passes_at rule.is_emptied_elsewhere refusal.NotHere [] e
 
-  pub take_done : (C O E : Type 0) (seat : ℕ) (item : Item K) (unread : List (Item K)) → later ≡ record before { unread = unread } → w.elsewhere ≡ false → before.unread ≡ item ∷ unread
-      → IsDone {C = C} {O = O} {E = E} w seat old (event.Take c) (reply.Taken item) (record old { cursors = set old.cursors at later })
+  pub take_done : (C O E : Type 0) (seat : ℕ) (item : Item K) (unread : List (Item K)) → later ≡ record before { unread = unread } → rule.is_emptied_elsewhere ≡ false → before.unread ≡ item ∷ unread
+      → IsDone {C = C} {O = O} {E = E} rules rule seat old (event.Take c) (reply.Taken item) (record old { cursors = set old.cursors at later })
   take_done C O E seat item unread e here front = record {
     passed = take_passes C here;
     change = record {
       before = before;
-      is_open = at_open w.is_cover old inv c at a before is;
+      is_open = at_open rules.is_cover old inv c at a before is;
       rest = unread;
       front = front;
-      after = put_as w.is_cover old inv c at a before is later (ap (λ (k : OpenCursor K A). k.serial) e) ∙ ap (λ k. with_cursor old k) e;
+      after = put_as rules.is_cover old inv c at a before is later (ap (λ (k : OpenCursor K A). k.serial) e) ∙ ap (λ k. with_cursor old k) e;
     };
   }
 
   -- a cursor written back as it was changes nothing
   same_put : later ≡ before → record old { cursors = set old.cursors at later } ≡ old
-  same_put e = ap (λ k. record old { cursors = set old.cursors at k }) (e ∙ is) ∙ ap (λ ks. record old { cursors = ks }) (set_same old.cursors at before (at_within w.is_cover old inv c at a))
+  same_put e = ap (λ k. record old { cursors = set old.cursors at k }) (e ∙ is) ∙ ap (λ ks. record old { cursors = ks }) (set_same old.cursors at before (at_within rules.is_cover old inv c at a))
 
-  pub empty_done : (C O E : Type 0) (seat : ℕ) → later ≡ before → w.elsewhere ≡ false → before.unread ≡ [] → IsDone {C = C} {O = O} {E = E} w seat old (event.Take c) reply.Nothing (record old { cursors = set old.cursors at later })
+  pub empty_done : (C O E : Type 0) (seat : ℕ) → later ≡ before → rule.is_emptied_elsewhere ≡ false → before.unread ≡ [] → IsDone {C = C} {O = O} {E = E} rules rule seat old (event.Take c) reply.Nothing (record old { cursors = set old.cursors at later })
   empty_done C O E seat e here none = record {
     passed = take_passes C here;
-    change = record { before = before; is_open = at_open w.is_cover old inv c at a before is; empty = none; unchanged = same_put e };
+    change = record { before = before; is_open = at_open rules.is_cover old inv c at a before is; empty = none; unchanged = same_put e };
   }
 
-  pub elsewhere_refused : (C : Type 0) → later ≡ before → w.elsewhere ≡ true → IsRefused {C = C} w old (event.Take c) refusal.NotHere (record old { cursors = set old.cursors at later })
+  pub elsewhere_refused : (C : Type 0) → later ≡ before → rule.is_emptied_elsewhere ≡ true → IsRefused {C = C} rules rule old (event.Take c) refusal.NotHere (record old { cursors = set old.cursors at later })
   elsewhere_refused C e there = record {
-    cause = inl (failing_later (cursor_tests old c) ((w.elsewhere, refusal.NotHere) ∷ []) (at_passes w.is_cover old inv c at a) ∙ fails_at w.elsewhere refusal.NotHere [] there);
+    cause = inl (failing_later (cursor_tests old c) ((rule.is_emptied_elsewhere, refusal.NotHere) ∷ []) (at_passes rules.is_cover old inv c at a) ∙ fails_at rule.is_emptied_elsewhere refusal.NotHere [] there);
     unchanged = same_put e;
   }
 
   -- a turn
-  pub turn_done_at : (how : Turned) → Turns w old.search.tree old.commits before (Ok how) later → TurnsAt w old c (Ok how) (record old { cursors = set old.cursors at later })
+  pub turn_done_at : (how : Turned) → Turns rules rule old.search.tree old.commits before (Ok how) later → TurnsAt rules rule old c (Ok how) (record old { cursors = set old.cursors at later })
   turn_done_at how t = record {
     before = before;
     later = later;
-    is_open = at_open w.is_cover old inv c at a before is;
+    is_open = at_open rules.is_cover old inv c at a before is;
     turn = t;
-    after = put_as w.is_cover old inv c at a before is later (turn_serial w old.search.tree old.commits before later (Ok how) t);
+    after = put_as rules.is_cover old inv c at a before is later (turn_serial rules rule old.search.tree old.commits before later (Ok how) t);
   }
 
-  pub turn_refused : (C : Type 0) (why : Refusal) → Turns w old.search.tree old.commits before (Err why) later → IsRefused {C = C} w old (event.Turn c) why (record old { cursors = set old.cursors at later })
+  pub turn_refused : (C : Type 0) (why : Refusal) → Turns rules rule old.search.tree old.commits before (Err why) later → IsRefused {C = C} rules rule old (event.Turn c) why (record old { cursors = set old.cursors at later })
   turn_refused C why t =
-      let e = turn_unchanged w old.search.tree old.commits before later why t in
+      let e = turn_unchanged rules rule old.search.tree old.commits before later why t in
       record {
         cause = inr (
-          at_passes w.is_cover old inv c at a,
+          at_passes rules.is_cover old inv c at a,
           record {
             cursor = before;
-            is_open = at_open w.is_cover old inv c at a before is;
-            turn = subst (λ k. Turns w old.search.tree old.commits before (Err why) k) e t;
+            is_open = at_open rules.is_cover old inv c at a before is;
+            turn = subst (λ k. Turns rules rule old.search.tree old.commits before (Err why) k) e t;
           },
         );
         unchanged = same_put e;
       }
 
-  pub turn_sound : WordLaws w → (result : Result Turned Refusal) → Turns w old.search.tree old.commits before result later → IsSoundWorld w.is_cover (record old { cursors = set old.cursors at later })
-  turn_sound laws result t =
-      let h = at_work w.is_cover old inv c at a before is in
-      put_sound w.is_cover old inv c at a before is later (turn_serial w old.search.tree old.commits before later result t) (turn_work w laws old.search.tree old.commits old.search.fan inv.tree.sound before later result h t)
+  pub turn_sound : {same_key : K → K → Bool} {same_atom : A → A → Bool} → IsLawful rules same_key same_atom → (result : Result Turned Refusal) → Turns rules rule old.search.tree old.commits before result later → IsSoundWorld rules.is_cover (record old { cursors = set old.cursors at later })
+  turn_sound lawful result t =
+      let h = at_work rules.is_cover old inv c at a before is in
+      put_sound rules.is_cover old inv c at a before is later (turn_serial rules rule old.search.tree old.commits before later result t) (turn_work rules rule lawful old.search.tree old.commits old.search.fan inv.tree.sound before later result h t)
 
-module _ {K A : Type 0} (w : Words K A) (old : State K A) (inv : IsSoundWorld w.is_cover old) (c at : ℕ) (a : IsAt old c at) (others : List (OpenCursor K A)) (is : others ≡ remove old.cursors at) where
+module _ {K A : Type 0} (rules : Rules K A) (rule : Rule) (old : State K A) (inv : IsSoundWorld rules.is_cover old) (c at : ℕ) (a : IsAt old c at) (others : List (OpenCursor K A)) (is : others ≡ remove old.cursors at) where
   others_as : record old { cursors = others } ≡ record old { cursors = without (λ k. k.serial) c old.cursors }
-  others_as = ap (λ ks. record old { cursors = ks }) is ∙ closed_as w.is_cover old inv c at a
+  others_as = ap (λ ks. record old { cursors = ks }) is ∙ closed_as rules.is_cover old inv c at a
 
-  pub close_sound : IsSoundWorld w.is_cover (record old { cursors = others })
-  close_sound = subst (λ s. IsSoundWorld w.is_cover s) (sym others_as) (closed_sound w.is_cover old inv c)
+  pub close_sound : IsSoundWorld rules.is_cover (record old { cursors = others })
+  close_sound = subst (λ s. IsSoundWorld rules.is_cover s) (sym others_as) (closed_sound rules.is_cover old inv c)
 
-  pub close_done : (C O E : Type 0) (seat : ℕ) → IsDone {C = C} {O = O} {E = E} w seat old (event.Close c) reply.Closed (record old { cursors = others })
-  close_done C O E seat = record { passed = at_passes w.is_cover old inv c at a; change = others_as }
+  pub close_done : (C O E : Type 0) (seat : ℕ) → IsDone {C = C} {O = O} {E = E} rules rule seat old (event.Close c) reply.Closed (record old { cursors = others })
+  close_done C O E seat = record { passed = at_passes rules.is_cover old inv c at a; change = others_as }

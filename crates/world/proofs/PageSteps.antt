@@ -5,7 +5,7 @@ use Rattle.key_class.specs.declared.sides.Side.{Side}
 use Rattle.key_class.specs.declared.refusal.Refusal.{Refusal}
 use Rattle.row_version.specs.Entries.{Entry}
 use Rattle.page_table.specs.Trees.{page_at, after_rows}
-use Rattle.page_table.specs.Soundness.{KeyLaws}
+use Rattle.key_class.specs.Rules.{KeyLaws}
 use Rattle.split.specs.SearchTrees.{SearchTree, IsSearchTree, with_tree}
 use Rattle.split.specs.Steps.{after_split, after_post, after_grow, after_enlarge}
 use Rattle.split.specs.Tests.{first_failing, place_tests, enlarge_tests, split_tests, post_tests, grow_tests}

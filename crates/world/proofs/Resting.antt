@@ -4,6 +4,8 @@ use Rattle.std.specs.Prelude.{nat_eq, option_to_list, IsPermutation}
 use Rattle.std.specs.List.{filter_map}
 use Rattle.std.proofs.lemmas.Bool.{and_from, and_parts, eq-eqb, eqb-true}
 use Rattle.std.proofs.lemmas.List.{append-nil, length-append}
+use Rattle.key_class.specs.Rules.{Rules}
+use Rattle.mailbox.specs.Outlets.{Rule}
 use Rattle.change_list.proofs.Lists.{filter_map_cons}
 use Rattle.change_list.specs.declared.item.Item.{Item}
 use Rattle.change_list.specs.Cursors.{Fits}
@@ -15,7 +17,7 @@ use Rattle.page_table.specs.Keeping.{KeepsRows}
 use Rattle.page_table.specs.Soundness.{IsSound}
 use Rattle.page_table.specs.Trees.{Tree, rows_of_tree}
 use Rattle.page_table.specs.Weights.{weigh}
-use Rattle.cursor.specs.OpenCursors.{Words, OpenCursor, shown}
+use Rattle.cursor.specs.OpenCursors.{OpenCursor, shown}
 use Rattle.scan.specs.LeafChanges.{after_place}
 use Rattle.world.specs.declared.event.Event.{Event}
 use Rattle.world.specs.declared.reply.Reply.{Reply}
@@ -68,11 +70,11 @@ nothing_more : {X : Type 0} (xs ys : List X) → xs ≡ xs ++ ys → ys ≡ []
 nothing_more xs [] e = refl
 nothing_more xs (y ∷ ys) e = absurd (omega (arith, ap length e, length-append xs (y ∷ ys)))
 
-module _ {K A : Type 0} (w : Words K A) where
-  pub rests_refl : (s : State K A) → Rests w s s
+module _ {K A : Type 0} (rules : Rules K A) (rule : Rule) where
+  pub rests_refl : (s : State K A) → Rests rules rule s s
   rests_refl s = record { limit = refl; page_limit = refl; pages = omega arith; last = refl; cursors = refl; fits = λ c k h items f. f }
 
-  pub rests_trans : (a b c : State K A) → Rests w a b → Rests w b c → Rests w a c
+  pub rests_trans : (a b c : State K A) → Rests rules rule a b → Rests rules rule b c → Rests rules rule a c
   rests_trans a b c r s = record {
     limit = s.limit ∙ r.limit;
     page_limit = s.page_limit ∙ r.page_limit;
@@ -85,15 +87,15 @@ module _ {K A : Type 0} (w : Words K A) where
       cursor_in : ℕ → List (OpenCursor K A) → Option (OpenCursor K A)
       cursor_in n l = cursor_at (record a { cursors = l }) n
 
-module _ {C O K A E : Type 0} (w : Words K A) where
+module _ {C O K A E : Type 0} (rules : Rules K A) (rule : Rule) where
   -- a step of which no cursor is asked anything
-  pub step_rests : (old : State K A) (e : Event C K A) (r : Reply C O K A E) (new : State K A) → ServesAll w old e r new → ((c : ℕ) → taken_by c (e, r) ≡ None)
-      → new.limit ≡ old.limit → new.search.limit ≡ old.search.limit → length old.search.tree.pages ≤ length new.search.tree.pages → new.last ≡ old.last → new.cursors ≡ old.cursors → Rests w old new
+  pub step_rests : (old : State K A) (e : Event C K A) (r : Reply C O K A E) (new : State K A) → ServesAll rules rule old e r new → ((c : ℕ) → taken_by c (e, r) ≡ None)
+      → new.limit ≡ old.limit → new.search.limit ≡ old.search.limit → length old.search.tree.pages ≤ length new.search.tree.pages → new.last ≡ old.last → new.cursors ≡ old.cursors → Rests rules rule old new
   step_rests old e r new serves none limit page_limit pages last cursors = record { limit = limit; page_limit = page_limit; pages = pages; last = last; cursors = cursors; fits = fits }
     where
-      fits : (c : ℕ) (k : OpenCursor K A) → cursor_at old c ≡ Some k → (items : List (Item K)) → Fits w.matching old.commits (shown w old.search.tree k) items → Fits w.matching new.commits (shown w new.search.tree k) items
+      fits : (c : ℕ) (k : OpenCursor K A) → cursor_at old c ≡ Some k → (items : List (Item K)) → Fits rules.is_match old.commits (shown rules rule old.search.tree k) items → Fits rules.is_match new.commits (shown rules rule new.search.tree k) items
       fits c k h items f =
           let there : cursor_at new c ≡ Some k = ap (λ l. cursor_at (record old { cursors = l }) c) cursors ∙ h in
           let s = serves c k k h there in
           let box : k.unread ≡ k.unread ++ s.sent = sym (ap (λ o. option_to_list o ++ k.unread) (none c)) ∙ s.mailbox in
-          subst (λ l. Fits w.matching new.commits (shown w new.search.tree k) l) (ap (λ l. items ++ l) (nothing_more k.unread s.sent box) ∙ append-nil items) (s.fits items f)
+          subst (λ l. Fits rules.is_match new.commits (shown rules rule new.search.tree k) l) (ap (λ l. items ++ l) (nothing_more k.unread s.sent box) ∙ append-nil items) (s.fits items f)

@@ -2,6 +2,8 @@
 use Rattle.std.proofs.Common.{◌≡◌, ◌≢◌, ◌+◌, ◌<◌, ◌≤◌, ℕ, Bool, true, false, List, [], ◌∷◌, ◌++◌, length, Option, Some, None, inl, inr, refl, sym, ap, ◌∙◌, arith, subst, Ok}
 use Rattle.std.specs.Prelude.{option_to_list, nat_eq}
 use Rattle.std.proofs.lemmas.List.{append-nil}
+use Rattle.mailbox.specs.Outlets.{Rule}
+use Rattle.key_class.specs.Rules.{IsLawful, Rules}
 use Rattle.key_class.specs.declared.pred.Pred.{Pred}
 use Rattle.key_class.specs.declared.refusal.Refusal.{Refusal}
 use Rattle.key_class.specs.declared.refusal.Refusal.TheVariants as refusal
@@ -18,8 +20,7 @@ use Rattle.split.proofs.GrowDone.{grow_done}
 use Rattle.split.proofs.PostDone.{post_done}
 use Rattle.cursor.specs.declared.cursor.Turned.{Turned}
 use Rattle.cursor.specs.declared.cursor.Turned.TheVariants as turned
-use Rattle.cursor.specs.OpenCursors.{Words, OpenCursor, shown, wants, tree_work}
-use Rattle.cursor.proofs.WordLaws.{WordLaws}
+use Rattle.cursor.specs.OpenCursors.{OpenCursor, shown, wants, tree_work}
 use Rattle.cursor.proofs.Turning.{turn_less_work, open_fits, ask_fits, take_fits}
 use Rattle.world.specs.Stamps.{Stamp}
 use Rattle.world.specs.declared.event.Event.{Event}
@@ -50,15 +51,15 @@ none_is_some x o a b = let c : None ≡ Some x = sym a ∙ b in cc
 nat_eq_other : (c d : ℕ) → c ≢ d → nat_eq d c ≡ false
 nat_eq_other c d n = search (arith, n)
 
-module _ {C K A : Type 0} (w : Words K A) where
+module _ {C K A : Type 0} (rules : Rules K A) (rule : Rule) where
   -- a closed cursor refuses what is asked of it, whatever the event
-  asked_tests : (old : State K A) (e : Event C K A) (c : ℕ) → IsShut old c → asks e c → first_failing (tests w old e) ≡ Some refusal.CursorClosed
+  asked_tests : (old : State K A) (e : Event C K A) (c : ℕ) → IsShut old c → asks e c → first_failing (tests rules rule old e) ≡ Some refusal.CursorClosed
   asked_tests old (event.Turn d) c s a = subst (λ n. first_failing (cursor_tests old n) ≡ Some refusal.CursorClosed) (sym a) (closed_fails old c s.positive s.given s.closed)
   asked_tests old (event.AskMark d) c s a = subst (λ n. first_failing (cursor_tests old n) ≡ Some refusal.CursorClosed) (sym a) (closed_fails old c s.positive s.given s.closed)
   asked_tests old (event.Close d) c s a = subst (λ n. first_failing (cursor_tests old n) ≡ Some refusal.CursorClosed) (sym a) (closed_fails old c s.positive s.given s.closed)
   asked_tests old (event.Take d) c s a =
-      subst (λ n. first_failing (tests {C = C} w old (event.Take n)) ≡ Some refusal.CursorClosed) (sym a)
-      (failing_first (cursor_tests old c) ((w.elsewhere, refusal.NotHere) ∷ []) refusal.CursorClosed (closed_fails old c s.positive s.given s.closed))
+      subst (λ n. first_failing (tests {C = C} rules rule old (event.Take n)) ≡ Some refusal.CursorClosed) (sym a)
+      (failing_first (cursor_tests old c) ((rule.is_emptied_elsewhere, refusal.NotHere) ∷ []) refusal.CursorClosed (closed_fails old c s.positive s.given s.closed))
   asked_tests old (event.Enlarge page child key) c s a = absurd a
   asked_tests old (event.Place page key tag) c s a = absurd a
   asked_tests old (event.Split page sides) c s a = absurd a
@@ -70,18 +71,18 @@ module _ {C K A : Type 0} (w : Words K A) where
   asked_tests old (event.Sweep page) c s a = absurd a
   asked_tests old (event.Open query room) c s a = absurd a
 
-module _ {C O K A E : Type 0} (w : Words K A) (seat : ℕ) (old : State K A) (e : Event C K A) (new : State K A) where
-  silent_refused : (why : Refusal) → IsRefused w old e why new → first_failing (tests w old e) ≡ Some refusal.CursorClosed → ◌≡◌ {A = Reply C O K A E} (reply.Refused why) (reply.Refused refusal.CursorClosed)
+module _ {C O K A E : Type 0} (rules : Rules K A) (rule : Rule) (seat : ℕ) (old : State K A) (e : Event C K A) (new : State K A) where
+  silent_refused : (why : Refusal) → IsRefused rules rule old e why new → first_failing (tests rules rule old e) ≡ Some refusal.CursorClosed → ◌≡◌ {A = Reply C O K A E} (reply.Refused why) (reply.Refused refusal.CursorClosed)
   silent_refused why d t =
       elim d.cause [
         | inl h ↦ let s : Some why ≡ Some refusal.CursorClosed = sym h ∙ t in let f : why ≡ refusal.CursorClosed = cc in ap (λ x. reply.Refused x) f
-        | inr p ↦ absurd (none_is_some refusal.CursorClosed (first_failing (tests w old e)) p.0 t)
+        | inr p ↦ absurd (none_is_some refusal.CursorClosed (first_failing (tests rules rule old e)) p.0 t)
       ]
 
-  silent_done : (r : Reply C O K A E) → IsDone w seat old e r new → first_failing (tests w old e) ≡ Some refusal.CursorClosed → r ≡ reply.Refused refusal.CursorClosed
-  silent_done r d t = absurd (none_is_some refusal.CursorClosed (first_failing (tests w old e)) d.passed t)
+  silent_done : (r : Reply C O K A E) → IsDone rules rule seat old e r new → first_failing (tests rules rule old e) ≡ Some refusal.CursorClosed → r ≡ reply.Refused refusal.CursorClosed
+  silent_done r d t = absurd (none_is_some refusal.CursorClosed (first_failing (tests rules rule old e)) d.passed t)
 
-  silent_step : (r : Reply C O K A E) → Step w seat old e r new → first_failing (tests w old e) ≡ Some refusal.CursorClosed → r ≡ reply.Refused refusal.CursorClosed
+  silent_step : (r : Reply C O K A E) → Step rules rule seat old e r new → first_failing (tests rules rule old e) ≡ Some refusal.CursorClosed → r ≡ reply.Refused refusal.CursorClosed
   silent_step (reply.Refused why) d t = silent_refused why d t
   silent_step reply.Enlarged d t = silent_done reply.Enlarged d t
   silent_step (reply.Committed stamp) d t = silent_done (reply.Committed stamp) d t
@@ -101,22 +102,22 @@ module _ {C O K A E : Type 0} (w : Words K A) (seat : ℕ) (old : State K A) (e 
   silent_step reply.Nothing d t = silent_done reply.Nothing d t
   silent_step reply.Closed d t = silent_done reply.Closed d t
 
-  pub silent_when_shut : (r : Reply C O K A E) → Step w seat old e r new → (c : ℕ) → IsShut old c → asks e c → r ≡ reply.Refused refusal.CursorClosed
-  silent_when_shut r d c s a = silent_step r d (asked_tests w old e c s a)
+  pub silent_when_shut : (r : Reply C O K A E) → Step rules rule seat old e r new → (c : ℕ) → IsShut old c → asks e c → r ≡ reply.Refused refusal.CursorClosed
+  silent_when_shut r d c s a = silent_step r d (asked_tests rules rule old e c s a)
 
-module _ {C O K A E : Type 0} (w : Words K A) (old new : State K A) (e : Event C K A) (r : Reply C O K A E) where
+module _ {C O K A E : Type 0} (rules : Rules K A) (rule : Rule) (old new : State K A) (e : Event C K A) (r : Reply C O K A E) where
   -- nothing is committed, taken, opened or closed
   record IsQuiet : Type 0 where
     pub uncommitted : written (e, r) ≡ None
     pub untaken : (c : ℕ) → taken_by c (e, r) ≡ None
-    pub opening : Opening w old new e r
-    pub closing : Closing w new e r
-    pub numbering : Numbering w old r
-    pub finding : Finding w old new e r
-    pub writing : Writing w old e r
+    pub opening : Opening rules rule old new e r
+    pub closing : Closing rules rule new e r
+    pub numbering : Numbering rules rule old r
+    pub finding : Finding rules rule old new e r
+    pub writing : Writing rules rule old e r
 
-module _ {C O K A E : Type 0} (w : Words K A) where
-  quiet_refused : (old new : State K A) (e : Event C K A) (why : Refusal) → IsQuiet {O = O} {E = E} w old new e (reply.Refused why)
+module _ {C O K A E : Type 0} (rules : Rules K A) (rule : Rule) where
+  quiet_refused : (old new : State K A) (e : Event C K A) (why : Refusal) → IsQuiet {O = O} {E = E} rules rule old new e (reply.Refused why)
   quiet_refused old new (event.Enlarge page child key) why = record { uncommitted = refl; untaken = λ c. refl; opening = tt; closing = tt; numbering = tt; finding = tt; writing = tt }
   quiet_refused old new (event.Place page key tag) why = record { uncommitted = refl; untaken = λ c. refl; opening = tt; closing = tt; numbering = tt; finding = tt; writing = tt }
   quiet_refused old new (event.Split page sides) why = record { uncommitted = refl; untaken = λ c. refl; opening = tt; closing = tt; numbering = tt; finding = tt; writing = tt }
@@ -133,37 +134,37 @@ module _ {C O K A E : Type 0} (w : Words K A) where
   quiet_refused old new (event.Close d) why = record { uncommitted = refl; untaken = λ c. refl; opening = tt; closing = tt; numbering = tt; finding = tt; writing = tt }
 
 -- the finders are those that were there
-finders_stay : {C O K A E : Type 0} (w : Words K A) (old : State K A) (e : Event C K A) (r : Reply C O K A E) (new : State K A) → new.finders ≡ old.finders → new.last_finder ≡ old.last_finder → Finding w old new e r → Writing w old e r
-    → FinderEffect w old e r new
-finders_stay w old e r new same last finding writing = record {
+finders_stay : {C O K A E : Type 0} (rules : Rules K A) (rule : Rule) (old : State K A) (e : Event C K A) (r : Reply C O K A E) (new : State K A) → new.finders ≡ old.finders → new.last_finder ≡ old.last_finder → Finding rules rule old new e r → Writing rules rule old e r
+    → FinderEffect rules rule old e r new
+finders_stay rules rule old e r new same last finding writing = record {
   last = omega (arith, last);
   asked = λ f k h. inl (k, ap (λ ks. member (λ x. x.serial) f ks) (sym same) ∙ h, refl);
   finding = finding;
   writing = writing;
 }
 
-module _ {C O K A E : Type 0} (w : Words K A) (laws : WordLaws w) (seat : ℕ) (old : State K A) (inv : IsSoundWorld w.is_cover old) (e : Event C K A) (r : Reply C O K A E) where
+module _ {C O K A E : Type 0} (rules : Rules K A) (rule : Rule) {same_key : K → K → Bool} {same_atom : A → A → Bool} (lawful : IsLawful rules same_key same_atom) (seat : ℕ) (old : State K A) (inv : IsSoundWorld rules.is_cover old) (e : Event C K A) (r : Reply C O K A E) where
   -- a sound world and what a trace needs to know of the step to it
   pub record Leads (new : State K A) : Type 0 where
-    pub sound : IsSoundWorld w.is_cover new
-    pub effect : Effect w old e r new
+    pub sound : IsSoundWorld rules.is_cover new
+    pub effect : Effect rules rule old e r new
 
-  given_within : (new : State K A) → IsSoundWorld w.is_cover new → (c : ℕ) (k : OpenCursor K A) → cursor_at new c ≡ Some k → c ≤ new.last
+  given_within : (new : State K A) → IsSoundWorld rules.is_cover new → (c : ℕ) (k : OpenCursor K A) → cursor_at new c ≡ Some k → c ≤ new.last
   given_within new s c k h = (member_within (λ k. k.serial) c 0 new.last new.cursors k s.serials h).1
 
   -- the world is as it was
-  leads_nowhere : (new : State K A) → new ≡ old → IsQuiet w old new e r → ((c : ℕ) → IsShut old c → asks e c → r ≡ reply.Refused refusal.CursorClosed) → Leads new
+  leads_nowhere : (new : State K A) → new ≡ old → IsQuiet rules rule old new e r → ((c : ℕ) → IsShut old c → asks e c → r ≡ reply.Refused refusal.CursorClosed) → Leads new
   leads_nowhere new same q silent = record {
-    sound = subst (λ s. IsSoundWorld w.is_cover s) (sym same) inv;
+    sound = subst (λ s. IsSoundWorld rules.is_cover s) (sym same) inv;
     effect = record {
       commits = rw q.uncommitted (ap (λ s. s.commits) same ∙ sym (append-nil old.commits));
       legal = rw same inv.legal;
       serves = λ c before after a b.
           let x : Some before ≡ Some after = sym a ∙ sym (ap (λ s. cursor_at s c) same) ∙ b in
           let f : before ≡ after = cc in
-          subst (λ k. Serves w old e r new c before k) f (untouched w laws old inv e r new c before (q.untaken c) (λ items h. rw same h));
+          subst (λ k. Serves rules rule old e r new c before k) f (untouched rules rule lawful old inv e r new c before (q.untaken c) (λ items h. rw same h));
       last = omega (arith, ap (λ (s : State K A). s.last) same);
-      within = λ c k h. given_within new (subst (λ s. IsSoundWorld w.is_cover s) (sym same) inv) c k h;
+      within = λ c k h. given_within new (subst (λ s. IsSoundWorld rules.is_cover s) (sym same) inv) c k h;
       shut = λ c l h. ap (λ s. cursor_at s c) same ∙ h;
       appears = λ c k h g. absurd (none_is_some k (cursor_at new c) (ap (λ s. cursor_at s c) same ∙ h) g);
       takes = λ c item t. absurd (none_is_some item (taken_by c (e, r)) (q.untaken c) t);
@@ -171,21 +172,21 @@ module _ {C O K A E : Type 0} (w : Words K A) (laws : WordLaws w) (seat : ℕ) (
       closing = q.closing;
       silent = silent;
       numbering = q.numbering;
-      finders = finders_stay w old e r new (ap (λ s. s.finders) same) (ap (λ s. s.last_finder) same) q.finding q.writing;
+      finders = finders_stay rules rule old e r new (ap (λ s. s.finders) same) (ap (λ s. s.last_finder) same) q.finding q.writing;
     };
   }
 
   -- the tree alone has changed, and keeps the rows
-  leads_by_moves : (tree : Tree K) → IsMoved w.is_cover old.search.tree tree old.search.fan old.search.least old.search.limit → IsQuiet w old (with_pages old tree) e r
+  leads_by_moves : (tree : Tree K) → IsMoved rules.is_cover old.search.tree tree old.search.fan old.search.least old.search.limit → IsQuiet rules rule old (with_pages old tree) e r
       → ((c : ℕ) → IsShut old c → asks e c → r ≡ reply.Refused refusal.CursorClosed) → Leads (with_pages old tree)
   leads_by_moves tree d q silent =
-      let s = moved_sound w.is_cover old inv tree d in
+      let s = moved_sound rules.is_cover old inv tree d in
       record {
         sound = s;
         effect = record {
           commits = rw q.uncommitted (sym (append-nil old.commits));
           legal = inv.legal;
-          serves = λ c before after a b. served_by_moves w laws old inv e r tree d.kept c before after (q.untaken c) a b;
+          serves = λ c before after a b. served_by_moves rules rule lawful old inv e r tree d.kept c before after (q.untaken c) a b;
           last = omega arith;
           within = given_within (with_pages old tree) s;
           shut = λ c l h. h;
@@ -195,26 +196,26 @@ module _ {C O K A E : Type 0} (w : Words K A) (laws : WordLaws w) (seat : ℕ) (
           closing = q.closing;
           silent = silent;
           numbering = q.numbering;
-          finders = finders_stay w old e r (with_pages old tree) refl refl q.finding q.writing;
+          finders = finders_stay rules rule old e r (with_pages old tree) refl refl q.finding q.writing;
         };
       }
 
   -- one open cursor d is written back, and nothing else has changed
   leads_by_put : (d : ℕ) (was later : OpenCursor K A) (new : State K A) → new ≡ with_cursor old later → cursor_at old d ≡ Some was → later.serial ≡ was.serial → IsAtWork old.search.tree old.commits later
       → written (e, r) ≡ None → ((c : ℕ) → c ≢ d → taken_by c (e, r) ≡ None) → ((item : Item K) → taken_by d (e, r) ≡ Some item → (rest : List (Item K)) × (was.unread ≡ item ∷ rest))
-      → Opening w old new e r → Closing w new e r → Numbering w old r → Finding w old new e r → Writing w old e r → Serves w old e r new d was later
+      → Opening rules rule old new e r → Closing rules rule new e r → Numbering rules rule old r → Finding rules rule old new e r → Writing rules rule old e r → Serves rules rule old e r new d was later
       → ((c : ℕ) → IsShut old c → asks e c → r ≡ reply.Refused refusal.CursorClosed) → Leads new
   leads_by_put d was later new made is_open same work uncommitted others front opening closing numbering finding writing here silent =
       let number : later.serial ≡ d = same ∙ member_serial (λ k. k.serial) d old.cursors was is_open in
       let put : cursor_at new d ≡ Some later = ap (λ s. cursor_at s d) made ∙ put_same (λ k. k.serial) d later was old.cursors number is_open in
-      let sound : IsSoundWorld w.is_cover new = subst (λ s. IsSoundWorld w.is_cover s) (sym made) (turned_sound w.is_cover old inv later work) in
+      let sound : IsSoundWorld rules.is_cover new = subst (λ s. IsSoundWorld rules.is_cover s) (sym made) (turned_sound rules.is_cover old inv later work) in
       let apart : (c : ℕ) → c ≢ d → cursor_at new c ≡ cursor_at old c = λ c n. ap (λ s. cursor_at s c) made ∙ put_other (λ k. k.serial) c later old.cursors (λ eq. n (eq ∙ number)) in
       record {
         sound = sound;
         effect = record {
           commits = rw uncommitted (ap (λ s. s.commits) made ∙ sym (append-nil old.commits));
           legal = rw made inv.legal;
-          serves = served_by_put w laws old inv e r d was later new made is_open same others here;
+          serves = served_by_put rules rule lawful old inv e r d was later new made is_open same others here;
           last = omega (arith, ap (λ (s : State K A). s.last) made);
           within = given_within new sound;
           shut = λ c l h. elim (same_or_not c d) [
@@ -235,13 +236,13 @@ module _ {C O K A E : Type 0} (w : Words K A) (laws : WordLaws w) (seat : ℕ) (
           closing = closing;
           silent = silent;
           numbering = numbering;
-          finders = finders_stay w old e r new (ap (λ s. s.finders) made) (ap (λ s. s.last_finder) made) finding writing;
+          finders = finders_stay rules rule old e r new (ap (λ s. s.finders) made) (ap (λ s. s.last_finder) made) finding writing;
         };
       }
 
-module _ {K A : Type 0} (w : Words K A) (laws : WordLaws w) (old : State K A) (inv : IsSoundWorld w.is_cover old) where
+module _ {K A : Type 0} (rules : Rules K A) (rule : Rule) {same_key : K → K → Bool} {same_atom : A → A → Bool} (lawful : IsLawful rules same_key same_atom) (old : State K A) (inv : IsSoundWorld rules.is_cover old) where
   -- a cursor at the present commits
-  opened_fits : (query : Pred A) (room : ℕ) (new : State K A) → new ≡ record old { cursors = old.cursors ++ opened_cursor old query room ∷ []; last = old.last + 1 } → IsFresh w old new query (old.last + 1)
+  opened_fits : (query : Pred A) (room : ℕ) (new : State K A) → new ≡ record old { cursors = old.cursors ++ opened_cursor old query room ∷ []; last = old.last + 1 } → IsFresh rules rule old new query (old.last + 1)
   opened_fits query room new made =
       let k = opened_cursor old query room in
       record {
@@ -252,30 +253,30 @@ module _ {K A : Type 0} (w : Words K A) (laws : WordLaws w) (old : State K A) (i
         query_is = refl;
         opened = refl;
         unread = refl;
-        fits = rw made (open_fits w laws old.search.tree old.commits k refl refl refl (open_find w.is_cover old.search.tree old.search.fan inv.tree.sound old.commits inv.agrees (wants w k)));
+        fits = rw made (open_fits rules rule lawful old.search.tree old.commits k refl refl refl (open_find rules.is_cover old.search.tree old.search.fan inv.tree.sound old.commits inv.agrees (wants rules rule k)));
       }
 
 same_keeps : {K : Type 0} (t t' : Tree K) → t' ≡ t → KeepsRows t t'
 same_keeps t t' e = subst (λ x. KeepsRows t x) (sym e) (record { pages = omega arith; counter = omega arith; under = λ q m l h f. refl; whole = λ f. refl })
 
-refused_keeps : {C K A : Type 0} (w : Words K A) (old : State K A) (e : Event C K A) (why : Refusal) (new : State K A) → IsRefused w old e why new → KeepsRows old.search.tree new.search.tree
-refused_keeps w old e why new d = same_keeps old.search.tree new.search.tree (ap (λ s. s.search.tree) d.unchanged)
+refused_keeps : {C K A : Type 0} (rules : Rules K A) (rule : Rule) (old : State K A) (e : Event C K A) (why : Refusal) (new : State K A) → IsRefused rules rule old e why new → KeepsRows old.search.tree new.search.tree
+refused_keeps rules rule old e why new d = same_keeps old.search.tree new.search.tree (ap (λ s. s.search.tree) d.unchanged)
 
 moved_keeps : {K A : Type 0} (is_cover : K → K → Bool) (old : State K A) (tree : Tree K) (new : State K A) → new ≡ with_pages old tree → IsMoved is_cover old.search.tree tree old.search.fan old.search.least old.search.limit → KeepsRows old.search.tree new.search.tree
 moved_keeps is_cover old tree new e d = rw e d.kept
 
-module _ {K A : Type 0} (w : Words K A) (laws : WordLaws w) (old : State K A) (inv : IsSoundWorld w.is_cover old) where
-  lowered : (c : ℕ) (how : Turned) (new : State K A) → TurnsAt w old c (Ok how) new → (before after : OpenCursor K A) → cursor_at old c ≡ Some before → cursor_at new c ≡ Some after
-      → tree_work w new.search.tree new.commits after < tree_work w old.search.tree old.commits before
+module _ {K A : Type 0} (rules : Rules K A) (rule : Rule) {same_key : K → K → Bool} {same_atom : A → A → Bool} (lawful : IsLawful rules same_key same_atom) (old : State K A) (inv : IsSoundWorld rules.is_cover old) where
+  lowered : (c : ℕ) (how : Turned) (new : State K A) → TurnsAt rules rule old c (Ok how) new → (before after : OpenCursor K A) → cursor_at old c ≡ Some before → cursor_at new c ≡ Some after
+      → tree_work rules rule new.search.tree new.commits after < tree_work rules rule old.search.tree old.commits before
   lowered c how new t before after a b =
-      let h = at_work_of w.is_cover old inv c t.before t.is_open in
-      let number : t.later.serial ≡ c = turn_serial w old.search.tree old.commits t.before t.later (Ok how) t.turn ∙ member_serial (λ k. k.serial) c old.cursors t.before t.is_open in
+      let h = at_work_of rules.is_cover old inv c t.before t.is_open in
+      let number : t.later.serial ≡ c = turn_serial rules rule old.search.tree old.commits t.before t.later (Ok how) t.turn ∙ member_serial (λ k. k.serial) c old.cursors t.before t.is_open in
       let put : cursor_at new c ≡ Some t.later = ap (λ s. cursor_at s c) t.after ∙ put_same (λ k. k.serial) c t.later t.before old.cursors number t.is_open in
       let x : Some t.before ≡ Some before = sym t.is_open ∙ a in
       let y : Some t.later ≡ Some after = sym put ∙ b in
       let f : t.before ≡ before = cc in
       let g : t.later ≡ after = cc in
-      rw (t.after, ← f, ← g) (turn_less_work w laws old.search.fan old.search.tree inv.tree.sound old.commits t.before t.later h.stack how t.turn)
+      rw (t.after, ← f, ← g) (turn_less_work rules rule lawful old.search.fan old.search.tree inv.tree.sound old.commits t.before t.later h.stack how t.turn)
 
 module _ {K A : Type 0} (old : State K A) where
   abbrev fresh : ℕ → K → OpenFinder K
@@ -288,16 +289,16 @@ module _ {K A : Type 0} (old : State K A) where
     | inr n ↦ sym (ap (λ ks. member (λ k. k.serial) x ks) made ∙ without_other (λ k. k.serial) f x old.finders n) ∙ h
   ]
 
-module _ {C O K A E : Type 0} (w : Words K A) (laws : WordLaws w) (seat : ℕ) (old : State K A) (inv : IsSoundWorld w.is_cover old) where
+module _ {C O K A E : Type 0} (rules : Rules K A) (rule : Rule) {same_key : K → K → Bool} {same_atom : A → A → Bool} (lawful : IsLawful rules same_key same_atom) (seat : ℕ) (old : State K A) (inv : IsSoundWorld rules.is_cover old) where
   -- a cursor as it was in a tree as it was
-  kept_by : (e : Event C K A) (r : Reply C O K A E) (new : State K A) → new.search.tree ≡ old.search.tree → new.commits ≡ old.commits → (c : ℕ) (k : OpenCursor K A) → taken_by c (e, r) ≡ None → Serves w old e r new c k k
-  kept_by e r new tree commits c k none = untouched w laws old inv e r new c k none (λ items h. rw (tree, commits) h)
+  kept_by : (e : Event C K A) (r : Reply C O K A E) (new : State K A) → new.search.tree ≡ old.search.tree → new.commits ≡ old.commits → (c : ℕ) (k : OpenCursor K A) → taken_by c (e, r) ≡ None → Serves rules rule old e r new c k k
+  kept_by e r new tree commits c k none = untouched rules rule lawful old inv e r new c k none (λ items h. rw (tree, commits) h)
 
   -- nothing is committed, taken, opened or closed, and the cursors are those that were there
-  leads_alike : (e : Event C K A) (r : Reply C O K A E) (new : State K A) → written (e, r) ≡ None → ((c : ℕ) → taken_by c (e, r) ≡ None) → Opening w old new e r → Closing w new e r → Numbering w old r
-      → IsSoundWorld w.is_cover new → new.commits ≡ old.commits → new.cursors ≡ old.cursors → new.last ≡ old.last
-      → ((c : ℕ) (k : OpenCursor K A) → cursor_at old c ≡ Some k → cursor_at new c ≡ Some k → Serves w old e r new c k k) → FinderEffect w old e r new
-      → ((c : ℕ) → IsShut old c → asks e c → r ≡ reply.Refused refusal.CursorClosed) → Leads {C = C} {O = O} {E = E} w laws seat old inv e r new
+  leads_alike : (e : Event C K A) (r : Reply C O K A E) (new : State K A) → written (e, r) ≡ None → ((c : ℕ) → taken_by c (e, r) ≡ None) → Opening rules rule old new e r → Closing rules rule new e r → Numbering rules rule old r
+      → IsSoundWorld rules.is_cover new → new.commits ≡ old.commits → new.cursors ≡ old.cursors → new.last ≡ old.last
+      → ((c : ℕ) (k : OpenCursor K A) → cursor_at old c ≡ Some k → cursor_at new c ≡ Some k → Serves rules rule old e r new c k k) → FinderEffect rules rule old e r new
+      → ((c : ℕ) → IsShut old c → asks e c → r ≡ reply.Refused refusal.CursorClosed) → Leads {C = C} {O = O} {E = E} rules rule lawful seat old inv e r new
   leads_alike e r new uncommitted untaken opening closing numbering sound commits cursors last serves finders silent =
       let alike : (c : ℕ) → cursor_at new c ≡ cursor_at old c = λ c. ap (λ ks. member (λ k. k.serial) c ks) cursors in
       record {
@@ -308,7 +309,7 @@ module _ {C O K A E : Type 0} (w : Words K A) (laws : WordLaws w) (seat : ℕ) (
           serves = λ c before after a b.
               let x : Some before ≡ Some after = sym a ∙ sym (alike c) ∙ b in
               let f : before ≡ after = cc in
-              subst (λ k. Serves w old e r new c before k) f (serves c before a (alike c ∙ a));
+              subst (λ k. Serves rules rule old e r new c before k) f (serves c before a (alike c ∙ a));
           last = omega (arith, last);
           within = λ c k h. (member_within (λ k. k.serial) c 0 new.last new.cursors k sound.serials h).1;
           shut = λ c l h. alike c ∙ h;
@@ -322,21 +323,21 @@ module _ {C O K A E : Type 0} (w : Words K A) (laws : WordLaws w) (seat : ℕ) (
         };
       }
 
-  leads_by_place : (page : ℕ) (key : K) (tag : ℕ) (stamp : Stamp K) (new : State K A) → IsDone {C = C} {O = O} {E = E} w seat old (event.Place page key tag) (reply.Committed stamp) new
-      → Leads {C = C} {O = O} {E = E} w laws seat old inv (event.Place page key tag) (reply.Committed stamp) new
+  leads_by_place : (page : ℕ) (key : K) (tag : ℕ) (stamp : Stamp K) (new : State K A) → IsDone {C = C} {O = O} {E = E} rules rule seat old (event.Place page key tag) (reply.Committed stamp) new
+      → Leads {C = C} {O = O} {E = E} rules rule lawful seat old inv (event.Place page key tag) (reply.Committed stamp) new
   leads_by_place page key tag stamp new d =
-      let passed : first_failing (place_tests w.is_cover old.search page key) ≡ None = passed_first (place_tests w.is_cover old.search page key) _ d.passed in
-      let room : length old.commits < old.limit = place_room w old page key tag d.passed in
-      let exists = page_exists w old page key tag passed in
-      let sound : IsSoundWorld w.is_cover new = subst (λ s. IsSoundWorld w.is_cover s) (sym d.change.after) (placed_sound w.is_cover old inv page exists key tag room
-      (placed_tree w.is_cover old.search inv.tree page key passed (record { key = key; row = length old.commits + 1; tag = tag; died = None }) refl)) in
+      let passed : first_failing (place_tests rules.is_cover old.search page key) ≡ None = passed_first (place_tests rules.is_cover old.search page key) _ d.passed in
+      let room : length old.commits < old.limit = place_room rules rule old page key tag d.passed in
+      let exists = page_exists rules rule old page key tag passed in
+      let sound : IsSoundWorld rules.is_cover new = subst (λ s. IsSoundWorld rules.is_cover s) (sym d.change.after) (placed_sound rules.is_cover old inv page exists key tag room
+      (placed_tree rules.is_cover old.search inv.tree page key passed (record { key = key; row = length old.commits + 1; tag = tag; died = None }) refl)) in
       let alike : (c : ℕ) → cursor_at new c ≡ cursor_at old c = λ c. ap (λ s. cursor_at s c) d.change.after in
       record {
         sound = sound;
         effect = record {
           commits = ap (λ s. s.commits) d.change.after ∙ ap (λ x. old.commits ++ x ∷ []) (sym (ap (λ s. s.write) d.change.stamped));
           legal = sound.legal;
-          serves = λ c before after a b. served_by_place w laws old inv (event.Place page key tag) (reply.Committed stamp) page exists key tag new d.change.after c before after refl a b;
+          serves = λ c before after a b. served_by_place rules rule lawful old inv (event.Place page key tag) (reply.Committed stamp) page exists key tag new d.change.after c before after refl a b;
           last = omega (arith, ap (λ (s : State K A). s.last) d.change.after);
           within = λ c k h. (member_within (λ k. k.serial) c 0 new.last new.cursors k sound.serials h).1;
           shut = λ c l h. alike c ∙ h;
@@ -346,19 +347,19 @@ module _ {C O K A E : Type 0} (w : Words K A) (laws : WordLaws w) (seat : ℕ) (
           closing = tt;
           silent = λ c s a. absurd a;
           numbering = ap (λ s. s.number) d.change.stamped;
-          finders = finders_stay w old (event.Place page key tag) (reply.Committed stamp) new (ap (λ s. s.finders) d.change.after) (ap (λ s. s.last_finder) d.change.after) tt (ap (λ s. s.write) d.change.stamped);
+          finders = finders_stay rules rule old (event.Place page key tag) (reply.Committed stamp) new (ap (λ s. s.finders) d.change.after) (ap (λ s. s.last_finder) d.change.after) tt (ap (λ s. s.write) d.change.stamped);
         };
       }
 
-  leads_by_open : (query : Pred A) (room c : ℕ) (end : E) (new : State K A) → IsDone {C = C} {O = O} {E = E} w seat old (event.Open query room) (reply.Opened c end) new
-      → Leads {C = C} {O = O} {E = E} w laws seat old inv (event.Open query room) (reply.Opened c end) new
+  leads_by_open : (query : Pred A) (room c : ℕ) (end : E) (new : State K A) → IsDone {C = C} {O = O} {E = E} rules rule seat old (event.Open query room) (reply.Opened c end) new
+      → Leads {C = C} {O = O} {E = E} rules rule lawful seat old inv (event.Open query room) (reply.Opened c end) new
   leads_by_open query room c end new d =
       let left = open_leaves_room old query room d.passed in
       let k = opened_cursor old query room in
-      let work = fresh_at_work w.is_cover old inv k (length old.commits) old.search.tree.counter refl refl refl refl refl in
-      let sound : IsSoundWorld w.is_cover new = subst (λ s. IsSoundWorld w.is_cover s) (sym d.change.after) (opened_sound w.is_cover old inv k refl work left.0 left.1) in
+      let work = fresh_at_work rules.is_cover old inv k (length old.commits) old.search.tree.counter refl refl refl refl refl in
+      let sound : IsSoundWorld rules.is_cover new = subst (λ s. IsSoundWorld rules.is_cover s) (sym d.change.after) (opened_sound rules.is_cover old inv k refl work left.0 left.1) in
       let apart : (x : ℕ) → x ≢ old.last + 1 → cursor_at new x ≡ cursor_at old x = λ x n. ap (λ s. cursor_at s x) d.change.after ∙ push_other (λ k. k.serial) x k old.cursors n in
-      let fresh = opened_fits w laws old inv query room new d.change.after in
+      let fresh = opened_fits rules rule lawful old inv query room new d.change.after in
       let put : cursor_at new (old.last + 1) ≡ Some k = ap (λ s. cursor_at s (old.last + 1)) d.change.after ∙ push_same (λ k. k.serial) (old.last + 1) 0 old.last k old.cursors refl (omega arith) inv.serials in
       let beyond : (x : ℕ) (k : OpenCursor K A) → cursor_at old x ≡ Some k → x ≢ old.last + 1 = λ x k h eq. omega (arith, eq, (member_within (λ k. k.serial) x 0 old.last old.cursors k inv.serials h).1) in
       record {
@@ -369,7 +370,7 @@ module _ {C O K A E : Type 0} (w : Words K A) (laws : WordLaws w) (seat : ℕ) (
           serves = λ x before after a b.
               let s : Some before ≡ Some after = sym a ∙ sym (apart x (beyond x before a)) ∙ b in
               let f : before ≡ after = cc in
-              subst (λ k. Serves {C = C} {O = O} {E = E} w old (event.Open query room) (reply.Opened c end) new x before k) f (untouched w laws old inv (event.Open query room) (reply.Opened c end) new x before refl (λ items h. rw d.change.after h));
+              subst (λ k. Serves {C = C} {O = O} {E = E} rules rule old (event.Open query room) (reply.Opened c end) new x before k) f (untouched rules rule lawful old inv (event.Open query room) (reply.Opened c end) new x before refl (λ items h. rw d.change.after h));
           last = omega (arith, ap (λ (s : State K A). s.last) d.change.after);
           within = λ x k h. (member_within (λ k. k.serial) x 0 new.last new.cursors k sound.serials h).1;
           shut = λ x l h. apart x (λ eq. omega (arith, l, eq)) ∙ h;
@@ -383,22 +384,22 @@ module _ {C O K A E : Type 0} (w : Words K A) (laws : WordLaws w) (seat : ℕ) (
                   record { query = query; room = room; end = end; is = ap (λ n. (event.Open query room, reply.Opened n end)) (d.change.serial ∙ sym eq) },
                   (let e : Some fresh.cursor ≡ Some y = sym fresh.is_open ∙ ap (λ n. cursor_at new n) (sym eq) ∙ g in
                       let h : fresh.cursor ≡ y = cc in
-                      subst (λ (z : OpenCursor K A). Fits w.matching new.commits (shown w new.search.tree z) []) h fresh.fits),
+                      subst (λ (z : OpenCursor K A). Fits rules.is_match new.commits (shown rules rule new.search.tree z) []) h fresh.fits),
                 )
             | inr n ↦ absurd (none_is_some y (cursor_at new x) (apart x n ∙ h) g)
           ];
           takes = λ x item t. absurd (cc);
-          opening = subst (λ n. IsFresh w old new query n) (sym d.change.serial) fresh;
+          opening = subst (λ n. IsFresh rules rule old new query n) (sym d.change.serial) fresh;
           closing = tt;
           silent = λ x s a. absurd a;
           numbering = tt;
-          finders = finders_stay w old (event.Open query room) (reply.Opened c end) new (ap (λ s. s.finders) d.change.after) (ap (λ s. s.last_finder) d.change.after) tt tt;
+          finders = finders_stay rules rule old (event.Open query room) (reply.Opened c end) new (ap (λ s. s.finders) d.change.after) (ap (λ s. s.last_finder) d.change.after) tt tt;
         };
       }
 
-  leads_by_close : (d : ℕ) (new : State K A) → IsDone {C = C} {O = O} {E = E} w seat old (event.Close d) reply.Closed new → Leads {C = C} {O = O} {E = E} w laws seat old inv (event.Close d) reply.Closed new
+  leads_by_close : (d : ℕ) (new : State K A) → IsDone {C = C} {O = O} {E = E} rules rule seat old (event.Close d) reply.Closed new → Leads {C = C} {O = O} {E = E} rules rule lawful seat old inv (event.Close d) reply.Closed new
   leads_by_close d new h =
-      let sound : IsSoundWorld w.is_cover new = subst (λ s. IsSoundWorld w.is_cover s) (sym h.change) (closed_sound w.is_cover old inv d) in
+      let sound : IsSoundWorld rules.is_cover new = subst (λ s. IsSoundWorld rules.is_cover s) (sym h.change) (closed_sound rules.is_cover old inv d) in
       let gone : cursor_at new d ≡ None = ap (λ s. cursor_at s d) h.change ∙ without_same (λ k. k.serial) d old.cursors in
       let apart : (c : ℕ) → c ≢ d → cursor_at new c ≡ cursor_at old c = λ c n. ap (λ s. cursor_at s c) h.change ∙ without_other (λ k. k.serial) d c old.cursors n in
       let o = open_from_tests old d h.passed in
@@ -412,7 +413,7 @@ module _ {C O K A E : Type 0} (w : Words K A) (laws : WordLaws w) (seat : ℕ) (
             | inr n ↦
                 let s : Some before ≡ Some after = sym a ∙ sym (apart c n) ∙ b in
                 let f : before ≡ after = cc in
-                subst (λ k. Serves {C = C} {O = O} {E = E} w old (event.Close d) reply.Closed new c before k) f (untouched w laws old inv (event.Close d) reply.Closed new c before refl (λ items g. rw h.change g))
+                subst (λ k. Serves {C = C} {O = O} {E = E} rules rule old (event.Close d) reply.Closed new c before k) f (untouched rules rule lawful old inv (event.Close d) reply.Closed new c before refl (λ items g. rw h.change g))
           ];
           last = omega (arith, ap (λ (s : State K A). s.last) h.change);
           within = λ c k g. (member_within (λ k. k.serial) c 0 new.last new.cursors k sound.serials g).1;
@@ -424,26 +425,26 @@ module _ {C O K A E : Type 0} (w : Words K A) (laws : WordLaws w) (seat : ℕ) (
           takes = λ c item t. absurd (cc);
           opening = tt;
           closing = record { positive = o.positive; given = omega (arith, o.given, ap (λ (s : State K A). s.last) h.change); closed = gone };
-          silent = λ c s a. silent_when_shut w seat old (event.Close d) new reply.Closed h c s a;
+          silent = λ c s a. silent_when_shut rules rule seat old (event.Close d) new reply.Closed h c s a;
           numbering = tt;
-          finders = finders_stay w old (event.Close d) reply.Closed new (ap (λ s. s.finders) h.change) (ap (λ s. s.last_finder) h.change) tt tt;
+          finders = finders_stay rules rule old (event.Close d) reply.Closed new (ap (λ s. s.finders) h.change) (ap (λ s. s.last_finder) h.change) tt tt;
         };
       }
 
-  leads_by_turn : (d : ℕ) (how : Turned) (r : Reply C O K A E) (new : State K A) → TurnsAt w old d (Ok how) new → IsQuiet w old new (event.Turn d) r
-      → ((c : ℕ) → IsShut old c → d ≡ c → r ≡ reply.Refused refusal.CursorClosed) → Leads {C = C} {O = O} {E = E} w laws seat old inv (event.Turn d) r new
+  leads_by_turn : (d : ℕ) (how : Turned) (r : Reply C O K A E) (new : State K A) → TurnsAt rules rule old d (Ok how) new → IsQuiet rules rule old new (event.Turn d) r
+      → ((c : ℕ) → IsShut old c → d ≡ c → r ≡ reply.Refused refusal.CursorClosed) → Leads {C = C} {O = O} {E = E} rules rule lawful seat old inv (event.Turn d) r new
   leads_by_turn d how r new t q silent =
-      let h = at_work_of w.is_cover old inv d t.before t.is_open in
-      leads_by_put w laws seat old inv (event.Turn d) r d t.before t.later new t.after t.is_open (turn_serial w old.search.tree old.commits t.before t.later (Ok how) t.turn)
-      (turn_work w laws old.search.tree old.commits old.search.fan inv.tree.sound t.before t.later (Ok how) h t.turn)
+      let h = at_work_of rules.is_cover old inv d t.before t.is_open in
+      leads_by_put rules rule lawful seat old inv (event.Turn d) r d t.before t.later new t.after t.is_open (turn_serial rules rule old.search.tree old.commits t.before t.later (Ok how) t.turn)
+      (turn_work rules rule lawful old.search.tree old.commits old.search.fan inv.tree.sound t.before t.later (Ok how) h t.turn)
       q.uncommitted (λ c n. q.untaken c) (λ item k. absurd (none_is_some item (taken_by d (event.Turn d, r)) (q.untaken d) k)) q.opening q.closing q.numbering q.finding q.writing
-      (turn_serves w laws old inv (event.Turn d) r d t.before t.later (Ok how) new (q.untaken d) t.after t.is_open t.turn) silent
+      (turn_serves rules rule lawful old inv (event.Turn d) r d t.before t.later (Ok how) new (q.untaken d) t.after t.is_open t.turn) silent
 
-  leads_by_ask : (d : ℕ) (new : State K A) → IsDone {C = C} {O = O} {E = E} w seat old (event.AskMark d) reply.Asked new → Leads {C = C} {O = O} {E = E} w laws seat old inv (event.AskMark d) reply.Asked new
+  leads_by_ask : (d : ℕ) (new : State K A) → IsDone {C = C} {O = O} {E = E} rules rule seat old (event.AskMark d) reply.Asked new → Leads {C = C} {O = O} {E = E} rules rule lawful seat old inv (event.AskMark d) reply.Asked new
   leads_by_ask d new h =
       let t = h.change in
-      let k = at_work_of w.is_cover old inv d t.before t.is_open in
-      leads_by_put w laws seat old inv (event.AskMark d) reply.Asked d t.before (record t.before { asked = true }) new t.after t.is_open refl (record { stack = k.stack; from_opening = k.from_opening; within = k.within })
+      let k = at_work_of rules.is_cover old inv d t.before t.is_open in
+      leads_by_put rules rule lawful seat old inv (event.AskMark d) reply.Asked d t.before (record t.before { asked = true }) new t.after t.is_open refl (record { stack = k.stack; from_opening = k.from_opening; within = k.within })
       refl (λ c n. refl) (λ item e. absurd (cc)) tt tt tt tt tt
       (record {
         query = refl;
@@ -451,16 +452,16 @@ module _ {C O K A E : Type 0} (w : Words K A) (laws : WordLaws w) (seat : ℕ) (
         sent = [];
         mailbox = sym (append-nil t.before.unread);
         one = inr (refl, refl, refl);
-        fits = λ items f. rw (t.after, append-nil items) (ask_fits w old.search.tree old.commits t.before items f);
+        fits = λ items f. rw (t.after, append-nil items) (ask_fits rules rule old.search.tree old.commits t.before items f);
       })
-      (λ c s a. silent_when_shut w seat old (event.AskMark d) new reply.Asked h c s a)
+      (λ c s a. silent_when_shut rules rule seat old (event.AskMark d) new reply.Asked h c s a)
 
-  leads_by_take : (d : ℕ) (item : Item K) (new : State K A) → IsDone {C = C} {O = O} {E = E} w seat old (event.Take d) (reply.Taken item) new → Leads {C = C} {O = O} {E = E} w laws seat old inv (event.Take d) (reply.Taken item) new
+  leads_by_take : (d : ℕ) (item : Item K) (new : State K A) → IsDone {C = C} {O = O} {E = E} rules rule seat old (event.Take d) (reply.Taken item) new → Leads {C = C} {O = O} {E = E} rules rule lawful seat old inv (event.Take d) (reply.Taken item) new
   leads_by_take d item new h =
       let t = h.change in
-      let k = at_work_of w.is_cover old inv d t.before t.is_open in
+      let k = at_work_of rules.is_cover old inv d t.before t.is_open in
       let here : taken_by {C = C} {O = O} {A = A} {E = E} d (event.Take d, reply.Taken item) ≡ Some item = taken_same C O A E d item in
-      leads_by_put w laws seat old inv (event.Take d) (reply.Taken item) d t.before (record t.before { unread = t.rest }) new t.after t.is_open refl (record { stack = k.stack; from_opening = k.from_opening; within = k.within })
+      leads_by_put rules rule lawful seat old inv (event.Take d) (reply.Taken item) d t.before (record t.before { unread = t.rest }) new t.after t.is_open refl (record { stack = k.stack; from_opening = k.from_opening; within = k.within })
       refl (λ c n. rw (nat_eq_other c d n) refl)
       (λ x e. let s : Some item ≡ Some x = sym here ∙ e in let f : item ≡ x = cc in (t.rest, t.front ∙ ap (λ y. y ∷ t.rest) f)) tt tt tt tt tt
       (record {
@@ -469,12 +470,12 @@ module _ {C O K A E : Type 0} (w : Words K A) (laws : WordLaws w) (seat : ℕ) (
         sent = [];
         mailbox = ap (λ o. option_to_list o ++ t.rest) here ∙ sym t.front ∙ sym (append-nil t.before.unread);
         one = inl refl;
-        fits = λ items f. rw (t.after, append-nil items) (take_fits w old.search.tree old.commits t.before t.rest items f);
+        fits = λ items f. rw (t.after, append-nil items) (take_fits rules rule old.search.tree old.commits t.before t.rest items f);
       })
-      (λ c s a. silent_when_shut w seat old (event.Take d) new (reply.Taken item) h c s a)
+      (λ c s a. silent_when_shut rules rule seat old (event.Take d) new (reply.Taken item) h c s a)
 
-  leads_by_find : (row f : ℕ) (new : State K A) → IsDone {C = C} {O = O} {E = E} w seat old (event.Find row) (reply.Finder f) new → Leads {C = C} {O = O} {E = E} w laws seat old inv (event.Find row) (reply.Finder f) new
-  leads_by_find row f new d = leads_alike (event.Find row) (reply.Finder f) new refl (λ c. refl) tt tt tt (finds_sound w.is_cover old inv row f new d.passed d.change)
+  leads_by_find : (row f : ℕ) (new : State K A) → IsDone {C = C} {O = O} {E = E} rules rule seat old (event.Find row) (reply.Finder f) new → Leads {C = C} {O = O} {E = E} rules rule lawful seat old inv (event.Find row) (reply.Finder f) new
+  leads_by_find row f new d = leads_alike (event.Find row) (reply.Finder f) new refl (λ c. refl) tt tt tt (finds_sound rules.is_cover old inv row f new d.passed d.change)
       (ap (λ s. s.commits) d.change.after) (ap (λ s. s.cursors) d.change.after) (ap (λ s. s.last) d.change.after)
       (λ c k a b. kept_by (event.Find row) (reply.Finder f) new (ap (λ s. s.search.tree) d.change.after) (ap (λ s. s.commits) d.change.after) c k refl)
       (record {
@@ -492,12 +493,12 @@ module _ {C O K A E : Type 0} (w : Words K A) (laws : WordLaws w) (seat : ℕ) (
       })
       (λ c s a. absurd a)
 
-  leads_by_seek : (f : ℕ) (new : State K A) → IsDone {C = C} {O = O} {E = E} w seat old (event.Seek f) reply.Seeking new → Leads {C = C} {O = O} {E = E} w laws seat old inv (event.Seek f) reply.Seeking new
+  leads_by_seek : (f : ℕ) (new : State K A) → IsDone {C = C} {O = O} {E = E} rules rule seat old (event.Seek f) reply.Seeking new → Leads {C = C} {O = O} {E = E} rules rule lawful seat old inv (event.Seek f) reply.Seeking new
   leads_by_seek f new d =
       let t = d.change in
       let row : t.later.row ≡ t.before.row = ap (λ k. k.row) t.further.after in
       let number : t.later.serial ≡ f = ap (λ k. k.serial) t.further.after ∙ member_serial (λ k. k.serial) f old.finders t.before t.is_open in
-      leads_alike (event.Seek f) reply.Seeking new refl (λ c. refl) tt tt tt (seeks_on_sound w laws old inv f new t)
+      leads_alike (event.Seek f) reply.Seeking new refl (λ c. refl) tt tt tt (seeks_on_sound rules rule lawful old inv f new t)
       (ap (λ s. s.commits) t.after) (ap (λ s. s.cursors) t.after) (ap (λ s. s.last) t.after)
       (λ c k a b. kept_by (event.Seek f) reply.Seeking new (ap (λ s. s.search.tree) t.after) (ap (λ s. s.commits) t.after) c k refl)
       (record {
@@ -515,8 +516,8 @@ module _ {C O K A E : Type 0} (w : Words K A) (laws : WordLaws w) (seat : ℕ) (
       })
       (λ c s a. absurd a)
 
-  leads_by_unfind : (f : ℕ) (new : State K A) → IsDone {C = C} {O = O} {E = E} w seat old (event.Unfind f) reply.Unfound new → Leads {C = C} {O = O} {E = E} w laws seat old inv (event.Unfind f) reply.Unfound new
-  leads_by_unfind f new d = leads_alike (event.Unfind f) reply.Unfound new refl (λ c. refl) tt tt tt (unfound_sound w.is_cover old inv f new d.change)
+  leads_by_unfind : (f : ℕ) (new : State K A) → IsDone {C = C} {O = O} {E = E} rules rule seat old (event.Unfind f) reply.Unfound new → Leads {C = C} {O = O} {E = E} rules rule lawful seat old inv (event.Unfind f) reply.Unfound new
+  leads_by_unfind f new d = leads_alike (event.Unfind f) reply.Unfound new refl (λ c. refl) tt tt tt (unfound_sound rules.is_cover old inv f new d.change)
       (ap (λ s. s.commits) d.change) (ap (λ s. s.cursors) d.change) (ap (λ s. s.last) d.change)
       (λ c k a b. kept_by (event.Unfind f) reply.Unfound new (ap (λ s. s.search.tree) d.change) (ap (λ s. s.commits) d.change) c k refl)
       (record {
@@ -527,21 +528,21 @@ module _ {C O K A E : Type 0} (w : Words K A) (laws : WordLaws w) (seat : ℕ) (
       })
       (λ c s a. absurd a)
 
-  leads_by_bury : (f : ℕ) (stamp : Stamp K) (new : State K A) → IsDone {C = C} {O = O} {E = E} w seat old (event.Seek f) (reply.Committed stamp) new → Leads {C = C} {O = O} {E = E} w laws seat old inv (event.Seek f) (reply.Committed stamp) new
+  leads_by_bury : (f : ℕ) (stamp : Stamp K) (new : State K A) → IsDone {C = C} {O = O} {E = E} rules rule seat old (event.Seek f) (reply.Committed stamp) new → Leads {C = C} {O = O} {E = E} rules rule lawful seat old inv (event.Seek f) (reply.Committed stamp) new
   leads_by_bury f stamp new d =
       let t = d.change in
-      let may = may_seek w.is_cover old inv f t.finder t.is_open d.passed in
-      let on = meets_on w.is_cover old inv f t.finder t.page t.is_open t.finds in
-      let live = row_lives w.is_cover old inv f t.finder t.is_open may.alive in
+      let may = may_seek rules.is_cover old inv f t.finder t.is_open d.passed in
+      let on = meets_on rules.is_cover old inv f t.finder t.page t.is_open t.finds in
+      let live = row_lives rules.is_cover old inv f t.finder t.is_open may.alive in
       let write : stamp.write ≡ Delete t.finder.row = ap (λ s. s.write) t.stamped in
       record {
-        sound = buries_sound w.is_cover old inv seat f stamp new d.passed t;
+        sound = buries_sound rules.is_cover old inv seat f stamp new d.passed t;
         effect = record {
           commits = ap (λ s. s.commits) t.after ∙ ap (λ x. old.commits ++ x ∷ []) (sym write);
-          legal = (buries_sound w.is_cover old inv seat f stamp new d.passed t).legal;
-          serves = λ c before after a b. served_by_bury w laws old inv (event.Seek f) (reply.Committed stamp) t.page on.exists t.finder.row live new (ap (λ s. s.search.tree) t.after) (ap (λ s. s.commits) t.after) (ap (λ s. s.cursors) t.after) c before after refl a b;
+          legal = (buries_sound rules.is_cover old inv seat f stamp new d.passed t).legal;
+          serves = λ c before after a b. served_by_bury rules rule lawful old inv (event.Seek f) (reply.Committed stamp) t.page on.exists t.finder.row live new (ap (λ s. s.search.tree) t.after) (ap (λ s. s.commits) t.after) (ap (λ s. s.cursors) t.after) c before after refl a b;
           last = omega (arith, ap (λ (s : State K A). s.last) t.after);
-          within = λ c k h. (member_within (λ k. k.serial) c 0 new.last new.cursors k (buries_sound w.is_cover old inv seat f stamp new d.passed t).serials h).1;
+          within = λ c k h. (member_within (λ k. k.serial) c 0 new.last new.cursors k (buries_sound rules.is_cover old inv seat f stamp new d.passed t).serials h).1;
           shut = λ c l h. ap (λ s. cursor_at s c) t.after ∙ h;
           appears = λ c k h g. absurd (none_is_some k (cursor_at new c) (ap (λ s. cursor_at s c) t.after ∙ h) g);
           takes = λ c item g. absurd (cc);
@@ -558,34 +559,34 @@ module _ {C O K A E : Type 0} (w : Words K A) (laws : WordLaws w) (seat : ℕ) (
         };
       }
 
-  leads_by_sweep : (page count : ℕ) (new : State K A) → IsDone {C = C} {O = O} {E = E} w seat old (event.Sweep page) (reply.Swept count) new → Leads {C = C} {O = O} {E = E} w laws seat old inv (event.Sweep page) (reply.Swept count) new
+  leads_by_sweep : (page count : ℕ) (new : State K A) → IsDone {C = C} {O = O} {E = E} rules rule seat old (event.Sweep page) (reply.Swept count) new → Leads {C = C} {O = O} {E = E} rules rule lawful seat old inv (event.Sweep page) (reply.Swept count) new
   leads_by_sweep page count new d =
       let t = d.change in
-      leads_alike (event.Sweep page) (reply.Swept count) new refl (λ c. refl) tt tt tt (sweeps_sound w.is_cover old inv page count new d.passed t)
+      leads_alike (event.Sweep page) (reply.Swept count) new refl (λ c. refl) tt tt tt (sweeps_sound rules.is_cover old inv page count new d.passed t)
       (ap (λ s. s.commits) t.after) (ap (λ s. s.cursors) t.after) (ap (λ s. s.last) t.after)
-      (λ c k a b. served_by_sweep w laws old inv (event.Sweep page) (reply.Swept count) page (swept_page w.is_cover old inv page d.passed) t.horizon t.is new t.after c k k refl a b)
-      (finders_stay w old (event.Sweep page) (reply.Swept count) new (ap (λ s. s.finders) t.after) (ap (λ s. s.last_finder) t.after) tt tt)
+      (λ c k a b. served_by_sweep rules rule lawful old inv (event.Sweep page) (reply.Swept count) page (swept_page rules.is_cover old inv page d.passed) t.horizon t.is new t.after c k k refl a b)
+      (finders_stay rules rule old (event.Sweep page) (reply.Swept count) new (ap (λ s. s.finders) t.after) (ap (λ s. s.last_finder) t.after) tt tt)
       (λ c s a. absurd a)
 
   -- every step leads to a sound world, with the effect that a trace needs
-  pub step_leads : (e : Event C K A) (r : Reply C O K A E) (new : State K A) → Step w seat old e r new → Leads {C = C} {O = O} {E = E} w laws seat old inv e r new
-  step_leads e (reply.Refused why) new d = leads_nowhere w laws seat old inv e (reply.Refused why) new d.unchanged (quiet_refused w old new e why) (λ c s a. silent_when_shut w seat old e new (reply.Refused why) d c s a)
+  pub step_leads : (e : Event C K A) (r : Reply C O K A E) (new : State K A) → Step rules rule seat old e r new → Leads {C = C} {O = O} {E = E} rules rule lawful seat old inv e r new
+  step_leads e (reply.Refused why) new d = leads_nowhere rules rule lawful seat old inv e (reply.Refused why) new d.unchanged (quiet_refused rules rule old new e why) (λ c s a. silent_when_shut rules rule seat old e new (reply.Refused why) d c s a)
   step_leads (event.Enlarge page child key) reply.Enlarged new d =
-      subst (λ s. Leads {C = C} {O = O} {E = E} w laws seat old inv (event.Enlarge page child key) reply.Enlarged s) (sym d.change)
-      (leads_by_moves w laws seat old inv (event.Enlarge page child key) reply.Enlarged _ (enlarge_done w.is_cover old.search inv.tree page child key d.passed w.union laws.keys)
+      subst (λ s. Leads {C = C} {O = O} {E = E} rules rule lawful seat old inv (event.Enlarge page child key) reply.Enlarged s) (sym d.change)
+      (leads_by_moves rules rule lawful seat old inv (event.Enlarge page child key) reply.Enlarged _ (enlarge_done rules.is_cover old.search inv.tree page child key d.passed rules.union_of lawful.bounds)
       (record { uncommitted = refl; untaken = λ c. refl; opening = tt; closing = tt; numbering = tt; finding = tt; writing = tt }) (λ c s a. absurd a))
   step_leads (event.Place page key tag) (reply.Committed stamp) new d = leads_by_place page key tag stamp new d
   step_leads (event.Split page sides) (reply.Split sibling) new d =
-      subst (λ s. Leads {C = C} {O = O} {E = E} w laws seat old inv (event.Split page sides) (reply.Split sibling) s) (sym d.change.1)
-      (leads_by_moves w laws seat old inv (event.Split page sides) (reply.Split sibling) _ (split_done w.is_cover old.search inv.tree page sides d.passed w.union laws.keys)
+      subst (λ s. Leads {C = C} {O = O} {E = E} rules rule lawful seat old inv (event.Split page sides) (reply.Split sibling) s) (sym d.change.1)
+      (leads_by_moves rules rule lawful seat old inv (event.Split page sides) (reply.Split sibling) _ (split_done rules.is_cover old.search inv.tree page sides d.passed rules.union_of lawful.bounds)
       (record { uncommitted = refl; untaken = λ c. refl; opening = tt; closing = tt; numbering = tt; finding = tt; writing = tt }) (λ c s a. absurd a))
   step_leads (event.Post page child) reply.Posted new d =
-      subst (λ s. Leads {C = C} {O = O} {E = E} w laws seat old inv (event.Post page child) reply.Posted s) (sym d.change.after)
-      (leads_by_moves w laws seat old inv (event.Post page child) reply.Posted _ (post_done w.is_cover old.search inv.tree page child d.passed d.change.sibling d.change.is_right w.union laws.keys)
+      subst (λ s. Leads {C = C} {O = O} {E = E} rules rule lawful seat old inv (event.Post page child) reply.Posted s) (sym d.change.after)
+      (leads_by_moves rules rule lawful seat old inv (event.Post page child) reply.Posted _ (post_done rules.is_cover old.search inv.tree page child d.passed d.change.sibling d.change.is_right rules.union_of lawful.bounds)
       (record { uncommitted = refl; untaken = λ c. refl; opening = tt; closing = tt; numbering = tt; finding = tt; writing = tt }) (λ c s a. absurd a))
   step_leads (event.Grow sides) (reply.Grown first second) new d =
-      subst (λ s. Leads {C = C} {O = O} {E = E} w laws seat old inv (event.Grow sides) (reply.Grown first second) s) (sym d.change.2)
-      (leads_by_moves w laws seat old inv (event.Grow sides) (reply.Grown first second) _ (grow_done w.is_cover old.search inv.tree sides d.passed w.union laws.keys)
+      subst (λ s. Leads {C = C} {O = O} {E = E} rules rule lawful seat old inv (event.Grow sides) (reply.Grown first second) s) (sym d.change.2)
+      (leads_by_moves rules rule lawful seat old inv (event.Grow sides) (reply.Grown first second) _ (grow_done rules.is_cover old.search inv.tree sides d.passed rules.union_of lawful.bounds)
       (record { uncommitted = refl; untaken = λ c. refl; opening = tt; closing = tt; numbering = tt; finding = tt; writing = tt }) (λ c s a. absurd a))
   step_leads (event.Find row) (reply.Finder f) new d = leads_by_find row f new d
   step_leads (event.Seek f) reply.Seeking new d = leads_by_seek f new d
@@ -593,60 +594,60 @@ module _ {C O K A E : Type 0} (w : Words K A) (laws : WordLaws w) (seat : ℕ) (
   step_leads (event.Unfind f) reply.Unfound new d = leads_by_unfind f new d
   step_leads (event.Sweep page) (reply.Swept count) new d = leads_by_sweep page count new d
   step_leads (event.Open query room) (reply.Opened c end) new d = leads_by_open query room c end new d
-  step_leads (event.Turn x) reply.Offered new d = leads_by_turn x turned.Offered reply.Offered new d.change (record { uncommitted = refl; untaken = λ c. refl; opening = tt; closing = tt; numbering = tt; finding = tt; writing = tt }) (λ c s a. silent_when_shut w seat old (event.Turn x) new reply.Offered d c s a)
-  step_leads (event.Turn x) (reply.Visited page) new d = leads_by_turn x (turned.Visited page) (reply.Visited page) new d.change (record { uncommitted = refl; untaken = λ c. refl; opening = tt; closing = tt; numbering = tt; finding = tt; writing = tt }) (λ c s a. silent_when_shut w seat old (event.Turn x) new (reply.Visited page) d c s a)
-  step_leads (event.Turn x) (reply.Passed n) new d = leads_by_turn x (turned.Passed n) (reply.Passed n) new d.change (record { uncommitted = refl; untaken = λ c. refl; opening = tt; closing = tt; numbering = tt; finding = tt; writing = tt }) (λ c s a. silent_when_shut w seat old (event.Turn x) new (reply.Passed n) d c s a)
+  step_leads (event.Turn x) reply.Offered new d = leads_by_turn x turned.Offered reply.Offered new d.change (record { uncommitted = refl; untaken = λ c. refl; opening = tt; closing = tt; numbering = tt; finding = tt; writing = tt }) (λ c s a. silent_when_shut rules rule seat old (event.Turn x) new reply.Offered d c s a)
+  step_leads (event.Turn x) (reply.Visited page) new d = leads_by_turn x (turned.Visited page) (reply.Visited page) new d.change (record { uncommitted = refl; untaken = λ c. refl; opening = tt; closing = tt; numbering = tt; finding = tt; writing = tt }) (λ c s a. silent_when_shut rules rule seat old (event.Turn x) new (reply.Visited page) d c s a)
+  step_leads (event.Turn x) (reply.Passed n) new d = leads_by_turn x (turned.Passed n) (reply.Passed n) new d.change (record { uncommitted = refl; untaken = λ c. refl; opening = tt; closing = tt; numbering = tt; finding = tt; writing = tt }) (λ c s a. silent_when_shut rules rule seat old (event.Turn x) new (reply.Passed n) d c s a)
   step_leads (event.AskMark x) reply.Asked new d = leads_by_ask x new d
   step_leads (event.Take x) (reply.Taken item) new d = leads_by_take x item new d
-  step_leads (event.Take x) reply.Nothing new d = leads_nowhere w laws seat old inv (event.Take x) reply.Nothing new d.change.unchanged (record { uncommitted = refl; untaken = λ c. refl; opening = tt; closing = tt; numbering = tt; finding = tt; writing = tt }) (λ c s a. silent_when_shut w seat old (event.Take x) new reply.Nothing d c s a)
+  step_leads (event.Take x) reply.Nothing new d = leads_nowhere rules rule lawful seat old inv (event.Take x) reply.Nothing new d.change.unchanged (record { uncommitted = refl; untaken = λ c. refl; opening = tt; closing = tt; numbering = tt; finding = tt; writing = tt }) (λ c s a. silent_when_shut rules rule seat old (event.Take x) new reply.Nothing d c s a)
   step_leads (event.Close x) reply.Closed new d = leads_by_close x new d
   step_leads e r new d = absurd d.change
 
-  pub step_sound : (e : Event C K A) (r : Reply C O K A E) (new : State K A) → Step w seat old e r new → IsSoundWorld w.is_cover new
+  pub step_sound : (e : Event C K A) (r : Reply C O K A E) (new : State K A) → Step rules rule seat old e r new → IsSoundWorld rules.is_cover new
   step_sound e r new d = (step_leads e r new d).sound
 
-  pub step_serves : (e : Event C K A) (r : Reply C O K A E) (new : State K A) → Step w seat old e r new → ServesAll w old e r new
+  pub step_serves : (e : Event C K A) (r : Reply C O K A E) (new : State K A) → Step rules rule seat old e r new → ServesAll rules rule old e r new
   step_serves e r new d = (step_leads e r new d).effect.serves
 
   -- the commits are those that were there and the one that the reply tells
-  pub step_commits : (e : Event C K A) (r : Reply C O K A E) (new : State K A) → Step w seat old e r new → new.commits ≡ old.commits ++ option_to_list (written (e, r))
+  pub step_commits : (e : Event C K A) (r : Reply C O K A E) (new : State K A) → Step rules rule seat old e r new → new.commits ≡ old.commits ++ option_to_list (written (e, r))
   step_commits e r new d = (step_leads e r new d).effect.commits
 
   -- a turn makes no commit
-  pub turn_commits : (c : ℕ) (r : Reply C O K A E) (new : State K A) → Step w seat old (event.Turn c) r new → new.commits ≡ old.commits
+  pub turn_commits : (c : ℕ) (r : Reply C O K A E) (new : State K A) → Step rules rule seat old (event.Turn c) r new → new.commits ≡ old.commits
   turn_commits c (reply.Committed stamp) new d = absurd d.change
   turn_commits c r new d = step_commits (event.Turn c) r new d ∙ append-nil old.commits
 
   -- a turn that isn't refused lowers the work of its cursor
-  pub step_lowers : (e : Event C K A) (r : Reply C O K A E) (new : State K A) → Step w seat old e r new → LowersWork w old e r new
-  step_lowers (event.Turn c) reply.Offered new d = lowered w laws old inv c turned.Offered new d.change
-  step_lowers (event.Turn c) (reply.Visited page) new d = lowered w laws old inv c (turned.Visited page) new d.change
-  step_lowers (event.Turn c) (reply.Passed n) new d = lowered w laws old inv c (turned.Passed n) new d.change
+  pub step_lowers : (e : Event C K A) (r : Reply C O K A E) (new : State K A) → Step rules rule seat old e r new → LowersWork rules rule old e r new
+  step_lowers (event.Turn c) reply.Offered new d = lowered rules rule lawful old inv c turned.Offered new d.change
+  step_lowers (event.Turn c) (reply.Visited page) new d = lowered rules rule lawful old inv c (turned.Visited page) new d.change
+  step_lowers (event.Turn c) (reply.Passed n) new d = lowered rules rule lawful old inv c (turned.Passed n) new d.change
   step_lowers (event.Turn c) (reply.Refused why) new d = tt
   step_lowers (event.Turn c) r new d = absurd d.change
   step_lowers e r new d = tt
 
   -- nothing given fits a cursor at its opening
-  pub step_opens : (e : Event C K A) (r : Reply C O K A E) (new : State K A) → Step w seat old e r new → FitsAtOpening w r new
+  pub step_opens : (e : Event C K A) (r : Reply C O K A E) (new : State K A) → Step rules rule seat old e r new → FitsAtOpening rules rule r new
   step_opens (event.Open query room) (reply.Opened c end) new d = λ k h.
-      let o = opened_fits w laws old inv query room new d.change.after in
+      let o = opened_fits rules rule lawful old inv query room new d.change.after in
       let s : Some o.cursor ≡ Some k = sym o.is_open ∙ ap (λ n. cursor_at new n) (sym d.change.serial) ∙ h in
       let f : o.cursor ≡ k = cc in
-      subst (λ (k : OpenCursor K A). Fits w.matching new.commits (shown w new.search.tree k) []) f o.fits
+      subst (λ (k : OpenCursor K A). Fits rules.is_match new.commits (shown rules rule new.search.tree k) []) f o.fits
   step_opens e (reply.Opened c end) new d = absurd d.change
   step_opens e r new d = tt
 
-  pub step_keeps_rows : (e : Event C K A) (r : Reply C O K A E) (new : State K A) → Step w seat old e r new → KeepsRowsUnder old e new
-  step_keeps_rows (event.Enlarge page child key) (reply.Refused why) new d = refused_keeps w old (event.Enlarge page child key) why new d
-  step_keeps_rows (event.Enlarge page child key) reply.Enlarged new d = moved_keeps w.is_cover old _ new d.change (enlarge_done w.is_cover old.search inv.tree page child key d.passed w.union laws.keys)
+  pub step_keeps_rows : (e : Event C K A) (r : Reply C O K A E) (new : State K A) → Step rules rule seat old e r new → KeepsRowsUnder old e new
+  step_keeps_rows (event.Enlarge page child key) (reply.Refused why) new d = refused_keeps rules rule old (event.Enlarge page child key) why new d
+  step_keeps_rows (event.Enlarge page child key) reply.Enlarged new d = moved_keeps rules.is_cover old _ new d.change (enlarge_done rules.is_cover old.search inv.tree page child key d.passed rules.union_of lawful.bounds)
   step_keeps_rows (event.Enlarge page child key) r new d = absurd d.change
-  step_keeps_rows (event.Split page sides) (reply.Refused why) new d = refused_keeps w old (event.Split page sides) why new d
-  step_keeps_rows (event.Split page sides) (reply.Split sibling) new d = moved_keeps w.is_cover old _ new d.change.1 (split_done w.is_cover old.search inv.tree page sides d.passed w.union laws.keys)
+  step_keeps_rows (event.Split page sides) (reply.Refused why) new d = refused_keeps rules rule old (event.Split page sides) why new d
+  step_keeps_rows (event.Split page sides) (reply.Split sibling) new d = moved_keeps rules.is_cover old _ new d.change.1 (split_done rules.is_cover old.search inv.tree page sides d.passed rules.union_of lawful.bounds)
   step_keeps_rows (event.Split page sides) r new d = absurd d.change
-  step_keeps_rows (event.Post page child) (reply.Refused why) new d = refused_keeps w old (event.Post page child) why new d
-  step_keeps_rows (event.Post page child) reply.Posted new d = moved_keeps w.is_cover old _ new d.change.after (post_done w.is_cover old.search inv.tree page child d.passed d.change.sibling d.change.is_right w.union laws.keys)
+  step_keeps_rows (event.Post page child) (reply.Refused why) new d = refused_keeps rules rule old (event.Post page child) why new d
+  step_keeps_rows (event.Post page child) reply.Posted new d = moved_keeps rules.is_cover old _ new d.change.after (post_done rules.is_cover old.search inv.tree page child d.passed d.change.sibling d.change.is_right rules.union_of lawful.bounds)
   step_keeps_rows (event.Post page child) r new d = absurd d.change
-  step_keeps_rows (event.Grow sides) (reply.Refused why) new d = refused_keeps w old (event.Grow sides) why new d
-  step_keeps_rows (event.Grow sides) (reply.Grown first second) new d = moved_keeps w.is_cover old _ new d.change.2 (grow_done w.is_cover old.search inv.tree sides d.passed w.union laws.keys)
+  step_keeps_rows (event.Grow sides) (reply.Refused why) new d = refused_keeps rules rule old (event.Grow sides) why new d
+  step_keeps_rows (event.Grow sides) (reply.Grown first second) new d = moved_keeps rules.is_cover old _ new d.change.2 (grow_done rules.is_cover old.search inv.tree sides d.passed rules.union_of lawful.bounds)
   step_keeps_rows (event.Grow sides) r new d = absurd d.change
   step_keeps_rows e r new d = tt

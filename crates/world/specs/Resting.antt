@@ -1,11 +1,13 @@
 -- What a call that asks nothing of the cursors leaves to them, and the dead rows that a tree holds.
 use Rattle.std.specs.Prelude.{◌≡◌, ℕ, ◌≤◌, List, length, Option, Some, None}
 use Rattle.std.specs.List.{filter_map}
+use Rattle.key_class.specs.Rules.{Rules}
+use Rattle.mailbox.specs.Outlets.{Rule}
 use Rattle.change_list.specs.declared.item.Item.{Item}
 use Rattle.change_list.specs.Cursors.{Fits}
 use Rattle.row_version.specs.Entries.{Entry}
 use Rattle.page_table.specs.Trees.{Tree, rows_of_tree}
-use Rattle.cursor.specs.OpenCursors.{Words, OpenCursor, shown}
+use Rattle.cursor.specs.OpenCursors.{OpenCursor, shown}
 use Rattle.world.specs.States.{State, cursor_at}
 
 -- a row with the commit that deleted it
@@ -21,7 +23,7 @@ module _ {K : Type 0} where
   abbrev pub deaths : Tree K → List (ℕ × ℕ)
   deaths t = filter_map death (rows_of_tree t)
 
-module _ {K A : Type 0} (w : Words K A) where
+module _ {K A : Type 0} (rules : Rules K A) (rule : Rule) where
   -- The cursors are those that were open, and every list of items that fitted one of them fits it. There are no fewer pages.
   pub record Rests (old new : State K A) : Type 0 where
     pub limit : new.limit ≡ old.limit
@@ -29,4 +31,4 @@ module _ {K A : Type 0} (w : Words K A) where
     pub pages : length old.search.tree.pages ≤ length new.search.tree.pages
     pub last : new.last ≡ old.last
     pub cursors : new.cursors ≡ old.cursors
-    pub fits : (c : ℕ) (k : OpenCursor K A) → cursor_at old c ≡ Some k → (items : List (Item K)) → Fits w.matching old.commits (shown w old.search.tree k) items → Fits w.matching new.commits (shown w new.search.tree k) items
+    pub fits : (c : ℕ) (k : OpenCursor K A) → cursor_at old c ≡ Some k → (items : List (Item K)) → Fits rules.is_match old.commits (shown rules rule old.search.tree k) items → Fits rules.is_match new.commits (shown rules rule new.search.tree k) items

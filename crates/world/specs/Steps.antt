@@ -1,5 +1,7 @@
 -- What each event makes of a world, and how it is answered.
 use Rattle.std.specs.Prelude.{◌≡◌, ℕ, suc, ◌+◌, Bool, true, false, not, ◌||◌, ◌&&◌, nat_eq, nat_le, nat_lt, List, [], ◌∷◌, ◌++◌, length, filter, Option, Some, None, is_none, Ok, Err, Result, ◌⊎◌}
+use Rattle.key_class.specs.Rules.{Rules}
+use Rattle.mailbox.specs.Outlets.{Rule}
 use Rattle.key_class.specs.Queries.{query_of, depth_of}
 use Rattle.key_class.specs.declared.pred.Pred.{Pred}
 use Rattle.key_class.specs.declared.refusal.Refusal.{Refusal}
@@ -16,7 +18,7 @@ use Rattle.scan.specs.LeafChanges.{after_bury, after_sweep}
 use Rattle.scan.specs.Scanning.{PushesSome}
 use Rattle.cursor.specs.declared.cursor.Turned.{Turned}
 use Rattle.cursor.specs.declared.cursor.Turned.TheVariants as turned
-use Rattle.cursor.specs.OpenCursors.{Words, OpenCursor, Turns}
+use Rattle.cursor.specs.OpenCursors.{OpenCursor, Turns}
 use Rattle.descent.specs.Finders.{OpenFinder, is_at_row, FindsRow, GoesFurther}
 use Rattle.collector.specs.Horizons.{IsHorizon}
 use Rattle.world.specs.declared.event.Event.{Event}
@@ -156,13 +158,13 @@ module _ {K A : Type 0} where
     pub empty : before.unread ≡ []
     pub unchanged : new ≡ old
 
-module _ {K A : Type 0} (w : Words K A) where
+module _ {K A : Type 0} (rules : Rules K A) (rule : Rule) where
   -- the cursor c turned so
   pub record TurnsAt (old : State K A) (c : ℕ) (how : Result Turned Refusal) (new : State K A) : Type 0 where
     pub before : OpenCursor K A
     pub later : OpenCursor K A
     pub is_open : cursor_at old c ≡ Some before
-    pub turn : Turns w old.search.tree old.commits before how later
+    pub turn : Turns rules rule old.search.tree old.commits before how later
     pub after : new ≡ with_cursor old later
 
   -- the page that the finder visits lacks its row, and the finder goes on
@@ -171,7 +173,7 @@ module _ {K A : Type 0} (w : Words K A) where
     pub later : OpenFinder K
     pub is_open : finder_at old f ≡ Some before
     pub page : ℕ
-    pub further : GoesFurther w.is_cover old.search.tree before page later
+    pub further : GoesFurther rules.is_cover old.search.tree before page later
     pub after : new ≡ with_finder old later
 
   -- memory was wanting, and the page that the finder visits holds its row, or something is pushed after it
@@ -179,12 +181,12 @@ module _ {K A : Type 0} (w : Words K A) where
     pub memory : why ≡ refusal.OutOfMemory
     pub finder : OpenFinder K
     pub is_open : finder_at old f ≡ Some finder
-    pub grows : (is_at_row old.search.tree finder ≡ true) ⊎ PushesSome (λ bound. w.is_cover bound finder.key) old.search.tree finder.stack
+    pub grows : (is_at_row old.search.tree finder ≡ true) ⊎ PushesSome (λ bound. rules.is_cover bound finder.key) old.search.tree finder.stack
 
   pub record RefusesTurn (old : State K A) (c : ℕ) (why : Refusal) : Type 0 where
     pub cursor : OpenCursor K A
     pub is_open : cursor_at old c ≡ Some cursor
-    pub turn : Turns w old.search.tree old.commits cursor (Err why) cursor
+    pub turn : Turns rules rule old.search.tree old.commits cursor (Err why) cursor
 
 module _ {C K A : Type 0} where
   -- an event that asks for the same: the copy of a query has places of its own in memory
@@ -192,11 +194,11 @@ module _ {C K A : Type 0} where
   IsCopy (event.Open query room) copy = (other : Pred A) × (query_of other ≡ query_of query) × (copy ≡ event.Open other room)
   IsCopy event copy = copy ≡ event
 
-module _ {C K A : Type 0} (w : Words K A) where
+module _ {C K A : Type 0} (rules : Rules K A) (rule : Rule) where
   -- the tests of an event in their order, each true where it fails
   abbrev pub tests : State K A → Event C K A → List (Bool × Refusal)
-  tests old (event.Enlarge page child key) = enlarge_tests w.is_cover old.search page child key
-  tests old (event.Place page key tag) = place_tests w.is_cover old.search page key ++ (nat_le old.limit (length old.commits), refusal.CommitsFull) ∷ []
+  tests old (event.Enlarge page child key) = enlarge_tests rules.is_cover old.search page child key
+  tests old (event.Place page key tag) = place_tests rules.is_cover old.search page key ++ (nat_le old.limit (length old.commits), refusal.CommitsFull) ∷ []
   tests old (event.Split page sides) = split_tests old.search page sides
   tests old (event.Post page child) = post_tests old.search page child
   tests old (event.Grow sides) = grow_tests old.search sides
@@ -207,7 +209,7 @@ module _ {C K A : Type 0} (w : Words K A) where
   tests old (event.Open query room) = open_tests old query room
   tests old (event.Turn c) = cursor_tests old c
   tests old (event.AskMark c) = cursor_tests old c
-  tests old (event.Take c) = cursor_tests old c ++ (w.elsewhere, refusal.NotHere) ∷ []
+  tests old (event.Take c) = cursor_tests old c ++ (rule.is_emptied_elsewhere, refusal.NotHere) ∷ []
   tests old (event.Close c) = cursor_tests old c
 
   -- Where all tests pass, an event that opens something or changes a page is refused for want of memory alone; so is a seek,
@@ -220,11 +222,11 @@ module _ {C K A : Type 0} (w : Words K A) where
   RefusesLater old (event.Post page child) why = why ≡ refusal.OutOfMemory
   RefusesLater old (event.Grow sides) why = why ≡ refusal.OutOfMemory
   RefusesLater old (event.Find row) why = why ≡ refusal.OutOfMemory
-  RefusesLater old (event.Seek f) why = RefusesSeek w old f why
+  RefusesLater old (event.Seek f) why = RefusesSeek rules rule old f why
   RefusesLater old (event.Unfind f) why = ⊥
   RefusesLater old (event.Sweep page) why = RefusesSweep old page why
   RefusesLater old (event.Open query room) why = why ≡ refusal.OutOfMemory
-  RefusesLater old (event.Turn c) why = RefusesTurn w old c why
+  RefusesLater old (event.Turn c) why = RefusesTurn rules rule old c why
   RefusesLater old (event.AskMark c) why = ⊥
   RefusesLater old (event.Take c) why = ⊥
   RefusesLater old (event.Close c) why = ⊥
@@ -234,25 +236,25 @@ module _ {C K A : Type 0} (w : Words K A) where
     pub cause : (first_failing (tests old event) ≡ Some why) ⊎ ((first_failing (tests old event) ≡ None) × RefusesLater old event why)
     pub unchanged : new ≡ old
 
-module _ {C O K A E : Type 0} (w : Words K A) where
+module _ {C O K A E : Type 0} (rules : Rules K A) (rule : Rule) where
   -- what an event makes of a world, with its reply
   abbrev pub Changes : ℕ → State K A → Event C K A → Reply C O K A E → State K A → Type 0
-  Changes seat old (event.Enlarge page child key) reply.Enlarged new = new ≡ with_pages old (after_enlarge w.union old.search.tree page child key)
+  Changes seat old (event.Enlarge page child key) reply.Enlarged new = new ≡ with_pages old (after_enlarge rules.union_of old.search.tree page child key)
   Changes seat old (event.Place page key tag) (reply.Committed stamp) new = Places seat old page key tag stamp new
   Changes seat old (event.Split page sides) (reply.Split sibling) new =
-      (sibling ≡ length old.search.tree.pages) × (new ≡ with_pages old (after_split w.union old.search.tree page sides))
+      (sibling ≡ length old.search.tree.pages) × (new ≡ with_pages old (after_split rules.union_of old.search.tree page sides))
   Changes seat old (event.Post page child) reply.Posted new = Posts old page child new
   Changes seat old (event.Grow sides) (reply.Grown first second) new =
-      (first ≡ length old.search.tree.pages) × (second ≡ suc (length old.search.tree.pages)) × (new ≡ with_pages old (after_grow w.union old.search.tree sides))
+      (first ≡ length old.search.tree.pages) × (second ≡ suc (length old.search.tree.pages)) × (new ≡ with_pages old (after_grow rules.union_of old.search.tree sides))
   Changes seat old (event.Find row) (reply.Finder f) new = Finds old row f new
   Changes seat old (event.Seek f) (reply.Committed stamp) new = Buries seat old f stamp new
-  Changes seat old (event.Seek f) reply.Seeking new = SeeksOn w old f new
+  Changes seat old (event.Seek f) reply.Seeking new = SeeksOn rules rule old f new
   Changes seat old (event.Unfind f) reply.Unfound new = new ≡ record old { finders = without (λ k. k.serial) f old.finders }
   Changes seat old (event.Sweep page) (reply.Swept count) new = Sweeps old page count new
   Changes seat old (event.Open query room) (reply.Opened c end) new = Opens old query room c new
-  Changes seat old (event.Turn c) reply.Offered new = TurnsAt w old c (Ok turned.Offered) new
-  Changes seat old (event.Turn c) (reply.Visited page) new = TurnsAt w old c (Ok (turned.Visited page)) new
-  Changes seat old (event.Turn c) (reply.Passed n) new = TurnsAt w old c (Ok (turned.Passed n)) new
+  Changes seat old (event.Turn c) reply.Offered new = TurnsAt rules rule old c (Ok turned.Offered) new
+  Changes seat old (event.Turn c) (reply.Visited page) new = TurnsAt rules rule old c (Ok (turned.Visited page)) new
+  Changes seat old (event.Turn c) (reply.Passed n) new = TurnsAt rules rule old c (Ok (turned.Passed n)) new
   Changes seat old (event.AskMark c) reply.Asked new = Asks old c new
   Changes seat old (event.Take c) (reply.Taken item) new = Takes old c item new
   Changes seat old (event.Take c) reply.Nothing new = FindsNothing old c new
@@ -260,12 +262,12 @@ module _ {C O K A E : Type 0} (w : Words K A) where
   Changes seat old event reply new = ⊥
 
   pub record IsDone (seat : ℕ) (old : State K A) (event : Event C K A) (reply : Reply C O K A E) (new : State K A) : Type 0 where
-    pub passed : first_failing (tests w old event) ≡ None
+    pub passed : first_failing (tests rules rule old event) ≡ None
     pub change : Changes seat old event reply new
 
   -- from old, an event for a seat may be answered so, and leads to new
   abbrev pub Step : ℕ → State K A → Event C K A → Reply C O K A E → State K A → Type 0
-  Step seat old event (reply.Refused why) new = IsRefused w old event why new
+  Step seat old event (reply.Refused why) new = IsRefused rules rule old event why new
   Step seat old event reply.Enlarged new = IsDone seat old event reply.Enlarged new
   Step seat old event (reply.Committed stamp) new = IsDone seat old event (reply.Committed stamp) new
   Step seat old event (reply.Split sibling) new = IsDone seat old event (reply.Split sibling) new

@@ -1,12 +1,14 @@
 -- Work on a page beside the world, and what its publication is.
 use Rattle.std.specs.Prelude.{◌≡◌, ◌⊎◌, ℕ, ◌<◌, Bool, ◌||◌, nat_eq, nat_le, List, [], ◌∷◌, length, Option, Some}
+use Rattle.key_class.specs.Rules.{Rules}
+use Rattle.mailbox.specs.Outlets.{Rule}
 use Rattle.key_class.specs.declared.refusal.Refusal.{Refusal}
 use Rattle.key_class.specs.declared.refusal.Refusal.TheVariants as refusal
 use Rattle.key_class.specs.declared.sides.Side.{Side}
 use Rattle.node.specs.Pages.{Page}
 use Rattle.page_table.specs.Trees.{page_at}
 use Rattle.scan.specs.Prepared.{PreparedVisit}
-use Rattle.cursor.specs.OpenCursors.{OpenCursor, Words}
+use Rattle.cursor.specs.OpenCursors.{OpenCursor}
 use Rattle.cursor.specs.Preparing.{IsDue, RefusesVisit}
 use Rattle.split.specs.Tests.{first_failing}
 use Rattle.world.specs.States.{State, cursor_at}
@@ -56,7 +58,7 @@ module _ {C K A : Type 0} where
     pub has_page : HasPage s task.number task.page
     pub is : split ≡ event.Split task.number sides
 
-module _ {C O K A E : Type 0} (w : Words K A) where
+module _ {C O K A E : Type 0} (rules : Rules K A) (rule : Rule) where
   -- a publication is the cursor's turn, or it comes too late and changes nothing
   abbrev pub TurnsOrIsLate : ℕ → State K A → ℕ → Reply C O K A E → State K A → Type 0
-  TurnsOrIsLate seat old c r new = Step w seat old (event.Turn c) r new ⊎ ((r ≡ reply.Refused refusal.NotHere) × (new ≡ old))
+  TurnsOrIsLate seat old c r new = Step rules rule seat old (event.Turn c) r new ⊎ ((r ≡ reply.Refused refusal.NotHere) × (new ≡ old))

@@ -1,22 +1,23 @@
 -- Visits to a world: what is done there between one look at it and the next.
 use Rattle.std.specs.Prelude.{◌≡◌, ◌⊎◌, ℕ}
-use Rattle.cursor.specs.OpenCursors.{Words}
+use Rattle.key_class.specs.Rules.{Rules}
+use Rattle.mailbox.specs.Outlets.{Rule}
 use Rattle.world.specs.declared.event.Event.{Event}
 use Rattle.world.specs.declared.reply.Reply.{Reply}
 use Rattle.world.specs.States.{State}
 use Rattle.world.specs.Steps.{Step}
 
-module _ (C O E : Type 0) {K A : Type 0} (w : Words K A) where
+module _ (C O E : Type 0) {K A : Type 0} (rules : Rules K A) (rule : Rule) where
   -- this event for the seat made the one world of the other
   pub record Makes (seat : ℕ) (old : State K A) (event : Event C K A) (new : State K A) : Type 0 where
     pub reply : Reply C O K A E
-    pub step : Step w seat old event reply new
+    pub step : Step rules rule seat old event reply new
 
   -- an event for the seat made the one world of the other
   pub record MakesEvent (seat : ℕ) (old new : State K A) : Type 0 where
     pub event : Event C K A
     pub reply : Reply C O K A E
-    pub step : Step w seat old event reply new
+    pub step : Step rules rule seat old event reply new
 
   -- one event for the seat, or none
   abbrev pub IsOneEvent : ℕ → State K A → State K A → Type 0

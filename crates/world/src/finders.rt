@@ -2,7 +2,6 @@
 ghost use Rattle.std.specs.Prelude.{◌≡◌, ℕ, None, Some, IfOk, IfErr};
 ghost use Rattle.change_list.specs.Changes.{commit_at};
 ghost use Rattle.change_list.specs.declared.write.Write.TheVariants.{Insert};
-ghost use Rattle.cursor.specs.OpenCursors.{words};
 ghost use Rattle.split.specs.Tests.{first_failing};
 ghost use Rattle.world.specs.declared.event.Event.TheVariants as event;
 ghost use Rattle.world.specs.States.{Meets};
@@ -38,7 +37,7 @@ impl<C: KeyClass, O: Outlet<C::Key>> World<C, O> {
     }
 
     pub(crate) fn find(&mut self, row: u64) -> Reply<C, O>
-        ensures { (seat : ℕ) → Step (words C.is_match C.is_consistent C.is_cover C.union_of O.may_take O.may_refuse O.is_emptied_elsewhere) seat self.old (event.Find row) result self.new }
+        ensures { (seat : ℕ) → Step C.rules O.rule seat self.old (event.Find row) result self.new }
     {
         let key = match self.key_to_find(row) {
             Ok(key) => key,
@@ -55,7 +54,7 @@ impl<C: KeyClass, O: Outlet<C::Key>> World<C, O> {
     }
 
     pub(crate) fn seek(&mut self, seat: u32, f: u64) -> Reply<C, O>
-        ensures { Step (words C.is_match C.is_consistent C.is_cover C.union_of O.may_take O.may_refuse O.is_emptied_elsewhere) seat self.old (event.Seek f) result self.new }
+        ensures { Step C.rules O.rule seat self.old (event.Seek f) result self.new }
     {
         let Some(at) = place_of(self.finders.as_slice(), f) else {
             return Reply::Refused(Refusal::NoSuchFinder);
@@ -73,7 +72,7 @@ impl<C: KeyClass, O: Outlet<C::Key>> World<C, O> {
     /// Deletes the row of a finder that has met it on a page.
     fn bury(&mut self, seat: u32, f: u64, at: usize, page: u32) -> Reply<C, O>
         requires { Meets self.old f at page }
-        ensures { Step (words C.is_match C.is_consistent C.is_cover C.union_of O.may_take O.may_refuse O.is_emptied_elsewhere) seat self.old (event.Seek f) result self.new }
+        ensures { Step C.rules O.rule seat self.old (event.Seek f) result self.new }
     {
         let count = self.changes.len() as u64;
         if count >= self.limit {
@@ -104,7 +103,7 @@ impl<C: KeyClass, O: Outlet<C::Key>> World<C, O> {
     }
 
     pub(crate) fn unfind(&mut self, f: u64) -> Reply<C, O>
-        ensures { (seat : ℕ) → Step (words C.is_match C.is_consistent C.is_cover C.union_of O.may_take O.may_refuse O.is_emptied_elsewhere) seat self.old (event.Unfind f) result self.new }
+        ensures { (seat : ℕ) → Step C.rules O.rule seat self.old (event.Unfind f) result self.new }
     {
         match place_of(self.finders.as_slice(), f) {
             Some(place) => {

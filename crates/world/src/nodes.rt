@@ -1,6 +1,5 @@
 //! Events that change pages.
 ghost use Rattle.std.specs.Prelude.{◌≡◌, ℕ};
-ghost use Rattle.cursor.specs.OpenCursors.{words};
 ghost use Rattle.world.specs.declared.event.Event.TheVariants as event;
 ghost use Rattle.world.specs.Steps.{Step};
 
@@ -15,7 +14,7 @@ use std::mem;
 
 impl<C: KeyClass, O: Outlet<C::Key>> World<C, O> {
     pub(crate) fn enlarge(&mut self, parent: u64, child: u64, key: C::Key) -> Reply<C, O>
-        ensures { (seat : ℕ) → Step (words C.is_match C.is_consistent C.is_cover C.union_of O.may_take O.may_refuse O.is_emptied_elsewhere) seat self.old (event.Enlarge parent child key) result self.new }
+        ensures { (seat : ℕ) → Step C.rules O.rule seat self.old (event.Enlarge parent child key) result self.new }
     {
         match self.search.enlarge(parent, child, key) {
             Ok(()) => return Reply::Enlarged,
@@ -24,7 +23,7 @@ impl<C: KeyClass, O: Outlet<C::Key>> World<C, O> {
     }
 
     pub(crate) fn split(&mut self, page: u64, sides: &Sides) -> Reply<C, O>
-        ensures { (seat : ℕ) → Step (words C.is_match C.is_consistent C.is_cover C.union_of O.may_take O.may_refuse O.is_emptied_elsewhere) seat self.old (event.Split page sides.now) result self.new }
+        ensures { (seat : ℕ) → Step C.rules O.rule seat self.old (event.Split page sides.now) result self.new }
     {
         match self.search.split(page, sides) {
             Ok(sibling) => return Reply::Split(sibling),
@@ -33,7 +32,7 @@ impl<C: KeyClass, O: Outlet<C::Key>> World<C, O> {
     }
 
     pub(crate) fn post(&mut self, parent: u64, child: u64) -> Reply<C, O>
-        ensures { (seat : ℕ) → Step (words C.is_match C.is_consistent C.is_cover C.union_of O.may_take O.may_refuse O.is_emptied_elsewhere) seat self.old (event.Post parent child) result self.new }
+        ensures { (seat : ℕ) → Step C.rules O.rule seat self.old (event.Post parent child) result self.new }
     {
         match self.search.post(parent, child) {
             Ok(()) => return Reply::Posted,
@@ -42,7 +41,7 @@ impl<C: KeyClass, O: Outlet<C::Key>> World<C, O> {
     }
 
     pub(crate) fn grow(&mut self, sides: &Sides) -> Reply<C, O>
-        ensures { (seat : ℕ) → Step (words C.is_match C.is_consistent C.is_cover C.union_of O.may_take O.may_refuse O.is_emptied_elsewhere) seat self.old (event.Grow sides.now) result self.new }
+        ensures { (seat : ℕ) → Step C.rules O.rule seat self.old (event.Grow sides.now) result self.new }
     {
         match self.search.grow(sides) {
             Ok((first, second)) => return Reply::Grown(first, second),
@@ -51,7 +50,7 @@ impl<C: KeyClass, O: Outlet<C::Key>> World<C, O> {
     }
 
     pub(crate) fn place(&mut self, seat: u32, page: u64, key: C::Key, tag: u64) -> Reply<C, O>
-        ensures { Step (words C.is_match C.is_consistent C.is_cover C.union_of O.may_take O.may_refuse O.is_emptied_elsewhere) seat self.old (event.Place page key tag) result self.new }
+        ensures { Step C.rules O.rule seat self.old (event.Place page key tag) result self.new }
     {
         if let Some(refusal) = self.search.place_refusal(page, key) {
             return Reply::Refused(refusal);
@@ -83,7 +82,7 @@ impl<C: KeyClass, O: Outlet<C::Key>> World<C, O> {
     }
 
     pub(crate) fn sweep(&mut self, page: u64) -> Reply<C, O>
-        ensures { (seat : ℕ) → Step (words C.is_match C.is_consistent C.is_cover C.union_of O.may_take O.may_refuse O.is_emptied_elsewhere) seat self.old (event.Sweep page) result self.new }
+        ensures { (seat : ℕ) → Step C.rules O.rule seat self.old (event.Sweep page) result self.new }
     {
         let horizon = horizon(self.cursors.as_slice(), self.changes.len() as u32);
         match self.search.sweep(page, horizon) {

@@ -6,7 +6,7 @@ ghost use Rattle.key_class.specs.declared.sides.Side.{Side};
 ghost use Rattle.node.specs.Pages.{Page, entries_of};
 ghost use Rattle.page_table.specs.Trees.{page_at};
 ghost use Rattle.split.specs.Tests.{IsRefusedBy, first_failing};
-ghost use Rattle.cursor.specs.OpenCursors.{words, OpenCursor};
+ghost use Rattle.cursor.specs.OpenCursors.{OpenCursor};
 ghost use Rattle.world.specs.declared.event.Event.TheVariants as event;
 ghost use Rattle.world.specs.declared.reply.Reply.TheVariants as reply;
 ghost use Rattle.world.specs.States.{IsAt, IsSoundWorld, cursor_at};
@@ -171,7 +171,7 @@ impl<C: KeyClass, O: Outlet<C::Key>> World<C, O> {
     ///
     /// Else, and where the task was not worked on, it is refused NotHere, and nothing changes.
     pub fn publish_split(&mut self, seat: u32, task: SplitTask<C>) -> Reply<C, O>
-        ensures step { (sides : List Side) → task.sides ≡ Some sides → HasPage self.old task.number task.page → Step (words C.is_match C.is_consistent C.is_cover C.union_of O.may_take O.may_refuse O.is_emptied_elsewhere) seat self.old (event.Split task.number sides) result self.new }
+        ensures step { (sides : List Side) → task.sides ≡ Some sides → HasPage self.old task.number task.page → Step C.rules O.rule seat self.old (event.Split task.number sides) result self.new }
         ensures stale { (task.sides ≡ None) ⊎ (¬ HasPage self.old task.number task.page) → (result ≡ reply.Refused Refusal.NotHere) × (self.new ≡ self.old) }
     {
         match self.split_of(task) {
@@ -184,12 +184,12 @@ impl<C: KeyClass, O: Outlet<C::Key>> World<C, O> {
     ///
     /// Else, and where the task was not worked on, it is refused NotHere, and nothing changes.
     pub fn publish_visit(&mut self, seat: u32, task: VisitTask<C>) -> Reply<C, O>
-        ensures step { HasVisit self.old task.cursor task.visit → task.visit.worked ≡ true → Step (words C.is_match C.is_consistent C.is_cover C.union_of O.may_take O.may_refuse O.is_emptied_elsewhere) seat self.old (event.Turn task.cursor) result self.new }
+        ensures step { HasVisit self.old task.cursor task.visit → task.visit.worked ≡ true → Step C.rules O.rule seat self.old (event.Turn task.cursor) result self.new }
         ensures stale { (task.visit.worked ≡ false) ⊎ (¬ HasVisit self.old task.cursor task.visit) → (result ≡ reply.Refused Refusal.NotHere) × (self.new ≡ self.old) }
-        ensures turned { TurnsOrIsLate (words C.is_match C.is_consistent C.is_cover C.union_of O.may_take O.may_refuse O.is_emptied_elsewhere) seat self.old task.cursor result self.new }
+        ensures turned { TurnsOrIsLate C.rules O.rule seat self.old task.cursor result self.new }
         ensures commits { self.new.commits ≡ self.old.commits }
-        ensures sound { IsSoundWorld C.is_cover self.new }
-        ensures mailboxes { O.is_emptied_elsewhere ≡ true → MailboxesFit (words C.is_match C.is_consistent C.is_cover C.union_of O.may_take O.may_refuse O.is_emptied_elsewhere) self.old → MailboxesFit (words C.is_match C.is_consistent C.is_cover C.union_of O.may_take O.may_refuse O.is_emptied_elsewhere) self.new }
+        ensures sound { IsSoundWorld C.rules.is_cover self.new }
+        ensures mailboxes { O.rule.is_emptied_elsewhere ≡ true → MailboxesFit C.rules O.rule self.old → MailboxesFit C.rules O.rule self.new }
     {
         self.is_sound();
         let VisitTask { cursor, visit } = task;
@@ -210,7 +210,7 @@ impl<C: KeyClass, O: Outlet<C::Key>> World<C, O> {
         requires found { IsAt self.old c at }
         requires due { HasVisit self.old c visit }
         requires worked { visit.worked ≡ true }
-        ensures { (seat : ℕ) → Step (words C.is_match C.is_consistent C.is_cover C.union_of O.may_take O.may_refuse O.is_emptied_elsewhere) seat self.old (event.Turn c) result self.new }
+        ensures { (seat : ℕ) → Step C.rules O.rule seat self.old (event.Turn c) result self.new }
     {
         match self.cursors[at].turn_prepared(self.search.pages(), visit) {
             Ok(Turned::Offered) => return Reply::Offered,

@@ -1,8 +1,8 @@
 //! Whole lists of events.
 ghost use Rattle.std.specs.Prelude.{◌≡◌, ◌↔◌, ◌⊎◌, length, nat_lt, nat_le, false, IfOk, IfErr};
 ghost use Rattle.std.specs.List.{zip};
+ghost use Rattle.mailbox.specs.Outlets.{tray_rule};
 ghost use Rattle.change_list.specs.Configs.{IsWithinLimits};
-ghost use Rattle.cursor.specs.OpenCursors.{words};
 ghost use Rattle.world.specs.States.{State, new_state};
 ghost use Rattle.world.specs.Steps.{Runs};
 ghost use Rattle.world.specs.Traces.{IsAlwaysFaithful};
@@ -29,8 +29,8 @@ pub fn run<C: KeyClass>(
     events: &[Event<C>],
 ) -> Result<Vec<Reply<C, Tray<C::Key>>>, Refusal>
     ensures one_each { IfOk result (λ replies. length replies.items ≡ length events.now) }
-    ensures steps { IfOk result (λ replies. (last : State C.Key C.Atom) × Runs (words C.is_match C.is_consistent C.is_cover C.union_of (λ room count. nat_lt count room) (λ room count. nat_le room count) false) (new_state config) (zip events.now replies.items) last) }
-    ensures faithful { IfOk result (λ replies. IsAlwaysFaithful C.is_match (zip events.now replies.items)) }
+    ensures steps { IfOk result (λ replies. (last : State C.Key C.Atom) × Runs C.rules tray_rule (new_state config) (zip events.now replies.items) last) }
+    ensures faithful { IfOk result (λ replies. IsAlwaysFaithful C.rules.is_match (zip events.now replies.items)) }
     ensures bad { (result ≡ Err Refusal.BadConfig) ↔ (¬ IsWithinLimits config) }
     ensures refusals { IfErr result (λ why. (why ≡ Refusal.BadConfig) ⊎ (why ≡ Refusal.OutOfMemory)) }
 {

@@ -3,7 +3,6 @@ ghost use Rattle.change_list.specs.Configs.{IsWithinLimits};
 ghost use Rattle.change_list.specs.Changes.{commit_at, status_of, IsLegal};
 ghost use Rattle.page_table.specs.Trees.{page_at};
 ghost use Rattle.split.specs.Tests.{first_failing};
-ghost use Rattle.cursor.specs.OpenCursors.{words};
 ghost use Rattle.descent.specs.Finders.{OpenFinder};
 ghost use Rattle.world.specs.States.{new_state, IsSoundWorld, IsAt, finder_at};
 ghost use Rattle.world.specs.Steps.{Step, cursor_tests};
@@ -46,7 +45,7 @@ impl<C: KeyClass, O: Outlet<C::Key>> Model for World<C, O> {
 
     ghost view = { λ w. record { search = w.search; limit = w.limit; commits = w.changes; cursors = w.cursors.items; last = w.last; finders = w.finders.items; last_finder = w.last_finder } };
 
-    ghost invariant = { λ w. IsSoundWorld C.is_cover (record { search = w.search; limit = w.limit; commits = w.changes; cursors = w.cursors.items; last = w.last; finders = w.finders.items; last_finder = w.last_finder }) };
+    ghost invariant = { λ w. IsSoundWorld C.rules.is_cover (record { search = w.search; limit = w.limit; commits = w.changes; cursors = w.cursors.items; last = w.last; finders = w.finders.items; last_finder = w.last_finder }) };
 }
 
 impl<C: KeyClass, O: Outlet<C::Key>> World<C, O> {
@@ -153,7 +152,7 @@ impl<C: KeyClass, O: Outlet<C::Key>> World<C, O> {
     pub fn pages(&self) -> u64
         ensures number { result ≡ length self.now.search.tree.pages }
         ensures few { result ≤ length self.now.commits + 1 }
-        ensures sound { IsSoundWorld C.is_cover self.now }
+        ensures sound { IsSoundWorld C.rules.is_cover self.now }
     {
         self.search.pages().len() as u64
     }
@@ -198,13 +197,13 @@ impl<C: KeyClass, O: Outlet<C::Key>> World<C, O> {
 
     /// One event, in one atomic step.
     pub fn step(&mut self, event: Event<C>) -> Reply<C, O>
-        ensures step { Step (words C.is_match C.is_consistent C.is_cover C.union_of O.may_take O.may_refuse O.is_emptied_elsewhere) 0 self.old event result self.new }
-        ensures sound { IsSoundWorld C.is_cover self.new }
-        ensures serves { ServesAll (words C.is_match C.is_consistent C.is_cover C.union_of O.may_take O.may_refuse O.is_emptied_elsewhere) self.old event result self.new }
-        ensures opening { FitsAtOpening (words C.is_match C.is_consistent C.is_cover C.union_of O.may_take O.may_refuse O.is_emptied_elsewhere) result self.new }
-        ensures less_work { LowersWork (words C.is_match C.is_consistent C.is_cover C.union_of O.may_take O.may_refuse O.is_emptied_elsewhere) self.old event result self.new }
+        ensures step { Step C.rules O.rule 0 self.old event result self.new }
+        ensures sound { IsSoundWorld C.rules.is_cover self.new }
+        ensures serves { ServesAll C.rules O.rule self.old event result self.new }
+        ensures opening { FitsAtOpening C.rules O.rule result self.new }
+        ensures less_work { LowersWork C.rules O.rule self.old event result self.new }
         ensures rows { KeepsRowsUnder self.old event self.new }
-        ensures mailboxes { O.is_emptied_elsewhere ≡ true → MailboxesFit (words C.is_match C.is_consistent C.is_cover C.union_of O.may_take O.may_refuse O.is_emptied_elsewhere) self.old → MailboxesFit (words C.is_match C.is_consistent C.is_cover C.union_of O.may_take O.may_refuse O.is_emptied_elsewhere) self.new }
+        ensures mailboxes { O.rule.is_emptied_elsewhere ≡ true → MailboxesFit C.rules O.rule self.old → MailboxesFit C.rules O.rule self.new }
         ensures fresh { HandsOut O.fresh result }
         ensures commits { self.new.commits ≡ self.old.commits ++ option_to_list (written (event, result)) }
     {
@@ -213,13 +212,13 @@ impl<C: KeyClass, O: Outlet<C::Key>> World<C, O> {
 
     /// One event, in one atomic step, for a seat. A commit's reply holds the seat's number.
     pub fn step_as(&mut self, seat: u32, event: Event<C>) -> Reply<C, O>
-        ensures step { Step (words C.is_match C.is_consistent C.is_cover C.union_of O.may_take O.may_refuse O.is_emptied_elsewhere) seat self.old event result self.new }
-        ensures sound { IsSoundWorld C.is_cover self.new }
-        ensures serves { ServesAll (words C.is_match C.is_consistent C.is_cover C.union_of O.may_take O.may_refuse O.is_emptied_elsewhere) self.old event result self.new }
-        ensures opening { FitsAtOpening (words C.is_match C.is_consistent C.is_cover C.union_of O.may_take O.may_refuse O.is_emptied_elsewhere) result self.new }
-        ensures less_work { LowersWork (words C.is_match C.is_consistent C.is_cover C.union_of O.may_take O.may_refuse O.is_emptied_elsewhere) self.old event result self.new }
+        ensures step { Step C.rules O.rule seat self.old event result self.new }
+        ensures sound { IsSoundWorld C.rules.is_cover self.new }
+        ensures serves { ServesAll C.rules O.rule self.old event result self.new }
+        ensures opening { FitsAtOpening C.rules O.rule result self.new }
+        ensures less_work { LowersWork C.rules O.rule self.old event result self.new }
         ensures rows { KeepsRowsUnder self.old event self.new }
-        ensures mailboxes { O.is_emptied_elsewhere ≡ true → MailboxesFit (words C.is_match C.is_consistent C.is_cover C.union_of O.may_take O.may_refuse O.is_emptied_elsewhere) self.old → MailboxesFit (words C.is_match C.is_consistent C.is_cover C.union_of O.may_take O.may_refuse O.is_emptied_elsewhere) self.new }
+        ensures mailboxes { O.rule.is_emptied_elsewhere ≡ true → MailboxesFit C.rules O.rule self.old → MailboxesFit C.rules O.rule self.new }
         ensures fresh { HandsOut O.fresh result }
         ensures commits { self.new.commits ≡ self.old.commits ++ option_to_list (written (event, result)) }
     {
@@ -229,13 +228,13 @@ impl<C: KeyClass, O: Outlet<C::Key>> World<C, O> {
 
     /// Nothing is done. The clause states what holds of every world.
     pub fn is_sound(&self)
-        ensures { IsSoundWorld C.is_cover self.now }
+        ensures { IsSoundWorld C.rules.is_cover self.now }
     {
         let _limit = self.limit;
     }
 
     fn answer(&mut self, seat: u32, event: Event<C>) -> Reply<C, O>
-        ensures step { Step (words C.is_match C.is_consistent C.is_cover C.union_of O.may_take O.may_refuse O.is_emptied_elsewhere) seat self.old event result self.new }
+        ensures step { Step C.rules O.rule seat self.old event result self.new }
         ensures fresh { HandsOut O.fresh result }
     {
         match event {

@@ -15,6 +15,6 @@ plan_below-requires-clause-chosen g c =
       | else-page-eq0-via-then-page-eq0+else-fan-entry_count w ↦ omega (arith, w.if-fan-entry_count.false, w.fan.ensures, w.entry_count.ensures, entries)
       | else-page-eq0-via-else-page-eq0 w ↦ c.requires.room w.if-page-eq0.false
     ] in
-    chosen_best g.C.KeyClass.union_of g.C.KeyClass.size_of c.args.search.now c.args.page c.args.key room c.branches-2.result.now (c.branches-2.ensures ∙ ap (λ page. page.branches) here) c.in-Some.best
-    (subst (λ bs. IsBest g.C.KeyClass.union_of g.C.KeyClass.size_of c.args.key bs c.in-Some.best) (c.branches.ensures ∙ sym c.branches-2.ensures) c.in-Some.ensures.best)
+    chosen_best g.C.KeyClass.rules.union_of g.C.KeyClass.rules.size_of c.args.search.now c.args.page c.args.key room c.branches-2.result.now (c.branches-2.ensures ∙ ap (λ page. page.branches) here) c.in-Some.best
+    (subst (λ bs. IsBest g.C.KeyClass.rules.union_of g.C.KeyClass.rules.size_of c.args.key bs c.in-Some.best) (c.branches.ensures ∙ sym c.branches-2.ensures) c.in-Some.ensures.best)
     c.index-branches-best.result

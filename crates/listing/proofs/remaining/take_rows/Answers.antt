@@ -8,7 +8,7 @@ pub returns-then-not-take : goal.returns-then-not-take
 returns-then-not-take g c =
     let at : slice_get c.args.items.now c.loop-place.place ≡ Some (item.Row c.in-Row.row) =
     slice_get_read c.args.items.now _ c.loop-place.place _ refl c.loop-place-test.true c.index-items-place.is ∙ ap Some c.in-Row.is in
-    wrong_row c.args.remaining.now c.args.items.now c.loop-place.place c.loop-place.remaining c.loop-place.invariant g.C.Key.PartialEq.eq g.met.C.KeyClass.equal_keys_are_same c.in-Row.row at
+    wrong_row c.args.remaining.now c.args.items.now c.loop-place.place c.loop-place.remaining c.loop-place.invariant g.C.Key.PartialEq.eq g.met.C.KeyClass.lawful.equal_keys_are_same c.in-Row.row at
     (λ h. let z : false ≡ true = c.if-not-take.ensures.told.1 h in cc)
 
 pub loop-place-preserved : goal.loop-place-preserved

@@ -6,5 +6,5 @@ use Rattle.node.proofs.page.cover_of.Goals as goal
 pub returns : goal.returns
 returns g c =
     c.join_branches.ensures
-    ∙ ap (λ o. joined g.C.KeyClass.union_of o (map (λ b. b.key) c.args.branches.now)) c.join_rows-bound.ensures
-    ∙ sym (joined-append g.C.KeyClass.union_of None (map (λ e. e.key) c.args.rows.now) (map (λ b. b.key) c.args.branches.now))
+    ∙ ap (λ o. joined g.C.KeyClass.rules.union_of o (map (λ b. b.key) c.args.branches.now)) c.join_rows-bound.ensures
+    ∙ sym (joined-append g.C.KeyClass.rules.union_of None (map (λ e. e.key) c.args.rows.now) (map (λ b. b.key) c.args.branches.now))

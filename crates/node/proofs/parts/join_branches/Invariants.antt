@@ -3,4 +3,4 @@ use Rattle.node.specs.Parts.{joined}
 use Rattle.node.proofs.parts.join_branches.Given as goal
 
 abbrev pub invariant-loop-branch : goal.invariant-loop-branch
-invariant-loop-branch g l = joined g.C.KeyClass.union_of l.bound (map (λ b. b.key) (drop l.branch-index l.branches)) ≡ joined g.C.KeyClass.union_of l.fn.bound (map (λ b. b.key) l.branches)
+invariant-loop-branch g l = joined g.C.KeyClass.rules.union_of l.bound (map (λ b. b.key) (drop l.branch-index l.branches)) ≡ joined g.C.KeyClass.rules.union_of l.fn.bound (map (λ b. b.key) l.branches)

@@ -4,7 +4,7 @@ use Rattle.scan.proofs.laws.scans_begin_with_snapshots.Goals as goal
 
 pub returns : goal.returns
 returns g c = record {
-  stack = λ t fan sound. open_stack g.C.KeyClass.is_cover t fan sound;
-  rows = λ t fan commits wanted sound agrees. open_find g.C.KeyClass.is_cover t fan sound commits agrees wanted;
-  arranged = λ xs ys same. same_rows_arranged g.C.Key.PartialEq.eq g.met.C.KeyClass.equal_keys_are_same xs ys same;
+  stack = λ t fan sound. open_stack g.C.KeyClass.rules.is_cover t fan sound;
+  rows = λ t fan commits wanted sound agrees. open_find g.C.KeyClass.rules.is_cover t fan sound commits agrees wanted;
+  arranged = λ xs ys same. same_rows_arranged g.C.Key.PartialEq.eq g.met.C.KeyClass.lawful.equal_keys_are_same xs ys same;
 }

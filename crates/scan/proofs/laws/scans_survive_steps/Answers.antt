@@ -9,14 +9,14 @@ returns g c = record {
   moved = λ t t' s stack keeps is_stack. record { exists = keeps_stack t t' stack keeps is_stack; rows = λ wanted. keeps_find wanted s t stack t' keeps is_stack };
   placed = λ t fan p s stack entry sound is_stack l late. record {
     exists = rows_stack t p ((page_at t p).rows ++ entry ∷ []) stack is_stack;
-    rows = λ wanted. place_find wanted s t stack is_stack g.C.KeyClass.is_cover fan sound p l entry late;
+    rows = λ wanted. place_find wanted s t stack is_stack g.C.KeyClass.rules.is_cover fan sound p l entry late;
   };
   buried = λ t fan p s row n stack commits sound agrees is_stack l late live. record {
     exists = rows_stack t p (map (marked row n) (page_at t p).rows) stack is_stack;
-    rows = λ wanted. bury_find wanted s t stack is_stack g.C.KeyClass.is_cover fan sound p l commits agrees row n late live;
+    rows = λ wanted. bury_find wanted s t stack is_stack g.C.KeyClass.rules.is_cover fan sound p l commits agrees row n late live;
   };
   swept = λ t fan p s horizon stack sound is_stack l under. record {
     exists = rows_stack t p (filter (is_needed horizon) (page_at t p).rows) stack is_stack;
-    rows = λ wanted. sweep_find wanted s t stack is_stack g.C.KeyClass.is_cover fan sound p l horizon under;
+    rows = λ wanted. sweep_find wanted s t stack is_stack g.C.KeyClass.rules.is_cover fan sound p l horizon under;
   };
 }

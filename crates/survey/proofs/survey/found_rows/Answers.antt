@@ -19,12 +19,12 @@ visits-preserved g c =
     let noted = rw page.1 at c.in_ok-visit_into.ensures.noted in
     let none_lost = rw page.1 at c.in_ok-visit_into.ensures.lost_nothing in
     record {
-      exists = visit_stack K.is_cover c.args.table.now c.requires.sound.0 c.requires.sound.1 (matches_query K.is_match q) (consistent_with_query K.is_consistent q) c.args.commits _ _ _ _ c.visits.invariant.exists visited;
-      found = found_on K.is_cover c.args.table.now c.requires.sound.0 c.requires.sound.1 (matches_query K.is_match q) c.args.commits _ _ _ _ _ _ none_lost noted c.visits.invariant.found;
+      exists = visit_stack K.rules.is_cover c.args.table.now c.requires.sound.0 c.requires.sound.1 (matches_query K.rules.is_match q) (consistent_with_query K.rules.is_consistent q) c.args.commits _ _ _ _ c.visits.invariant.exists visited;
+      found = found_on K.rules.is_cover c.args.table.now c.requires.sound.0 c.requires.sound.1 (matches_query K.rules.is_match q) c.args.commits _ _ _ _ _ _ none_lost noted c.visits.invariant.found;
     }
 
 pub returns : goal.returns
 returns g c =
-    let wanted = matches_query g.C.KeyClass.is_match (query_of c.args.query.now) in
+    let wanted = matches_query g.C.KeyClass.rules.is_match (query_of c.args.query.now) in
     let over = c.is_empty.ensures.0 (search rules) in
     found_all wanted c.args.commits c.args.table.now c.visits.stack c.visits.rows.items _ over c.visits.invariant.found

@@ -7,7 +7,7 @@ use Rattle.survey.proofs.survey.found_rows.Given as goal
 
 abbrev pub invariant-visits : goal.invariant-visits
 invariant-visits g l =
-    let wanted = matches_query g.C.KeyClass.is_match (query_of l.query) in record {
+    let wanted = matches_query g.C.KeyClass.rules.is_match (query_of l.query) in record {
       exists : IsStack l.table l.stack;
       found : Same (l.rows.items ++ to_find wanted l.commits l.table l.stack) (to_find wanted l.commits l.table (record { page = 0; memo = l.table.counter } ∷ []));
     }

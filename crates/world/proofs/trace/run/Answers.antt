@@ -1,13 +1,11 @@
-use Rattle.std.proofs.Common.{false, sym, arith}
-use Rattle.std.specs.Prelude.{nat_lt, nat_le}
+use Rattle.std.proofs.Common.{sym, arith}
 use Rattle.std.proofs.lemmas.List.{take_all}
-use Rattle.cursor.specs.OpenCursors.{words}
-use Rattle.cursor.proofs.WordLaws.{WordLaws}
+use Rattle.mailbox.specs.Outlets.{tray_rule}
 use Rattle.world.proofs.Running.{has_run_none, has_run_push, runs_always_faithful, no_bad_config}
 use Rattle.world.proofs.trace.run.Goals as goal
 
 pub loop-event-init : goal.loop-event-init
-loop-event-init g c = rw (c.in_ok-world.ensures.made, c.in_ok-replies.ensures.items) (has_run_none _ c.args.config c.args.events.now)
+loop-event-init g c = rw (c.in_ok-world.ensures.made, c.in_ok-replies.ensures.items) (has_run_none _ _ c.args.config c.args.events.now)
 
 pub returns-in_err-copy-clause-bad : goal.returns-in_err-copy-clause-bad
 returns-in_err-copy-clause-bad g c =
@@ -22,7 +20,7 @@ returns-in_err-push-clause-bad g c =
 pub loop-event-preserved : goal.loop-event-preserved
 loop-event-preserved g c =
     rw c.in_ok-push.ensures.items
-    (has_run_push _ c.args.config c.args.events.now c.loop-event.event-index c.loop-event.replies.items c.loop-event.world c.step-reply.new.self
+    (has_run_push _ _ c.args.config c.args.events.now c.loop-event.event-index c.loop-event.replies.items c.loop-event.world c.step-reply.new.self
     c.event-item.result c.in_ok-copy.field-0 c.step-reply.result c.loop-event.invariant c.loop-event-test.true (sym c.event-item.is) c.in_ok-copy.ensures c.step-reply.ensures.step)
 
 pub returns-clause-one_each : goal.returns-clause-one_each
@@ -34,13 +32,7 @@ returns-clause-steps g c =
 
 pub returns-clause-faithful : goal.returns-clause-faithful
 returns-clause-faithful g c =
-    let laws : WordLaws (words g.C.KeyClass.is_match g.C.KeyClass.is_consistent g.C.KeyClass.is_cover g.C.KeyClass.union_of (λ room count. nat_lt count room) (λ room count. nat_le room count) false) = record {
-      keys = record { itself = g.met.C.KeyClass.covers_itself; through = g.met.C.KeyClass.covers_through; left = g.met.C.KeyClass.union_covers_left; right = g.met.C.KeyClass.union_covers_right; least = g.met.C.KeyClass.union_is_least };
-      consistent = g.met.C.KeyClass.consistent_above_match;
-      equal = g.C.Key.PartialEq.eq;
-      exact = g.met.C.KeyClass.equal_keys_are_same;
-    } in
-    runs_always_faithful (words g.C.KeyClass.is_match g.C.KeyClass.is_consistent g.C.KeyClass.is_cover g.C.KeyClass.union_of (λ room count. nat_lt count room) (λ room count. nat_le room count) false) laws c.args.config c.in_ok-world.ensures.within _ c.loop-event.world
+    runs_always_faithful g.C.KeyClass.rules tray_rule g.met.C.KeyClass.lawful c.args.config c.in_ok-world.ensures.within _ c.loop-event.world
     (rw (take_all c.loop-event.event-index c.args.events.now (omega (arith, c.loop-event-test.false))) at c.loop-event.invariant.ran)
 
 pub returns-clause-bad : goal.returns-clause-bad

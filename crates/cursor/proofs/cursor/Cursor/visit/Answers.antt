@@ -1,17 +1,16 @@
 use Rattle.std.proofs.Common.{rules}
-use Rattle.cursor.specs.OpenCursors.{words}
 use Rattle.cursor.proofs.Tasks.{visit_is_due}
 use Rattle.cursor.proofs.cursor.Cursor.visit.Goals as goal
 
 pub returns-in-Ok-Some : goal.returns-in-Ok-Some
 returns-in-Ok-Some g c = λ commits. (
-  visit_is_due (words g.C.KeyClass.is_match g.C.KeyClass.is_consistent g.C.KeyClass.is_cover g.C.KeyClass.union_of g.O.Outlet.may_take g.O.Outlet.may_refuse g.O.Outlet.is_emptied_elsewhere) commits c.args.self.now c.requires.none_pending c.requires.scanning,
+  visit_is_due g.C.KeyClass.rules g.O.Outlet.rule commits c.args.self.now c.requires.none_pending c.requires.scanning,
   record { stack = c.visit.new.self; noted = c.in-Ok-Some.visited.rows.items; visits = rw (← c.self.view_is) (rw (c.in-Ok-Some.field-0-is, c.deref.ensures) at c.in-Ok-Some.ensures.visited); after = search rules },
 )
 
 pub returns-in-Err : goal.returns-in-Err
 returns-in-Err g c = λ commits. (
-  visit_is_due (words g.C.KeyClass.is_match g.C.KeyClass.is_consistent g.C.KeyClass.is_cover g.C.KeyClass.union_of g.O.Outlet.may_take g.O.Outlet.may_refuse g.O.Outlet.is_emptied_elsewhere) commits c.args.self.now c.requires.none_pending c.requires.scanning,
+  visit_is_due g.C.KeyClass.rules g.O.Outlet.rule commits c.args.self.now c.requires.none_pending c.requires.scanning,
   search rules,
   rw (← c.self.view_is) (rw c.deref.ensures at c.in-Err.ensures.memory),
 )

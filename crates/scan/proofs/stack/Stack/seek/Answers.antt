@@ -13,13 +13,13 @@ go_on-requires-clause-exists g c = (next_exists c.args.table.now c.args.self.now
 
 pub returns-clause-sought : goal.returns-clause-sought
 returns-clause-sought g c =
-    seeks_further (λ bound. g.C.KeyClass.is_cover bound c.args.key) c.args.row c.args.table.now c.args.self.now c.in-Some.item c.item-2.inside.page c.go_on.new.self c.in_ok-go_on.ensures.ok (ap (λ i. i.page) c.item-2.view_is) (search rules)
+    seeks_further (λ bound. g.C.KeyClass.rules.is_cover bound c.args.key) c.args.row c.args.table.now c.args.self.now c.in-Some.item c.item-2.inside.page c.go_on.new.self c.in_ok-go_on.ensures.ok (ap (λ i. i.page) c.item-2.view_is) (search rules)
 
 pub returns-clause-lost_nothing : goal.returns-clause-lost_nothing
 returns-clause-lost_nothing g c fan tag commits sound agrees inserted find =
-    further_finder g.C.KeyClass.is_cover c.args.table.now fan sound commits agrees c.args.row g.met.C.KeyClass.covers_through c.args.key tag inserted
+    further_finder g.C.KeyClass.rules.is_cover c.args.table.now fan sound commits agrees c.args.row g.met.C.KeyClass.lawful.bounds.through c.args.key tag inserted
     c.args.self.now c.item-2.inside.page c.go_on.new.self (returns-clause-sought g c) find
 
 pub returns-clause-less_work : goal.returns-clause-less_work
 returns-clause-less_work g c fan sound =
-    seek_pages g.C.KeyClass.is_cover c.args.table.now fan sound (λ bound. g.C.KeyClass.is_cover bound c.args.key) c.args.self.now c.in-Some.item c.go_on.new.self c.requires c.in_ok-go_on.ensures.ok
+    seek_pages g.C.KeyClass.rules.is_cover c.args.table.now fan sound (λ bound. g.C.KeyClass.rules.is_cover bound c.args.key) c.args.self.now c.in-Some.item c.go_on.new.self c.requires c.in_ok-go_on.ensures.ok

@@ -9,23 +9,23 @@ pub returns-clause-visited : goal.returns-clause-visited
 returns-clause-visited g c =
     let K = g.C.KeyClass in
     let q = query_of c.args.query.now in
-    let wanted = matches_query K.is_match q in
-    visits_made wanted (consistent_with_query K.is_consistent q) c.args.opened c.args.table.now c.args.self.now c.go_on_by_query.new.self c.in-Some.item c.item-2.inside.page (seen_on wanted c.args.opened c.args.table.now c.item-2.inside.page)
+    let wanted = matches_query K.rules.is_match q in
+    visits_made wanted (consistent_with_query K.rules.is_consistent q) c.args.opened c.args.table.now c.args.self.now c.go_on_by_query.new.self c.in-Some.item c.item-2.inside.page (seen_on wanted c.args.opened c.args.table.now c.item-2.inside.page)
     c.in_ok-go_on_by_query.ensures.ok (ap (λ i. i.page) c.item-2.view_is) (ap (λ i. seen_on wanted c.args.opened c.args.table.now i.page) c.item-2.view_is)
 
 pub returns-clause-lost_nothing : goal.returns-clause-lost_nothing
 returns-clause-lost_nothing g c fan sound =
     let K = g.C.KeyClass in
     let q = query_of c.args.query.now in
-    let wanted = matches_query K.is_match q in
-    visit_find K.is_cover c.args.table.now fan sound wanted (consistent_with_query K.is_consistent q) c.args.opened c.args.self.now c.go_on_by_query.new.self c.item-2.inside.page (seen_on wanted c.args.opened c.args.table.now c.item-2.inside.page)
-    c.requires (returns-clause-visited g c) g.met.C.KeyClass.covers_through
-    (λ bound key v m. consistent_above_match K.is_match K.is_consistent K.is_cover g.met.C.KeyClass.consistent_above_match q bound key v m)
+    let wanted = matches_query K.rules.is_match q in
+    visit_find K.rules.is_cover c.args.table.now fan sound wanted (consistent_with_query K.rules.is_consistent q) c.args.opened c.args.self.now c.go_on_by_query.new.self c.item-2.inside.page (seen_on wanted c.args.opened c.args.table.now c.item-2.inside.page)
+    c.requires (returns-clause-visited g c) g.met.C.KeyClass.lawful.bounds.through
+    (λ bound key v m. consistent_above_match K.rules.is_match K.rules.is_consistent K.rules.is_cover g.met.C.KeyClass.lawful.consistent_above_match q bound key v m)
 
 pub returns-clause-less_work : goal.returns-clause-less_work
 returns-clause-less_work g c fan sound =
     let K = g.C.KeyClass in
     let q = query_of c.args.query.now in
-    let wanted = matches_query K.is_match q in
-    visit_pages K.is_cover c.args.table.now fan sound wanted (consistent_with_query K.is_consistent q) c.args.opened c.args.self.now c.go_on_by_query.new.self c.item-2.inside.page (seen_on wanted c.args.opened c.args.table.now c.item-2.inside.page)
+    let wanted = matches_query K.rules.is_match q in
+    visit_pages K.rules.is_cover c.args.table.now fan sound wanted (consistent_with_query K.rules.is_consistent q) c.args.opened c.args.self.now c.go_on_by_query.new.self c.item-2.inside.page (seen_on wanted c.args.opened c.args.table.now c.item-2.inside.page)
     c.requires (returns-clause-visited g c)

@@ -1,8 +1,7 @@
-use Rattle.std.proofs.Common.{rules, length, sym, ap, ◌∙◌, ◌≡◌, List, subst}
+use Rattle.std.proofs.Common.{rules, length, sym, ◌∙◌, ◌≡◌, List, subst}
 use Rattle.key_class.specs.Queries.{consistent_with_query, matches_query}
 use Rattle.page_table.specs.Stacks.{StackItem}
-use Rattle.scan.specs.Prepared.{PreparedVisit}
-use Rattle.scan.specs.Scanning.{IsNext, Visits}
+use Rattle.scan.specs.Scanning.{IsNext}
 use Rattle.scan.proofs.Growing.{on_err}
 use Rattle.scan.proofs.Preparing.{prepared_made, prepared_pushes}
 use Rattle.scan.proofs.Visiting.{room_popped}
@@ -20,7 +19,7 @@ returns-clause-visited g c = λ table e_counter e_page.
     let K = g.C.KeyClass in
     let v = c.args.visit in
     let found = rw c.in-Some.is at c.visit.invariant in
-    prepared_made (matches_query K.is_match v.query) (consistent_with_query K.is_consistent v.query) v.opened c.args.counter c.args.self.now c.make_room.new.items.items c.pop.new.self.items c.push_link.new.items.items c.push_pages.new.items.items
+    prepared_made (matches_query K.rules.is_match v.query) (consistent_with_query K.rules.is_consistent v.query) v.opened c.args.counter c.args.self.now c.make_room.new.items.items c.pop.new.self.items c.push_link.new.items.items c.push_pages.new.items.items
     v.item c.item.inside.memo _ c.in-Some.found.children.items v.page c.in-Some.found.rows.items
     c.requires.next (c.make_room.ensures.items ∙ c.self.view_is) c.pop.ensures.rest (search rules) c.push_link.ensures.pushed (search rules) (search rules) (search rules) (search rules)
     c.item.inside.page (search rules) table e_counter e_page
@@ -30,5 +29,5 @@ returns-in_err-make_room-clause-memory g c =
     let K = g.C.KeyClass in
     let v = c.args.visit in
     let found = rw c.in-Some.is at c.visit.invariant in
-    on_err c.from_residual.result (λ table e_counter e_page. prepared_pushes (consistent_with_query K.is_consistent v.query) c.args.self.now v.item v.page c.in-Some.found.children.items
+    on_err c.from_residual.result (λ table e_counter e_page. prepared_pushes (consistent_with_query K.rules.is_consistent v.query) c.args.self.now v.item v.page c.in-Some.found.children.items
     c.requires.next (search rules) (search rules) table e_page)

@@ -11,29 +11,29 @@ returns-in_err-sibling-clause-entries g c = entries_same c.args.self.now.tree c.
 
 pub invariant_of-self-2 : goal.invariant_of-self-2
 invariant_of-self-2 g c =
-    (split_finished g.C.KeyClass.is_cover g.C.KeyClass.union_of c.self.inside.table c.split.new.table c.self.inside.fan c.self.inside.least c.self.inside.limit c.args.self.now c.self.view_is c.self.invariant
+    (split_finished g.C.KeyClass.rules.is_cover g.C.KeyClass.rules.union_of c.self.inside.table c.split.new.table c.self.inside.fan c.self.inside.least c.self.inside.limit c.args.self.now c.self.view_is c.self.invariant
     c.args.page c.args.sides.now (sym c.split_refusal.ensures ∙ c.in_default.is)
-    c.in_ok-sibling.ensures.split (record { itself = g.met.C.KeyClass.covers_itself; through = g.met.C.KeyClass.covers_through; left = g.met.C.KeyClass.union_covers_left; right = g.met.C.KeyClass.union_covers_right; least = g.met.C.KeyClass.union_is_least })).inv
+    c.in_ok-sibling.ensures.split g.met.C.KeyClass.lawful.bounds).inv
 
 pub returns-clause-same_rows : goal.returns-clause-same_rows
-returns-clause-same_rows g c = split_finished_same g.C.KeyClass.is_cover g.C.KeyClass.union_of c.self.inside.table c.split.new.table c.self.inside.fan c.self.inside.least c.self.inside.limit c.args.self.now c.self.view_is c.self.invariant
+returns-clause-same_rows g c = split_finished_same g.C.KeyClass.rules.is_cover g.C.KeyClass.rules.union_of c.self.inside.table c.split.new.table c.self.inside.fan c.self.inside.least c.self.inside.limit c.args.self.now c.self.view_is c.self.invariant
     c.args.page c.args.sides.now (sym c.split_refusal.ensures ∙ c.in_default.is)
     c.in_ok-sibling.ensures.split
 
 pub returns-clause-kept : goal.returns-clause-kept
 returns-clause-kept g c =
-    (split_finished g.C.KeyClass.is_cover g.C.KeyClass.union_of c.self.inside.table c.split.new.table c.self.inside.fan c.self.inside.least c.self.inside.limit c.args.self.now c.self.view_is c.self.invariant
+    (split_finished g.C.KeyClass.rules.is_cover g.C.KeyClass.rules.union_of c.self.inside.table c.split.new.table c.self.inside.fan c.self.inside.least c.self.inside.limit c.args.self.now c.self.view_is c.self.invariant
     c.args.page c.args.sides.now (sym c.split_refusal.ensures ∙ c.in_default.is)
-    c.in_ok-sibling.ensures.split (record { itself = g.met.C.KeyClass.covers_itself; through = g.met.C.KeyClass.covers_through; left = g.met.C.KeyClass.union_covers_left; right = g.met.C.KeyClass.union_covers_right; least = g.met.C.KeyClass.union_is_least })).kept
+    c.in_ok-sibling.ensures.split g.met.C.KeyClass.lawful.bounds).kept
 
 pub returns-clause-entries : goal.returns-clause-entries
 returns-clause-entries g c =
-    (split_finished g.C.KeyClass.is_cover g.C.KeyClass.union_of c.self.inside.table c.split.new.table c.self.inside.fan c.self.inside.least c.self.inside.limit c.args.self.now c.self.view_is c.self.invariant
+    (split_finished g.C.KeyClass.rules.is_cover g.C.KeyClass.rules.union_of c.self.inside.table c.split.new.table c.self.inside.fan c.self.inside.least c.self.inside.limit c.args.self.now c.self.view_is c.self.invariant
     c.args.page c.args.sides.now (sym c.split_refusal.ensures ∙ c.in_default.is)
-    c.in_ok-sibling.ensures.split (record { itself = g.met.C.KeyClass.covers_itself; through = g.met.C.KeyClass.covers_through; left = g.met.C.KeyClass.union_covers_left; right = g.met.C.KeyClass.union_covers_right; least = g.met.C.KeyClass.union_is_least })).moved
+    c.in_ok-sibling.ensures.split g.met.C.KeyClass.lawful.bounds).moved
 
 pub returns-clause-sound : goal.returns-clause-sound
 returns-clause-sound g c =
-    (split_finished g.C.KeyClass.is_cover g.C.KeyClass.union_of c.self.inside.table c.split.new.table c.self.inside.fan c.self.inside.least c.self.inside.limit c.args.self.now c.self.view_is c.self.invariant
+    (split_finished g.C.KeyClass.rules.is_cover g.C.KeyClass.rules.union_of c.self.inside.table c.split.new.table c.self.inside.fan c.self.inside.least c.self.inside.limit c.args.self.now c.self.view_is c.self.invariant
     c.args.page c.args.sides.now (sym c.split_refusal.ensures ∙ c.in_default.is)
-    c.in_ok-sibling.ensures.split (record { itself = g.met.C.KeyClass.covers_itself; through = g.met.C.KeyClass.covers_through; left = g.met.C.KeyClass.union_covers_left; right = g.met.C.KeyClass.union_covers_right; least = g.met.C.KeyClass.union_is_least })).inv.sound
+    c.in_ok-sibling.ensures.split g.met.C.KeyClass.lawful.bounds).inv.sound

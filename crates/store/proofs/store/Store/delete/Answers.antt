@@ -1,14 +1,14 @@
-use Rattle.world.specs.Trays.{tray_words}
 use Rattle.std.proofs.Common.{◌+◌, ◌≤◌, ◌∷◌, inr, ⊎_elim, ap, sym, subst, length, arith}
 use Rattle.std.proofs.lemmas.List.Sorted.{IsPermutation-refl}
 use Rattle.std.specs.Prelude.{IsPermutation}
+use Rattle.mailbox.specs.Outlets.{tray_rule}
 use Rattle.change_list.specs.declared.write.Write.TheVariants.{Delete}
 use Rattle.world.specs.Resting.{deaths}
 use Rattle.store.proofs.Keeping.{on_ok, on_errs, commits_write, keeps, dead_rows_permuted}
 use Rattle.store.proofs.store.Store.delete.Goals as goal
 
 pub returns-clause-ok : goal.returns-clause-ok
-returns-clause-ok g c = rw (← c.self.view_is) (on_ok c.delete-deleted.result (λ e. commits_write (tray_words g.C.KeyClass.is_match g.C.KeyClass.is_consistent g.C.KeyClass.is_cover g.C.KeyClass.union_of) c.self.inside.world c.delete-deleted.new.world c.delete-deleted.ensures.rests (Delete c.args.row) e) c.delete-deleted.ensures.committed)
+returns-clause-ok g c = rw (← c.self.view_is) (on_ok c.delete-deleted.result (λ e. commits_write g.C.KeyClass.rules tray_rule c.self.inside.world c.delete-deleted.new.world c.delete-deleted.ensures.rests (Delete c.args.row) e) c.delete-deleted.ensures.committed)
 
 pub returns-clause-dead : goal.returns-clause-dead
 returns-clause-dead g c = rw (← c.self.view_is) (on_ok c.delete-deleted.result (λ p. dead_rows_permuted ((c.args.row, length c.self.inside.world.commits + 1) ∷ deaths c.self.inside.world.search.tree) (deaths c.delete-deleted.new.world.search.tree) p) c.delete-deleted.ensures.dead)
@@ -16,7 +16,7 @@ returns-clause-dead g c = rw (← c.self.view_is) (on_ok c.delete-deleted.result
 pub returns-clause-err : goal.returns-clause-err
 returns-clause-err g c =
     rw (← c.self.view_is)
-    (on_errs c.delete-deleted.result (λ e d. keeps (tray_words g.C.KeyClass.is_match g.C.KeyClass.is_consistent g.C.KeyClass.is_cover g.C.KeyClass.union_of) c.self.inside.world c.delete-deleted.new.world c.delete-deleted.ensures.rests e (subst (λ ds. IsPermutation (deaths c.self.inside.world.search.tree) ds) (sym d) (IsPermutation-refl (deaths c.self.inside.world.search.tree)))) c.delete-deleted.ensures.unchanged c.delete-deleted.ensures.dead_kept)
+    (on_errs c.delete-deleted.result (λ e d. keeps g.C.KeyClass.rules tray_rule c.self.inside.world c.delete-deleted.new.world c.delete-deleted.ensures.rests e (subst (λ ds. IsPermutation (deaths c.self.inside.world.search.tree) ds) (sym d) (IsPermutation-refl (deaths c.self.inside.world.search.tree)))) c.delete-deleted.ensures.unchanged c.delete-deleted.ensures.dead_kept)
 
 pub returns-clause-finders_full : goal.returns-clause-finders_full
 returns-clause-finders_full g c =

@@ -5,7 +5,7 @@ use Rattle.store.proofs.store.Store.drain.Goals as goal
 pub draining-smaller : goal.draining-smaller
 draining-smaller g c =
     let n = rw c.in-Some.is at c.in_ok-next.ensures.ok in
-    nexts_less g.C.KeyClass.is_match c.draining.self c.next.new.self c.args.c c.in-Some.item n
+    nexts_less g.C.KeyClass.rules.is_match c.draining.self c.next.new.self c.args.c c.in-Some.item n
 
 pub draining-preserved : goal.draining-preserved
 draining-preserved g c =
@@ -13,7 +13,7 @@ draining-preserved g c =
     let i = c.draining.invariant in (
       i.0 ++ c.in-Some.item ∷ [],
       c.push_reserved.ensures.items ∙ ap (λ l. l ++ c.in-Some.item ∷ []) (c.try_reserve.ensures.items ∙ i.1) ∙ append_assoc c.args.into.now.items i.0 (c.in-Some.item ∷ []),
-      gave_push g.C.KeyClass.is_match c.args.self.now c.draining.self c.next.new.self c.args.c i.0 c.in-Some.item i.2 n,
+      gave_push g.C.KeyClass.rules.is_match c.args.self.now c.draining.self c.next.new.self c.args.c i.0 c.in-Some.item i.2 n,
     )
 
 pub returns-in_default : goal.returns-in_default

@@ -4,7 +4,7 @@ use Rattle.store.specs.States.{Gave, work_at}
 use Rattle.store.proofs.store.Store.drain.Given as goal
 
 abbrev pub invariant-draining : goal.invariant-draining
-invariant-draining g l = (given : List (Item _)) × (l.into.items ≡ l.initial.into.items ++ given) × Gave g.C.KeyClass.is_match l.initial.self l.c given l.self
+invariant-draining g l = (given : List (Item _)) × (l.into.items ≡ l.initial.into.items ++ given) × Gave g.C.KeyClass.rules.is_match l.initial.self l.c given l.self
 
 abbrev pub decreases-draining : goal.decreases-draining
 decreases-draining g l = work_at l.self l.c

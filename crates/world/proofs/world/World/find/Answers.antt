@@ -21,4 +21,4 @@ invariant_of-self-2 g c =
     let passed = subst (λ s. first_failing (find_tests s c.args.row) ≡ None) (sym c.self.view_is) c.in-Ok.ensures.passed in
     let e = c.in-Ok.ensures.inserted in
     let is = subst (λ s. commit_at s.commits c.args.row ≡ Some (Insert c.in-Ok.key e.0)) (sym c.self.view_is) e.1 in
-    rw (pushed, c.new-finder.ensures) (found_sound g.C.KeyClass.is_cover _ c.self.invariant c.args.row c.in-Ok.key e.0 c.counter-counter.result passed is (c.counter-counter.ensures ∙ ap (λ t. t.counter) c.pages.ensures.table))
+    rw (pushed, c.new-finder.ensures) (found_sound g.C.KeyClass.rules.is_cover _ c.self.invariant c.args.row c.in-Ok.key e.0 c.counter-counter.result passed is (c.counter-counter.ensures ∙ ap (λ t. t.counter) c.pages.ensures.table))

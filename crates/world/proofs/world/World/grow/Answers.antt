@@ -5,7 +5,7 @@ use Rattle.world.proofs.world.World.grow.Goals as goal
 pub invariant_of-self : goal.invariant_of-self
 invariant_of-self g c =
     let e = c.grow.ensures in
-    grown_sound g.C.KeyClass.is_cover g.C.KeyClass.union_of (record { itself = g.met.C.KeyClass.covers_itself; through = g.met.C.KeyClass.covers_through; left = g.met.C.KeyClass.union_covers_left; right = g.met.C.KeyClass.union_covers_right; least = g.met.C.KeyClass.union_is_least }) _ c.self.invariant c.grow.result c.grow.new.self e.unchanged c.args.sides.now e.passed e.grown
+    grown_sound g.C.KeyClass.rules.is_cover g.C.KeyClass.rules.union_of g.met.C.KeyClass.lawful.bounds _ c.self.invariant c.grow.result c.grow.new.self e.unchanged c.args.sides.now e.passed e.grown
 
 pub returns-in-Err : goal.returns-in-Err
 returns-in-Err g c = λ seat. rw (← c.self.view_is) (record {

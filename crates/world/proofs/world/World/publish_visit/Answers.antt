@@ -1,7 +1,5 @@
 use Rattle.std.proofs.Common.{◌≡◌, Some, sym, ap, subst, ◌∙◌}
 use Rattle.split.specs.Tests.{first_failing}
-use Rattle.cursor.specs.OpenCursors.{words}
-use Rattle.cursor.proofs.WordLaws.{WordLaws}
 use Rattle.world.proofs.Mailboxes.{step_fits_mailboxes}
 use Rattle.world.proofs.Stepping.{turn_commits}
 use Rattle.world.specs.Steps.{cursor_tests}
@@ -12,24 +10,12 @@ pub returns-in-Err-clause-step : goal.returns-in-Err-clause-step
 returns-in-Err-clause-step g c = λ h worked.
     let refused : first_failing (cursor_tests c.args.self.now c.task.inside.cursor) ≡ Some c.in-Err.field-0 = c.in-Err.ensures.refused in
     let same = subst (λ n. first_failing (cursor_tests c.args.self.now n) ≡ Some c.in-Err.field-0) (ap (λ t. t.cursor) c.task.view_is) refused in
-    absurd (none_is_not_some c.in-Err.field-0 (sym (visited_is_open g.C.KeyClass.is_cover c.args.self.now c.is_sound.ensures c.args.task.cursor c.args.task.visit h) ∙ same))
+    absurd (none_is_not_some c.in-Err.field-0 (sym (visited_is_open g.C.KeyClass.rules.is_cover c.args.self.now c.is_sound.ensures c.args.task.cursor c.args.task.visit h) ∙ same))
 
 pub returns-clause-mailboxes : goal.returns-clause-mailboxes
 returns-clause-mailboxes g c =
-    let laws : WordLaws (words g.C.KeyClass.is_match g.C.KeyClass.is_consistent g.C.KeyClass.is_cover g.C.KeyClass.union_of g.O.Outlet.may_take g.O.Outlet.may_refuse g.O.Outlet.is_emptied_elsewhere) = record {
-      keys = record { itself = g.met.C.KeyClass.covers_itself; through = g.met.C.KeyClass.covers_through; left = g.met.C.KeyClass.union_covers_left; right = g.met.C.KeyClass.union_covers_right; least = g.met.C.KeyClass.union_is_least };
-      consistent = g.met.C.KeyClass.consistent_above_match;
-      equal = g.C.Key.PartialEq.eq;
-      exact = g.met.C.KeyClass.equal_keys_are_same;
-    } in
-    λ there. step_fits_mailboxes (words g.C.KeyClass.is_match g.C.KeyClass.is_consistent g.C.KeyClass.is_cover g.C.KeyClass.union_of g.O.Outlet.may_take g.O.Outlet.may_refuse g.O.Outlet.is_emptied_elsewhere) laws 0 c.args.self.now c.is_sound.ensures there _ c.publish_due-reply.result c.publish_due-reply.new.self (c.publish_due-reply.ensures 0)
+    λ there. step_fits_mailboxes g.C.KeyClass.rules g.O.Outlet.rule g.met.C.KeyClass.lawful 0 c.args.self.now c.is_sound.ensures there _ c.publish_due-reply.result c.publish_due-reply.new.self (c.publish_due-reply.ensures 0)
 
 pub returns-clause-commits : goal.returns-clause-commits
 returns-clause-commits g c =
-    let laws : WordLaws (words g.C.KeyClass.is_match g.C.KeyClass.is_consistent g.C.KeyClass.is_cover g.C.KeyClass.union_of g.O.Outlet.may_take g.O.Outlet.may_refuse g.O.Outlet.is_emptied_elsewhere) = record {
-      keys = record { itself = g.met.C.KeyClass.covers_itself; through = g.met.C.KeyClass.covers_through; left = g.met.C.KeyClass.union_covers_left; right = g.met.C.KeyClass.union_covers_right; least = g.met.C.KeyClass.union_is_least };
-      consistent = g.met.C.KeyClass.consistent_above_match;
-      equal = g.C.Key.PartialEq.eq;
-      exact = g.met.C.KeyClass.equal_keys_are_same;
-    } in
-    turn_commits (words g.C.KeyClass.is_match g.C.KeyClass.is_consistent g.C.KeyClass.is_cover g.C.KeyClass.union_of g.O.Outlet.may_take g.O.Outlet.may_refuse g.O.Outlet.is_emptied_elsewhere) laws 0 c.args.self.now c.is_sound.ensures _ c.publish_due-reply.result c.publish_due-reply.new.self (c.publish_due-reply.ensures 0)
+    turn_commits g.C.KeyClass.rules g.O.Outlet.rule g.met.C.KeyClass.lawful 0 c.args.self.now c.is_sound.ensures _ c.publish_due-reply.result c.publish_due-reply.new.self (c.publish_due-reply.ensures 0)

@@ -4,7 +4,7 @@ use Rattle.world.proofs.FinderSteps.{sweeps_call_sound}
 use Rattle.world.proofs.world.World.sweep.Goals as goal
 
 pub invariant_of-self : goal.invariant_of-self
-invariant_of-self g c = sweeps_call_sound g.C.KeyClass.is_cover _ c.self.invariant c.args.page c.sweep.result c.sweep.new.self c.horizon-horizon.result c.sweep.ensures.passed c.sweep.ensures.swept c.sweep.ensures.unchanged
+invariant_of-self g c = sweeps_call_sound g.C.KeyClass.rules.is_cover _ c.self.invariant c.args.page c.sweep.result c.sweep.new.self c.horizon-horizon.result c.sweep.ensures.passed c.sweep.ensures.swept c.sweep.ensures.unchanged
 
 pub returns-in-Ok : goal.returns-in-Ok
 returns-in-Ok g c = λ seat.
