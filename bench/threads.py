@@ -144,6 +144,32 @@ def print_visits(options):
     print(f"  an insert into a store                {(store - keys) / options.rows:>10.1f} ns")
 
 
+def print_prepared(options):
+    """How long a turn that reads a page, and a split, have the lock: made at once, and worked out between two visits."""
+    clock = least(options.turns, ["clock", 1_000_000])[0]
+    tick = clock["wall"] / clock["calls"]
+    print("Nanoseconds under the lock, and between two visits to it")
+    for name, words in (("a turn that reads a page", ["turns", options.rows, options.rows // 50]), ("a split", ["splits", options.rows])):
+        at_once = [parts([words[0] + "_at_once", *words[1:]])[0] for _ in range(options.turns)]
+        prepared = [parts([words[0] + "_prepared", *words[1:]]) for _ in range(options.turns)]
+        once = min(part["wall"] / part["calls"] for part in at_once) - tick
+        visits = min(run[1]["wall"] / run[1]["calls"] for run in prepared) - 2 * tick
+        between = min(run[2]["wall"] / run[2]["calls"] for run in prepared) - tick
+        print(f"  {name:<25} at once {once:>8.0f}   in two visits {visits:>8.0f}, between them {between:>8.0f}")
+
+
+def print_readers(options):
+    """Threads that read pages while one inserts, and while none does."""
+    print(f"Pages a second of threads that read {options.pages:,} each, a new cursor for every 1,000, among {options.rows:,} rows")
+    print("  readers  while nobody inserts  while one inserts")
+    for count in options.threads:
+        rates = []
+        for inserts in (0, 10 * options.rows):
+            runs = [parts(["readers", count + 1, options.rows, inserts, options.pages])[1] for _ in range(options.turns)]
+            rates.append(max(run["calls"] * count / run["threads_wall"] for run in runs) * 1e9)
+        print(f"  {count:>7}  {rates[0]:>20,.0f}  {rates[1]:>17,.0f}", flush=True)
+
+
 def told(value, aim):
     return f"{value:.2f}, aim {aim}: {'met' if value <= aim else 'MISSED'}"
 
@@ -171,6 +197,7 @@ def main():
     parser.add_argument("--threads", type=int, action="append", help="by default 1, 2 and 4")
     parser.add_argument("--rows", type=int, help="rows in all, by default 100000, and 20000 with --callgrind")
     parser.add_argument("--finds", type=int, default=20_000, help="finds in all")
+    parser.add_argument("--pages", type=int, default=100_000, help="pages that each reader reads")
     parser.add_argument("--turns", type=int, default=3, help="runs, the least of which counts")
     parser.add_argument("--callgrind", action="store_true", help="instructions in place of time, by valgrind")
     parser.add_argument("--build", action="store_true", help="build the program and measure nothing")
@@ -191,6 +218,8 @@ def main():
     else:
         print_threads(options)
         print_visits(options)
+        print_prepared(options)
+        print_readers(options)
 
 
 if __name__ == "__main__":

@@ -106,7 +106,33 @@ fn told(ended: Ended<Interval>) -> Option<(u64, u64)> {
     }
 }
 
-/// Three rows, a cursor, two more rows and a delete, and a mark. What closing the cursor tells, with damaged items.
+fn insert_all<L: Ledger, R: Wait>(
+    rt: &R,
+    desk: &Desk<Intervals, L>,
+    seat: &mut Seat<Intervals, L>,
+    lows: &[i64],
+) -> Result<(), Refusal> {
+    for low in lows {
+        let _number = insert(rt, desk, seat, *low)?;
+    }
+    Ok(())
+}
+
+/// Two more rows, a delete, and a mark. What the cursor sends.
+fn followed<L: Ledger, R: Wait>(
+    rt: &R,
+    alloc: Global,
+    desk: &Desk<Intervals, L>,
+    seat: &mut Seat<Intervals, L>,
+    taker: &mut Taker<'_, Intervals, L>,
+) -> Result<Vec<Item<Interval>>, Refusal> {
+    insert_all(rt, desk, seat, &[4, 5])?;
+    let _deleted = desk.delete(rt, seat, 1)?;
+    let _asked = desk.ask_mark(rt, taker.cursor());
+    Ok(sent(rt, alloc, desk, taker)?)
+}
+
+/// What closing a cursor after three rows tells, with damaged items.
 fn closed_with<L: Ledger, R: Wait>(
     rt: &R,
     alloc: Global,
@@ -114,24 +140,35 @@ fn closed_with<L: Ledger, R: Wait>(
     seat: &mut Seat<Intervals, L>,
     damage: Damage,
 ) -> Result<Option<(u64, u64)>, Fail> {
-    for low in [1, 2, 3] {
-        let _number = insert(rt, desk, seat, low)?;
-    }
+    insert_all(rt, desk, seat, &[1, 2, 3])?;
     let mut taker = desk.open_cursor(rt, seat, all()?, 16)?;
-    let few = desk.open_cursor(rt, seat, overlapping(3, 5)?, 16)?;
-    for low in [4, 5] {
-        let _number = insert(rt, desk, seat, low)?;
-    }
-    let _deleted = desk.delete(rt, seat, 1)?;
-    let _asked = desk.ask_mark(rt, taker.cursor());
-    let mut items = sent(rt, alloc, desk, &mut taker)?;
+    let mut items = followed(rt, alloc, desk, seat, &mut taker)?;
     damaged(&mut items, damage)?;
-    let ended = if damage == Damage::ItemsOfAnotherCursor {
-        few.close(rt, seat, items.as_slice())
-    } else {
-        taker.close(rt, seat, items.as_slice())
-    };
-    Ok(told(ended))
+    Ok(told(taker.close(rt, seat, items.as_slice())))
+}
+
+/// All that a cursor over all rows sends.
+fn sent_of_all<L: Ledger, R: Wait>(
+    rt: &R,
+    alloc: Global,
+    desk: &Desk<Intervals, L>,
+    seat: &mut Seat<Intervals, L>,
+) -> Result<Vec<Item<Interval>>, Refusal> {
+    let mut taker = desk.open_cursor(rt, seat, all()?, 16)?;
+    followed(rt, alloc, desk, seat, &mut taker)
+}
+
+/// What closing a cursor tells of the items of another, which matches more.
+fn closed_with_items_of_another<L: Ledger, R: Wait>(
+    rt: &R,
+    alloc: Global,
+    desk: &Desk<Intervals, L>,
+    seat: &mut Seat<Intervals, L>,
+) -> Result<Option<(u64, u64)>, Fail> {
+    insert_all(rt, desk, seat, &[1, 2, 3])?;
+    let few = desk.open_cursor(rt, seat, overlapping(3, 5)?, 16)?;
+    let items = sent_of_all(rt, alloc, desk, seat)?;
+    Ok(told(few.close(rt, seat, items.as_slice())))
 }
 
 fn closed_at_a_desk<L: Ledger, R: Wait + Abort>(
@@ -145,7 +182,10 @@ fn closed_at_a_desk<L: Ledger, R: Wait + Abort>(
     requires one { blank.parts ≡ 1 }
 {
     let (desk, mut seats) = Desk::<Intervals, L>::new(alloc, blank, CONFIG, 1)?;
-    closed_with(rt, alloc, &desk, &mut seats[0], damage)
+    match damage {
+        Damage::ItemsOfAnotherCursor => closed_with_items_of_another(rt, alloc, &desk, &mut seats[0]),
+        damage => closed_with(rt, alloc, &desk, &mut seats[0], damage),
+    }
 }
 
 #[test]
