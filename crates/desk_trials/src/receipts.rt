@@ -183,7 +183,12 @@ fn closed_at_a_desk<L: Ledger, R: Wait + Abort>(
 {
     let (desk, mut seats) = Desk::<Intervals, L>::new(alloc, blank, CONFIG, 1)?;
     match damage {
-        Damage::ItemsOfAnotherCursor => closed_with_items_of_another(rt, alloc, &desk, &mut seats[0]),
+        Damage::ItemsOfAnotherCursor => closed_with_items_of_another(
+            rt,
+            alloc,
+            &desk,
+            &mut seats[0],
+        ),
         damage => closed_with(rt, alloc, &desk, &mut seats[0], damage),
     }
 }
