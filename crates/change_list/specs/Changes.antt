@@ -31,6 +31,16 @@ module _ {K : Type 0} where
   abbrev pub status_of : List (Write K) → ℕ → Status
   status_of commits row = status_from (is_deleted commits row) (commit_at commits row)
 
+  -- a number is no row's, a live row's, a dead row's
+  abbrev pub NamesNoRow : List (Write K) → ℕ → Type 0
+  NamesNoRow commits row = status_of commits row ≡ NeverIssued
+
+  abbrev pub NamesLive : List (Write K) → ℕ → Type 0
+  NamesLive commits row = status_of commits row ≡ Live
+
+  abbrev pub NamesDead : List (Write K) → ℕ → Type 0
+  NamesDead commits row = status_of commits row ≡ Dead
+
   -- an insert may always come next, a delete only where its row is live
   abbrev pub MayFollow : List (Write K) → Write K → Type 0
   MayFollow commits (Insert key tag) = Unit {0}

@@ -1,5 +1,5 @@
 -- The number and the name of each refusal, and how they are printed.
-use Rattle.std.specs.Prelude.{ℕ, List, ◌++◌, codes}
+use Rattle.std.specs.Prelude.{◌≡◌, ◌⊎◌, ℕ, List, ◌++◌, codes}
 use Rattle.std.specs.Fmt.{decimal}
 use Rattle.key_class.specs.declared.refusal.Refusal.{Refusal}
 use Rattle.key_class.specs.declared.refusal.Refusal.TheVariants.{OutOfMemory, BadConfig, PagesFull, CommitsFull, CursorsFull, FindersFull, NotHere, NodeFull, TooFew, Uncovered, Owed, Unhung, BadSides, NoSuchRow, AlreadyDeleted, NoSuchCursor, CursorClosed, NoRoom, Idle, NoSuchFinder, QueryText, Line}
@@ -63,3 +63,7 @@ abbrev pub text_of : Refusal → List ℕ
 text_of (QueryText place) = decimal 21 ++ (codes " " ++ (codes "QueryText" ++ (codes " " ++ decimal place)))
 text_of (Line place) = decimal 22 ++ (codes " " ++ (codes "Line" ++ (codes " " ++ decimal place)))
 text_of refusal = number_and_name refusal
+
+-- a refusal is one of two
+abbrev pub IsEither : Refusal → Refusal → Refusal → Type 0
+IsEither one other why = (why ≡ one) ⊎ (why ≡ other)

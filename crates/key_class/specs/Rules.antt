@@ -1,4 +1,5 @@
 use Rattle.std.specs.Prelude.{◌≡◌, ◌↔◌, ℕ, Bool, true}
+use Rattle.key_class.specs.Queries.{Query, matches_query, consistent_with_query}
 
 -- what a class of keys means by its calls
 pub record Rules (K A : Type 0) : Type 0 where
@@ -12,6 +13,14 @@ pub record Rules (K A : Type 0) : Type 0 where
   pub is_cover : K → K → Bool
   -- how large a key is
   pub size_of : K → ℕ
+
+-- whether a key satisfies a query
+abbrev pub satisfies : {K A : Type 0} → Rules K A → Query A → K → Bool
+satisfies rules query = matches_query rules.is_match query
+
+-- whether a key below a bound may satisfy a query
+abbrev pub may_satisfy : {K A : Type 0} → Rules K A → Query A → K → Bool
+may_satisfy rules query = consistent_with_query rules.is_consistent query
 
 -- the laws of bounds on which a tree rests
 pub record KeyLaws {K : Type 0} (is_cover : K → K → Bool) (union : K → K → K) : Type 0 where
