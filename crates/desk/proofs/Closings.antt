@@ -1,7 +1,6 @@
 -- A visit that closes a cursor, and what it tells of a receipt.
 use Rattle.std.proofs.Common.{◌≡◌, ◌∙◌, List}
 use Rattle.key_class.specs.Rules.{Rules}
-use Rattle.mailbox.specs.Outlets.{Rule}
 use Rattle.change_list.specs.declared.write.Write.{Write}
 use Rattle.world.specs.States.{State}
 use Rattle.desk.specs.Receipts.{IfReceipt}
@@ -9,9 +8,9 @@ use Rattle.desk.specs.Visits.{IsVisit}
 use Rattle.desk.specs.declared.ending.Ended.{Ended}
 use Rattle.desk.specs.declared.ending.Ended.TheVariants as ended
 
-module _ {K A : Type 0} (rules : Rules K A) (rule : Rule) where
+module _ {K A : Type 0} (rules : Rules K A) where
   -- a visit that does more tells less
-  pub visit_less : (P Q : State K A → State K A → Type 0) → ((old new : State K A) → P old new → Q old new) → IsVisit rules rule P → IsVisit rules rule Q
+  pub visit_less : (P Q : State K A → State K A → Type 0) → ((old new : State K A) → P old new → Q old new) → IsVisit rules P → IsVisit rules Q
   visit_less P Q less v = record { old = v.old; new = v.new; found = v.found; did = less v.old v.new v.did; left = v.left }
 
 -- a receipt of the commits that a view has tells those of which the view is

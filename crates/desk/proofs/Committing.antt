@@ -1,14 +1,13 @@
 -- A visit that makes a commit.
 use Rattle.std.proofs.Common.{◌≡◌, ◌+◌, ℕ, [], ◌∷◌, ◌++◌, length, length-append, sym, ap, ◌∙◌}
 use Rattle.key_class.specs.Rules.{Rules}
-use Rattle.mailbox.specs.Outlets.{Rule}
 use Rattle.change_list.specs.declared.write.Write.{Write}
 use Rattle.world.specs.Stamps.{Stamp}
 use Rattle.world.specs.States.{State}
 use Rattle.desk.specs.Visits.{IsHeld, IsCommitted}
 
-module _ {K A : Type 0} (rules : Rules K A) (rule : Rule) (old new : State K A) (seat : ℕ) (write : Write K) (stamp : Stamp K) where
-  pub committed : IsHeld rules rule old → IsHeld rules rule new → new.commits ≡ old.commits ++ write ∷ [] → stamp ≡ record { number = length old.commits + 1; seat = seat; write = write } → IsCommitted rules rule stamp
+module _ {K A : Type 0} (rules : Rules K A) (old new : State K A) (seat : ℕ) (write : Write K) (stamp : Stamp K) where
+  pub committed : IsHeld rules old → IsHeld rules new → new.commits ≡ old.commits ++ write ∷ [] → stamp ≡ record { number = length old.commits + 1; seat = seat; write = write } → IsCommitted rules stamp
   committed before after grown is = record {
     old = old;
     new = new;

@@ -1,5 +1,10 @@
 -- What closing a cursor gives.
-use Rattle.desk.specs.Seats.{Received}
+use Rattle.std.specs.Prelude.{ℕ, List}
+use Rattle.key_class.specs.Queries.{Query}
+use Rattle.key_class.specs.Rules.{Rules, satisfies}
+use Rattle.change_list.specs.declared.item.Item.{Item}
+use Rattle.listing.specs.Deliveries.{IsDelivered}
+use Rattle.desk.specs.Seats.{Received, Following}
 use Rattle.desk.specs.declared.ending.Ended.{Ended}
 use Rattle.desk.specs.declared.ending.Ended.TheVariants as ended
 
@@ -7,3 +12,11 @@ use Rattle.desk.specs.declared.ending.Ended.TheVariants as ended
 abbrev pub IfReceipt : {K : Type 0} → Ended K → (Received K → Type 0) → Type 0
 IfReceipt (ended.Receipt r) P = P r
 IfReceipt ended.NoReceipt P = Unit {0}
+
+-- what was taken of a query since its opening is a delivery of the receipt's commits
+abbrev pub ShowsDelivery : {K A : Type 0} → Rules K A → Query A → ℕ → List (Item K) → Received K → Type 0
+ShowsDelivery rules query opened taken r = IsDelivered (satisfies rules query) opened r.commits taken
+
+-- the same, of what a taker's client knows
+abbrev pub ShowsTaken : {K A : Type 0} → Rules K A → Following K A → List (Item K) → Received K → Type 0
+ShowsTaken rules following taken r = ShowsDelivery rules following.query following.opened taken r

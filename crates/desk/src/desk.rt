@@ -1,15 +1,12 @@
 //! The desk: a world under a lock, and the calls of its clients. Each call visits the lock once or more; a visit makes one
 //! event or none.
-ghost use Rattle.std.specs.Prelude.{◌≡◌, ◌↔◌, ◌⊎◌, ◌<◌, ◌≤◌, ◌+◌, ℕ, [], ◌∷◌, ◌++◌, length, Some, Err, IfSome, IfOk, IfErr, OnErr, slice_get};
+ghost use Rattle.std.specs.Prelude.{◌≡◌, ◌↔◌, ◌<◌, ◌≤◌, ◌+◌, ℕ, [], ◌∷◌, ◌++◌, length, Some, Err, IfSome, IfOk, IfErr, OnErr};
 ghost use Rattle.key_class.specs.Queries.{query_of};
-ghost use Rattle.change_list.specs.Configs.{IsWithinLimits};
 ghost use Rattle.change_list.specs.declared.write.Write.TheVariants.{Insert, Delete};
-ghost use Rattle.removal.specs.Visits.{RefusesDelete};
 ghost use Rattle.world.specs.declared.event.Event.TheVariants as event;
-ghost use Rattle.mailbox.specs.Rings.{ring_rule};
-ghost use Rattle.world.specs.Steps.{Step, Opens};
-ghost use Rattle.desk.specs.Seats.{fresh_seat};
-ghost use Rattle.desk.specs.Visits.{Closes, CountsSearch, IsDelete, IsVisit, IsCommitted, IsSearchCommitted, IsRefusedWhere, RefusesInsert, RefusesOpening};
+ghost use Rattle.desk.specs.Seats.{AreFresh, IsStampOf};
+ghost use Rattle.desk.specs.Visits.{CountsSearch, IsDelete, IsVisit, IsCommitted, IsSearchCommitted, CountsOne, IsBadDesk, OutOfMemoryOr, OpensFor, IsReplied, ClosesWithView, IsInsertRefused, IsDeleteRefused, IsOpeningRefused};
+ghost use Rattle.key_class.specs.Refusals.{IsEither};
 
 use crate::latches::Latches;
 use crate::locked::{Guarded, Locked};
@@ -82,7 +79,7 @@ fn seats_of<C: KeyClass, L: Ledger>(
 ) -> Result<Vec<Seat<C, L>>, AllocError>
     requires { (all.parts ≡ seats) × (all.amount ≡ 0) × (seats ≤ 64) }
     ensures seats { IfOk result (λ made. length made.items ≡ seats) }
-    ensures fresh { IfOk result (λ made. (k : ℕ) → k < seats → slice_get made.items k ≡ Some (fresh_seat (k + 1))) }
+    ensures fresh { IfOk result (λ made. AreFresh seats made.items) }
 {
     let mut all = all;
     let mut made = Vec::with_capacity(alloc, seats)?;
@@ -110,9 +107,9 @@ impl<C: KeyClass, L: Ledger> DeskOver<World<C, Ring<C::Key>>, L> {
         requires one_each { blank.parts ≡ seats }
         ensures desk { IfOk result (λ made. made.0 ≡ seats) }
         ensures seats { IfOk result (λ made. length made.1.items ≡ seats) }
-        ensures fresh { IfOk result (λ made. (k : ℕ) → k < seats → slice_get made.1.items k ≡ Some (fresh_seat (k + 1))) }
-        ensures bad { (result ≡ Err Refusal.BadConfig) ↔ ((seats ≡ 0) ⊎ (64 < seats) ⊎ (¬ IsWithinLimits config)) }
-        ensures refusals { IfErr result (λ why. (why ≡ Refusal.BadConfig) ⊎ (why ≡ Refusal.OutOfMemory)) }
+        ensures fresh { IfOk result (λ made. AreFresh seats made.1.items) }
+        ensures bad { (result ≡ Err Refusal.BadConfig) ↔ IsBadDesk seats config }
+        ensures refusals { IfErr result (IsEither Refusal.BadConfig Refusal.OutOfMemory) }
     {
         if seats == 0 || seats > 64 {
             return Err(Refusal::BadConfig);
@@ -145,13 +142,13 @@ impl<C: KeyClass, L: Ledger> DeskOver<World<C, Ring<C::Key>>, L> {
         key: C::Key,
         tag: u64,
     ) -> Result<Stamped<C::Key>, Refusal>
-        ensures stamp { IfOk result (λ s. (s.seat ≡ seat.old.number) × (s.write ≡ Insert key tag)) }
+        ensures stamp { IfOk result (IsStampOf seat.old.number (Insert key tag)) }
         ensures stamps { IfOk result (λ s. seat.new.stamps ≡ seat.old.stamps ++ s ∷ []) }
         ensures number { IfOk result (λ s. length seat.new.stamps ≤ s.number) }
         ensures seat { seat.new.number ≡ seat.old.number }
         ensures refused { OnErr result (seat.new ≡ seat.old) }
-        ensures committed { IfOk result (IsCommitted C.rules ring_rule) }
-        ensures refusals { IfErr result (λ why. (why ≡ Refusal.OutOfMemory) ⊎ IsRefusedWhere C.rules ring_rule (λ world. RefusesInsert world why)) }
+        ensures committed { IfOk result (IsCommitted C.rules) }
+        ensures refusals { IfErr result (OutOfMemoryOr (IsInsertRefused C.rules)) }
     {
         if seat.stamps.try_reserve(1).is_err() {
             return Err(Refusal::OutOfMemory);
@@ -172,12 +169,12 @@ impl<C: KeyClass, L: Ledger> DeskOver<World<C, Ring<C::Key>>, L> {
         tag: u64,
     ) -> Result<Stamped<C::Key>, Refusal>
         requires { 0 < share.old.parts }
-        ensures stamp { IfOk result (λ s. (s.seat ≡ number) × (s.write ≡ Insert key tag)) }
-        ensures share { IfOk result (λ s. (share.new.amount ≡ share.old.amount + 1) × (share.new.amount ≤ s.number)) }
+        ensures stamp { IfOk result (IsStampOf number (Insert key tag)) }
+        ensures share { IfOk result (CountsOne share.old.amount share.new.amount) }
         ensures parts { share.new.parts ≡ share.old.parts }
         ensures refused { OnErr result (share.new.amount ≡ share.old.amount) }
-        ensures committed { IfOk result (IsCommitted C.rules ring_rule) }
-        ensures refusals { IfErr result (λ why. (why ≡ Refusal.OutOfMemory) ⊎ IsRefusedWhere C.rules ring_rule (λ world. RefusesInsert world why)) }
+        ensures committed { IfOk result (IsCommitted C.rules) }
+        ensures refusals { IfErr result (OutOfMemoryOr (IsInsertRefused C.rules)) }
     {
         let alloc = self.alloc;
         let mut page = 0;
@@ -201,7 +198,7 @@ impl<C: KeyClass, L: Ledger> DeskOver<World<C, Ring<C::Key>>, L> {
     /// Splits a page on an insertion's way. The sides are worked out without the lock, while nobody else works on the page;
     /// where it was changed meanwhile, again and again, it is split in one visit.
     fn split_for<R: Wait>(&self, rt: &R, number: u32, page: u32) -> Result<(), Refusal>
-        ensures refusals { IfErr result (λ why. (why ≡ Refusal.OutOfMemory) ⊎ IsRefusedWhere C.rules ring_rule (λ world. RefusesInsert world why)) }
+        ensures refusals { IfErr result (OutOfMemoryOr (IsInsertRefused C.rules)) }
     {
         let _latch = self.latches.of(page).lock(rt);
         for _ in 0..PUBLICATIONS {
@@ -229,13 +226,13 @@ impl<C: KeyClass, L: Ledger> DeskOver<World<C, Ring<C::Key>>, L> {
         seat: &mut Seat<C, L>,
         row: u64,
     ) -> Result<Stamped<C::Key>, Refusal>
-        ensures stamp { IfOk result (λ s. (s.seat ≡ seat.old.number) × (s.write ≡ Delete row)) }
+        ensures stamp { IfOk result (IsStampOf seat.old.number (Delete row)) }
         ensures stamps { IfOk result (λ s. seat.new.stamps ≡ seat.old.stamps ++ s ∷ []) }
         ensures number { IfOk result (λ s. length seat.new.stamps ≤ s.number) }
         ensures seat { seat.new.number ≡ seat.old.number }
         ensures refused { OnErr result (seat.new ≡ seat.old) }
-        ensures committed { IfOk result (IsCommitted C.rules ring_rule) }
-        ensures refusals { IfErr result (λ why. (why ≡ Refusal.OutOfMemory) ⊎ IsRefusedWhere C.rules ring_rule (λ world. RefusesDelete world row why)) }
+        ensures committed { IfOk result (IsCommitted C.rules) }
+        ensures refusals { IfErr result (OutOfMemoryOr (IsDeleteRefused C.rules row)) }
     {
         if seat.stamps.try_reserve(1).is_err() {
             return Err(Refusal::OutOfMemory);
@@ -255,12 +252,12 @@ impl<C: KeyClass, L: Ledger> DeskOver<World<C, Ring<C::Key>>, L> {
         row: u64,
     ) -> Result<Stamped<C::Key>, Refusal>
         requires { 0 < share.old.parts }
-        ensures stamp { IfOk result (λ s. (s.seat ≡ number) × (s.write ≡ Delete row)) }
-        ensures share { IfOk result (λ s. (share.new.amount ≡ share.old.amount + 1) × (share.new.amount ≤ s.number)) }
+        ensures stamp { IfOk result (IsStampOf number (Delete row)) }
+        ensures share { IfOk result (CountsOne share.old.amount share.new.amount) }
         ensures parts { share.new.parts ≡ share.old.parts }
         ensures refused { OnErr result (share.new.amount ≡ share.old.amount) }
-        ensures committed { IfOk result (IsCommitted C.rules ring_rule) }
-        ensures refusals { IfErr result (λ why. (why ≡ Refusal.OutOfMemory) ⊎ IsRefusedWhere C.rules ring_rule (λ world. RefusesDelete world row why)) }
+        ensures committed { IfOk result (IsCommitted C.rules) }
+        ensures refusals { IfErr result (OutOfMemoryOr (IsDeleteRefused C.rules row)) }
     {
         let mut finder = self.find_for(rt, row)?;
         for _ in rt.forever() {
@@ -276,7 +273,7 @@ impl<C: KeyClass, L: Ledger> DeskOver<World<C, Ring<C::Key>>, L> {
 
     /// A finder of a row; its serial.
     fn find_for<R: Wait>(&self, rt: &R, row: u64) -> Result<u64, Refusal>
-        ensures refusals { IfErr result (λ why. IsRefusedWhere C.rules ring_rule (λ world. RefusesDelete world row why)) }
+        ensures refusals { IfErr result (IsDeleteRefused C.rules row) }
     {
         self.locked.lock(rt).find(row)
     }
@@ -291,12 +288,12 @@ impl<C: KeyClass, L: Ledger> DeskOver<World<C, Ring<C::Key>>, L> {
         row: u64,
     ) -> Result<Search<C::Key>, Refusal>
         requires { 0 < share.old.parts }
-        ensures stamp { IfOk result (λ search. IsDelete number row search) }
-        ensures share { IfOk result (λ search. CountsSearch share.old.amount search share.new.amount) }
+        ensures stamp { IfOk result (IsDelete number row) }
+        ensures share { IfOk result (CountsSearch share.old.amount share.new.amount) }
         ensures parts { share.new.parts ≡ share.old.parts }
         ensures refused { OnErr result (share.new.amount ≡ share.old.amount) }
-        ensures committed { IfOk result (λ search. IsSearchCommitted C.rules ring_rule search) }
-        ensures refusals { IfErr result (λ why. IsRefusedWhere C.rules ring_rule (λ world. RefusesDelete world row why)) }
+        ensures committed { IfOk result (IsSearchCommitted C.rules) }
+        ensures refusals { IfErr result (IsDeleteRefused C.rules row) }
     {
         let search = self.locked.lock(rt).seek(number, share, finder, row);
         if search.is_err() {
@@ -321,8 +318,8 @@ impl<C: KeyClass, L: Ledger> DeskOver<World<C, Ring<C::Key>>, L> {
         ensures query { IfOk result (λ t. t.query ≡ query_of query) }
         ensures opened { IfOk result (λ t. length seat.old.stamps ≤ t.opened) }
         ensures taken { IfOk result (λ t. t.taken ≡ []) }
-        ensures opens { IfOk result (λ t. IsVisit C.rules ring_rule (λ old new. (t.opened ≡ length old.commits) × Opens old query room t.cursor new)) }
-        ensures refusals { IfErr result (λ why. (why ≡ Refusal.OutOfMemory) ⊎ IsRefusedWhere C.rules ring_rule (λ world. RefusesOpening world query room why)) }
+        ensures opens { IfOk result (λ t. IsVisit C.rules (OpensFor query room t)) }
+        ensures refusals { IfErr result (OutOfMemoryOr (IsOpeningRefused C.rules query room)) }
     {
         let Ok(copy) = query.copy(self.alloc) else {
             return Err(Refusal::OutOfMemory);
@@ -341,7 +338,7 @@ impl<C: KeyClass, L: Ledger> DeskOver<World<C, Ring<C::Key>>, L> {
     /// # Errors
     /// `NoSuchCursor`, `CursorClosed`, `NoRoom` where its ring is full, `Idle`, or want of memory, as a reply.
     pub fn turn<R: Wait>(&self, rt: &R, cursor: u64) -> Reply<C, Ring<C::Key>>
-        ensures visit { IsVisit C.rules ring_rule (λ old new. Step C.rules ring_rule 0 old (event.Turn cursor) result new) }
+        ensures visit { IsReplied C.rules (event.Turn cursor) result }
     {
         let turned = self.locked.lock(rt).turn_unless_visit(cursor);
         let page = match turned {
@@ -357,7 +354,7 @@ impl<C: KeyClass, L: Ledger> DeskOver<World<C, Ring<C::Key>>, L> {
     /// A turn that visits a page. None where its next turn is no visit any more, or where what it reads was changed again
     /// and again.
     fn visit_for<R: Wait>(&self, rt: &R, cursor: u64, page: u32) -> Option<Reply<C, Ring<C::Key>>>
-        ensures visit { IfSome result (λ reply. IsVisit C.rules ring_rule (λ old new. Step C.rules ring_rule 0 old (event.Turn cursor) reply new)) }
+        ensures visit { IfSome result (IsReplied C.rules (event.Turn cursor)) }
     {
         let _latch = self.latches.of(page).lock(rt);
         for _ in 0..PUBLICATIONS {
@@ -385,7 +382,7 @@ impl<C: KeyClass, L: Ledger> DeskOver<World<C, Ring<C::Key>>, L> {
         task: VisitTask<C>,
     ) -> Option<Reply<C, Ring<C::Key>>>
         requires { task.cursor ≡ cursor }
-        ensures { IfSome result (λ reply. IsVisit C.rules ring_rule (λ old new. Step C.rules ring_rule 0 old (event.Turn cursor) reply new)) }
+        ensures { IfSome result (IsReplied C.rules (event.Turn cursor)) }
     {
         let turned = self.locked.lock(rt).turn_prepared(cursor, task);
         match turned {
@@ -399,7 +396,7 @@ impl<C: KeyClass, L: Ledger> DeskOver<World<C, Ring<C::Key>>, L> {
     /// # Errors
     /// `NoSuchCursor` or `CursorClosed`, as a reply.
     pub fn ask_mark<R: Wait>(&self, rt: &R, cursor: u64) -> Reply<C, Ring<C::Key>>
-        ensures visit { IsVisit C.rules ring_rule (λ old new. Step C.rules ring_rule 0 old (event.AskMark cursor) result new) }
+        ensures visit { IsReplied C.rules (event.AskMark cursor) result }
     {
         self.locked.lock(rt).ask_mark(cursor)
     }
@@ -409,13 +406,13 @@ impl<C: KeyClass, L: Ledger> DeskOver<World<C, Ring<C::Key>>, L> {
     /// # Errors
     /// `NotHere` where there is no such leaf, or want of memory, as a reply.
     pub fn sweep<R: Wait>(&self, rt: &R, leaf: u64) -> Reply<C, Ring<C::Key>>
-        ensures visit { IsVisit C.rules ring_rule (λ old new. Step C.rules ring_rule 0 old (event.Sweep leaf) result new) }
+        ensures visit { IsReplied C.rules (event.Sweep leaf) result }
     {
         self.locked.lock(rt).sweep(leaf)
     }
     /// Closes a cursor.
     pub(crate) fn close_cursor<R: Wait>(&self, rt: &R, cursor: u64) -> Reply<C, Ring<C::Key>>
-        ensures visit { IsVisit C.rules ring_rule (λ old new. Step C.rules ring_rule 0 old (event.Close cursor) result new) }
+        ensures visit { IsReplied C.rules (event.Close cursor) result }
     {
         self.locked.lock(rt).close(cursor)
     }
@@ -428,7 +425,7 @@ impl<C: KeyClass, L: Ledger> DeskOver<World<C, Ring<C::Key>>, L> {
         cursor: u64,
     ) -> Option<View<C::Key>>
         ensures seat { seat.new ≡ seat.old }
-        ensures visit { IsVisit C.rules ring_rule (λ old new. IfSome result (λ view. view ≡ old.commits) × Closes C.rules ring_rule C old cursor new) }
+        ensures visit { IsVisit C.rules (ClosesWithView C.rules C cursor result) }
         ensures share { IfSome result (λ view. length seat.old.stamps ≤ length view) }
     {
         self.locked

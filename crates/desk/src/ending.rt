@@ -1,9 +1,8 @@
 //! What closing a cursor gives.
 ghost use Rattle.std.specs.Prelude.{◌≡◌};
-ghost use Rattle.key_class.specs.Queries.{query_of, matches_query};
+ghost use Rattle.key_class.specs.Queries.{query_of};
 ghost use Rattle.change_list.specs.Changes.{IsLegal};
-ghost use Rattle.listing.specs.Deliveries.{IsDelivered};
-ghost use Rattle.desk.specs.Receipts.{IfReceipt};
+ghost use Rattle.desk.specs.Receipts.{IfReceipt, ShowsDelivery};
 ghost use Rattle.desk.specs.Weaving.{SeatStands};
 
 use crate::checks::seat_stands;
@@ -37,7 +36,7 @@ pub(crate) fn checked<C: KeyClass, L: Ledger>(
     ensures list { IfReceipt result (λ r. r.commits ≡ commits) }
     ensures legal { IfReceipt result (λ r. IsLegal r.commits) }
     ensures stamps { IfReceipt result (λ r. SeatStands r.commits seat.now) }
-    ensures taken { IfReceipt result (λ r. IsDelivered (matches_query C.rules.is_match (query_of query.now)) opened r.commits taken.now) }
+    ensures taken { IfReceipt result (ShowsDelivery C.rules (query_of query.now) opened taken.now) }
 {
     let _count = commits.len();
     if !seat_stands(&commits, seat) {

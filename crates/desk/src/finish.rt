@@ -1,7 +1,7 @@
 //! What a desk gives once all seats came back.
-ghost use Rattle.std.specs.Prelude.{◌≡◌, ◌≢◌, ◌↔◌, [], length, ◌∷◌, ◌++◌, ◌+◌, ◌<◌, ◌≤◌, sum_by};
+ghost use Rattle.std.specs.Prelude.{◌≡◌, ◌≢◌, ◌↔◌, length, ◌+◌, ◌<◌};
 ghost use Rattle.change_list.specs.Changes.{IsLegal};
-ghost use Rattle.desk.specs.Finishes.{IsOut, IfClosing, IfTorn, IfOut};
+ghost use Rattle.desk.specs.Finishes.{IsOut, IfClosing, IfTorn, IfOut, IsSumOf, IsTornBy};
 ghost use Rattle.desk.specs.Weaving.{Woven, all_shares};
 
 use crate::checks::woven;
@@ -111,8 +111,8 @@ impl<C: KeyClass, L: Ledger> DeskOver<World<C, Ring<C::Key>>, L> {
         ensures back { IfOut result (λ d s. (d ≡ self) × (s ≡ seats.items)) }
         ensures legal { IfClosing result (λ c. IsLegal c.commits) }
         ensures woven { IfClosing result (λ c. Woven c.commits seats.items) }
-        ensures sum { IfClosing result (λ c. (length c.commits ≡ c.sum) × (c.sum ≡ all_shares seats.items)) }
-        ensures torn { IfTorn result (λ commits s. (s ≡ seats.items) × (length commits ≡ all_shares seats.items) × (Woven commits s → ⊥)) }
+        ensures sum { IfClosing result (IsSumOf seats.items) }
+        ensures torn { IfTorn result (IsTornBy seats.items) }
     {
         if seats.len() != self.seats {
             return Finished::SeatsOut(self, seats);

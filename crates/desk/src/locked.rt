@@ -2,12 +2,11 @@
 ghost use Rattle.std.specs.Prelude.{ℕ, ◌≡◌, ◌↔◌, ◌<◌, ◌≤◌, ◌+◌, [], length, Err, IfSome, IfNone, IfOk, IfErr, OnOk, OnErr};
 ghost use Rattle.rtrb.specs.Ring.{received};
 ghost use Rattle.world.specs.declared.event.Event.TheVariants as event;
-ghost use Rattle.mailbox.specs.Rings.{ring_rule};
-ghost use Rattle.world.specs.Steps.{Step, Opens};
+ghost use Rattle.world.specs.Steps.{Opens};
 ghost use Rattle.insertion.specs.Visits.{Goes};
 ghost use Rattle.removal.specs.Deleting.{Looks};
-ghost use Rattle.removal.specs.Visits.{RefusesDelete, Seeks};
-ghost use Rattle.desk.specs.Visits.{Closes, Counts, CountsSearch, IsHeld, IsRefusedWhere, IsSearchCommitted, IsSplitAtMost, IsSplitInTime, IsWayCommitted, MakesOneEvent, RefusesInsert, RefusesOpening};
+ghost use Rattle.removal.specs.Visits.{Seeks};
+ghost use Rattle.desk.specs.Visits.{Closes, Counts, CountsSearch, IsHeld, IsSearchCommitted, IsSplitAtMost, IsSplitInTime, IsWayCommitted, MakesOneEvent, IsReplyTo, IsInsertRefused, IsDeleteRefused, IsOpeningRefused};
 
 use change_list::{Item, View};
 use insertion::{Way, insert_step, split_at_once, split_prepared};
@@ -36,7 +35,7 @@ impl<C: KeyClass> Guarded for World<C, Ring<C::Key>> {
 
     ghost commits_of = { λ world. length world.commits };
 
-    ghost is_held = { λ world. IsHeld C.rules ring_rule world };
+    ghost is_held = { λ world. IsHeld C.rules world };
 }
 
 /// The world, beside the book of all shares.
@@ -68,7 +67,7 @@ impl<C: KeyClass, L: Ledger> Locked<World<C, Ring<C::Key>>, L> {
 
     /// The book of all shares. The clauses state what stands under the lock before and after each visit.
     pub fn book(&self) -> &Book<L>
-        ensures held { IsHeld C.rules ring_rule self.now }
+        ensures held { IsHeld C.rules self.now }
         ensures total { result.now.total ≡ length self.now.commits }
     {
         &self.book
@@ -93,14 +92,15 @@ impl<C: KeyClass, L: Ledger> Locked<World<C, Ring<C::Key>>, L> {
     ) -> Result<Way<C::Key>, Refusal>
         requires { 0 < share.old.parts }
         ensures goes { IfOk result (λ way. Goes self.old seat key tag way self.new) }
-        ensures share { IfOk result (λ way. Counts share.old.amount way share.new.amount) }
+        ensures share { IfOk result (Counts share.old.amount share.new.amount) }
         ensures parts { share.new.parts ≡ share.old.parts }
-        ensures one_event { MakesOneEvent C.rules ring_rule C seat self.old self.new }
-        ensures held { IsHeld C.rules ring_rule self.old × IsHeld C.rules ring_rule self.new }
-        ensures unchanged { OnErr result ((self.new ≡ self.old) × (share.new.amount ≡ share.old.amount)) }
+        ensures one_event { MakesOneEvent C.rules C seat self.old self.new }
+        ensures held { IsHeld C.rules self.old × IsHeld C.rules self.new }
+        ensures unchanged { OnErr result (self.new ≡ self.old) }
+        ensures uncounted { OnErr result (share.new.amount ≡ share.old.amount) }
         ensures full { (result ≡ Err Refusal.CommitsFull) ↔ (self.old.limit ≤ length self.old.commits) }
-        ensures committed { IfOk result (λ way. IsWayCommitted C.rules ring_rule way) }
-        ensures refusals { IfErr result (λ why. IsRefusedWhere C.rules ring_rule (λ world. RefusesInsert world why)) }
+        ensures committed { IfOk result (IsWayCommitted C.rules) }
+        ensures refusals { IfErr result (IsInsertRefused C.rules) }
     {
         let Locked { world, book } = self;
         match insert_step(alloc, world, seat, page, key, tag)? {
@@ -127,22 +127,22 @@ impl<C: KeyClass, L: Ledger> Locked<World<C, Ring<C::Key>>, L> {
 
     /// Splits a page by a task; whether the task came in time.
     pub(crate) fn split_prepared(&mut self, seat: u32, task: SplitTask<C>) -> Result<bool, Refusal>
-        ensures splits { IfOk result (λ made. IsSplitInTime C.rules ring_rule C seat self.old task made self.new) }
+        ensures splits { IfOk result (IsSplitInTime C.rules C seat self.old task self.new) }
         ensures commits { self.new.commits ≡ self.old.commits }
-        ensures held { IsHeld C.rules ring_rule self.old × IsHeld C.rules ring_rule self.new }
+        ensures held { IsHeld C.rules self.old × IsHeld C.rules self.new }
         ensures unchanged { OnErr result (self.new ≡ self.old) }
-        ensures refusals { IfErr result (λ why. IsRefusedWhere C.rules ring_rule (λ world. RefusesInsert world why)) }
+        ensures refusals { IfErr result (IsInsertRefused C.rules) }
     {
         split_prepared(&mut self.world, seat, task)
     }
 
     /// Splits a page in this one visit.
     pub(crate) fn split_at_once(&mut self, seat: u32, page: u32) -> Result<(), Refusal>
-        ensures splits { IsSplitAtMost C.rules ring_rule C seat self.old page self.new }
+        ensures splits { IsSplitAtMost C.rules C seat self.old page self.new }
         ensures commits { self.new.commits ≡ self.old.commits }
-        ensures held { IsHeld C.rules ring_rule self.old × IsHeld C.rules ring_rule self.new }
+        ensures held { IsHeld C.rules self.old × IsHeld C.rules self.new }
         ensures unchanged { OnErr result (self.new ≡ self.old) }
-        ensures refusals { IfErr result (λ why. IsRefusedWhere C.rules ring_rule (λ world. RefusesInsert world why)) }
+        ensures refusals { IfErr result (IsInsertRefused C.rules) }
     {
         split_at_once(&mut self.world, seat, page)
     }
@@ -151,10 +151,10 @@ impl<C: KeyClass, L: Ledger> Locked<World<C, Ring<C::Key>>, L> {
     pub(crate) fn find(&mut self, row: u64) -> Result<u64, Refusal>
         ensures looks { OnOk result (Looks self.old row self.new) }
         ensures serial { IfOk result (λ finder. finder ≡ self.old.last_finder + 1) }
-        ensures one_event { MakesOneEvent C.rules ring_rule C 0 self.old self.new }
-        ensures held { IsHeld C.rules ring_rule self.old × IsHeld C.rules ring_rule self.new }
+        ensures one_event { MakesOneEvent C.rules C 0 self.old self.new }
+        ensures held { IsHeld C.rules self.old × IsHeld C.rules self.new }
         ensures unchanged { OnErr result (self.new ≡ self.old) }
-        ensures refusals { IfErr result (λ why. IsRefusedWhere C.rules ring_rule (λ world. RefusesDelete world row why)) }
+        ensures refusals { IfErr result (IsDeleteRefused C.rules row) }
     {
         find_row(&mut self.world, row)
     }
@@ -169,13 +169,14 @@ impl<C: KeyClass, L: Ledger> Locked<World<C, Ring<C::Key>>, L> {
     ) -> Result<Search<C::Key>, Refusal>
         requires { 0 < share.old.parts }
         ensures seeks { IfOk result (λ search. Seeks self.old seat row search self.new) }
-        ensures share { IfOk result (λ search. CountsSearch share.old.amount search share.new.amount) }
+        ensures share { IfOk result (CountsSearch share.old.amount share.new.amount) }
         ensures parts { share.new.parts ≡ share.old.parts }
-        ensures one_event { MakesOneEvent C.rules ring_rule C seat self.old self.new }
-        ensures held { IsHeld C.rules ring_rule self.old × IsHeld C.rules ring_rule self.new }
-        ensures unchanged { OnErr result ((self.new ≡ self.old) × (share.new.amount ≡ share.old.amount)) }
-        ensures committed { IfOk result (λ search. IsSearchCommitted C.rules ring_rule search) }
-        ensures refusals { IfErr result (λ why. IsRefusedWhere C.rules ring_rule (λ world. RefusesDelete world row why)) }
+        ensures one_event { MakesOneEvent C.rules C seat self.old self.new }
+        ensures held { IsHeld C.rules self.old × IsHeld C.rules self.new }
+        ensures unchanged { OnErr result (self.new ≡ self.old) }
+        ensures uncounted { OnErr result (share.new.amount ≡ share.old.amount) }
+        ensures committed { IfOk result (IsSearchCommitted C.rules) }
+        ensures refusals { IfErr result (IsDeleteRefused C.rules row) }
     {
         let Locked { world, book } = self;
         match seek_row(world, seat, finder, row)? {
@@ -191,8 +192,8 @@ impl<C: KeyClass, L: Ledger> Locked<World<C, Ring<C::Key>>, L> {
 
     /// Ends a finder.
     pub(crate) fn unfind(&mut self, finder: u64) -> Reply<C, Ring<C::Key>>
-        ensures step { Step C.rules ring_rule 0 self.old (event.Unfind finder) result self.new }
-        ensures held { IsHeld C.rules ring_rule self.old × IsHeld C.rules ring_rule self.new }
+        ensures step { IsReplyTo C.rules (event.Unfind finder) self.old self.new result }
+        ensures held { IsHeld C.rules self.old × IsHeld C.rules self.new }
     {
         self.world.step(Event::Unfind(finder))
     }
@@ -205,13 +206,15 @@ impl<C: KeyClass, L: Ledger> Locked<World<C, Ring<C::Key>>, L> {
         room: u64,
     ) -> Result<(u64, u64, Consumer<Item<C::Key>>), Refusal>
         ensures opens { IfOk result (λ made. Opens self.old query room made.0 self.new) }
-        ensures opened { IfOk result (λ made. (made.1 ≡ length self.old.commits) × (share.new.amount ≤ made.1)) }
+        ensures opened { IfOk result (λ made. made.1 ≡ length self.old.commits) }
+        ensures audited { IfOk result (λ made. share.new.amount ≤ made.1) }
         ensures fresh { IfOk result (λ made. received made.2 ≡ []) }
-        ensures share { (share.new.amount ≡ share.old.amount) × (share.new.parts ≡ share.old.parts) }
-        ensures one_event { MakesOneEvent C.rules ring_rule C 0 self.old self.new }
-        ensures held { IsHeld C.rules ring_rule self.old × IsHeld C.rules ring_rule self.new }
+        ensures share { share.new.amount ≡ share.old.amount }
+        ensures parts { share.new.parts ≡ share.old.parts }
+        ensures one_event { MakesOneEvent C.rules C 0 self.old self.new }
+        ensures held { IsHeld C.rules self.old × IsHeld C.rules self.new }
         ensures unchanged { OnErr result (self.new ≡ self.old) }
-        ensures refusals { IfErr result (λ why. IsRefusedWhere C.rules ring_rule (λ world. RefusesOpening world query room why)) }
+        ensures refusals { IfErr result (IsOpeningRefused C.rules query room) }
     {
         let Locked { world, book } = self;
         book.audit(share);
@@ -225,17 +228,17 @@ impl<C: KeyClass, L: Ledger> Locked<World<C, Ring<C::Key>>, L> {
 
     /// A cursor's turn.
     pub(crate) fn turn(&mut self, cursor: u64) -> Reply<C, Ring<C::Key>>
-        ensures step { Step C.rules ring_rule 0 self.old (event.Turn cursor) result self.new }
-        ensures held { IsHeld C.rules ring_rule self.old × IsHeld C.rules ring_rule self.new }
+        ensures step { IsReplyTo C.rules (event.Turn cursor) self.old self.new result }
+        ensures held { IsHeld C.rules self.old × IsHeld C.rules self.new }
     {
         self.world.step(Event::Turn(cursor))
     }
 
     /// A cursor's turn, where it visits no page. Else the number of the page; nothing is done then.
     pub(crate) fn turn_unless_visit(&mut self, cursor: u64) -> Result<Reply<C, Ring<C::Key>>, u32>
-        ensures step { IfOk result (λ reply. Step C.rules ring_rule 0 self.old (event.Turn cursor) reply self.new) }
+        ensures step { IfOk result (IsReplyTo C.rules (event.Turn cursor) self.old self.new) }
         ensures unchanged { OnErr result (self.new ≡ self.old) }
-        ensures held { IsHeld C.rules ring_rule self.old × IsHeld C.rules ring_rule self.new }
+        ensures held { IsHeld C.rules self.old × IsHeld C.rules self.new }
     {
         match self.world.prepare_visit(cursor) {
             Ok(task) => return Err(task.page()),
@@ -257,9 +260,9 @@ impl<C: KeyClass, L: Ledger> Locked<World<C, Ring<C::Key>>, L> {
         task: VisitTask<C>,
     ) -> Option<Reply<C, Ring<C::Key>>>
         requires { task.cursor ≡ cursor }
-        ensures step { IfSome result (λ reply. Step C.rules ring_rule 0 self.old (event.Turn cursor) reply self.new) }
+        ensures step { IfSome result (IsReplyTo C.rules (event.Turn cursor) self.old self.new) }
         ensures late { IfNone result (self.new ≡ self.old) }
-        ensures held { IsHeld C.rules ring_rule self.old × IsHeld C.rules ring_rule self.new }
+        ensures held { IsHeld C.rules self.old × IsHeld C.rules self.new }
     {
         match self.world.publish_visit(0, task) {
             Reply::Refused(Refusal::NotHere) => None,
@@ -269,24 +272,24 @@ impl<C: KeyClass, L: Ledger> Locked<World<C, Ring<C::Key>>, L> {
 
     /// Asks a cursor for a mark.
     pub(crate) fn ask_mark(&mut self, cursor: u64) -> Reply<C, Ring<C::Key>>
-        ensures step { Step C.rules ring_rule 0 self.old (event.AskMark cursor) result self.new }
-        ensures held { IsHeld C.rules ring_rule self.old × IsHeld C.rules ring_rule self.new }
+        ensures step { IsReplyTo C.rules (event.AskMark cursor) self.old self.new result }
+        ensures held { IsHeld C.rules self.old × IsHeld C.rules self.new }
     {
         self.world.step(Event::AskMark(cursor))
     }
 
     /// Sweeps a leaf.
     pub(crate) fn sweep(&mut self, leaf: u64) -> Reply<C, Ring<C::Key>>
-        ensures step { Step C.rules ring_rule 0 self.old (event.Sweep leaf) result self.new }
-        ensures held { IsHeld C.rules ring_rule self.old × IsHeld C.rules ring_rule self.new }
+        ensures step { IsReplyTo C.rules (event.Sweep leaf) self.old self.new result }
+        ensures held { IsHeld C.rules self.old × IsHeld C.rules self.new }
     {
         self.world.step(Event::Sweep(leaf))
     }
 
     /// Closes a cursor.
     pub(crate) fn close(&mut self, cursor: u64) -> Reply<C, Ring<C::Key>>
-        ensures step { Step C.rules ring_rule 0 self.old (event.Close cursor) result self.new }
-        ensures held { IsHeld C.rules ring_rule self.old × IsHeld C.rules ring_rule self.new }
+        ensures step { IsReplyTo C.rules (event.Close cursor) self.old self.new result }
+        ensures held { IsHeld C.rules self.old × IsHeld C.rules self.new }
     {
         self.world.step(Event::Close(cursor))
     }
@@ -298,11 +301,12 @@ impl<C: KeyClass, L: Ledger> Locked<World<C, Ring<C::Key>>, L> {
         share: &mut Share<L>,
         cursor: u64,
     ) -> Option<View<C::Key>>
-        ensures closed { Closes C.rules ring_rule C self.old cursor self.new }
+        ensures closed { Closes C.rules C self.old cursor self.new }
         ensures view { IfSome result (λ view. view ≡ self.old.commits) }
         ensures number { share.new.amount ≤ length self.old.commits }
-        ensures share { (share.new.amount ≡ share.old.amount) × (share.new.parts ≡ share.old.parts) }
-        ensures held { IsHeld C.rules ring_rule self.old × IsHeld C.rules ring_rule self.new }
+        ensures share { share.new.amount ≡ share.old.amount }
+        ensures parts { share.new.parts ≡ share.old.parts }
+        ensures held { IsHeld C.rules self.old × IsHeld C.rules self.new }
     {
         let Locked { world, book } = self;
         book.audit(share);

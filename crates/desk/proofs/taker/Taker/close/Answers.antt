@@ -1,15 +1,14 @@
-use Rattle.mailbox.specs.Rings.{ring_rule}
 use Rattle.desk.proofs.Closings.{visit_less, of_view}
 use Rattle.desk.proofs.taker.Taker.close.Goals as goal
 
 pub returns-in-None-clause-closes : goal.returns-in-None-clause-closes
 returns-in-None-clause-closes g c =
-    rw (← c.self.view_is) (visit_less g.C.KeyClass.rules ring_rule _ _ (λ old new did. (tt, did.1)) c.close_with_view.ensures.visit)
+    rw (← c.self.view_is) (visit_less g.C.KeyClass.rules _ _ (λ old new did. (tt, did.1)) c.close_with_view.ensures.visit)
 
 pub returns-in-Some-clause-closes : goal.returns-in-Some-clause-closes
 returns-in-Some-clause-closes g c =
     rw (← c.self.view_is)
-    (visit_less g.C.KeyClass.rules ring_rule _ _ (λ old new did. (of_view c.checked.result c.in-Some.commits old.commits c.checked.ensures.list (rw c.in-Some.is at did.0), did.1)) c.close_with_view.ensures.visit)
+    (visit_less g.C.KeyClass.rules _ _ (λ old new did. (of_view c.checked.result c.in-Some.commits old.commits c.checked.ensures.list (rw c.in-Some.is at did.0), did.1)) c.close_with_view.ensures.visit)
 
 pub returns-in-Some-clause-taken : goal.returns-in-Some-clause-taken
 returns-in-Some-clause-taken g c = rw (← c.self.view_is) c.checked.ensures.taken
