@@ -1,7 +1,8 @@
 -- What each event makes of a world, and how it is answered.
 use Rattle.std.specs.Prelude.{◌≡◌, ℕ, suc, ◌+◌, Bool, true, false, not, ◌||◌, ◌&&◌, nat_eq, nat_le, nat_lt, List, [], ◌∷◌, ◌++◌, length, filter, Option, Some, None, is_none, Ok, Err, Result, ◌⊎◌}
+use Rattle.std.specs.List.{zip}
 use Rattle.key_class.specs.Rules.{Rules}
-use Rattle.mailbox.specs.Outlets.{Rule}
+use Rattle.mailbox.specs.Outlets.{Rule, tray_rule}
 use Rattle.key_class.specs.Queries.{query_of, depth_of}
 use Rattle.key_class.specs.declared.pred.Pred.{Pred}
 use Rattle.key_class.specs.declared.refusal.Refusal.{Refusal}
@@ -9,6 +10,7 @@ use Rattle.key_class.specs.declared.refusal.Refusal.TheVariants as refusal
 use Rattle.change_list.specs.Changes.{commit_at, is_deleted}
 use Rattle.change_list.specs.declared.write.Write.{Write}
 use Rattle.change_list.specs.declared.write.Write.TheVariants.{Insert, Delete}
+use Rattle.change_list.specs.declared.config.Config.{Config}
 use Rattle.change_list.specs.declared.item.Item.{Item}
 use Rattle.row_version.specs.Entries.{is_needed}
 use Rattle.page_table.specs.Trees.{page_at, after_rows}
@@ -27,8 +29,12 @@ use Rattle.world.specs.declared.reply.Reply.{Reply}
 use Rattle.world.specs.declared.reply.Reply.TheVariants as reply
 use Rattle.world.specs.Serials.{without}
 use Rattle.world.specs.Stamps.{Stamp}
-use Rattle.world.specs.States.{State, cursor_at, finder_at, with_pages, with_cursor, with_finder}
+use Rattle.world.specs.States.{State, new_state, cursor_at, finder_at, with_pages, with_cursor, with_finder}
 use Rattle.world.specs.Traces.{Trace}
+
+-- the first test that fails gives the refusal
+abbrev pub FirstFails : List (Bool × Refusal) → Refusal → Type 0
+FirstFails tests why = first_failing tests ≡ Some why
 
 module _ {K : Type 0} where
   abbrev pub is_insert : Option (Write K) → Bool
@@ -37,6 +43,10 @@ module _ {K : Type 0} where
   is_insert None = false
 
 module _ {K A : Type 0} where
+  -- the commit with the row's number inserts the key
+  abbrev pub HasKey : State K A → ℕ → K → Type 0
+  HasKey s row key = (tag : ℕ) × (commit_at s.commits row ≡ Some (Insert key tag))
+
   -- the serial was given, and its cursor is open
   abbrev pub cursor_tests : State K A → ℕ → List (Bool × Refusal)
   cursor_tests old c =
@@ -286,7 +296,16 @@ module _ {C O K A E : Type 0} (rules : Rules K A) (rule : Rule) where
   Step seat old event reply.Nothing new = IsDone seat old event reply.Nothing new
   Step seat old event reply.Closed new = IsDone seat old event reply.Closed new
 
+  -- whatever the seat, the event is answered so and leads to new: a step that commits nothing
+  abbrev pub Acts : State K A → Event C K A → Reply C O K A E → State K A → Type 0
+  Acts old event reply new = (seat : ℕ) → Step seat old event reply new
+
   -- from old, the events of a trace are answered so, one step after another, and lead to new
   abbrev pub Runs : State K A → Trace C O K A E → State K A → Type 0
   Runs old [] new = new ≡ old
   Runs old (moment ∷ trace) new = (mid : State K A) × Step 0 old moment.0 moment.1 mid × Runs mid trace new
+
+module _ {C O K A E : Type 0} (rules : Rules K A) where
+  -- from a new world with trays, the events are answered so
+  abbrev pub IsRun : Config → List (Event C K A) → List (Reply C O K A E) → Type 0
+  IsRun config events replies = (last : State K A) × Runs rules tray_rule (new_state config) (zip events replies) last
