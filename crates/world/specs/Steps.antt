@@ -226,20 +226,14 @@ module _ {C K A : Type 0} (rules : Rules K A) (rule : Rule) where
   -- where it deletes its row or pushes a page, and a sweep, where it takes something out; a turn is refused by its rule.
   -- Ending a finder, asking for a mark, taking and closing are not refused.
   abbrev pub RefusesLater : State K A → Event C K A → Refusal → Type 0
-  RefusesLater old (event.Enlarge page child key) why = why ≡ refusal.OutOfMemory
-  RefusesLater old (event.Place page key tag) why = why ≡ refusal.OutOfMemory
-  RefusesLater old (event.Split page sides) why = why ≡ refusal.OutOfMemory
-  RefusesLater old (event.Post page child) why = why ≡ refusal.OutOfMemory
-  RefusesLater old (event.Grow sides) why = why ≡ refusal.OutOfMemory
-  RefusesLater old (event.Find row) why = why ≡ refusal.OutOfMemory
   RefusesLater old (event.Seek f) why = RefusesSeek rules rule old f why
   RefusesLater old (event.Unfind f) why = ⊥
   RefusesLater old (event.Sweep page) why = RefusesSweep old page why
-  RefusesLater old (event.Open query room) why = why ≡ refusal.OutOfMemory
   RefusesLater old (event.Turn c) why = RefusesTurn rules rule old c why
   RefusesLater old (event.AskMark c) why = ⊥
   RefusesLater old (event.Take c) why = ⊥
   RefusesLater old (event.Close c) why = ⊥
+  RefusesLater old event why = why ≡ refusal.OutOfMemory
 
   -- why an event is refused: by the first test that fails; and that nothing changes then
   pub record IsRefused (old : State K A) (event : Event C K A) (why : Refusal) (new : State K A) : Type 0 where
@@ -278,23 +272,7 @@ module _ {C O K A E : Type 0} (rules : Rules K A) (rule : Rule) where
   -- from old, an event for a seat may be answered so, and leads to new
   abbrev pub Step : ℕ → State K A → Event C K A → Reply C O K A E → State K A → Type 0
   Step seat old event (reply.Refused why) new = IsRefused rules rule old event why new
-  Step seat old event reply.Enlarged new = IsDone seat old event reply.Enlarged new
-  Step seat old event (reply.Committed stamp) new = IsDone seat old event (reply.Committed stamp) new
-  Step seat old event (reply.Split sibling) new = IsDone seat old event (reply.Split sibling) new
-  Step seat old event reply.Posted new = IsDone seat old event reply.Posted new
-  Step seat old event (reply.Grown first second) new = IsDone seat old event (reply.Grown first second) new
-  Step seat old event (reply.Finder f) new = IsDone seat old event (reply.Finder f) new
-  Step seat old event reply.Seeking new = IsDone seat old event reply.Seeking new
-  Step seat old event reply.Unfound new = IsDone seat old event reply.Unfound new
-  Step seat old event (reply.Swept count) new = IsDone seat old event (reply.Swept count) new
-  Step seat old event (reply.Opened c end) new = IsDone seat old event (reply.Opened c end) new
-  Step seat old event reply.Offered new = IsDone seat old event reply.Offered new
-  Step seat old event (reply.Visited page) new = IsDone seat old event (reply.Visited page) new
-  Step seat old event (reply.Passed n) new = IsDone seat old event (reply.Passed n) new
-  Step seat old event reply.Asked new = IsDone seat old event reply.Asked new
-  Step seat old event (reply.Taken item) new = IsDone seat old event (reply.Taken item) new
-  Step seat old event reply.Nothing new = IsDone seat old event reply.Nothing new
-  Step seat old event reply.Closed new = IsDone seat old event reply.Closed new
+  Step seat old event reply new = IsDone seat old event reply new
 
   -- whatever the seat, the event is answered so and leads to new: a step that commits nothing
   abbrev pub Acts : State K A → Event C K A → Reply C O K A E → State K A → Type 0
