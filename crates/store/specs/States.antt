@@ -174,6 +174,10 @@ module _ {K A : Type 0} (matching : A → K → Bool) where
     pub unasked : cursor.asked ≡ false
     pub fits : Fits matching old.commits cursor []
 
+  -- the same, of a query as a program holds it
+  abbrev pub IsOpenedFor : State K A → Pred A → ℕ → State K A → Type 0
+  IsOpenedFor old query c new = IsOpened old (query_of query) c new
+
   -- an open cursor gives its next item, or nothing; all else stays
   pub record Nexts (old : State K A) (c : ℕ) (given : Option (Item K)) (new : State K A) : Type 0 where
     pub before : CursorState K A
@@ -209,10 +213,6 @@ module _ {K A : Type 0} (matching : A → K → Bool) where
     pub last_given : State K A
     pub gave : Gave old c items last_given
     pub ended : EndsDrain last_given c result new
-
-  -- a query was asked for as a program holds it
-  abbrev pub IsOpenedFor : State K A → Pred A → ℕ → State K A → Type 0
-  IsOpenedFor old query c new = IsOpened old (query_of query) c new
 
   -- nothing but dead rows
   pub record KeepsLiving (old new : State K A) : Type 0 where
