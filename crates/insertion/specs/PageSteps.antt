@@ -1,12 +1,12 @@
 -- The steps of an insertion that change pages alone.
-use Rattle.std.specs.Prelude.{◌≡◌, ◌⊎◌, ◌+◌, ◌<◌, Bool, length, None, IsPermutation}
+use Rattle.std.specs.Prelude.{◌≡◌, ◌⊎◌, ℕ, ◌+◌, ◌<◌, Bool, length, None, IsPermutation}
 use Rattle.key_class.specs.Rules.{Rules}
 use Rattle.mailbox.specs.Outlets.{Rule}
 use Rattle.key_class.specs.declared.refusal.Refusal.{Refusal}
 use Rattle.key_class.specs.declared.refusal.Refusal.TheVariants as refusal
 use Rattle.split.specs.SearchTrees.{SearchTree}
 use Rattle.split.specs.Steps.{after_split, after_grow, after_enlarge}
-use Rattle.split.specs.Tests.{first_failing, enlarge_tests, split_tests, post_tests, grow_tests}
+use Rattle.split.specs.Tests.{first_failing, place_tests, enlarge_tests, split_tests, post_tests, grow_tests}
 use Rattle.descent.specs.NextSteps.{OnlyPagesFull}
 use Rattle.world.specs.declared.event.Event.{Event}
 use Rattle.world.specs.declared.event.Event.TheVariants as event
@@ -17,6 +17,14 @@ use Rattle.world.specs.Steps.{Posts}
 -- memory was wanting, or fewer than two pages are left
 abbrev pub IsWanting : {K : Type 0} → SearchTree K → Refusal → Type 0
 IsWanting s why = (why ≡ refusal.OutOfMemory) ⊎ ((why ≡ refusal.PagesFull) × (s.limit < length s.tree.pages + 2))
+
+-- the same, or there are as many commits as may be
+abbrev pub IsFullOrWanting : {K : Type 0} → SearchTree K → Refusal → Type 0
+IsFullOrWanting s why = (why ≡ refusal.CommitsFull) ⊎ IsWanting s why
+
+-- the page is a leaf that takes the key: no test of a placing fails
+abbrev pub MayPlace : {K : Type 0} → (K → K → Bool) → SearchTree K → ℕ → K → Type 0
+MayPlace is_cover s leaf key = first_failing (place_tests is_cover s leaf key) ≡ None
 
 module _ {C K A : Type 0} where
   -- the event changes pages alone, and no test of it fails but for want of pages

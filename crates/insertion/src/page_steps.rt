@@ -1,10 +1,9 @@
 //! Single steps of an insertion.
-ghost use Rattle.std.specs.Prelude.{◌≡◌, ◌⊎◌, ◌<◌, ◌+◌, [], ◌∷◌, ◌++◌, length, None, IfOk, IfErr, OnOk, OnErr, IsPermutation};
+ghost use Rattle.std.specs.Prelude.{◌≡◌, ◌<◌, ◌+◌, length, IfOk, IfErr, OnOk, OnErr, IsPermutation};
 ghost use Rattle.change_list.specs.declared.write.Write.TheVariants.{Insert};
-ghost use Rattle.split.specs.Tests.{first_failing, place_tests};
 ghost use Rattle.world.specs.Resting.{Rests, deaths};
-ghost use Rattle.world.specs.States.{IsSoundWorld};
-ghost use Rattle.insertion.specs.PageSteps.{MayMove, Moves, MovesPages, IsWanting};
+ghost use Rattle.world.specs.States.{AddsCommit, IsSoundWorld};
+ghost use Rattle.insertion.specs.PageSteps.{MayMove, MayPlace, Moves, MovesPages, IsWanting};
 
 use key_class::{KeyClass, Refusal};
 use mailbox::Outlet;
@@ -40,10 +39,10 @@ pub(crate) fn place<C: KeyClass, O: Outlet<C::Key>>(
     key: C::Key,
     tag: u64,
 ) -> Result<u64, Refusal>
-    requires passes { first_failing (place_tests C.rules.is_cover world.old.search leaf key) ≡ None }
+    requires passes { MayPlace C.rules.is_cover world.old.search leaf key }
     requires room { length world.old.commits < world.old.limit }
     ensures number { IfOk result (λ number. number ≡ length world.old.commits + 1) }
-    ensures committed { OnOk result (world.new.commits ≡ world.old.commits ++ Insert key tag ∷ []) }
+    ensures committed { OnOk result (AddsCommit world.old (Insert key tag) world.new) }
     ensures unchanged { OnErr result (world.new ≡ world.old) }
     ensures rests { Rests C.rules O.rule world.old world.new }
     ensures dead { IsPermutation (deaths world.old.search.tree) (deaths world.new.search.tree) }

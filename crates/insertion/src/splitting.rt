@@ -1,9 +1,9 @@
 //! Splits of an insertion by visits: their sides may be worked out beside the world.
-ghost use Rattle.std.specs.Prelude.{◌≡◌, true, IfOk, IfErr, OnErr};
-ghost use Rattle.world.specs.Promises.{MailboxesFit};
+ghost use Rattle.std.specs.Prelude.{◌≡◌, IfErr, OnErr};
+ghost use Rattle.world.specs.Promises.{KeepsMailboxes};
 ghost use Rattle.world.specs.States.{IsSoundWorld};
 ghost use Rattle.insertion.specs.PageSteps.{IsWanting};
-ghost use Rattle.insertion.specs.Visits.{SplitsInTime, SplitsAtMost};
+ghost use Rattle.insertion.specs.Visits.{SplitsAtMost, TellsInTime};
 
 use crate::visit::make;
 use key_class::{KeyClass, Refusal};
@@ -20,10 +20,10 @@ pub fn split_prepared<C: KeyClass, O: Outlet<C::Key>>(
     seat: u32,
     task: SplitTask<C>,
 ) -> Result<bool, Refusal>
-    ensures splits { IfOk result (λ made. SplitsInTime C O O.End C.rules O.rule seat world.old task made world.new) }
+    ensures splits { TellsInTime C O O.End C.rules O.rule seat world.old task result world.new }
     ensures commits { world.new.commits ≡ world.old.commits }
     ensures sound { IsSoundWorld C.rules.is_cover world.new }
-    ensures mailboxes { O.rule.is_emptied_elsewhere ≡ true → MailboxesFit C.rules O.rule world.old → MailboxesFit C.rules O.rule world.new }
+    ensures mailboxes { KeepsMailboxes C.rules O.rule world.old world.new }
     ensures unchanged { OnErr result (world.new ≡ world.old) }
     ensures refusals { IfErr result (IsWanting world.old.search) }
 {
@@ -59,7 +59,7 @@ pub fn split_at_once<C: KeyClass, O: Outlet<C::Key>>(
     ensures splits { SplitsAtMost C O O.End C.rules O.rule seat world.old page world.new }
     ensures commits { world.new.commits ≡ world.old.commits }
     ensures sound { IsSoundWorld C.rules.is_cover world.new }
-    ensures mailboxes { O.rule.is_emptied_elsewhere ≡ true → MailboxesFit C.rules O.rule world.old → MailboxesFit C.rules O.rule world.new }
+    ensures mailboxes { KeepsMailboxes C.rules O.rule world.old world.new }
     ensures unchanged { OnErr result (world.new ≡ world.old) }
     ensures refusals { IfErr result (IsWanting world.old.search) }
 {

@@ -1,13 +1,12 @@
 //! An insertion by visits, between which others may change the world.
-ghost use Rattle.std.specs.Prelude.{◌≡◌, ◌⊎◌, ◌↔◌, ◌<◌, ◌≤◌, ℕ, true, length, Err, IfOk, IfErr, OnErr, IsTrue};
-ghost use Rattle.node.specs.Pages.{is_within};
-ghost use Rattle.page_table.specs.Trees.{page_at};
+ghost use Rattle.std.specs.Prelude.{◌≡◌, ◌↔◌, ◌<◌, length, Err, IfOk, IfErr, OnErr, IsTrue};
+ghost use Rattle.key_class.specs.Refusals.{IsEither};
 ghost use Rattle.descent.specs.NextSteps.{HasRoom};
-ghost use Rattle.world.specs.Promises.{MailboxesFit};
-ghost use Rattle.world.specs.States.{IsSoundWorld};
+ghost use Rattle.world.specs.Promises.{KeepsMailboxes};
+ghost use Rattle.world.specs.States.{IsFullOfCommits, IsSoundWorld};
 ghost use Rattle.world.specs.Visits.{IsOneEvent, Makes};
-ghost use Rattle.insertion.specs.PageSteps.{IsWanting};
-ghost use Rattle.insertion.specs.Visits.{IsStep, IsNext, Goes, GoesBy};
+ghost use Rattle.insertion.specs.PageSteps.{IsFullOrWanting, IsWanting};
+ghost use Rattle.insertion.specs.Visits.{CoversKey, IsStep, IsNext, Goes, GoesBy};
 
 use descent::{Plan, plan_at, sides_of};
 use key_class::{KeyClass, Refusal};
@@ -41,7 +40,7 @@ enum Next<C: KeyClass> {
 /// Whether a way for the key may go on at the page.
 fn may_go_on<C: KeyClass>(search: &SearchTree<C>, page: u32, key: C::Key) -> bool
     ensures exists { IsTrue result → page < length search.now.tree.pages }
-    ensures covers { IsTrue result → is_within C.rules.is_cover (page_at search.now.tree page).cover key ≡ true }
+    ensures covers { IsTrue result → CoversKey C.rules.is_cover search.now page key }
     ensures room { IsTrue result → HasRoom search.now page }
 {
     let table = search.pages();
@@ -99,7 +98,7 @@ fn next_event<C: KeyClass, O: Outlet<C::Key>>(
 fn begin_anew<K>(why: Refusal) -> Result<Way<K>, Refusal>
     ensures anew { IfOk result (λ way. way ≡ Way.On 0) }
     ensures told { IfErr result (λ told. told ≡ why) }
-    ensures refusals { IfErr result (λ told. (told ≡ Refusal.OutOfMemory) ⊎ (told ≡ Refusal.PagesFull)) }
+    ensures refusals { IfErr result (IsEither Refusal.OutOfMemory Refusal.PagesFull) }
 {
     match why {
         Refusal::OutOfMemory => Err(Refusal::OutOfMemory),
@@ -120,7 +119,7 @@ pub(crate) fn make<C: KeyClass, O: Outlet<C::Key>>(
     ensures goes { IfOk result (λ way. GoesBy world.old seat event way world.new) }
     ensures one_event { IsOneEvent C O O.End C.rules O.rule seat world.old world.new }
     ensures sound { IsSoundWorld C.rules.is_cover world.new }
-    ensures mailboxes { O.rule.is_emptied_elsewhere ≡ true → MailboxesFit C.rules O.rule world.old → MailboxesFit C.rules O.rule world.new }
+    ensures mailboxes { KeepsMailboxes C.rules O.rule world.old world.new }
     ensures unchanged { OnErr result (world.new ≡ world.old) }
     ensures refusals { IfErr result (IsWanting world.old.search) }
 {
@@ -148,10 +147,10 @@ pub fn insert_step<C: KeyClass, O: Outlet<C::Key>>(
     ensures goes { IfOk result (λ way. Goes world.old seat key tag way world.new) }
     ensures one_event { IsOneEvent C O O.End C.rules O.rule seat world.old world.new }
     ensures sound { IsSoundWorld C.rules.is_cover world.new }
-    ensures mailboxes { O.rule.is_emptied_elsewhere ≡ true → MailboxesFit C.rules O.rule world.old → MailboxesFit C.rules O.rule world.new }
+    ensures mailboxes { KeepsMailboxes C.rules O.rule world.old world.new }
     ensures unchanged { OnErr result (world.new ≡ world.old) }
-    ensures full { (result ≡ Err Refusal.CommitsFull) ↔ (world.old.limit ≤ length world.old.commits) }
-    ensures refusals { IfErr result (λ why. (why ≡ Refusal.CommitsFull) ⊎ IsWanting world.old.search why) }
+    ensures full { (result ≡ Err Refusal.CommitsFull) ↔ IsFullOfCommits world.old }
+    ensures refusals { IfErr result (IsFullOrWanting world.old.search) }
 {
     world.is_sound();
     if world.limit() <= world.commits() {

@@ -1,8 +1,8 @@
-ghost use Rattle.std.specs.Prelude.{◌≡◌, ◌⊎◌, ◌↔◌, ◌<◌, ◌≤◌, ◌+◌, [], ◌∷◌, ◌++◌, length, None, Err, IfOk, IfErr, OnOk, OnErr, IsPermutation};
+ghost use Rattle.std.specs.Prelude.{◌≡◌, ◌↔◌, ◌+◌, length, Err, IfOk, IfErr, OnOk, OnErr, IsPermutation};
 ghost use Rattle.change_list.specs.declared.write.Write.TheVariants.{Insert};
-ghost use Rattle.split.specs.Tests.{first_failing, place_tests};
 ghost use Rattle.world.specs.Resting.{Rests, deaths};
-ghost use Rattle.insertion.specs.PageSteps.{IsWanting, MovesPages};
+ghost use Rattle.world.specs.States.{AddsCommit, IsFullOfCommits};
+ghost use Rattle.insertion.specs.PageSteps.{IsFullOrWanting, IsWanting, MayPlace, MovesPages};
 
 use crate::page_steps::{move_pages, place};
 use descent::{Step, next_step};
@@ -27,14 +27,14 @@ pub fn insert<C: KeyClass, O: Outlet<C::Key>>(
     tag: u64,
 ) -> Result<u64, Refusal>
     ensures number { IfOk result (λ number. number ≡ length world.old.commits + 1) }
-    ensures committed { OnOk result (world.new.commits ≡ world.old.commits ++ Insert key tag ∷ []) }
+    ensures committed { OnOk result (AddsCommit world.old (Insert key tag) world.new) }
     ensures unchanged { OnErr result (world.new.commits ≡ world.old.commits) }
     ensures rests { Rests C.rules O.rule world.old world.new }
     ensures dead { IsPermutation (deaths world.old.search.tree) (deaths world.new.search.tree) }
     ensures finders { world.new.finders ≡ world.old.finders }
     ensures last_finder { world.new.last_finder ≡ world.old.last_finder }
-    ensures full { (result ≡ Err Refusal.CommitsFull) ↔ (world.old.limit ≤ length world.old.commits) }
-    ensures refusals { IfErr result (λ why. (why ≡ Refusal.OutOfMemory) ⊎ (why ≡ Refusal.CommitsFull) ⊎ ((why ≡ Refusal.PagesFull) × (world.new.search.limit < length world.new.search.tree.pages + 2))) }
+    ensures full { (result ≡ Err Refusal.CommitsFull) ↔ IsFullOfCommits world.old }
+    ensures refusals { IfErr result (IsFullOrWanting world.new.search) }
 {
     if world.limit() <= world.commits() {
         return Err(Refusal::CommitsFull);
@@ -52,7 +52,7 @@ fn make_way<C: KeyClass, O: Outlet<C::Key>>(
     world: &mut World<C, O>,
     key: C::Key,
 ) -> Result<u32, Refusal>
-    ensures leaf { IfOk result (λ leaf. first_failing (place_tests C.rules.is_cover world.new.search leaf key) ≡ None) }
+    ensures leaf { IfOk result (λ leaf. MayPlace C.rules.is_cover world.new.search leaf key) }
     ensures moved { MovesPages C.rules O.rule world.old world.new }
     ensures refusals { IfErr result (IsWanting world.new.search) }
 {

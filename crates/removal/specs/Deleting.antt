@@ -5,9 +5,17 @@ use Rattle.mailbox.specs.Outlets.{Rule}
 use Rattle.change_list.specs.declared.write.Write.TheVariants.{Delete}
 use Rattle.descent.specs.Finders.{OpenFinder}
 use Rattle.world.specs.Resting.{deaths, Rests}
-use Rattle.world.specs.States.{State}
+use Rattle.world.specs.States.{State, AddsCommit}
 
 module _ {K A : Type 0} where
+  -- the next commit's death of the row is one more in the tree
+  abbrev pub AddsDeath : State K A → ℕ → State K A → Type 0
+  AddsDeath old row new = IsPermutation ((row, length old.commits + 1) ∷ deaths old.search.tree) (deaths new.search.tree)
+
+  -- the deaths in the tree are the same
+  abbrev pub KeepsDeaths : State K A → State K A → Type 0
+  KeepsDeaths old new = deaths new.search.tree ≡ deaths old.search.tree
+
   -- the world has one finder more, and is the same otherwise
   pub record Looks (old : State K A) (row : ℕ) (new : State K A) : Type 0 where
     pub finder : OpenFinder K
@@ -25,9 +33,9 @@ module _ {K A : Type 0} (rules : Rules K A) (rule : Rule) where
   -- the next commit deletes the row, and one row more is dead in the tree
   pub record Deletes (old : State K A) (row number : ℕ) (new : State K A) : Type 0 where
     pub number_is : number ≡ length old.commits + 1
-    pub commits : new.commits ≡ old.commits ++ Delete row ∷ []
+    pub commits : AddsCommit old (Delete row) new
     pub rests : Rests rules rule old new
-    pub dead : IsPermutation ((row, length old.commits + 1) ∷ deaths old.search.tree) (deaths new.search.tree)
+    pub dead : AddsDeath old row new
     pub pages : length new.search.tree.pages ≡ length old.search.tree.pages
     pub finders : new.finders ≡ old.finders
     pub last_finder : new.last_finder ≡ old.last_finder + 1

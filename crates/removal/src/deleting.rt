@@ -1,7 +1,10 @@
-ghost use Rattle.std.specs.Prelude.{◌≡◌, ◌≢◌, ◌↔◌, ◌⊎◌, ◌<◌, ◌≤◌, ◌+◌, ◌++◌, ◌∷◌, [], length, IsPermutation, IfOk, IfErr, OnOk, OnErr};
-ghost use Rattle.change_list.specs.Changes.{status_of};
-ghost use Rattle.removal.specs.Deleting.{Deletes, Leaves};
-ghost use Rattle.world.specs.Resting.{deaths, Rests};
+ghost use Rattle.std.specs.Prelude.{◌≡◌, ◌≢◌, ◌↔◌, ◌<◌, ◌≤◌, ◌+◌, length, IfOk, IfErr, OnOk, OnErr};
+ghost use Rattle.key_class.specs.declared.refusal.Refusal.TheVariants.{NoSuchRow, AlreadyDeleted, CommitsFull, FindersFull, OutOfMemory};
+ghost use Rattle.change_list.specs.Changes.{NamesNoRow, NamesLive, NamesDead};
+ghost use Rattle.removal.specs.Deleting.{AddsDeath, Deletes, KeepsDeaths, Leaves};
+ghost use Rattle.removal.specs.Visits.{IsFullOfFinders, LacksCommit, LacksOnlyFinder, RefusesDelete, RefusesFinder};
+ghost use Rattle.world.specs.Resting.{Rests};
+ghost use Rattle.world.specs.States.{AddsCommit};
 
 use change_list::{Status, Write};
 use key_class::{KeyClass, Refusal};
@@ -20,20 +23,20 @@ pub fn delete<C: KeyClass, O: Outlet<C::Key>>(
     row: u64,
 ) -> Result<u64, Refusal>
     ensures number { IfOk result (λ n. n ≡ length world.old.commits + 1) }
-    ensures committed { OnOk result (world.new.commits ≡ world.old.commits ++ Write.Delete row ∷ []) }
+    ensures committed { OnOk result (AddsCommit world.old (Write.Delete row) world.new) }
     ensures unchanged { OnErr result (world.new.commits ≡ world.old.commits) }
     ensures rests { Rests C.rules O.rule world.old world.new }
-    ensures dead { OnOk result (IsPermutation ((row, length world.old.commits + 1) ∷ deaths world.old.search.tree) (deaths world.new.search.tree)) }
-    ensures dead_kept { OnErr result (deaths world.new.search.tree ≡ deaths world.old.search.tree) }
+    ensures dead { OnOk result (AddsDeath world.old row world.new) }
+    ensures dead_kept { OnErr result (KeepsDeaths world.old world.new) }
     ensures pages { length world.new.search.tree.pages ≡ length world.old.search.tree.pages }
-    ensures no_such_row { (result ≡ Err Refusal.NoSuchRow) ↔ (status_of world.old.commits row ≡ Status.NeverIssued) }
-    ensures already_deleted { (result ≡ Err Refusal.AlreadyDeleted) ↔ (status_of world.old.commits row ≡ Status.Dead) }
-    ensures full { (result ≡ Err Refusal.CommitsFull) ↔ ((status_of world.old.commits row ≡ Status.Live) × (world.old.limit ≤ length world.old.commits)) }
-    ensures refusals { IfErr result (λ why. (why ≡ Refusal.NoSuchRow) ⊎ (why ≡ Refusal.AlreadyDeleted) ⊎ (why ≡ Refusal.CommitsFull) ⊎ (why ≡ Refusal.OutOfMemory) ⊎ ((why ≡ Refusal.FindersFull) × ((64 ≤ length world.old.finders) ⊎ (4294967295 ≤ world.old.last_finder)))) }
-    ensures finders_full { (result ≡ Err Refusal.FindersFull) ↔ ((status_of world.old.commits row ≡ Status.Live) × (length world.old.commits < world.old.limit) × ((64 ≤ length world.old.finders) ⊎ (4294967295 ≤ world.old.last_finder))) }
+    ensures no_such_row { (result ≡ Err NoSuchRow) ↔ NamesNoRow world.old.commits row }
+    ensures already_deleted { (result ≡ Err AlreadyDeleted) ↔ NamesDead world.old.commits row }
+    ensures full { (result ≡ Err CommitsFull) ↔ LacksCommit world.old row }
+    ensures refusals { IfErr result (RefusesDelete world.old row) }
+    ensures finders_full { (result ≡ Err FindersFull) ↔ LacksOnlyFinder world.old row }
     ensures finders { world.new.finders ≡ world.old.finders }
     ensures found { OnOk result (world.new.last_finder ≡ world.old.last_finder + 1) }
-    ensures unfound { IfErr result (λ why. why ≢ Refusal.OutOfMemory → world.new ≡ world.old) }
+    ensures unfound { IfErr result (λ why. why ≢ OutOfMemory → world.new ≡ world.old) }
     ensures last_finder { world.new.last_finder ≤ world.old.last_finder + 1 }
 {
     match world.status(row) {
@@ -52,13 +55,13 @@ fn find_and_bury<C: KeyClass, O: Outlet<C::Key>>(
     world: &mut World<C, O>,
     row: u64,
 ) -> Result<u64, Refusal>
-    requires live { status_of world.old.commits row ≡ Status.Live }
+    requires live { NamesLive world.old.commits row }
     requires room { length world.old.commits < world.old.limit }
-    ensures deleted { IfOk result (λ number. Deletes C.rules O.rule world.old row number world.new) }
+    ensures deleted { IfOk result (λ n. Deletes C.rules O.rule world.old row n world.new) }
     ensures left { OnErr result (Leaves world.old world.new) }
-    ensures unfound { IfErr result (λ why. why ≢ Refusal.OutOfMemory → world.new ≡ world.old) }
-    ensures full { (result ≡ Err Refusal.FindersFull) ↔ ((64 ≤ length world.old.finders) ⊎ (4294967295 ≤ world.old.last_finder)) }
-    ensures refusals { IfErr result (λ why. (why ≡ Refusal.OutOfMemory) ⊎ ((why ≡ Refusal.FindersFull) × ((64 ≤ length world.old.finders) ⊎ (4294967295 ≤ world.old.last_finder)))) }
+    ensures unfound { IfErr result (λ why. why ≢ OutOfMemory → world.new ≡ world.old) }
+    ensures full { (result ≡ Err FindersFull) ↔ IsFullOfFinders world.old }
+    ensures refusals { IfErr result (RefusesFinder world.old) }
 {
     let finder = match world.step(Event::Find(row)) {
         Reply::Finder(finder) => finder,

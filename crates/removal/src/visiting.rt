@@ -1,9 +1,10 @@
 //! A deletion by visits, between which others may change the world.
-ghost use Rattle.std.specs.Prelude.{◌≡◌, ◌⊎◌, ◌↔◌, ◌+◌, ◌≤◌, true, Err, length, IfOk, IfErr, OnOk, OnErr};
-ghost use Rattle.change_list.specs.Changes.{status_of};
+ghost use Rattle.std.specs.Prelude.{◌≡◌, ◌↔◌, ◌+◌, Err, IfOk, IfErr, OnOk, OnErr};
+ghost use Rattle.key_class.specs.declared.refusal.Refusal.TheVariants.{NoSuchRow, AlreadyDeleted, FindersFull};
+ghost use Rattle.change_list.specs.Changes.{NamesNoRow, NamesLive, NamesDead};
 ghost use Rattle.removal.specs.Deleting.{Looks};
-ghost use Rattle.removal.specs.Visits.{IsFullOfFinders, RefusesDelete, Seeks};
-ghost use Rattle.world.specs.Promises.{MailboxesFit};
+ghost use Rattle.removal.specs.Visits.{IsFullOfFinders, LacksFinder, RefusesCommit, RefusesDelete, RefusesFinder, Seeks};
+ghost use Rattle.world.specs.Promises.{KeepsMailboxes};
 ghost use Rattle.world.specs.States.{IsSoundWorld};
 ghost use Rattle.world.specs.Visits.{IsOneEvent};
 
@@ -36,11 +37,11 @@ pub fn find_row<C: KeyClass, O: Outlet<C::Key>>(
     ensures looks { OnOk result (Looks world.old row world.new) }
     ensures one_event { IsOneEvent C O O.End C.rules O.rule 0 world.old world.new }
     ensures sound { IsSoundWorld C.rules.is_cover world.new }
-    ensures mailboxes { O.rule.is_emptied_elsewhere ≡ true → MailboxesFit C.rules O.rule world.old → MailboxesFit C.rules O.rule world.new }
+    ensures mailboxes { KeepsMailboxes C.rules O.rule world.old world.new }
     ensures unchanged { OnErr result (world.new ≡ world.old) }
-    ensures no_such_row { (result ≡ Err Refusal.NoSuchRow) ↔ (status_of world.old.commits row ≡ Status.NeverIssued) }
-    ensures already_deleted { (result ≡ Err Refusal.AlreadyDeleted) ↔ (status_of world.old.commits row ≡ Status.Dead) }
-    ensures finders_full { (result ≡ Err Refusal.FindersFull) ↔ ((status_of world.old.commits row ≡ Status.Live) × IsFullOfFinders world.old) }
+    ensures no_such_row { (result ≡ Err NoSuchRow) ↔ NamesNoRow world.old.commits row }
+    ensures already_deleted { (result ≡ Err AlreadyDeleted) ↔ NamesDead world.old.commits row }
+    ensures finders_full { (result ≡ Err FindersFull) ↔ LacksFinder world.old row }
     ensures refusals { IfErr result (RefusesDelete world.old row) }
 {
     world.is_sound();
@@ -56,15 +57,15 @@ fn open_finder<C: KeyClass, O: Outlet<C::Key>>(
     world: &mut World<C, O>,
     row: u64,
 ) -> Result<u64, Refusal>
-    requires live { status_of world.old.commits row ≡ Status.Live }
+    requires live { NamesLive world.old.commits row }
     ensures serial { IfOk result (λ finder. finder ≡ world.old.last_finder + 1) }
     ensures looks { OnOk result (Looks world.old row world.new) }
     ensures one_event { IsOneEvent C O O.End C.rules O.rule 0 world.old world.new }
     ensures sound { IsSoundWorld C.rules.is_cover world.new }
-    ensures mailboxes { O.rule.is_emptied_elsewhere ≡ true → MailboxesFit C.rules O.rule world.old → MailboxesFit C.rules O.rule world.new }
+    ensures mailboxes { KeepsMailboxes C.rules O.rule world.old world.new }
     ensures unchanged { OnErr result (world.new ≡ world.old) }
-    ensures full { (result ≡ Err Refusal.FindersFull) ↔ IsFullOfFinders world.old }
-    ensures refusals { IfErr result (λ why. (why ≡ Refusal.OutOfMemory) ⊎ ((why ≡ Refusal.FindersFull) × IsFullOfFinders world.old)) }
+    ensures full { (result ≡ Err FindersFull) ↔ IsFullOfFinders world.old }
+    ensures refusals { IfErr result (RefusesFinder world.old) }
 {
     match world.step(Event::Find(row)) {
         Reply::Finder(finder) => Ok(finder),
@@ -87,10 +88,10 @@ pub fn seek_row<C: KeyClass, O: Outlet<C::Key>>(
     ensures seeks { IfOk result (λ search. Seeks world.old seat row search world.new) }
     ensures one_event { IsOneEvent C O O.End C.rules O.rule seat world.old world.new }
     ensures sound { IsSoundWorld C.rules.is_cover world.new }
-    ensures mailboxes { O.rule.is_emptied_elsewhere ≡ true → MailboxesFit C.rules O.rule world.old → MailboxesFit C.rules O.rule world.new }
+    ensures mailboxes { KeepsMailboxes C.rules O.rule world.old world.new }
     ensures unchanged { OnErr result (world.new ≡ world.old) }
-    ensures no_such_row { (result ≡ Err Refusal.NoSuchRow) ↔ (status_of world.old.commits row ≡ Status.NeverIssued) }
-    ensures already_deleted { (result ≡ Err Refusal.AlreadyDeleted) ↔ (status_of world.old.commits row ≡ Status.Dead) }
+    ensures no_such_row { (result ≡ Err NoSuchRow) ↔ NamesNoRow world.old.commits row }
+    ensures already_deleted { (result ≡ Err AlreadyDeleted) ↔ NamesDead world.old.commits row }
     ensures refusals { IfErr result (RefusesDelete world.old row) }
 {
     world.is_sound();
@@ -108,13 +109,13 @@ fn seek_live<C: KeyClass, O: Outlet<C::Key>>(
     finder: u64,
     row: u64,
 ) -> Result<Search<C::Key>, Refusal>
-    requires live { status_of world.old.commits row ≡ Status.Live }
+    requires live { NamesLive world.old.commits row }
     ensures seeks { IfOk result (λ search. Seeks world.old seat row search world.new) }
     ensures one_event { IsOneEvent C O O.End C.rules O.rule seat world.old world.new }
     ensures sound { IsSoundWorld C.rules.is_cover world.new }
-    ensures mailboxes { O.rule.is_emptied_elsewhere ≡ true → MailboxesFit C.rules O.rule world.old → MailboxesFit C.rules O.rule world.new }
+    ensures mailboxes { KeepsMailboxes C.rules O.rule world.old world.new }
     ensures unchanged { OnErr result (world.new ≡ world.old) }
-    ensures refusals { IfErr result (λ why. (why ≡ Refusal.OutOfMemory) ⊎ ((why ≡ Refusal.CommitsFull) × (world.old.limit ≤ length world.old.commits))) }
+    ensures refusals { IfErr result (RefusesCommit world.old) }
 {
     world.is_sound();
     match world.finder_row(finder) {

@@ -7,7 +7,11 @@ use Rattle.change_list.specs.declared.item.Item.{Item}
 use Rattle.change_list.specs.declared.item.Item.TheVariants as item
 use Rattle.key_class.specs.declared.refusal.Refusal.{Refusal}
 use Rattle.key_class.specs.declared.refusal.Refusal.TheVariants as refusal
-use Rattle.key_class.specs.Queries.{Query, depth_of}
+use Rattle.key_class.specs.declared.pred.Pred.{Pred}
+use Rattle.key_class.specs.Queries.{Query, query_of, depth_of}
+use Rattle.key_class.specs.Rules.{Rules, satisfies}
+use Rattle.change_list.specs.declared.item.Row.{Row}
+use Rattle.change_list.specs.Changes.{NamesLive, snapshot}
 use Rattle.change_list.specs.Cursors.{CursorState, Fits, IsDone, work}
 
 -- a dead row that a sweep hasn't removed
@@ -66,6 +70,18 @@ module _ {K A : Type 0} where
 
   abbrev pub without_cursor : State K A → ℕ → State K A
   without_cursor state c = record state { cursors = filter (λ k. not (nat_eq k.serial c)) state.cursors }
+
+  -- no cursor with the serial is open, which is why nothing is done
+  abbrev pub LacksCursor : State K A → ℕ → Refusal → State K A → Type 0
+  LacksCursor old c why new = (cursor_of old c ≡ Err why) × (new ≡ old)
+
+  -- at most one page more was made than there are commits
+  abbrev pub HasFewPages : State K A → Type 0
+  HasFewPages state = state.page_limit ≤ state.pages_left + length state.commits + 1
+
+  -- the live rows whose keys satisfy a query, by rising number
+  abbrev pub matching_rows : Rules K A → State K A → Pred A → List (Row K)
+  matching_rows rules state query = snapshot (satisfies rules (query_of query)) (length state.commits) state.commits
 
   -- the least opening number of the cursors whose scan isn't over, or the number of commits
   abbrev pub horizon_of : ℕ → List (CursorState K A) → ℕ
@@ -158,6 +174,10 @@ module _ {K A : Type 0} (matching : A → K → Bool) where
     pub unasked : cursor.asked ≡ false
     pub fits : Fits matching old.commits cursor []
 
+  -- the same, of a query as a program holds it
+  abbrev pub IsOpenedFor : State K A → Pred A → ℕ → State K A → Type 0
+  IsOpenedFor old query c new = IsOpened old (query_of query) c new
+
   -- an open cursor gives its next item, or nothing; all else stays
   pub record Nexts (old : State K A) (c : ℕ) (given : Option (Item K)) (new : State K A) : Type 0 where
     pub before : CursorState K A
@@ -181,7 +201,7 @@ module _ {K A : Type 0} (matching : A → K → Bool) where
 
   -- refused by its serial, or for memory
   abbrev pub RefusesNext : State K A → ℕ → Refusal → State K A → Type 0
-  RefusesNext old c why new = ((cursor_of old c ≡ Err why) × (new ≡ old)) ⊎ ((why ≡ refusal.OutOfMemory) × Wants old c new)
+  RefusesNext old c why new = LacksCursor old c why new ⊎ ((why ≡ refusal.OutOfMemory) × Wants old c new)
 
   -- a cursor has nothing more to give, or was refused
   abbrev pub EndsDrain : State K A → ℕ → Result (Unit {0}) Refusal → State K A → Type 0
@@ -224,6 +244,26 @@ module _ {K A : Type 0} where
   abbrev pub HasNoFinderLeft : State K A → Type 0
   HasNoFinderLeft state = 4294967295 ≤ state.finders
 
+  -- no commit can be made any more
+  abbrev pub HasNoCommitLeft : State K A → Type 0
+  HasNoCommitLeft state = state.limit ≤ length state.commits
+
+  -- the row is live, but no commit can delete it
+  abbrev pub HasNoCommitFor : State K A → ℕ → Type 0
+  HasNoCommitFor state row = NamesLive state.commits row × HasNoCommitLeft state
+
+  -- the row is live and may be deleted, but no finder of it can be opened
+  abbrev pub HasNoFinderFor : State K A → ℕ → Type 0
+  HasNoFinderFor state row = NamesLive state.commits row × (length state.commits < state.limit) × HasNoFinderLeft state
+
+  -- why a row isn't added, and what is left then
+  abbrev pub RefusesRow : State K A → Refusal → Type 0
+  RefusesRow new why = (why ≡ refusal.OutOfMemory) ⊎ (why ≡ refusal.CommitsFull) ⊎ ((why ≡ refusal.PagesFull) × (new.pages_left < 2))
+
+  -- the next commit's death of the row is one more in the collection
+  abbrev pub AddsDead : State K A → ℕ → State K A → Type 0
+  AddsDead old row new = IsPermutation ((record { row = row; died = length old.commits + 1 }) ∷ old.dead) new.dead
+
   -- the refusals that a delete may give
   abbrev pub RefusesDelete : State K A → Refusal → Type 0
   RefusesDelete old why =
@@ -250,5 +290,17 @@ module _ {K A : Type 0} where
 abbrev pub IsBadOpening : {A : Type 0} → Query A → ℕ → Type 0
 IsBadOpening query room = (room ≡ 0) ⊎ (4096 < room) ⊎ (32 < depth_of query)
 
+-- why no cursor is opened
+abbrev pub RefusesCursor : Refusal → Type 0
+RefusesCursor why = (why ≡ refusal.BadConfig) ⊎ (why ≡ refusal.CursorsFull) ⊎ (why ≡ refusal.OutOfMemory)
+
 abbrev pub IsFullOf : {K A : Type 0} → State K A → Type 0
 IsFullOf state = (256 ≤ length state.cursors) ⊎ (4294967295 ≤ state.last)
+
+-- the query and the room are in range, but no cursor can be opened
+abbrev pub HasNoCursorFor : {K A : Type 0} → State K A → Query A → ℕ → Type 0
+HasNoCursorFor state query room = (¬ IsBadOpening query room) × IsFullOf state
+
+-- a list got the items that a cursor gave until nothing was left or it was refused
+abbrev pub DrainsInto : {K A : Type 0} → Rules K A → State K A → ℕ → List (Item K) → List (Item K) → Result (Unit {0}) Refusal → State K A → Type 0
+DrainsInto rules old c before after result new = (given : List (Item _)) × (after ≡ before ++ given) × Drains rules.is_match old c given result new

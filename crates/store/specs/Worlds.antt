@@ -1,12 +1,14 @@
 -- What a store shows of the world on which it stands.
-use Rattle.std.specs.Prelude.{◌≡◌, ℕ, ◌-◌, ◌<◌, [], length, map, Some, Ok, All}
+use Rattle.std.specs.Prelude.{◌≡◌, ℕ, ◌-◌, ◌<◌, [], length, map, Option, Some, Ok, All}
 use Rattle.key_class.specs.Rules.{Rules}
-use Rattle.mailbox.specs.Outlets.{Rule}
+use Rattle.mailbox.specs.Outlets.{Rule, tray_rule}
+use Rattle.key_class.specs.declared.refusal.Refusal.{Refusal}
+use Rattle.change_list.specs.declared.item.Item.{Item}
 use Rattle.change_list.specs.Cursors.{CursorState}
 use Rattle.cursor.specs.OpenCursors.{OpenCursor, shown}
 use Rattle.world.specs.Resting.{deaths}
 use Rattle.world.specs.States as world
-use Rattle.store.specs.States.{State, DeadRow, cursor_of}
+use Rattle.store.specs.States.{State, DeadRow, Nexts, RefusesNext, cursor_of}
 
 abbrev pub dead_row : ℕ × ℕ → DeadRow
 dead_row (row, died) = record { row = row; died = died }
@@ -24,6 +26,13 @@ module _ {K A : Type 0} where
     pages_left = s.search.limit - length s.search.tree.pages;
     finders = s.last_finder;
   }
+
+  -- how the cursor of a world gives its next item, or nothing, and why it doesn't
+  abbrev pub NextsIn : Rules K A → world.State K A → ℕ → Option (Item K) → world.State K A → Type 0
+  NextsIn rules old c given new = Nexts rules.is_match (store_state rules tray_rule old) c given (store_state rules tray_rule new)
+
+  abbrev pub RefusesNextIn : Rules K A → world.State K A → ℕ → Refusal → world.State K A → Type 0
+  RefusesNextIn rules old c why new = RefusesNext rules.is_match (store_state rules tray_rule old) c why (store_state rules tray_rule new)
 
   -- a cursor with the serial is open
   abbrev pub HasCursor : State K A → ℕ → Type 0

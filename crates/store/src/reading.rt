@@ -1,8 +1,6 @@
 //! What a cursor gives next.
 ghost use Rattle.std.specs.Prelude.{◌≡◌, None, IfOk, IfErr};
-ghost use Rattle.mailbox.specs.Outlets.{tray_rule};
-ghost use Rattle.store.specs.States.{Nexts, RefusesNext};
-ghost use Rattle.store.specs.Worlds.{store_state, IsQuiet, IsFilled};
+ghost use Rattle.store.specs.Worlds.{IsFilled, IsQuiet, NextsIn, RefusesNextIn};
 ghost use Rattle.split.specs.Tests.{first_failing};
 ghost use Rattle.world.specs.Steps.{Takes, cursor_tests};
 
@@ -18,8 +16,8 @@ pub fn next_item<C: KeyClass>(
 ) -> Result<Option<Item<C::Key>>, Refusal>
     requires quiet { IsQuiet world.old }
     ensures quiet { IsQuiet world.new }
-    ensures ok { IfOk result (λ item. Nexts C.rules.is_match (store_state C.rules tray_rule world.old) c item (store_state C.rules tray_rule world.new)) }
-    ensures err { IfErr result (λ why. RefusesNext C.rules.is_match (store_state C.rules tray_rule world.old) c why (store_state C.rules tray_rule world.new)) }
+    ensures ok { IfOk result (λ item. NextsIn C.rules world.old c item world.new) }
+    ensures err { IfErr result (λ why. RefusesNextIn C.rules world.old c why world.new) }
 {
     world.is_sound();
     if let Err(refusal) = world.check_cursor(c) {

@@ -1,9 +1,12 @@
-ghost use Rattle.std.specs.Prelude.{◌≡◌, ◌≢◌, ◌+◌, ◌≤◌, ◌<◌, ◌↔◌, ◌⊎◌, List, [], ◌∷◌, ◌++◌, length, IfOk, IfErr, OnOk, OnErr, Ok, Err, IsPermutation};
-ghost use Rattle.key_class.specs.Queries.{query_of, matches_query, depth_of};
+ghost use Rattle.std.specs.Prelude.{◌≡◌, ◌≢◌, ◌+◌, ◌≤◌, ◌<◌, ◌↔◌, ◌⊎◌, length, IfOk, IfErr, OnOk, OnErr, Err, IsPermutation};
+ghost use Rattle.key_class.specs.declared.refusal.Refusal.TheVariants.{BadConfig, OutOfMemory, CommitsFull, NoSuchRow, AlreadyDeleted, FindersFull, CursorsFull};
+ghost use Rattle.key_class.specs.Refusals.{IsEither};
+ghost use Rattle.key_class.specs.Queries.{query_of, depth_of};
 ghost use Rattle.change_list.specs.Configs.{IsWithinLimits};
-ghost use Rattle.change_list.specs.Changes.{IsLegal, status_of, snapshot, commit_at};
+ghost use Rattle.change_list.specs.declared.write.Write.TheVariants.{Insert, Delete};
+ghost use Rattle.change_list.specs.Changes.{IsLegal, NamesNoRow, NamesDead, commit_at};
 ghost use Rattle.store.specs.Worlds.{HasCursor};
-ghost use Rattle.store.specs.States.{new_state, Commits, Keeps, cursor_of, IsOpened, IsBadOpening, IsFullOf, HasNoFinderLeft, RefusesDelete, Closes, Drains, Sweeps, SweepsSome, Nexts, RefusesNext, Changes, with_asking};
+ghost use Rattle.store.specs.States.{new_state, Commits, Keeps, cursor_of, IsOpenedFor, IsBadOpening, HasFewPages, HasNoCommitLeft, HasNoCommitFor, HasNoFinderFor, HasNoCursorFor, RefusesRow, RefusesCursor, AddsDead, RefusesDelete, LacksCursor, Closes, DrainsInto, Sweeps, SweepsSome, Nexts, RefusesNext, Changes, with_asking, matching_rows};
 
 use crate::reading::next_item;
 use change_list::{Config, Item, Row, Status, Write};
@@ -43,8 +46,8 @@ impl<C: KeyClass> Store<C> {
     /// `BadConfig` where a limit of the configuration is out of its range, and want of memory.
     pub fn new(alloc: Global, config: Config) -> Result<Store<C>, Refusal>
         ensures ok { IfOk result (λ store. store ≡ new_state config) }
-        ensures bad { (result ≡ Err Refusal.BadConfig) ↔ (¬ IsWithinLimits config) }
-        ensures refusals { IfErr result (λ e. (e ≡ Refusal.BadConfig) ⊎ (e ≡ Refusal.OutOfMemory)) }
+        ensures bad { (result ≡ Err BadConfig) ↔ (¬ IsWithinLimits config) }
+        ensures refusals { IfErr result (IsEither BadConfig OutOfMemory) }
     {
         let world = World::new(alloc, config)?;
         Ok(Store { alloc, world })
@@ -56,7 +59,7 @@ impl<C: KeyClass> Store<C> {
         ensures legal { IsLegal self.now.commits }
 
         // At most one page more was made than there are commits.
-        ensures few_pages { self.now.page_limit ≤ self.now.pages_left + length self.now.commits + 1 }
+        ensures few_pages { HasFewPages self.now }
     {
         self.world.is_sound();
         self.world.commits()
@@ -65,7 +68,7 @@ impl<C: KeyClass> Store<C> {
     /// Nothing is done. The clauses state what holds of every store.
     fn is_sound(&self)
         ensures legal { IsLegal self.now.commits }
-        ensures few_pages { self.now.page_limit ≤ self.now.pages_left + length self.now.commits + 1 }
+        ensures few_pages { HasFewPages self.now }
     {
         let _commits = self.commits();
     }
@@ -80,14 +83,14 @@ impl<C: KeyClass> Store<C> {
     /// Adds a row.
     pub fn insert(&mut self, key: C::Key, tag: u64) -> Result<u64, Refusal>
         ensures number { IfOk result (λ n. n ≡ length self.old.commits + 1) }
-        ensures ok { OnOk result (Commits C.rules.is_match self.old (Write.Insert key tag) self.new) }
+        ensures ok { OnOk result (Commits C.rules.is_match self.old (Insert key tag) self.new) }
         ensures dead { OnOk result (IsPermutation self.old.dead self.new.dead) }
         ensures finders { self.new.finders ≡ self.old.finders }
         ensures err { OnErr result (Keeps C.rules.is_match self.old self.new) }
-        ensures full { (result ≡ Err Refusal.CommitsFull) ↔ (self.old.limit ≤ length self.old.commits) }
-        ensures refusals { IfErr result (λ e. (e ≡ Refusal.OutOfMemory) ⊎ (e ≡ Refusal.CommitsFull) ⊎ ((e ≡ Refusal.PagesFull) × (self.new.pages_left < 2))) }
+        ensures full { (result ≡ Err CommitsFull) ↔ HasNoCommitLeft self.old }
+        ensures refusals { IfErr result (RefusesRow self.new) }
         ensures legal { IsLegal self.new.commits }
-        ensures few_pages { self.new.page_limit ≤ self.new.pages_left + length self.new.commits + 1 }
+        ensures few_pages { HasFewPages self.new }
     {
         let inserted = insertion::insert(self.alloc, &mut self.world, key, tag);
         self.is_sound();
@@ -102,19 +105,19 @@ impl<C: KeyClass> Store<C> {
     /// have used up a finder.
     pub fn delete(&mut self, row: u64) -> Result<u64, Refusal>
         ensures number { IfOk result (λ n. n ≡ length self.old.commits + 1) }
-        ensures ok { OnOk result (Commits C.rules.is_match self.old (Write.Delete row) self.new) }
-        ensures dead { OnOk result (IsPermutation ((record { row = row; died = length self.old.commits + 1 }) ∷ self.old.dead) self.new.dead) }
+        ensures ok { OnOk result (Commits C.rules.is_match self.old (Delete row) self.new) }
+        ensures dead { OnOk result (AddsDead self.old row self.new) }
         ensures err { OnErr result (Keeps C.rules.is_match self.old self.new) }
-        ensures no_such_row { (result ≡ Err Refusal.NoSuchRow) ↔ (status_of self.old.commits row ≡ Status.NeverIssued) }
-        ensures already_deleted { (result ≡ Err Refusal.AlreadyDeleted) ↔ (status_of self.old.commits row ≡ Status.Dead) }
-        ensures full { (result ≡ Err Refusal.CommitsFull) ↔ ((status_of self.old.commits row ≡ Status.Live) × (self.old.limit ≤ length self.old.commits)) }
-        ensures finders_full { (result ≡ Err Refusal.FindersFull) ↔ ((status_of self.old.commits row ≡ Status.Live) × (length self.old.commits < self.old.limit) × HasNoFinderLeft self.old) }
+        ensures no_such_row { (result ≡ Err NoSuchRow) ↔ NamesNoRow self.old.commits row }
+        ensures already_deleted { (result ≡ Err AlreadyDeleted) ↔ NamesDead self.old.commits row }
+        ensures full { (result ≡ Err CommitsFull) ↔ HasNoCommitFor self.old row }
+        ensures finders_full { (result ≡ Err FindersFull) ↔ HasNoFinderFor self.old row }
         ensures refusals { IfErr result (RefusesDelete self.old) }
         ensures found { OnOk result (self.new.finders ≡ self.old.finders + 1) }
-        ensures unfound { IfErr result (λ why. why ≢ Refusal.OutOfMemory → self.new ≡ self.old) }
+        ensures unfound { IfErr result (λ why. why ≢ OutOfMemory → self.new ≡ self.old) }
         ensures finders { self.new.finders ≤ self.old.finders + 1 }
         ensures legal { IsLegal self.new.commits }
-        ensures few_pages { self.new.page_limit ≤ self.new.pages_left + length self.new.commits + 1 }
+        ensures few_pages { HasFewPages self.new }
     {
         let deleted = removal::delete(&mut self.world, row);
         self.is_sound();
@@ -127,11 +130,11 @@ impl<C: KeyClass> Store<C> {
     /// `BadConfig` where the room isn't from 1 to 4,096 or the query is deeper than 32, else `CursorsFull`, else want of
     /// memory.
     pub fn open(&mut self, query: Pred<C::Atom>, room: u64) -> Result<u64, Refusal>
-        ensures ok { IfOk result (λ c. IsOpened C.rules.is_match self.old (query_of query) c self.new) }
+        ensures ok { IfOk result (λ c. IsOpenedFor C.rules.is_match self.old query c self.new) }
         ensures err { OnErr result (self.new ≡ self.old) }
-        ensures bad { (result ≡ Err Refusal.BadConfig) ↔ IsBadOpening (query_of query) room }
-        ensures full { (result ≡ Err Refusal.CursorsFull) ↔ ((¬ IsBadOpening (query_of query) room) × IsFullOf self.old) }
-        ensures refusals { IfErr result (λ e. (e ≡ Refusal.BadConfig) ⊎ (e ≡ Refusal.CursorsFull) ⊎ (e ≡ Refusal.OutOfMemory)) }
+        ensures bad { (result ≡ Err BadConfig) ↔ IsBadOpening (query_of query) room }
+        ensures full { (result ≡ Err CursorsFull) ↔ HasNoCursorFor self.old (query_of query) room }
+        ensures refusals { IfErr result RefusesCursor }
     {
         if room == 0 || room > 4_096 {
             return Err(Refusal::BadConfig);
@@ -164,7 +167,7 @@ impl<C: KeyClass> Store<C> {
     /// # Errors
     /// `NoSuchCursor`, `CursorClosed`, and want of memory. What was given before stands in the list.
     pub fn drain(&mut self, c: u64, into: &mut Vec<Item<C::Key>>) -> Result<(), Refusal>
-        ensures { (given : List (Item C.Key)) × (into.new.items ≡ into.old.items ++ given) × Drains C.rules.is_match self.old c given result self.new }
+        ensures { DrainsInto C.rules self.old c into.old.items into.new.items result self.new }
     {
         'draining: loop {
             self.check(c)?;
@@ -185,7 +188,7 @@ impl<C: KeyClass> Store<C> {
     pub fn sweep_all(&mut self) -> Result<u64, Refusal>
         ensures ok { IfOk result (λ number. Sweeps C.rules.is_match self.old number self.new) }
         ensures err { OnErr result (SweepsSome C.rules.is_match self.old self.new) }
-        ensures refusals { IfErr result (λ e. e ≡ Refusal.OutOfMemory) }
+        ensures refusals { IfErr result (λ e. e ≡ OutOfMemory) }
     {
         self.world.is_sound();
         removal::sweep_all(&mut self.world)
@@ -194,7 +197,7 @@ impl<C: KeyClass> Store<C> {
     /// Asks a cursor for a mark.
     pub fn ask_mark(&mut self, c: u64) -> Result<(), Refusal>
         ensures ok { OnOk result (Changes with_asking self.old c self.new) }
-        ensures err { IfErr result (λ why. (cursor_of self.old c ≡ Err why) × (self.new ≡ self.old)) }
+        ensures err { IfErr result (λ why. LacksCursor self.old c why self.new) }
     {
         match self.world.step(Event::AskMark(c)) {
             Reply::Asked => return Ok(()),
@@ -209,7 +212,7 @@ impl<C: KeyClass> Store<C> {
     /// `NoSuchCursor` where the serial was never given, `CursorClosed` where its cursor is closed.
     pub fn close(&mut self, c: u64) -> Result<(), Refusal>
         ensures ok { OnOk result (Closes self.old c self.new) }
-        ensures err { IfErr result (λ why. (cursor_of self.old c ≡ Err why) × (self.new ≡ self.old)) }
+        ensures err { IfErr result (λ why. LacksCursor self.old c why self.new) }
     {
         self.world.is_sound();
         match self.world.step(Event::Close(c)) {
@@ -221,9 +224,9 @@ impl<C: KeyClass> Store<C> {
 
     /// The live rows that match, by rising number.
     pub fn find(&self, query: &Pred<C::Atom>) -> Result<Vec<Row<C::Key>>, Refusal>
-        ensures ok { IfOk result (λ rows. rows.items ≡ snapshot (matches_query C.rules.is_match (query_of query.now)) (length self.now.commits) self.now.commits) }
-        ensures depth { (result ≡ Err Refusal.BadConfig) ↔ (32 < depth_of (query_of query.now)) }
-        ensures refusals { IfErr result (λ e. (e ≡ Refusal.BadConfig) ⊎ (e ≡ Refusal.OutOfMemory)) }
+        ensures ok { IfOk result (λ rows. rows.items ≡ matching_rows C.rules self.now query.now) }
+        ensures depth { (result ≡ Err BadConfig) ↔ (32 < depth_of (query_of query.now)) }
+        ensures refusals { IfErr result (IsEither BadConfig OutOfMemory) }
     {
         if !query.is_within_depth(32) {
             return Err(Refusal::BadConfig);

@@ -60,16 +60,7 @@ module _ {C K A : Type 0} (rules : Rules K A) (rule : Rule) where
   asked_tests old (event.Take d) c s a =
       subst (λ n. first_failing (tests {C = C} rules rule old (event.Take n)) ≡ Some refusal.CursorClosed) (sym a)
       (failing_first (cursor_tests old c) ((rule.is_emptied_elsewhere, refusal.NotHere) ∷ []) refusal.CursorClosed (closed_fails old c s.positive s.given s.closed))
-  asked_tests old (event.Enlarge page child key) c s a = absurd a
-  asked_tests old (event.Place page key tag) c s a = absurd a
-  asked_tests old (event.Split page sides) c s a = absurd a
-  asked_tests old (event.Post page child) c s a = absurd a
-  asked_tests old (event.Grow sides) c s a = absurd a
-  asked_tests old (event.Find row) c s a = absurd a
-  asked_tests old (event.Seek f) c s a = absurd a
-  asked_tests old (event.Unfind f) c s a = absurd a
-  asked_tests old (event.Sweep page) c s a = absurd a
-  asked_tests old (event.Open query room) c s a = absurd a
+  asked_tests old e c s a = absurd a
 
 module _ {C O K A E : Type 0} (rules : Rules K A) (rule : Rule) (seat : ℕ) (old : State K A) (e : Event C K A) (new : State K A) where
   silent_refused : (why : Refusal) → IsRefused rules rule old e why new → first_failing (tests rules rule old e) ≡ Some refusal.CursorClosed → ◌≡◌ {A = Reply C O K A E} (reply.Refused why) (reply.Refused refusal.CursorClosed)
@@ -84,23 +75,7 @@ module _ {C O K A E : Type 0} (rules : Rules K A) (rule : Rule) (seat : ℕ) (ol
 
   silent_step : (r : Reply C O K A E) → Step rules rule seat old e r new → first_failing (tests rules rule old e) ≡ Some refusal.CursorClosed → r ≡ reply.Refused refusal.CursorClosed
   silent_step (reply.Refused why) d t = silent_refused why d t
-  silent_step reply.Enlarged d t = silent_done reply.Enlarged d t
-  silent_step (reply.Committed stamp) d t = silent_done (reply.Committed stamp) d t
-  silent_step (reply.Split sibling) d t = silent_done (reply.Split sibling) d t
-  silent_step reply.Posted d t = silent_done reply.Posted d t
-  silent_step (reply.Grown first second) d t = silent_done (reply.Grown first second) d t
-  silent_step (reply.Finder f) d t = silent_done (reply.Finder f) d t
-  silent_step reply.Seeking d t = silent_done reply.Seeking d t
-  silent_step reply.Unfound d t = silent_done reply.Unfound d t
-  silent_step (reply.Swept count) d t = silent_done (reply.Swept count) d t
-  silent_step (reply.Opened c end) d t = silent_done (reply.Opened c end) d t
-  silent_step reply.Offered d t = silent_done reply.Offered d t
-  silent_step (reply.Visited page) d t = silent_done (reply.Visited page) d t
-  silent_step (reply.Passed n) d t = silent_done (reply.Passed n) d t
-  silent_step reply.Asked d t = silent_done reply.Asked d t
-  silent_step (reply.Taken item) d t = silent_done (reply.Taken item) d t
-  silent_step reply.Nothing d t = silent_done reply.Nothing d t
-  silent_step reply.Closed d t = silent_done reply.Closed d t
+  silent_step r d t = silent_done r d t
 
   pub silent_when_shut : (r : Reply C O K A E) → Step rules rule seat old e r new → (c : ℕ) → IsShut old c → asks e c → r ≡ reply.Refused refusal.CursorClosed
   silent_when_shut r d c s a = silent_step r d (asked_tests rules rule old e c s a)
@@ -118,20 +93,8 @@ module _ {C O K A E : Type 0} (rules : Rules K A) (rule : Rule) (old new : State
 
 module _ {C O K A E : Type 0} (rules : Rules K A) (rule : Rule) where
   quiet_refused : (old new : State K A) (e : Event C K A) (why : Refusal) → IsQuiet {O = O} {E = E} rules rule old new e (reply.Refused why)
-  quiet_refused old new (event.Enlarge page child key) why = record { uncommitted = refl; untaken = λ c. refl; opening = tt; closing = tt; numbering = tt; finding = tt; writing = tt }
-  quiet_refused old new (event.Place page key tag) why = record { uncommitted = refl; untaken = λ c. refl; opening = tt; closing = tt; numbering = tt; finding = tt; writing = tt }
-  quiet_refused old new (event.Split page sides) why = record { uncommitted = refl; untaken = λ c. refl; opening = tt; closing = tt; numbering = tt; finding = tt; writing = tt }
-  quiet_refused old new (event.Post page child) why = record { uncommitted = refl; untaken = λ c. refl; opening = tt; closing = tt; numbering = tt; finding = tt; writing = tt }
-  quiet_refused old new (event.Grow sides) why = record { uncommitted = refl; untaken = λ c. refl; opening = tt; closing = tt; numbering = tt; finding = tt; writing = tt }
-  quiet_refused old new (event.Find row) why = record { uncommitted = refl; untaken = λ c. refl; opening = tt; closing = tt; numbering = tt; finding = tt; writing = tt }
-  quiet_refused old new (event.Seek f) why = record { uncommitted = refl; untaken = λ c. refl; opening = tt; closing = tt; numbering = tt; finding = tt; writing = tt }
-  quiet_refused old new (event.Unfind f) why = record { uncommitted = refl; untaken = λ c. refl; opening = tt; closing = tt; numbering = tt; finding = tt; writing = tt }
-  quiet_refused old new (event.Sweep page) why = record { uncommitted = refl; untaken = λ c. refl; opening = tt; closing = tt; numbering = tt; finding = tt; writing = tt }
-  quiet_refused old new (event.Open query room) why = record { uncommitted = refl; untaken = λ c. refl; opening = tt; closing = tt; numbering = tt; finding = tt; writing = tt }
   quiet_refused old new (event.Turn d) why = record { uncommitted = refl; untaken = λ c. refl; opening = tt; closing = tt; numbering = tt; finding = tt; writing = tt }
-  quiet_refused old new (event.AskMark d) why = record { uncommitted = refl; untaken = λ c. refl; opening = tt; closing = tt; numbering = tt; finding = tt; writing = tt }
-  quiet_refused old new (event.Take d) why = record { uncommitted = refl; untaken = λ c. refl; opening = tt; closing = tt; numbering = tt; finding = tt; writing = tt }
-  quiet_refused old new (event.Close d) why = record { uncommitted = refl; untaken = λ c. refl; opening = tt; closing = tt; numbering = tt; finding = tt; writing = tt }
+  quiet_refused old new e why = record { uncommitted = refl; untaken = λ c. refl; opening = tt; closing = tt; numbering = tt; finding = tt; writing = tt }
 
 -- the finders are those that were there
 finders_stay : {C O K A E : Type 0} (rules : Rules K A) (rule : Rule) (old : State K A) (e : Event C K A) (r : Reply C O K A E) (new : State K A) → new.finders ≡ old.finders → new.last_finder ≡ old.last_finder → Finding rules rule old new e r → Writing rules rule old e r

@@ -1,5 +1,5 @@
 -- Lists whose members have serials that rise.
-use Rattle.std.specs.Prelude.{◌≡◌, ℕ, ◌<◌, ◌≤◌, not, nat_eq, List, [], ◌∷◌, filter, find, Option, Some, slice_get, if◌then◌else◌}
+use Rattle.std.specs.Prelude.{◌≡◌, ℕ, ◌<◌, ◌≤◌, not, nat_eq, List, [], ◌∷◌, filter, find, Option, Some, None, MatchOption, slice_get, if◌then◌else◌}
 
 module _ {X : Type 0} (serial : X → ℕ) where
   -- the member with a serial
@@ -25,3 +25,7 @@ module _ {X : Type 0} (serial : X → ℕ) where
     pub is : slice_get xs at ≡ Some value
     pub number : serial value ≡ c
     pub found : member c xs ≡ Some value
+
+  -- the place of the member with a serial, or none where there is none
+  abbrev pub IsPlaceOf : List X → ℕ → Option ℕ → Type 0
+  IsPlaceOf xs c place = MatchOption place (member c xs ≡ None) (λ at. IsMember xs c at)

@@ -1,5 +1,5 @@
 -- What contracts see of a world.
-use Rattle.std.specs.Prelude.{◌≡◌, ℕ, ◌+◌, ◌≤◌, Bool, List, [], length, false, Option, All}
+use Rattle.std.specs.Prelude.{◌≡◌, ℕ, ◌+◌, ◌≤◌, Bool, List, [], ◌∷◌, ◌++◌, length, false, Option, Some, All}
 use Rattle.change_list.specs.declared.config.Config.{Config}
 use Rattle.change_list.specs.declared.write.Write.{Write}
 use Rattle.change_list.specs.Changes.{IsLegal, is_deleted}
@@ -65,6 +65,18 @@ module _ {K A : Type 0} where
 
   abbrev pub with_finder : State K A → OpenFinder K → State K A
   with_finder s k = record s { finders = put (λ x. x.serial) k s.finders }
+
+  -- the finder with the serial is open, and looks for the row
+  abbrev pub IsFinderOf : State K A → ℕ → ℕ → Type 0
+  IsFinderOf s f row = (k : OpenFinder K) × (finder_at s f ≡ Some k) × (k.row ≡ row)
+
+  -- there are as many commits as may be
+  abbrev pub IsFullOfCommits : State K A → Type 0
+  IsFullOfCommits s = s.limit ≤ length s.commits
+
+  -- the commits are those that there were, and this one
+  abbrev pub AddsCommit : State K A → Write K → State K A → Type 0
+  AddsCommit old write new = new.commits ≡ old.commits ++ write ∷ []
 
   -- what a cursor has still to visit exists, and its position is one of the commits
   pub record IsAtWork (tree : Tree K) (commits : List (Write K)) (k : OpenCursor K A) : Type 0 where

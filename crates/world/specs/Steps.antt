@@ -1,7 +1,8 @@
 -- What each event makes of a world, and how it is answered.
 use Rattle.std.specs.Prelude.{◌≡◌, ℕ, suc, ◌+◌, Bool, true, false, not, ◌||◌, ◌&&◌, nat_eq, nat_le, nat_lt, List, [], ◌∷◌, ◌++◌, length, filter, Option, Some, None, is_none, Ok, Err, Result, ◌⊎◌}
+use Rattle.std.specs.List.{zip}
 use Rattle.key_class.specs.Rules.{Rules}
-use Rattle.mailbox.specs.Outlets.{Rule}
+use Rattle.mailbox.specs.Outlets.{Rule, tray_rule}
 use Rattle.key_class.specs.Queries.{query_of, depth_of}
 use Rattle.key_class.specs.declared.pred.Pred.{Pred}
 use Rattle.key_class.specs.declared.refusal.Refusal.{Refusal}
@@ -9,6 +10,7 @@ use Rattle.key_class.specs.declared.refusal.Refusal.TheVariants as refusal
 use Rattle.change_list.specs.Changes.{commit_at, is_deleted}
 use Rattle.change_list.specs.declared.write.Write.{Write}
 use Rattle.change_list.specs.declared.write.Write.TheVariants.{Insert, Delete}
+use Rattle.change_list.specs.declared.config.Config.{Config}
 use Rattle.change_list.specs.declared.item.Item.{Item}
 use Rattle.row_version.specs.Entries.{is_needed}
 use Rattle.page_table.specs.Trees.{page_at, after_rows}
@@ -27,8 +29,12 @@ use Rattle.world.specs.declared.reply.Reply.{Reply}
 use Rattle.world.specs.declared.reply.Reply.TheVariants as reply
 use Rattle.world.specs.Serials.{without}
 use Rattle.world.specs.Stamps.{Stamp}
-use Rattle.world.specs.States.{State, cursor_at, finder_at, with_pages, with_cursor, with_finder}
+use Rattle.world.specs.States.{State, new_state, cursor_at, finder_at, with_pages, with_cursor, with_finder}
 use Rattle.world.specs.Traces.{Trace}
+
+-- the first test that fails gives the refusal
+abbrev pub FirstFails : List (Bool × Refusal) → Refusal → Type 0
+FirstFails tests why = first_failing tests ≡ Some why
 
 module _ {K : Type 0} where
   abbrev pub is_insert : Option (Write K) → Bool
@@ -37,6 +43,10 @@ module _ {K : Type 0} where
   is_insert None = false
 
 module _ {K A : Type 0} where
+  -- the commit with the row's number inserts the key
+  abbrev pub HasKey : State K A → ℕ → K → Type 0
+  HasKey s row key = (tag : ℕ) × (commit_at s.commits row ≡ Some (Insert key tag))
+
   -- the serial was given, and its cursor is open
   abbrev pub cursor_tests : State K A → ℕ → List (Bool × Refusal)
   cursor_tests old c =
@@ -216,20 +226,14 @@ module _ {C K A : Type 0} (rules : Rules K A) (rule : Rule) where
   -- where it deletes its row or pushes a page, and a sweep, where it takes something out; a turn is refused by its rule.
   -- Ending a finder, asking for a mark, taking and closing are not refused.
   abbrev pub RefusesLater : State K A → Event C K A → Refusal → Type 0
-  RefusesLater old (event.Enlarge page child key) why = why ≡ refusal.OutOfMemory
-  RefusesLater old (event.Place page key tag) why = why ≡ refusal.OutOfMemory
-  RefusesLater old (event.Split page sides) why = why ≡ refusal.OutOfMemory
-  RefusesLater old (event.Post page child) why = why ≡ refusal.OutOfMemory
-  RefusesLater old (event.Grow sides) why = why ≡ refusal.OutOfMemory
-  RefusesLater old (event.Find row) why = why ≡ refusal.OutOfMemory
   RefusesLater old (event.Seek f) why = RefusesSeek rules rule old f why
   RefusesLater old (event.Unfind f) why = ⊥
   RefusesLater old (event.Sweep page) why = RefusesSweep old page why
-  RefusesLater old (event.Open query room) why = why ≡ refusal.OutOfMemory
   RefusesLater old (event.Turn c) why = RefusesTurn rules rule old c why
   RefusesLater old (event.AskMark c) why = ⊥
   RefusesLater old (event.Take c) why = ⊥
   RefusesLater old (event.Close c) why = ⊥
+  RefusesLater old event why = why ≡ refusal.OutOfMemory
 
   -- why an event is refused: by the first test that fails; and that nothing changes then
   pub record IsRefused (old : State K A) (event : Event C K A) (why : Refusal) (new : State K A) : Type 0 where
@@ -268,25 +272,18 @@ module _ {C O K A E : Type 0} (rules : Rules K A) (rule : Rule) where
   -- from old, an event for a seat may be answered so, and leads to new
   abbrev pub Step : ℕ → State K A → Event C K A → Reply C O K A E → State K A → Type 0
   Step seat old event (reply.Refused why) new = IsRefused rules rule old event why new
-  Step seat old event reply.Enlarged new = IsDone seat old event reply.Enlarged new
-  Step seat old event (reply.Committed stamp) new = IsDone seat old event (reply.Committed stamp) new
-  Step seat old event (reply.Split sibling) new = IsDone seat old event (reply.Split sibling) new
-  Step seat old event reply.Posted new = IsDone seat old event reply.Posted new
-  Step seat old event (reply.Grown first second) new = IsDone seat old event (reply.Grown first second) new
-  Step seat old event (reply.Finder f) new = IsDone seat old event (reply.Finder f) new
-  Step seat old event reply.Seeking new = IsDone seat old event reply.Seeking new
-  Step seat old event reply.Unfound new = IsDone seat old event reply.Unfound new
-  Step seat old event (reply.Swept count) new = IsDone seat old event (reply.Swept count) new
-  Step seat old event (reply.Opened c end) new = IsDone seat old event (reply.Opened c end) new
-  Step seat old event reply.Offered new = IsDone seat old event reply.Offered new
-  Step seat old event (reply.Visited page) new = IsDone seat old event (reply.Visited page) new
-  Step seat old event (reply.Passed n) new = IsDone seat old event (reply.Passed n) new
-  Step seat old event reply.Asked new = IsDone seat old event reply.Asked new
-  Step seat old event (reply.Taken item) new = IsDone seat old event (reply.Taken item) new
-  Step seat old event reply.Nothing new = IsDone seat old event reply.Nothing new
-  Step seat old event reply.Closed new = IsDone seat old event reply.Closed new
+  Step seat old event reply new = IsDone seat old event reply new
+
+  -- whatever the seat, the event is answered so and leads to new: a step that commits nothing
+  abbrev pub Acts : State K A → Event C K A → Reply C O K A E → State K A → Type 0
+  Acts old event reply new = (seat : ℕ) → Step seat old event reply new
 
   -- from old, the events of a trace are answered so, one step after another, and lead to new
   abbrev pub Runs : State K A → Trace C O K A E → State K A → Type 0
   Runs old [] new = new ≡ old
   Runs old (moment ∷ trace) new = (mid : State K A) × Step 0 old moment.0 moment.1 mid × Runs mid trace new
+
+module _ {C O K A E : Type 0} (rules : Rules K A) where
+  -- from a new world with trays, the events are answered so
+  abbrev pub IsRun : Config → List (Event C K A) → List (Reply C O K A E) → Type 0
+  IsRun config events replies = (last : State K A) × Runs rules tray_rule (new_state config) (zip events replies) last

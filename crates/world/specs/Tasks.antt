@@ -1,11 +1,12 @@
 -- Work on a page beside the world, and what its publication is.
-use Rattle.std.specs.Prelude.{◌≡◌, ◌⊎◌, ℕ, ◌<◌, Bool, ◌||◌, nat_eq, nat_le, List, [], ◌∷◌, length, Option, Some}
+use Rattle.std.specs.Prelude.{◌≡◌, ◌⊎◌, ℕ, ◌*◌, ◌<◌, Bool, true, false, ◌||◌, nat_eq, nat_le, List, [], ◌∷◌, length, Option, Some, None}
 use Rattle.key_class.specs.Rules.{Rules}
 use Rattle.mailbox.specs.Outlets.{Rule}
 use Rattle.key_class.specs.declared.refusal.Refusal.{Refusal}
 use Rattle.key_class.specs.declared.refusal.Refusal.TheVariants as refusal
 use Rattle.key_class.specs.declared.sides.Side.{Side}
-use Rattle.node.specs.Pages.{Page}
+use Rattle.key_class.specs.Splits.{IsSplit}
+use Rattle.node.specs.Pages.{Page, entries_of}
 use Rattle.page_table.specs.Trees.{page_at}
 use Rattle.scan.specs.Prepared.{PreparedVisit}
 use Rattle.cursor.specs.OpenCursors.{OpenCursor}
@@ -31,7 +32,20 @@ pub record VisitTask (K A : Type 0) : Type 0 where
   pub cursor : ℕ
   pub visit : PreparedVisit K A
 
+module _ {K : Type 0} where
+  -- a split of its page was worked out for the task
+  abbrev pub WorksOutSides : SplitTask K → SplitTask K → Type 0
+  WorksOutSides old new = (sides : List Side) × IsSplit (entries_of old.page) old.least sides × (new ≡ record old { sides = Some sides })
+
+  -- why no split is worked out: the page has too few entries, or memory is wanting
+  abbrev pub RefusesSides : SplitTask K → Refusal → Type 0
+  RefusesSides task why = ((why ≡ refusal.TooFew) × (entries_of task.page < 2 * task.least)) ⊎ (why ≡ refusal.OutOfMemory)
+
 module _ {K A : Type 0} where
+  -- the task with its visit worked on
+  abbrev pub worked_on : VisitTask K A → VisitTask K A
+  worked_on task = record task { visit = record task.visit { worked = true } }
+
   -- the page that a task has is in the world, with an equal value
   pub record HasPage (s : State K A) (number : ℕ) (page : Page K) : Type 0 where
     pub exists : number < length s.search.tree.pages
@@ -46,6 +60,23 @@ module _ {K A : Type 0} where
     pub is_open : cursor_at s c ≡ Some cursor
     pub due : IsDue s.search.tree cursor visit
 
+  -- the task is the cursor's next visit, to be worked on
+  abbrev pub PreparesVisit : State K A → ℕ → VisitTask K A → Type 0
+  PreparesVisit s c task = (task.cursor ≡ c) × HasVisit s c task.visit × (task.visit.worked ≡ false)
+
+  -- the task has the page with the number, to be worked on
+  abbrev pub PreparesSplit : State K A → ℕ → SplitTask K → Type 0
+  PreparesSplit s p task =
+      HasPage s p task.page × (task ≡ record { number = p; page = page_at s.search.tree p; least = s.search.least; sides = None })
+
+  -- a task that was not worked on, or whose page is no more as the task has it
+  abbrev pub IsStaleSplit : State K A → SplitTask K → Type 0
+  IsStaleSplit s task = (task.sides ≡ None) ⊎ (¬ HasPage s task.number task.page)
+
+  -- a task that was not worked on, or whose visit is no more the cursor's next
+  abbrev pub IsStaleVisit : State K A → VisitTask K A → Type 0
+  IsStaleVisit s task = (task.visit.worked ≡ false) ⊎ (¬ HasVisit s task.cursor task.visit)
+
   -- why no visit of a cursor is prepared: it isn't open, its next turn is no visit, or memory is wanting
   abbrev pub RefusesPreparing : State K A → ℕ → Refusal → Type 0
   RefusesPreparing s c why = (first_failing (cursor_tests s c) ≡ Some why) ⊎ ((k : OpenCursor K A) × (cursor_at s c ≡ Some k) × RefusesVisit k why)
@@ -58,7 +89,21 @@ module _ {C K A : Type 0} where
     pub has_page : HasPage s task.number task.page
     pub is : split ≡ event.Split task.number sides
 
+module _ {C O K A E : Type 0} where
+  -- a publication that comes too late is refused, and changes nothing
+  abbrev pub IsLate : State K A → Reply C O K A E → State K A → Type 0
+  IsLate old r new = (r ≡ reply.Refused refusal.NotHere) × (new ≡ old)
+
 module _ {C O K A E : Type 0} (rules : Rules K A) (rule : Rule) where
+  -- where the page is as the task has it, the publication is the split by the task's sides
+  abbrev pub PublishesSplit : ℕ → State K A → SplitTask K → Reply C O K A E → State K A → Type 0
+  PublishesSplit seat old task r new =
+      (sides : List Side) → task.sides ≡ Some sides → HasPage old task.number task.page → Step rules rule seat old (event.Split task.number sides) r new
+
+  -- where the visit was worked on and is the cursor's next, the publication is the cursor's turn
+  abbrev pub PublishesVisit : ℕ → State K A → VisitTask K A → Reply C O K A E → State K A → Type 0
+  PublishesVisit seat old task r new = HasVisit old task.cursor task.visit → task.visit.worked ≡ true → Step rules rule seat old (event.Turn task.cursor) r new
+
   -- a publication is the cursor's turn, or it comes too late and changes nothing
   abbrev pub TurnsOrIsLate : ℕ → State K A → ℕ → Reply C O K A E → State K A → Type 0
-  TurnsOrIsLate seat old c r new = Step rules rule seat old (event.Turn c) r new ⊎ ((r ≡ reply.Refused refusal.NotHere) × (new ≡ old))
+  TurnsOrIsLate seat old c r new = Step rules rule seat old (event.Turn c) r new ⊎ IsLate old r new

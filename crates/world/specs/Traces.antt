@@ -1,7 +1,8 @@
 -- A trace: what its events committed, and what each cursor delivered. Nothing here knows a page, a link, a stack or a mailbox.
 -- K is the type of keys, A of a query's atoms, E of the other end of a mailbox; C and O stand for the class and the mailboxes.
 use Rattle.std.specs.Prelude.{◌≡◌, ℕ, suc, ◌+◌, ◌<◌, ◌≤◌, Bool, List, length, take, Option, Some, None, slice_get, nat_eq, if◌then◌else◌}
-use Rattle.std.specs.List.{filter_map}
+use Rattle.std.specs.List.{filter_map, zip}
+use Rattle.key_class.specs.Rules.{Rules}
 use Rattle.key_class.specs.Queries.{query_of, matches_query}
 use Rattle.key_class.specs.declared.pred.Pred.{Pred}
 use Rattle.key_class.specs.declared.refusal.Refusal.TheVariants as refusal
@@ -134,3 +135,7 @@ module _ {C O K A E : Type 0} where
   -- commits at the moment when it is taken.
   abbrev pub IsAlwaysFaithful : (A → K → Bool) → Trace C O K A E → Type 0
   IsAlwaysFaithful matching trace = (count : ℕ) → IsFaithful matching (take count trace)
+
+  -- the trace of the events with their replies is faithful at every moment
+  abbrev pub AreFaithful : Rules K A → List (Event C K A) → List (Reply C O K A E) → Type 0
+  AreFaithful rules events replies = IsAlwaysFaithful rules.is_match (zip events replies)

@@ -1,8 +1,8 @@
 //! Events of cursors.
-ghost use Rattle.std.specs.Prelude.{◌≡◌, ℕ};
+ghost use Rattle.std.specs.Prelude.{◌≡◌};
 ghost use Rattle.world.specs.declared.event.Event.TheVariants as event;
 ghost use Rattle.split.specs.Tests.{first_failing};
-ghost use Rattle.world.specs.Steps.{Step, open_tests};
+ghost use Rattle.world.specs.Steps.{Acts, open_tests};
 ghost use Rattle.world.specs.Promises.{HandsOut};
 
 use crate::reply::Reply;
@@ -27,7 +27,7 @@ impl<C: KeyClass, O: Outlet<C::Key>> World<C, O> {
     }
 
     pub(crate) fn open(&mut self, query: Pred<C::Atom>, room: u64) -> Reply<C, O>
-        ensures step { (seat : ℕ) → Step C.rules O.rule seat self.old (event.Open query room) result self.new }
+        ensures step { Acts C.rules O.rule self.old (event.Open query room) result self.new }
         ensures fresh { HandsOut O.fresh result }
     {
         if let Some(refusal) = self.open_refusal(&query, room) {
@@ -52,7 +52,7 @@ impl<C: KeyClass, O: Outlet<C::Key>> World<C, O> {
     }
 
     pub(crate) fn turn(&mut self, c: u64) -> Reply<C, O>
-        ensures { (seat : ℕ) → Step C.rules O.rule seat self.old (event.Turn c) result self.new }
+        ensures { Acts C.rules O.rule self.old (event.Turn c) result self.new }
     {
         let at = match self.place_of(c) {
             Ok(at) => at,
@@ -68,7 +68,7 @@ impl<C: KeyClass, O: Outlet<C::Key>> World<C, O> {
     }
 
     pub(crate) fn ask_mark(&mut self, c: u64) -> Reply<C, O>
-        ensures { (seat : ℕ) → Step C.rules O.rule seat self.old (event.AskMark c) result self.new }
+        ensures { Acts C.rules O.rule self.old (event.AskMark c) result self.new }
     {
         match self.place_of(c) {
             Ok(at) => {
@@ -80,7 +80,7 @@ impl<C: KeyClass, O: Outlet<C::Key>> World<C, O> {
     }
 
     pub(crate) fn take(&mut self, c: u64) -> Reply<C, O>
-        ensures { (seat : ℕ) → Step C.rules O.rule seat self.old (event.Take c) result self.new }
+        ensures { Acts C.rules O.rule self.old (event.Take c) result self.new }
     {
         let at = match self.place_of(c) {
             Ok(at) => at,
@@ -94,7 +94,7 @@ impl<C: KeyClass, O: Outlet<C::Key>> World<C, O> {
     }
 
     pub(crate) fn close(&mut self, c: u64) -> Reply<C, O>
-        ensures { (seat : ℕ) → Step C.rules O.rule seat self.old (event.Close c) result self.new }
+        ensures { Acts C.rules O.rule self.old (event.Close c) result self.new }
     {
         match self.place_of(c) {
             Ok(at) => {

@@ -1,11 +1,9 @@
 //! Events of finders.
-ghost use Rattle.std.specs.Prelude.{◌≡◌, ℕ, None, Some, IfOk, IfErr};
-ghost use Rattle.change_list.specs.Changes.{commit_at};
-ghost use Rattle.change_list.specs.declared.write.Write.TheVariants.{Insert};
+ghost use Rattle.std.specs.Prelude.{◌≡◌, None, IfOk, IfErr};
 ghost use Rattle.split.specs.Tests.{first_failing};
 ghost use Rattle.world.specs.declared.event.Event.TheVariants as event;
 ghost use Rattle.world.specs.States.{Meets};
-ghost use Rattle.world.specs.Steps.{Step, find_tests};
+ghost use Rattle.world.specs.Steps.{Acts, FirstFails, HasKey, Step, find_tests};
 
 use crate::places::place_of;
 use crate::reply::{Reply, Stamped};
@@ -21,8 +19,8 @@ impl<C: KeyClass, O: Outlet<C::Key>> World<C, O> {
     /// The key of a row that a further finder may look for, or why none may.
     fn key_to_find(&self, row: u64) -> Result<C::Key, Refusal>
         ensures passed { IfOk result (λ key. first_failing (find_tests self.now row) ≡ None) }
-        ensures inserted { IfOk result (λ key. (tag : ℕ) × (commit_at self.now.commits row ≡ Some (Insert key tag))) }
-        ensures refused { IfErr result (λ why. first_failing (find_tests self.now row) ≡ Some why) }
+        ensures inserted { IfOk result (HasKey self.now row) }
+        ensures refused { IfErr result (FirstFails (find_tests self.now row)) }
     {
         let Some(Write::Insert(key, _)) = self.changes.commit(row) else {
             return Err(Refusal::NoSuchRow);
@@ -37,7 +35,7 @@ impl<C: KeyClass, O: Outlet<C::Key>> World<C, O> {
     }
 
     pub(crate) fn find(&mut self, row: u64) -> Reply<C, O>
-        ensures { (seat : ℕ) → Step C.rules O.rule seat self.old (event.Find row) result self.new }
+        ensures { Acts C.rules O.rule self.old (event.Find row) result self.new }
     {
         let key = match self.key_to_find(row) {
             Ok(key) => key,
@@ -103,7 +101,7 @@ impl<C: KeyClass, O: Outlet<C::Key>> World<C, O> {
     }
 
     pub(crate) fn unfind(&mut self, f: u64) -> Reply<C, O>
-        ensures { (seat : ℕ) → Step C.rules O.rule seat self.old (event.Unfind f) result self.new }
+        ensures { Acts C.rules O.rule self.old (event.Unfind f) result self.new }
     {
         match place_of(self.finders.as_slice(), f) {
             Some(place) => {

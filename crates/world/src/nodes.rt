@@ -1,7 +1,6 @@
 //! Events that change pages.
-ghost use Rattle.std.specs.Prelude.{◌≡◌, ℕ};
 ghost use Rattle.world.specs.declared.event.Event.TheVariants as event;
-ghost use Rattle.world.specs.Steps.{Step};
+ghost use Rattle.world.specs.Steps.{Acts, Step};
 
 use crate::reply::{Reply, Stamped};
 use crate::world::World;
@@ -13,17 +12,17 @@ use row_version::Entry;
 use std::mem;
 
 impl<C: KeyClass, O: Outlet<C::Key>> World<C, O> {
-    pub(crate) fn enlarge(&mut self, parent: u64, child: u64, key: C::Key) -> Reply<C, O>
-        ensures { (seat : ℕ) → Step C.rules O.rule seat self.old (event.Enlarge parent child key) result self.new }
+    pub(crate) fn enlarge(&mut self, page: u64, child: u64, key: C::Key) -> Reply<C, O>
+        ensures { Acts C.rules O.rule self.old (event.Enlarge page child key) result self.new }
     {
-        match self.search.enlarge(parent, child, key) {
+        match self.search.enlarge(page, child, key) {
             Ok(()) => return Reply::Enlarged,
             Err(refusal) => return Reply::Refused(refusal),
         }
     }
 
     pub(crate) fn split(&mut self, page: u64, sides: &Sides) -> Reply<C, O>
-        ensures { (seat : ℕ) → Step C.rules O.rule seat self.old (event.Split page sides.now) result self.new }
+        ensures { Acts C.rules O.rule self.old (event.Split page sides.now) result self.new }
     {
         match self.search.split(page, sides) {
             Ok(sibling) => return Reply::Split(sibling),
@@ -32,7 +31,7 @@ impl<C: KeyClass, O: Outlet<C::Key>> World<C, O> {
     }
 
     pub(crate) fn post(&mut self, parent: u64, child: u64) -> Reply<C, O>
-        ensures { (seat : ℕ) → Step C.rules O.rule seat self.old (event.Post parent child) result self.new }
+        ensures { Acts C.rules O.rule self.old (event.Post parent child) result self.new }
     {
         match self.search.post(parent, child) {
             Ok(()) => return Reply::Posted,
@@ -41,7 +40,7 @@ impl<C: KeyClass, O: Outlet<C::Key>> World<C, O> {
     }
 
     pub(crate) fn grow(&mut self, sides: &Sides) -> Reply<C, O>
-        ensures { (seat : ℕ) → Step C.rules O.rule seat self.old (event.Grow sides.now) result self.new }
+        ensures { Acts C.rules O.rule self.old (event.Grow sides.now) result self.new }
     {
         match self.search.grow(sides) {
             Ok((first, second)) => return Reply::Grown(first, second),
@@ -82,7 +81,7 @@ impl<C: KeyClass, O: Outlet<C::Key>> World<C, O> {
     }
 
     pub(crate) fn sweep(&mut self, page: u64) -> Reply<C, O>
-        ensures { (seat : ℕ) → Step C.rules O.rule seat self.old (event.Sweep page) result self.new }
+        ensures { Acts C.rules O.rule self.old (event.Sweep page) result self.new }
     {
         let horizon = horizon(self.cursors.as_slice(), self.changes.len() as u32);
         match self.search.sweep(page, horizon) {

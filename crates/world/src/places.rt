@@ -1,6 +1,6 @@
 //! Lists whose members have serials that rise.
-ghost use Rattle.std.specs.Prelude.{◌≡◌, ℕ, None, MatchOption};
-ghost use Rattle.world.specs.Serials.{member, Rise, IsMember};
+ghost use Rattle.std.specs.Prelude.{◌≡◌, ℕ};
+ghost use Rattle.world.specs.Serials.{Rise, IsPlaceOf};
 
 use cursor::Cursor;
 use descent::Finder;
@@ -34,7 +34,7 @@ impl<C: KeyClass> Numbered for Finder<C> {
 /// The place of the member with a serial, by halving.
 pub(crate) fn place_of<T: Numbered>(members: &[T], serial: u64) -> Option<usize>
     requires { (last : ℕ) × Rise T.serial_of 0 last members.now }
-    ensures { MatchOption result (member T.serial_of serial members.now ≡ None) (λ at. IsMember T.serial_of members.now serial at) }
+    ensures { IsPlaceOf T.serial_of members.now serial result }
 {
     let mut low = 0;
     let mut high = members.len();

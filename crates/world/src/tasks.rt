@@ -1,19 +1,13 @@
 //! Work on a page beside the world: a task is prepared in one visit to the world, worked on without it, and published in
 //! another.
-ghost use Rattle.std.specs.Prelude.{◌≡◌, ◌≢◌, ◌⊎◌, ◌<◌, [], ◌*◌, ℕ, List, true, false, Some, None, length, IfSome, IfNone, IfOk, IfErr, OnOk, OnErr, IsTrue, ◌↔◌};
-ghost use Rattle.key_class.specs.Splits.{IsSplit};
-ghost use Rattle.key_class.specs.declared.sides.Side.{Side};
-ghost use Rattle.node.specs.Pages.{Page, entries_of};
-ghost use Rattle.page_table.specs.Trees.{page_at};
-ghost use Rattle.split.specs.Tests.{IsRefusedBy, first_failing};
-ghost use Rattle.cursor.specs.OpenCursors.{OpenCursor};
+ghost use Rattle.std.specs.Prelude.{◌≡◌, true, IfSome, IfNone, IfOk, IfErr, OnOk, OnErr, IsTrue, ◌↔◌};
+ghost use Rattle.split.specs.Tests.{IsRefusedBy};
 ghost use Rattle.world.specs.declared.event.Event.TheVariants as event;
-ghost use Rattle.world.specs.declared.reply.Reply.TheVariants as reply;
-ghost use Rattle.world.specs.States.{IsAt, IsSoundWorld, cursor_at};
-ghost use Rattle.world.specs.Steps.{Step, cursor_tests};
+ghost use Rattle.world.specs.States.{IsAt, IsSoundWorld};
+ghost use Rattle.world.specs.Steps.{Acts};
 ghost use Rattle.world.specs.Tasks as model;
-ghost use Rattle.world.specs.Promises.{MailboxesFit};
-ghost use Rattle.world.specs.Tasks.{HasPage, HasVisit, IsSplitOf, RefusesPreparing, TurnsOrIsLate, prepare_split_tests};
+ghost use Rattle.world.specs.Promises.{KeepsMailboxes};
+ghost use Rattle.world.specs.Tasks.{HasPage, HasVisit, IsLate, IsSplitOf, IsStaleSplit, IsStaleVisit, PreparesSplit, PreparesVisit, PublishesSplit, PublishesVisit, RefusesPreparing, RefusesSides, TurnsOrIsLate, WorksOutSides, prepare_split_tests, worked_on};
 
 use crate::event::Event;
 use crate::reply::Reply;
@@ -55,8 +49,8 @@ impl<C: KeyClass> SplitTask<C> {
     /// # Errors
     /// TooFew where the page has too few entries, else want of memory; the task is as it was.
     pub fn work(&mut self) -> Result<(), Refusal>
-        ensures worked { OnOk result ((sides : List Side) × IsSplit (entries_of self.old.page) self.old.least sides × (self.new ≡ record self.old { sides = Some sides })) }
-        ensures too_few { IfErr result (λ why. ((why ≡ Refusal.TooFew) × (entries_of self.old.page < 2 * self.old.least)) ⊎ (why ≡ Refusal.OutOfMemory)) }
+        ensures worked { OnOk result (WorksOutSides self.old self.new) }
+        ensures too_few { IfErr result (RefusesSides self.old) }
         ensures unchanged { OnErr result (self.new ≡ self.old) }
     {
         let keys = keys_of(self.alloc, self.page.get())?;
@@ -98,7 +92,7 @@ impl<C: KeyClass> VisitTask<C> {
     /// # Errors
     /// Memory was wanting; the task is as it was.
     pub fn work(&mut self) -> Result<(), Refusal>
-        ensures worked { OnOk result (self.new ≡ record self.old { visit = record self.old.visit { worked = true } }) }
+        ensures worked { OnOk result (self.new ≡ worked_on self.old) }
         ensures refused { IfErr result (λ why. why ≡ Refusal.OutOfMemory) }
         ensures unchanged { OnErr result (self.new ≡ self.old) }
     {
@@ -114,7 +108,7 @@ impl<C: KeyClass, O: Outlet<C::Key>> World<C, O> {
     /// NoSuchCursor, CursorClosed, NotHere where a row is to be offered or no page is left, else there are too many
     /// owners of the page or the query.
     pub fn prepare_visit(&self, c: u64) -> Result<VisitTask<C>, Refusal>
-        ensures prepared { IfOk result (λ task. (task.cursor ≡ c) × HasVisit self.now c task.visit × (task.visit.worked ≡ false)) }
+        ensures prepared { IfOk result (PreparesVisit self.now c) }
         ensures refused { IfErr result (RefusesPreparing self.now c) }
     {
         let at = self.place_of(c)?;
@@ -127,7 +121,7 @@ impl<C: KeyClass, O: Outlet<C::Key>> World<C, O> {
     /// # Errors
     /// NotHere where there is no such page or it is the root, else there are too many owners of it.
     pub fn prepare_split(&self, p: u64) -> Result<SplitTask<C>, Refusal>
-        ensures prepared { IfOk result (λ task. HasPage self.now p task.page × (task ≡ record { number = p; page = page_at self.now.search.tree p; least = self.now.search.least; sides = None })) }
+        ensures prepared { IfOk result (PreparesSplit self.now p) }
         ensures refused { IfErr result (IsRefusedBy (prepare_split_tests self.now p)) }
     {
         let pages = self.search.pages();
@@ -150,7 +144,7 @@ impl<C: KeyClass, O: Outlet<C::Key>> World<C, O> {
     /// The page is let go, so that the world then changes its own in place.
     pub fn split_of(&self, task: SplitTask<C>) -> Option<Event<C>>
         ensures split { IfSome result (IsSplitOf self.now task) }
-        ensures stale { IfNone result ((task.sides ≡ None) ⊎ (¬ HasPage self.now task.number task.page)) }
+        ensures stale { IfNone result (IsStaleSplit self.now task) }
     {
         let SplitTask {
             number,
@@ -171,8 +165,8 @@ impl<C: KeyClass, O: Outlet<C::Key>> World<C, O> {
     ///
     /// Else, and where the task was not worked on, it is refused NotHere, and nothing changes.
     pub fn publish_split(&mut self, seat: u32, task: SplitTask<C>) -> Reply<C, O>
-        ensures step { (sides : List Side) → task.sides ≡ Some sides → HasPage self.old task.number task.page → Step C.rules O.rule seat self.old (event.Split task.number sides) result self.new }
-        ensures stale { (task.sides ≡ None) ⊎ (¬ HasPage self.old task.number task.page) → (result ≡ reply.Refused Refusal.NotHere) × (self.new ≡ self.old) }
+        ensures step { PublishesSplit C.rules O.rule seat self.old task result self.new }
+        ensures stale { IsStaleSplit self.old task → IsLate self.old result self.new }
     {
         match self.split_of(task) {
             Some(split) => return self.step_as(seat, split),
@@ -184,12 +178,12 @@ impl<C: KeyClass, O: Outlet<C::Key>> World<C, O> {
     ///
     /// Else, and where the task was not worked on, it is refused NotHere, and nothing changes.
     pub fn publish_visit(&mut self, seat: u32, task: VisitTask<C>) -> Reply<C, O>
-        ensures step { HasVisit self.old task.cursor task.visit → task.visit.worked ≡ true → Step C.rules O.rule seat self.old (event.Turn task.cursor) result self.new }
-        ensures stale { (task.visit.worked ≡ false) ⊎ (¬ HasVisit self.old task.cursor task.visit) → (result ≡ reply.Refused Refusal.NotHere) × (self.new ≡ self.old) }
+        ensures step { PublishesVisit C.rules O.rule seat self.old task result self.new }
+        ensures stale { IsStaleVisit self.old task → IsLate self.old result self.new }
         ensures turned { TurnsOrIsLate C.rules O.rule seat self.old task.cursor result self.new }
         ensures commits { self.new.commits ≡ self.old.commits }
         ensures sound { IsSoundWorld C.rules.is_cover self.new }
-        ensures mailboxes { O.rule.is_emptied_elsewhere ≡ true → MailboxesFit C.rules O.rule self.old → MailboxesFit C.rules O.rule self.new }
+        ensures mailboxes { KeepsMailboxes C.rules O.rule self.old self.new }
     {
         self.is_sound();
         let VisitTask { cursor, visit } = task;
@@ -210,7 +204,7 @@ impl<C: KeyClass, O: Outlet<C::Key>> World<C, O> {
         requires found { IsAt self.old c at }
         requires due { HasVisit self.old c visit }
         requires worked { visit.worked ≡ true }
-        ensures { (seat : ℕ) → Step C.rules O.rule seat self.old (event.Turn c) result self.new }
+        ensures { Acts C.rules O.rule self.old (event.Turn c) result self.new }
     {
         match self.cursors[at].turn_prepared(self.search.pages(), visit) {
             Ok(Turned::Offered) => return Reply::Offered,

@@ -1,11 +1,9 @@
 //! Whole lists of events.
-ghost use Rattle.std.specs.Prelude.{◌≡◌, ◌↔◌, ◌⊎◌, length, nat_lt, nat_le, false, IfOk, IfErr};
-ghost use Rattle.std.specs.List.{zip};
-ghost use Rattle.mailbox.specs.Outlets.{tray_rule};
+ghost use Rattle.std.specs.Prelude.{◌≡◌, ◌↔◌, length, IfOk, IfErr};
+ghost use Rattle.key_class.specs.Refusals.{IsEither};
 ghost use Rattle.change_list.specs.Configs.{IsWithinLimits};
-ghost use Rattle.world.specs.States.{State, new_state};
-ghost use Rattle.world.specs.Steps.{Runs};
-ghost use Rattle.world.specs.Traces.{IsAlwaysFaithful};
+ghost use Rattle.world.specs.Steps.{IsRun};
+ghost use Rattle.world.specs.Traces.{AreFaithful};
 
 use crate::event::Event;
 use crate::reply::Reply;
@@ -29,10 +27,10 @@ pub fn run<C: KeyClass>(
     events: &[Event<C>],
 ) -> Result<Vec<Reply<C, Tray<C::Key>>>, Refusal>
     ensures one_each { IfOk result (λ replies. length replies.items ≡ length events.now) }
-    ensures steps { IfOk result (λ replies. (last : State C.Key C.Atom) × Runs C.rules tray_rule (new_state config) (zip events.now replies.items) last) }
-    ensures faithful { IfOk result (λ replies. IsAlwaysFaithful C.rules.is_match (zip events.now replies.items)) }
+    ensures steps { IfOk result (λ replies. IsRun C.rules config events.now replies.items) }
+    ensures faithful { IfOk result (λ replies. AreFaithful C.rules events.now replies.items) }
     ensures bad { (result ≡ Err Refusal.BadConfig) ↔ (¬ IsWithinLimits config) }
-    ensures refusals { IfErr result (λ why. (why ≡ Refusal.BadConfig) ⊎ (why ≡ Refusal.OutOfMemory)) }
+    ensures refusals { IfErr result (IsEither Refusal.BadConfig Refusal.OutOfMemory) }
 {
     let mut world = World::<C, Tray<C::Key>>::new(alloc, config)?;
     let mut replies = Vec::with_capacity(alloc, events.len())?;

@@ -1,13 +1,12 @@
-ghost use Rattle.std.specs.Prelude.{◌≡◌, ◌≢◌, ◌↔◌, ◌⊎◌, ◌+◌, ◌<◌, ◌≤◌, ℕ, suc, true, None, Some, length, IfOk, OnOk, IfErr, IfSome, IfNone, is_some, nat_lt, ◌++◌, option_to_list};
+ghost use Rattle.std.specs.Prelude.{◌≡◌, ◌↔◌, ◌+◌, ◌≤◌, None, length, IfOk, OnOk, IfErr, IfSome, IfNone, is_some, nat_lt};
+ghost use Rattle.key_class.specs.Refusals.{IsEither};
 ghost use Rattle.change_list.specs.Configs.{IsWithinLimits};
 ghost use Rattle.change_list.specs.Changes.{commit_at, status_of, IsLegal};
 ghost use Rattle.page_table.specs.Trees.{page_at};
 ghost use Rattle.split.specs.Tests.{first_failing};
-ghost use Rattle.descent.specs.Finders.{OpenFinder};
-ghost use Rattle.world.specs.States.{new_state, IsSoundWorld, IsAt, finder_at};
-ghost use Rattle.world.specs.Steps.{Step, cursor_tests};
-ghost use Rattle.world.specs.Traces.{written};
-ghost use Rattle.world.specs.Promises.{ServesAll, FitsAtOpening, LowersWork, KeepsRowsUnder, MailboxesFit, HandsOut};
+ghost use Rattle.world.specs.States.{new_state, IsSoundWorld, IsAt, IsFinderOf, finder_at};
+ghost use Rattle.world.specs.Steps.{FirstFails, Step, cursor_tests};
+ghost use Rattle.world.specs.Promises.{ServesAll, FitsAtOpening, LowersWork, KeepsRowsUnder, KeepsMailboxes, AddsWritten, HandsOut};
 
 use crate::event::Event;
 use crate::places::place_of;
@@ -57,7 +56,7 @@ impl<C: KeyClass, O: Outlet<C::Key>> World<C, O> {
         ensures made { IfOk result (λ world. world ≡ new_state config) }
         ensures within { OnOk result (IsWithinLimits config) }
         ensures bad { (result ≡ Err Refusal.BadConfig) ↔ (¬ IsWithinLimits config) }
-        ensures refusals { IfErr result (λ why. (why ≡ Refusal.BadConfig) ⊎ (why ≡ Refusal.OutOfMemory)) }
+        ensures refusals { IfErr result (IsEither Refusal.BadConfig Refusal.OutOfMemory) }
     {
         if !config.is_within_limits() {
             return Err(Refusal::BadConfig);
@@ -119,7 +118,7 @@ impl<C: KeyClass, O: Outlet<C::Key>> World<C, O> {
 
     /// The row for which a finder is open.
     pub fn finder_row(&self, f: u64) -> Option<u64>
-        ensures row { IfSome result (λ row. (k : OpenFinder C.Key) × (finder_at self.now f ≡ Some k) × (k.row ≡ row)) }
+        ensures row { IfSome result (IsFinderOf self.now f) }
         ensures none { IfNone result (finder_at self.now f ≡ None) }
     {
         let at = place_of(self.finders.as_slice(), f)?;
@@ -174,7 +173,7 @@ impl<C: KeyClass, O: Outlet<C::Key>> World<C, O> {
     /// The place of an open cursor, or why there is none.
     pub(crate) fn place_of(&self, c: u64) -> Result<usize, Refusal>
         ensures found { IfOk result (λ at. IsAt self.now c at) }
-        ensures refused { IfErr result (λ why. first_failing (cursor_tests self.now c) ≡ Some why) }
+        ensures refused { IfErr result (FirstFails (cursor_tests self.now c)) }
     {
         if c == 0 || self.last < c {
             return Err(Refusal::NoSuchCursor);
@@ -188,7 +187,7 @@ impl<C: KeyClass, O: Outlet<C::Key>> World<C, O> {
     /// `NoSuchCursor` where the serial was never given, `CursorClosed` where its cursor is closed.
     pub fn check_cursor(&self, c: u64) -> Result<(), Refusal>
         ensures open { OnOk result (first_failing (cursor_tests self.now c) ≡ None) }
-        ensures refused { IfErr result (λ why. first_failing (cursor_tests self.now c) ≡ Some why) }
+        ensures refused { IfErr result (FirstFails (cursor_tests self.now c)) }
     {
         self.is_sound();
         self.place_of(c)?;
@@ -203,9 +202,9 @@ impl<C: KeyClass, O: Outlet<C::Key>> World<C, O> {
         ensures opening { FitsAtOpening C.rules O.rule result self.new }
         ensures less_work { LowersWork C.rules O.rule self.old event result self.new }
         ensures rows { KeepsRowsUnder self.old event self.new }
-        ensures mailboxes { O.rule.is_emptied_elsewhere ≡ true → MailboxesFit C.rules O.rule self.old → MailboxesFit C.rules O.rule self.new }
+        ensures mailboxes { KeepsMailboxes C.rules O.rule self.old self.new }
         ensures fresh { HandsOut O.fresh result }
-        ensures commits { self.new.commits ≡ self.old.commits ++ option_to_list (written (event, result)) }
+        ensures commits { AddsWritten self.old event result self.new }
     {
         self.step_as(0, event)
     }
@@ -218,9 +217,9 @@ impl<C: KeyClass, O: Outlet<C::Key>> World<C, O> {
         ensures opening { FitsAtOpening C.rules O.rule result self.new }
         ensures less_work { LowersWork C.rules O.rule self.old event result self.new }
         ensures rows { KeepsRowsUnder self.old event self.new }
-        ensures mailboxes { O.rule.is_emptied_elsewhere ≡ true → MailboxesFit C.rules O.rule self.old → MailboxesFit C.rules O.rule self.new }
+        ensures mailboxes { KeepsMailboxes C.rules O.rule self.old self.new }
         ensures fresh { HandsOut O.fresh result }
-        ensures commits { self.new.commits ≡ self.old.commits ++ option_to_list (written (event, result)) }
+        ensures commits { AddsWritten self.old event result self.new }
     {
         self.is_sound();
         self.answer(seat, event)
