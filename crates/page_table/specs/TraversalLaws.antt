@@ -13,6 +13,10 @@ module _ {K : Type 0} where
   abbrev pub EachSound : (K → K → Bool) → (Tree K → Type 0) → Type 0
   EachSound is_cover Has = (t : Tree K) (fan : ℕ) → IsSound is_cover fan t → Has t
 
+  -- where the tree is sound, this holds
+  abbrev pub IfSound : (K → K → Bool) → Tree K → Type 0 → Type 0
+  IfSound is_cover t This = (fan : ℕ) → IsSound is_cover fan t → This
+
   -- the chain from (p, m) is p, followed by the chain of its right link, where that is followed
   abbrev pub IsChain : Tree K → Type 0
   IsChain t = (p m : ℕ) → p < length t.pages → chain t p m ≡ p ∷ flat_map (λ r. chain t r m) (followed (page_at t p) m)
