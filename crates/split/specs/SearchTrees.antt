@@ -34,16 +34,16 @@ empty_tree fan least limit = record { tree = new_tree; fan = fan; least = least;
 
 module _ {K A : Type 0} (rules : Rules K A) where
   -- after Enlarge(p, c, key)
-  abbrev pub enlarged : SearchTree K → ℕ → ℕ → K → SearchTree K
-  enlarged s p c key = with_tree s (after_enlarge rules.union_of s.tree p c key)
+  abbrev pub extended : SearchTree K → ℕ → ℕ → K → SearchTree K
+  extended s p c key = with_tree s (after_enlarge rules.union_of s.tree p c key)
 
   -- after Split(p, sides)
   abbrev pub divided : SearchTree K → ℕ → List Side → SearchTree K
   divided s p sides = with_tree s (after_split rules.union_of s.tree p sides)
 
   -- after Grow(sides)
-  abbrev pub grown : SearchTree K → List Side → SearchTree K
-  grown s sides = with_tree s (after_grow rules.union_of s.tree sides)
+  abbrev pub with_growth : SearchTree K → List Side → SearchTree K
+  with_growth s sides = with_tree s (after_grow rules.union_of s.tree sides)
 
   -- the same of tables
   abbrev pub table_wider : Tree K → ℕ → ℕ → K → Tree K

@@ -100,11 +100,11 @@ module _ {K : Type 0} where
   refusal_to_enlarge is_cover s p c key = first_failing (enlarge_tests is_cover s p c key)
 
   -- no test of a placing fails, of an enlargement
-  abbrev pub MayPlace : (K → K → Bool) → SearchTree K → ℕ → K → Type 0
-  MayPlace is_cover s p key = NoneFails (place_tests is_cover s p key)
+  abbrev pub PlacePasses : (K → K → Bool) → SearchTree K → ℕ → K → Type 0
+  PlacePasses is_cover s p key = NoneFails (place_tests is_cover s p key)
 
-  abbrev pub MayEnlarge : (K → K → Bool) → SearchTree K → ℕ → ℕ → K → Type 0
-  MayEnlarge is_cover s p c key = NoneFails (enlarge_tests is_cover s p c key)
+  abbrev pub EnlargePasses : (K → K → Bool) → SearchTree K → ℕ → ℕ → K → Type 0
+  EnlargePasses is_cover s p c key = NoneFails (enlarge_tests is_cover s p c key)
 
   -- a placing is refused by its tests, an enlargement
   abbrev pub RefusesPlace : (K → K → Bool) → SearchTree K → ℕ → K → Refusal → Type 0

@@ -2,8 +2,8 @@ ghost use Rattle.std.specs.Prelude.{◌≡◌, ◌+◌, ◌*◌, ◌<◌, ◌≤
 ghost use Rattle.page_table.specs.Trees.{page_at};
 ghost use Rattle.page_table.specs.Keeping.{KeepsRows, EachEntry, StandsIn, KeepsRowsInOrder, GainsEntry, KeepsRowsAtEveryMemo};
 ghost use Rattle.page_table.specs.Soundness.{IsSound};
-ghost use Rattle.split.specs.SearchTrees.{PostsSibling, AreNextTwo, divided, with_death, empty_tree, with_entry, without_unneeded, grown, enlarged};
-ghost use Rattle.split.specs.Tests.{first_failing, IsRefusedBy, is_leaf, config_tests, split_tests, post_tests, grow_tests, sweep_tests, CountsSides, RefusesPlace, MayPlace, NoneFails, RefusesEnlarge, refusal_to_place, refusal_to_enlarge, sides_well, MayEnlarge, WantsMemoryToSweep};
+ghost use Rattle.split.specs.SearchTrees.{PostsSibling, AreNextTwo, divided, with_death, empty_tree, with_entry, without_unneeded, with_growth, extended};
+ghost use Rattle.split.specs.Tests.{first_failing, IsRefusedBy, is_leaf, config_tests, split_tests, post_tests, grow_tests, sweep_tests, CountsSides, RefusesPlace, PlacePasses, NoneFails, RefusesEnlarge, refusal_to_place, refusal_to_enlarge, sides_well, EnlargePasses, WantsMemoryToSweep};
 ghost use Rattle.page_table.specs.LeafChanges.{CountsUnneeded};
 
 use crate::steps;
@@ -96,8 +96,8 @@ impl<C: KeyClass> SearchTree<C> {
     /// NotHere where the parent is no inner page or has no branch to the child, Uncovered where its cover doesn't cover
     /// the key, else want of memory. Nothing is changed then.
     pub fn enlarge(&mut self, parent: u64, child: u64, key: C::Key) -> Result<(), Refusal>
-        ensures passed { OnOk result (MayEnlarge C.rules.is_cover self.old parent child key) }
-        ensures enlarged { OnOk result (self.new ≡ enlarged C.rules self.old parent child key) }
+        ensures passed { OnOk result (EnlargePasses C.rules.is_cover self.old parent child key) }
+        ensures enlarged { OnOk result (self.new ≡ extended C.rules self.old parent child key) }
         ensures refused { IfErr result (RefusesEnlarge C.rules.is_cover self.old parent child key) }
         ensures unchanged { OnErr result (self.new ≡ self.old) }
 
@@ -175,7 +175,7 @@ impl<C: KeyClass> SearchTree<C> {
     pub fn grow(&mut self, sides: &Sides) -> Result<(u32, u32), Refusal>
         ensures passed { OnOk result (NoneFails (grow_tests self.old sides.now)) }
         ensures pages { IfOk result (AreNextTwo self.old.tree) }
-        ensures grown { OnOk result (self.new ≡ grown C.rules self.old sides.now) }
+        ensures grown { OnOk result (self.new ≡ with_growth C.rules self.old sides.now) }
         ensures refused { IfErr result (IsRefusedBy (grow_tests self.old sides.now)) }
         ensures unchanged { OnErr result (self.new ≡ self.old) }
 
@@ -198,7 +198,7 @@ impl<C: KeyClass> SearchTree<C> {
     /// By the first of these that holds: NotHere where the page is no leaf, Uncovered where its cover doesn't cover the
     /// key, NodeFull; else want of memory. Nothing is changed then.
     pub fn place(&mut self, leaf: u64, entry: Entry<C::Key>) -> Result<(), Refusal>
-        ensures passed { OnOk result (MayPlace C.rules.is_cover self.old leaf entry.key) }
+        ensures passed { OnOk result (PlacePasses C.rules.is_cover self.old leaf entry.key) }
         ensures placed { OnOk result (self.new ≡ with_entry self.old leaf entry) }
         ensures refused { IfErr result (RefusesPlace C.rules.is_cover self.old leaf entry.key) }
         ensures unchanged { OnErr result (self.new ≡ self.old) }
