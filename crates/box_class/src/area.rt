@@ -1,5 +1,5 @@
-ghost use Rattle.std.specs.Prelude.{◌≡◌, ℕ, ◌+◌, ◌-◌, ◌≤◌, ◌^◌, ℤ, pos, ◌-ℤ◌};
-ghost use Rattle.box_class.specs.Boxes.{size_of, union_of};
+ghost use Rattle.std.specs.Prelude.{◌≡◌, ℕ, ◌+◌, ◌≤◌, ◌^◌, ℤ};
+ghost use Rattle.box_class.specs.Boxes.{size_of, union_of, waste_between, distance};
 
 use crate::boxes::BoxKey;
 use crate::methods::{area, height, penalty, union, width};
@@ -23,7 +23,7 @@ pub trait Area: Copy + Ord {
     /// What the common bound of two boxes has beside them, less than 0 where they overlap.
     fn waste(a: BoxKey, b: BoxKey) -> Self::Waste
         requires { size_of (union_of a b) ≤ limit }
-        ensures { waste_of result ≡ (pos (size_of (union_of a b)) -ℤ pos (size_of a)) -ℤ pos (size_of b) };
+        ensures { waste_of result ≡ waste_between a b };
 
     /// What a bound gains by a key.
     fn gain(bound: BoxKey, key: BoxKey) -> Self
@@ -32,7 +32,7 @@ pub trait Area: Copy + Ord {
 
     /// By how much two areas differ.
     fn apart(self, other: Self) -> Self
-        ensures { area_of result ≡ (area_of self - area_of other) + (area_of other - area_of self) };
+        ensures { area_of result ≡ distance (area_of self) (area_of other) };
 }
 
 impl Area for u64 {

@@ -1,3 +1,4 @@
+pub mod Asked
 pub mod Changes
 pub mod Configs
 pub mod Cursors

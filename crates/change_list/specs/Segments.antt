@@ -7,6 +7,10 @@ module _ {X : Type 0} where
   abbrev pub joined : List (List X) → List X → List X
   joined segments tail = flat_map (λ segment. segment) segments ++ tail
 
+  -- with one element more
+  abbrev pub joined_with : List (List X) → List X → X → List X
+  joined_with segments tail x = joined segments tail ++ x ∷ []
+
   -- each segment has 256 elements, the tail fewer
   pub record IsSegmented (segments : List (List X)) (tail : List X) : Type 0 where
     pub each_full : AllByRecursion (λ segment. length segment ≡ 256) segments

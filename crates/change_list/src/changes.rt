@@ -1,6 +1,8 @@
 ghost use Rattle.std.specs.Prelude.{◌≡◌};
-ghost use Rattle.key_class.specs.Queries.{query_of, matches_query};
-ghost use Rattle.change_list.specs.Changes.{item_at, deleted_item, commit_at};
+ghost use Rattle.key_class.specs.Queries.{query_of};
+ghost use Rattle.change_list.specs.Changes.{item_at};
+ghost use Rattle.change_list.specs.Asked.{deletion_for};
+ghost use Rattle.key_class.specs.Rules.{satisfies};
 
 use crate::item::{Item, Row};
 use crate::view::View;
@@ -13,7 +15,7 @@ pub fn change_item<C: KeyClass>(
     query: &Pred<C::Atom>,
     place: u64,
 ) -> Option<Item<C::Key>>
-    ensures { result ≡ item_at (matches_query C.rules.is_match (query_of query.now)) commits.now place }
+    ensures { result ≡ item_at (satisfies C.rules (query_of query.now)) commits.now place }
 {
     if place >= commits.len() as u64 {
         return None;
@@ -37,7 +39,7 @@ fn delete_item<C: KeyClass>(
     number: u64,
     row: u64,
 ) -> Option<Item<C::Key>>
-    ensures { result ≡ deleted_item (matches_query C.rules.is_match (query_of query.now)) number row (commit_at commits.now row) }
+    ensures { result ≡ deletion_for C.rules query.now commits.now number row }
 {
     match commits.get(row) {
         Some(Write::Insert(key, _)) => query

@@ -1,7 +1,7 @@
-ghost use Rattle.std.specs.Prelude.{◌≡◌, ◌<◌, ◌++◌, ◌∷◌, [], length};
+ghost use Rattle.std.specs.Prelude.{◌≡◌, ◌<◌, length};
 ghost use Rattle.std.specs.Vec.{vec_capacity};
 ghost use Rattle.change_list.specs.Roomy.{with_write, NamesEarlier, letters_with};
-ghost use Rattle.change_list.specs.Segments.{joined, IsSegmented, IsReady};
+ghost use Rattle.change_list.specs.Segments.{joined, IsSegmented, IsReady, joined_with};
 
 use crate::change_list::ChangeList;
 use crate::segment::Segment;
@@ -81,7 +81,7 @@ fn longer<K: Copy>(
     requires ready { IsReady tail.items write filled }
     requires segment { length full.items < vec_capacity full }
     requires commit { length tail.items < vec_capacity tail }
-    ensures list { joined result.0.items result.1.items ≡ joined full.items tail.items ++ write ∷ [] }
+    ensures list { joined result.0.items result.1.items ≡ joined_with full.items tail.items write }
     ensures segmented { IsSegmented result.0.items result.1.items }
 {
     let mut full = full;

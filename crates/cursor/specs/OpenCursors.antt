@@ -1,7 +1,10 @@
 -- What contracts see of an open cursor, and a turn of it.
-use Rattle.std.specs.Prelude.{◌≡◌, ℕ, ◌+◌, Bool, true, false, nat_lt, List, [], ◌∷◌, ◌++◌, length, drop, Option, Some, None, Result, Ok, Err, slice_get, if◌then◌else◌}
+use Rattle.std.specs.Prelude.{◌≡◌, ℕ, ◌+◌, ◌<◌, ◌≤◌, Bool, true, false, nat_lt, List, [], ◌∷◌, ◌++◌, length, drop, Option, Some, None, Result, Ok, Err, OnOk, slice_get, if◌then◌else◌}
+use Rattle.std.specs.Arc.{arc_value}
+use Rattle.std.specs.declared.sync.Arc.{Arc}
+use Rattle.key_class.specs.declared.pred.Pred.{Pred}
 use Rattle.key_class.specs.Rules.{Rules}
-use Rattle.key_class.specs.Queries.{Query, matches_query, consistent_with_query}
+use Rattle.key_class.specs.Queries.{Query, query_of, matches_query, consistent_with_query}
 use Rattle.key_class.specs.declared.refusal.Refusal.{Refusal}
 use Rattle.key_class.specs.declared.refusal.Refusal.TheVariants as refusal
 use Rattle.change_list.specs.declared.write.Write.{Write}
@@ -11,8 +14,9 @@ use Rattle.change_list.specs.declared.item.Item.TheVariants as item
 use Rattle.change_list.specs.Changes.{item_at}
 use Rattle.change_list.specs.Cursors.{CursorState, work}
 use Rattle.mailbox.specs.Outlets.{Rule}
+use Rattle.page_table.specs.Soundness.{IsSound}
 use Rattle.page_table.specs.Trees.{Tree}
-use Rattle.page_table.specs.Stacks.{StackItem, pages_left}
+use Rattle.page_table.specs.Stacks.{StackItem, root_stack, pages_left}
 use Rattle.scan.specs.Scanning.{Visits, VisitGrows, to_find}
 use Rattle.cursor.specs.declared.cursor.Turned.{Turned}
 use Rattle.cursor.specs.declared.cursor.Turned.TheVariants as turned
@@ -57,6 +61,20 @@ module _ {K : Type 0} where
   task_of None false None false position = rest
 
 module _ {K A : Type 0} where
+  -- a cursor that begins, after the commits at its opening and at a tree's root with the counter
+  abbrev pub new_cursor : {O Z : Type 0} → (O → ℕ) → (O → List (Item K)) → ℕ → Arc (Pred A) Z → ℕ → ℕ → O → OpenCursor K A
+  new_cursor room_of unread serial query opened counter outlet = record {
+    serial = serial;
+    query = query_of (arc_value query);
+    opened = opened;
+    stack = root_stack counter;
+    pending = [];
+    position = opened;
+    asked = false;
+    room = room_of outlet;
+    unread = unread outlet;
+  }
+
   -- the cursor, once an item of its task was taken by the outlet
   abbrev pub sent : Item K → OpenCursor K A → OpenCursor K A
   sent (item.Row row) k = record k { pending = drop 1 k.pending; unread = k.unread ++ item.Row row ∷ [] }
@@ -110,6 +128,16 @@ module _ {K A : Type 0} (rules : Rules K A) (rule : Rule) where
   Turns t commits old (Err refusal.OutOfMemory) new = (task commits old ≡ visit) × (new ≡ old) × VisitGrows (admits old) (wants old) old.opened t old.stack
   Turns t commits old (Err why) new = ⊥
 
+  -- the turn is the same over any commits, where it is a visit; over any tree, where it isn't; and past the last commit
+  abbrev pub TurnsByTree : Tree K → OpenCursor K A → Result Turned Refusal → OpenCursor K A → Type 0
+  TurnsByTree t old result new = (commits : List (Write K)) → Turns t commits old result new
+
+  abbrev pub TurnsByCommits : List (Write K) → OpenCursor K A → Result Turned Refusal → OpenCursor K A → Type 0
+  TurnsByCommits commits old result new = (t : Tree K) → Turns t commits old result new
+
+  abbrev pub TurnsPastEnd : OpenCursor K A → Result Turned Refusal → OpenCursor K A → Type 0
+  TurnsPastEnd old result new = (t : Tree K) (commits : List (Write K)) → length commits ≤ old.position → Turns t commits old result new
+
   -- what a client may know of it
   abbrev pub shown : Tree K → OpenCursor K A → CursorState K A
   shown t k = record {
@@ -125,3 +153,7 @@ module _ {K A : Type 0} (rules : Rules K A) (rule : Rule) where
   -- how much it has still to do: pages to visit, rows to give, commits to pass, and a mark if one is asked for
   abbrev pub tree_work : Tree K → List (Write K) → OpenCursor K A → ℕ
   tree_work t commits k = length (pages_left t k.stack) + work commits (shown t k)
+
+  -- in a sound tree a turn that is made lessens what it has still to do
+  abbrev pub Lessens : {T E : Type 0} → Tree K → List (Write K) → OpenCursor K A → Result T E → OpenCursor K A → Type 0
+  Lessens t commits old result new = OnOk result ((fan : ℕ) → IsSound rules.is_cover fan t → tree_work t commits new < tree_work t commits old)

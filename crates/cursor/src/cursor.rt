@@ -1,20 +1,15 @@
-ghost use Rattle.std.specs.Prelude.{◌≡◌, ◌≢◌, ◌⊎◌, ◌↔◌, ◌+◌, ◌<◌, ◌≤◌, ℕ, true, false, [], ◌∷◌, ◌++◌, List, length, Some, None, slice_get, IfOk, IfErr, OnOk, IsTrue};
+ghost use Rattle.std.specs.Prelude.{◌≡◌, ◌↔◌, true, false, [], IfOk, IfErr, IsTrue, ◌≢◌, ◌⊎◌, ◌+◌, ◌++◌, Some, None, slice_get};
 ghost use Rattle.cursor.specs.Preparing.{IsPrepared, IsDue, RefusesVisit};
 ghost use Rattle.std.specs.Arc.{arc_value};
 ghost use Rattle.key_class.specs.Queries.{query_of};
 ghost use Rattle.change_list.specs.declared.item.Item.{Item};
-ghost use Rattle.change_list.specs.declared.write.Write.{Write};
-ghost use Rattle.change_list.specs.Changes.{snapshot};
 ghost use Rattle.page_table.specs.Stacks.{IsStack};
-ghost use Rattle.page_table.specs.Soundness.{IsSound};
-ghost use Rattle.page_table.specs.Trees.{Tree};
-ghost use Rattle.page_table.specs.Weights.{Same};
-ghost use Rattle.scan.specs.Scanning.{to_find};
 ghost use Rattle.mailbox.specs.Outlets.{Takes};
-ghost use Rattle.cursor.specs.OpenCursors.{wants, Turns, tree_work, is_scanning};
-ghost use Rattle.cursor.specs.Fitting.{FitsOver, KeepsFitting, GivesFitting};
+ghost use Rattle.cursor.specs.OpenCursors.{Turns, is_scanning, TurnsPastEnd, TurnsByTree, Lessens, new_cursor, TurnsByCommits};
+ghost use Rattle.cursor.specs.Fitting.{KeepsAllFitting, TurnFits, BeginsFitting};
 ghost use Rattle.cursor.specs.Offering.{IsOffered};
 ghost use Rattle.cursor.specs.Sending.{TurnsTo};
+ghost use Rattle.page_table.specs.TraversalLaws.{IfSound};
 
 use change_list::{ChangeList, Item, Row, change_item};
 use key_class::{KeyClass, Pred, Refusal};
@@ -75,8 +70,8 @@ impl<C: KeyClass, O: Outlet<C::Key>> Cursor<C, O> {
         counter: u32,
         outlet: O,
     ) -> Self
-        ensures new { result ≡ record { serial = serial; query = query_of (arc_value query); opened = opened; stack = (record { page = 0; memo = counter }) ∷ []; pending = []; position = opened; asked = false; room = O.room_of outlet; unread = O.unread outlet } }
-        ensures fits { (tree : Tree C.Key) (commits : List (Write C.Key)) → opened ≡ length commits → Same (to_find (wants C.rules O.rule result) opened tree result.stack) (snapshot (wants C.rules O.rule result) opened commits) → FitsOver C.rules O.rule tree commits result [] }
+        ensures new { result ≡ new_cursor O.room_of O.unread serial query opened counter outlet }
+        ensures fits { BeginsFitting C.rules O.rule opened result }
     {
         Cursor {
             serial,
@@ -114,7 +109,7 @@ impl<C: KeyClass, O: Outlet<C::Key>> Cursor<C, O> {
     /// Asks for a mark once all before it was given.
     pub fn ask_mark(&mut self)
         ensures asked { self.new ≡ record self.old { asked = true } }
-        ensures fits { (tree : Tree C.Key) (commits : List (Write C.Key)) → KeepsFitting C.rules O.rule tree commits self.old self.new }
+        ensures fits { KeepsAllFitting C.rules O.rule self.old self.new }
     {
         self.asked = true;
     }
@@ -123,7 +118,7 @@ impl<C: KeyClass, O: Outlet<C::Key>> Cursor<C, O> {
     pub fn take(&mut self) -> Taken<C::Key>
         ensures takes { Takes O.rule.is_emptied_elsewhere self.old.unread result self.new.unread }
         ensures others { self.new ≡ record self.old { unread = self.new.unread } }
-        ensures fits { (tree : Tree C.Key) (commits : List (Write C.Key)) → KeepsFitting C.rules O.rule tree commits self.old self.new }
+        ensures fits { KeepsAllFitting C.rules O.rule self.old self.new }
     {
         self.outlet.take()
     }
@@ -149,7 +144,7 @@ impl<C: KeyClass, O: Outlet<C::Key>> Cursor<C, O> {
         requires stack { IsStack table.now self.old.stack }
         requires none_pending { self.old.pending ≡ [] }
         requires scanning { is_scanning self.old.stack ≡ true }
-        ensures { (commits : List (Write C.Key)) → Turns C.rules O.rule table.now commits self.old result self.new }
+        ensures { TurnsByTree C.rules O.rule table.now self.old result self.new }
     {
         match self
             .stack
@@ -214,7 +209,7 @@ impl<C: KeyClass, O: Outlet<C::Key>> Cursor<C, O> {
         requires stack { IsStack table.now self.old.stack }
         requires due { IsDue table.now self.old visit }
         requires worked { visit.worked ≡ true }
-        ensures { (commits : List (Write C.Key)) → Turns C.rules O.rule table.now commits self.old result self.new }
+        ensures { TurnsByTree C.rules O.rule table.now self.old result self.new }
     {
         match self.stack.visit_prepared::<C>(table.counter(), visit) {
             Ok(visited) => {
@@ -230,7 +225,7 @@ impl<C: KeyClass, O: Outlet<C::Key>> Cursor<C, O> {
     fn follow(&mut self, changes: &ChangeList<C::Key>) -> Result<Turned, Refusal>
         requires none_pending { self.old.pending ≡ [] }
         requires scanned { self.old.stack ≡ [] }
-        ensures { (tree : Tree C.Key) → Turns C.rules O.rule tree changes.now self.old result self.new }
+        ensures { TurnsByCommits C.rules O.rule changes.now self.old result self.new }
     {
         if self.position >= changes.len() as u64 {
             return self.offer_mark();
@@ -255,7 +250,7 @@ impl<C: KeyClass, O: Outlet<C::Key>> Cursor<C, O> {
     fn offer_mark(&mut self) -> Result<Turned, Refusal>
         requires none_pending { self.old.pending ≡ [] }
         requires scanned { self.old.stack ≡ [] }
-        ensures { (tree : Tree C.Key) (commits : List (Write C.Key)) → length commits ≤ self.old.position → Turns C.rules O.rule tree commits self.old result self.new }
+        ensures { TurnsPastEnd C.rules O.rule self.old result self.new }
     {
         if !self.asked {
             return Err(Refusal::Idle);
@@ -304,9 +299,9 @@ impl<C: KeyClass, O: Outlet<C::Key>> Cursor<C, O> {
         requires { IsStack table.now self.old.stack }
         ensures turns { Turns C.rules O.rule table.now changes.now self.old result self.new }
         ensures sends { TurnsTo changes.now self.old self.new }
-        ensures fits { (fan : ℕ) → IsSound C.rules.is_cover fan table.now → GivesFitting C.rules O.rule table.now changes.now self.old self.new }
-        ensures less_work { OnOk result ((fan : ℕ) → IsSound C.rules.is_cover fan table.now → tree_work C.rules O.rule table.now changes.now self.new < tree_work C.rules O.rule table.now changes.now self.old) }
-        ensures stack { (fan : ℕ) → IsSound C.rules.is_cover fan table.now → IsStack table.now self.new.stack }
+        ensures fits { TurnFits C.rules O.rule table.now changes.now self.old self.new }
+        ensures less_work { Lessens C.rules O.rule table.now changes.now self.old result self.new }
+        ensures stack { IfSound C.rules.is_cover table.now (IsStack table.now self.new.stack) }
     {
         self.advance(alloc, table, changes)
     }

@@ -2,6 +2,10 @@
 use Rattle.std.specs.Prelude.{◌≡◌, ◌⊎◌, ℕ, ◌-◌, ◌<◌, List, Some, slice_get}
 use Rattle.node.specs.declared.branch.Branch.{Branch}
 
+-- by the first number, where that is the same by the second
+abbrev pub ComesBefore : ℕ × ℕ → ℕ × ℕ → Type 0
+ComesBefore one other = (one.0 < other.0) ⊎ ((one.0 ≡ other.0) × (one.1 < other.1))
+
 module _ {K : Type 0} (union : K → K → K) (size : K → ℕ) (key : K) where
   -- what the bound gains by the key
   abbrev pub gain : K → ℕ

@@ -1,13 +1,15 @@
 -- Finders: what each looks for, one visit of it, and what it keeps through every step.
-use Rattle.std.specs.Prelude.{◌≡◌, ℕ, Bool, false, true, List, Option, Some, None, slice_get, reverse}
+use Rattle.std.specs.Prelude.{◌≡◌, ℕ, Bool, false, true, List, Option, Some, None, Result, IfOk, slice_get, reverse}
 use Rattle.change_list.specs.Changes.{commit_at, status_of}
 use Rattle.change_list.specs.declared.write.Status.TheVariants.{Live}
 use Rattle.change_list.specs.declared.write.Write.{Write}
 use Rattle.change_list.specs.declared.write.Write.TheVariants.{Insert}
-use Rattle.page_table.specs.Stacks.{StackItem, IsStack}
+use Rattle.page_table.specs.Soundness.{IsSound}
+use Rattle.page_table.specs.Stacks.{StackItem, IsStack, root_stack}
 use Rattle.page_table.specs.Trees.{Tree, page_at}
-use Rattle.scan.specs.Finding.{IsFinder, SeeksFurther, holds}
-use Rattle.scan.specs.Scanning.{IsNext}
+use Rattle.scan.specs.Agreement.{Agrees}
+use Rattle.scan.specs.Finding.{IsFinder, SeeksFurther, SeeksLess, holds}
+use Rattle.scan.specs.Scanning.{IsNext, PushesSome}
 use Rattle.scan.specs.declared.stack.Sought.{Sought}
 use Rattle.scan.specs.declared.stack.Sought.TheVariants.{Here, Further}
 
@@ -21,6 +23,10 @@ pub record OpenFinder (K : Type 0) : Type 0 where
   pub stack : List StackItem
 
 module _ {K : Type 0} where
+  -- a finder at a tree's root, with the counter
+  abbrev pub finder_at_root : ℕ → ℕ → K → ℕ → OpenFinder K
+  finder_at_root serial row key counter = record { serial = serial; row = row; key = key; stack = root_stack counter }
+
   -- the page of the item holds the row
   abbrev pub holds_at : Tree K → ℕ → Option StackItem → Bool
   holds_at t row (Some item) = holds row (page_at t item.page).rows
@@ -55,3 +61,20 @@ module _ {K : Type 0} where
     pub tag : ℕ
     pub inserted : commit_at commits k.row ≡ Some (Insert k.key tag)
     pub there : status_of commits k.row ≡ Live → IsFinder k.row t k.stack
+
+  -- one visit, by its result
+  abbrev pub SeeksItsRow : {E : Type 0} → (K → K → Bool) → Tree K → OpenFinder K → Result Sought E → OpenFinder K → Type 0
+  SeeksItsRow is_cover t old result new = IfOk result (λ met. SeeksRow is_cover t old met new)
+
+  -- where it goes on, fewer pages are left
+  abbrev pub FinderLowersWork : {E : Type 0} → (K → K → Bool) → Tree K → OpenFinder K → Result Sought E → OpenFinder K → Type 0
+  FinderLowersWork is_cover t old result new = IfOk result (λ met. SeeksLess is_cover t old.stack met new.stack)
+
+  -- the page that it visits next is followed by something that may hold its row
+  abbrev pub FinderPushes : (K → K → Bool) → Tree K → OpenFinder K → Type 0
+  FinderPushes is_cover t k = PushesSome (λ bound. is_cover bound k.key) t k.stack
+
+  -- in a sound tree that agrees with the commits it seeks as before
+  abbrev pub KeepsSeeking : (K → K → Bool) → Tree K → OpenFinder K → OpenFinder K → Type 0
+  KeepsSeeking is_cover t old new =
+      (fan : ℕ) (commits : List (Write K)) → IsSound is_cover fan t → Agrees t commits → IsSeeking t commits old → IsSeeking t commits new

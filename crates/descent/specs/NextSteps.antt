@@ -1,5 +1,8 @@
 -- Which step comes next where a key is to be inserted and the way down has come to page p.
 use Rattle.std.specs.Prelude.{◌≡◌, ◌⊎◌, ◌≢◌, ℕ, suc, ◌<◌, ◌≤◌, Bool, true, false, List, length, Some, None}
+use Rattle.key_class.specs.Rules.{Rules}
+use Rattle.key_class.specs.Splits.{IsSplit}
+use Rattle.key_class.specs.declared.sides.Side.{Side}
 use Rattle.key_class.specs.declared.refusal.Refusal.{Refusal}
 use Rattle.key_class.specs.declared.refusal.Refusal.TheVariants as refusal
 use Rattle.node.specs.Pages.{entries_of, is_within}
@@ -61,3 +64,11 @@ module _ {K : Type 0} where
     IsPlan (plan.Post parent c) = IsNextStep (Post parent c)
     IsPlan (plan.Enlarge parent c) = IsNextStep (Enlarge parent c)
     IsPlan (plan.Down c) = IsNextStep (Down c)
+
+  -- the step comes next by the rules of a class
+  abbrev pub IsNextStepBy : {A : Type 0} → Rules K A → SearchTree K → ℕ → K → Step → Type 0
+  IsNextStepBy rules s p key step = IsNextStep rules.is_cover rules.union_of rules.size_of s p key step
+
+  -- the sides part a page's entries in two groups of at least the fewest
+  abbrev pub PartsPage : SearchTree K → ℕ → List Side → Type 0
+  PartsPage s p sides = IsSplit (entries_of (page_at s.tree p)) s.least sides

@@ -1,11 +1,7 @@
-ghost use Rattle.std.specs.Prelude.{◌≡◌, ◌↔◌, ℕ, false, [], ◌∷◌, List, IfOk, OnErr, IsTrue};
-ghost use Rattle.change_list.specs.declared.write.Write.{Write};
-ghost use Rattle.page_table.specs.Soundness.{IsSound};
+ghost use Rattle.std.specs.Prelude.{◌≡◌, ◌↔◌, false, [], OnErr, IsTrue};
 ghost use Rattle.page_table.specs.Stacks.{IsStack};
-ghost use Rattle.scan.specs.Agreement.{Agrees};
-ghost use Rattle.scan.specs.Finding.{SeeksLess};
-ghost use Rattle.scan.specs.Scanning.{PushesSome};
-ghost use Rattle.descent.specs.Finders.{SeeksRow, IsSeeking, is_at_row};
+ghost use Rattle.descent.specs.Finders.{is_at_row, SeeksItsRow, KeepsSeeking, FinderLowersWork, finder_at_root, FinderPushes};
+ghost use Rattle.page_table.specs.TraversalLaws.{IfSound};
 
 use key_class::KeyClass;
 use page_table::PageTable;
@@ -34,7 +30,7 @@ impl<C: KeyClass> Finder<C> {
     /// A finder of the row with that number and key, at a tree's root when the number of its latest posting was
     /// `counter`. It takes no memory.
     pub fn new(alloc: Global, serial: u64, row: u32, key: C::Key, counter: u32) -> Self
-        ensures { result ≡ record { serial = serial; row = row; key = key; stack = (record { page = 0; memo = counter }) ∷ [] } }
+        ensures { result ≡ finder_at_root serial row key counter }
     {
         Finder {
             serial,
@@ -72,13 +68,13 @@ impl<C: KeyClass> Finder<C> {
     pub fn seek(&mut self, table: &PageTable<C::Key>) -> Result<Sought, AllocError>
         requires stack { IsStack table.now self.old.stack }
         requires unfinished { ¬ (self.old.stack ≡ []) }
-        ensures sought { IfOk result (λ met. SeeksRow C.rules.is_cover table.now self.old met self.new) }
+        ensures sought { SeeksItsRow C.rules.is_cover table.now self.old result self.new }
         ensures refused { OnErr result (self.new ≡ self.old) }
         ensures refused_further { OnErr result (is_at_row table.now self.old ≡ false) }
-        ensures memory { OnErr result (PushesSome (λ bound. C.rules.is_cover bound self.old.key) table.now self.old.stack) }
-        ensures seeking { (fan : ℕ) (commits : List (Write C.Key)) → IsSound C.rules.is_cover fan table.now → Agrees table.now commits → IsSeeking table.now commits self.old → IsSeeking table.now commits self.new }
-        ensures stack { (fan : ℕ) → IsSound C.rules.is_cover fan table.now → IsStack table.now self.new.stack }
-        ensures less_work { IfOk result (λ met. SeeksLess C.rules.is_cover table.now self.old.stack met self.new.stack) }
+        ensures memory { OnErr result (FinderPushes C.rules.is_cover table.now self.old) }
+        ensures seeking { KeepsSeeking C.rules.is_cover table.now self.old self.new }
+        ensures stack { IfSound C.rules.is_cover table.now (IsStack table.now self.new.stack) }
+        ensures less_work { FinderLowersWork C.rules.is_cover table.now self.old result self.new }
     {
         let Some(sought) = self.stack.seek::<C>(table, self.key, self.row)? else {
             unreachable!()

@@ -1,5 +1,6 @@
-ghost use Rattle.std.specs.Prelude.{◌≡◌, ◌+◌, ◌<◌, ◌≤◌, ◌^◌, ◌↔◌, true, false, IsTrue, IfOk};
-ghost use Rattle.key_class.specs.Queries.{Query, query_of, matches_query, consistent_with_query, depth_of};
+ghost use Rattle.std.specs.Prelude.{◌≡◌, ◌≤◌, ◌↔◌, IsTrue, IfOk, ◌+◌, ◌<◌, ◌^◌};
+ghost use Rattle.key_class.specs.Queries.{query_of, matches_query, consistent_with_query, depth_of};
+ghost use Rattle.key_class.specs.QueryLaws.{BoundsAdmitMatches, NoneSatisfiesBelow};
 
 use crate::class::KeyClass;
 use std::alloc::{AllocError, Global};
@@ -110,6 +111,6 @@ impl<A: Copy + Eq> Pred<A> {
 /// Nothing is done. The clauses say that a bound which covers a matching key is consistent with the query, and so
 /// that a bound which isn't consistent has no matching key below it.
 pub fn bounds_miss_no_match<C: KeyClass>()
-    ensures consistent { (q : Query C.Atom) (b k : C.Key) → C.rules.is_cover b k ≡ true → matches_query C.rules.is_match q k ≡ true → consistent_with_query C.rules.is_consistent q b ≡ true }
-    ensures no_match { (q : Query C.Atom) (b k : C.Key) → C.rules.is_cover b k ≡ true → consistent_with_query C.rules.is_consistent q b ≡ false → matches_query C.rules.is_match q k ≡ false }
+    ensures consistent { BoundsAdmitMatches C.rules }
+    ensures no_match { NoneSatisfiesBelow C.rules }
 {}

@@ -1,4 +1,4 @@
-ghost use Rattle.std.specs.Prelude.{◌≡◌, ℕ, codes, Some};
+ghost use Rattle.std.specs.Prelude.{◌≡◌, Some, ℕ, codes};
 ghost use Rattle.key_class.specs.Refusals.{number_of, name_of, text_of};
 ghost use Rattle.key_class.specs.declared.refusal.Refusal.TheVariants.{OutOfMemory};
 

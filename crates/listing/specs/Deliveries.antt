@@ -1,5 +1,8 @@
 -- What a client of a query may have been given.
-use Rattle.std.specs.Prelude.{◌≡◌, ℕ, Bool, List, ◌∷◌, ◌++◌, length}
+use Rattle.std.specs.Prelude.{◌≡◌, ◌↔◌, ℕ, Bool, List, ◌∷◌, ◌++◌, length, IsTrue}
+use Rattle.key_class.specs.declared.pred.Pred.{Pred}
+use Rattle.key_class.specs.Queries.{query_of}
+use Rattle.key_class.specs.Rules.{Rules, satisfies}
 use Rattle.change_list.specs.declared.write.Write.{Write}
 use Rattle.change_list.specs.declared.item.Item.{Item}
 use Rattle.change_list.specs.declared.item.Item.TheVariants as item
@@ -11,3 +14,7 @@ module _ {K : Type 0} where
     pub begins : BeginsListing wanted s (length commits) commits (without_marks items)
     pub marks : (before after : List (Item K)) (n : ℕ) → items ≡ before ++ item.Mark n ∷ after
         → IsListing wanted s n commits (without_marks before)
+
+-- it is told whether the client of a query may have been given the items
+abbrev pub TellsDelivery : {K A : Type 0} → Rules K A → Pred A → ℕ → List (Write K) → List (Item K) → Bool → Type 0
+TellsDelivery rules query s commits items told = IsTrue told ↔ IsDelivered (satisfies rules (query_of query)) s commits items

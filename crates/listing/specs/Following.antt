@@ -1,5 +1,8 @@
 -- What a client may be given behind the rows of its snapshot.
-use Rattle.std.specs.Prelude.{◌≡◌, ℕ, ◌≤◌, Bool, List, [], ◌∷◌, ◌++◌, length, None}
+use Rattle.std.specs.Prelude.{◌≡◌, ℕ, ◌≤◌, Bool, List, [], ◌∷◌, ◌++◌, length, Some, None}
+use Rattle.key_class.specs.declared.pred.Pred.{Pred}
+use Rattle.key_class.specs.Queries.{query_of}
+use Rattle.key_class.specs.Rules.{Rules, satisfies}
 use Rattle.change_list.specs.declared.write.Write.{Write}
 use Rattle.change_list.specs.declared.item.Item.{Item}
 use Rattle.change_list.specs.declared.item.Item.TheVariants as item
@@ -26,3 +29,12 @@ module _ {K : Type 0} where
     pub within : place ≤ length commits
     pub none_before : changes wanted from place commits ≡ []
     pub at_end : item_at wanted commits place ≡ None → place ≡ length commits
+
+module _ {K A : Type 0} (rules : Rules K A) (query : Pred A) where
+  -- the commit at that place has the item for the query
+  abbrev pub IsItemFor : List (Write K) → ℕ → Item K → Type 0
+  IsItemFor commits place item = item_at (satisfies rules (query_of query)) commits place ≡ Some item
+
+  -- the items may follow the rows of its snapshot
+  abbrev pub IsFollowedFor : ℕ → List (Write K) → List (Item K) → Type 0
+  IsFollowedFor s commits items = IsFollowed (satisfies rules (query_of query)) s commits items

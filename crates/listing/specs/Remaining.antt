@@ -1,5 +1,8 @@
 -- The rows of a snapshot that a client has still to be given.
-use Rattle.std.specs.Prelude.{◌≡◌, ℕ, ◌+◌, ◌-◌, ◌≤◌, Bool, List, [], ◌∷◌, ◌++◌, length, map, take, drop, filter, filter_map, cond, Option, Some, None, slice_get, slice_set, IsPermutation}
+use Rattle.std.specs.Prelude.{◌≡◌, ℕ, ◌+◌, ◌-◌, ◌<◌, ◌≤◌, Bool, List, [], ◌∷◌, ◌++◌, length, map, take, drop, filter, filter_map, cond, Option, Some, None, slice_get, slice_set, IsPermutation, MatchOption}
+use Rattle.key_class.specs.declared.pred.Pred.{Pred}
+use Rattle.key_class.specs.Queries.{query_of}
+use Rattle.key_class.specs.Rules.{Rules, satisfies}
 use Rattle.change_list.specs.declared.write.Write.{Write}
 use Rattle.change_list.specs.declared.write.Write.TheVariants.{Insert, Delete}
 use Rattle.change_list.specs.declared.item.Row.{Row}
@@ -11,6 +14,10 @@ module _ {K : Type 0} where
   -- the rows that stand in slots
   abbrev pub rows_in : List (Option (Row K)) → List (Row K)
   rows_in slots = filter_map (λ slot. slot) slots
+
+  -- the row stands in the slot of its number
+  abbrev pub IsInSlot : List (Option (Row K)) → Row K → Type 0
+  IsInSlot slots row = (0 < row.row) × (slice_get slots (row.row - 1) ≡ Some (Some row))
 
   -- row n stands in slot n - 1 or in none
   pub record IsPlaced (slots : List (Option (Row K))) : Type 0 where
@@ -48,3 +55,11 @@ module _ {K : Type 0} where
     pub rest : List (Item K)
     pub is : items ≡ map item.Row given ++ item.Row row ∷ rest
     pub wrong : (more : List (Row K)) → IsPermutation all (given ++ row ∷ more) → ⊥
+
+  -- the rows with which the items begin are taken, and counted, or one of them doesn't remain
+  abbrev pub TakesRows : List (Row K) → List (Item K) → Option ℕ → List (Row K) → Type 0
+  TakesRows all items result left = MatchOption result (HasWrongRow all items) (λ count. AllTaken all items count left)
+
+-- the slots with one for a further commit, of a query
+abbrev pub slots_for : {K A : Type 0} → Rules K A → Pred A → List (Option (Row K)) → Write K → List (Option (Row K))
+slots_for rules query slots write = slots_with (satisfies rules (query_of query)) slots write

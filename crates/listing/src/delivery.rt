@@ -1,7 +1,6 @@
-ghost use Rattle.std.specs.Prelude.{◌≡◌, ◌↔◌, IsTrue, IfOk, IfErr};
-ghost use Rattle.key_class.specs.Queries.{query_of, matches_query};
+ghost use Rattle.std.specs.Prelude.{◌≡◌, IfOk, IfErr};
 ghost use Rattle.key_class.specs.declared.refusal.Refusal.TheVariants as Refusal;
-ghost use Rattle.listing.specs.Deliveries.{IsDelivered};
+ghost use Rattle.listing.specs.Deliveries.{TellsDelivery};
 
 use crate::following::is_followed;
 use crate::remaining::{snapshot, take_rows};
@@ -22,7 +21,7 @@ pub fn is_delivered<C: KeyClass>(
     opened: u64,
     items: &[Item<C::Key>],
 ) -> Result<bool, Refusal>
-    ensures delivered { IfOk result (λ told. IsTrue told ↔ IsDelivered (matches_query C.rules.is_match (query_of query.now)) opened commits.now items.now) }
+    ensures delivered { IfOk result (TellsDelivery C.rules query.now opened commits.now items.now) }
     ensures refusals { IfErr result (λ why. why ≡ Refusal.OutOfMemory) }
 {
     if opened > commits.len() as u64 {

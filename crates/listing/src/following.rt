@@ -1,8 +1,8 @@
-ghost use Rattle.std.specs.Prelude.{◌≡◌, ◌≤◌, ◌↔◌, length, Some, IsTrue};
-ghost use Rattle.key_class.specs.Queries.{query_of, matches_query};
-ghost use Rattle.change_list.specs.Changes.{item_at};
+ghost use Rattle.std.specs.Prelude.{◌≡◌, ◌≤◌, ◌↔◌, length, IsTrue};
+ghost use Rattle.key_class.specs.Queries.{query_of};
 ghost use Rattle.change_list.specs.Configs.{IsFrom};
-ghost use Rattle.listing.specs.Following.{IsFollowed, IsNext};
+ghost use Rattle.listing.specs.Following.{IsNext, IsFollowedFor, IsItemFor};
+ghost use Rattle.key_class.specs.Rules.{satisfies};
 
 use crate::sameness::is_same_item;
 use change_list::{Item, View, change_item};
@@ -17,7 +17,7 @@ fn next_place<C: KeyClass>(
 ) -> u64
     requires from { from ≤ count }
     requires count { count ≡ length commits.now }
-    ensures { IsNext (matches_query C.rules.is_match (query_of query.now)) commits.now from result }
+    ensures { IsNext (satisfies C.rules (query_of query.now)) commits.now from result }
 {
     for place in from..count {
         if change_item::<C>(commits, query, place).is_some() {
@@ -34,7 +34,7 @@ fn has_item<C: KeyClass>(
     place: u64,
     item: Item<C::Key>,
 ) -> bool
-    ensures { IsTrue result ↔ (item_at (matches_query C.rules.is_match (query_of query.now)) commits.now place ≡ Some item) }
+    ensures { IsTrue result ↔ IsItemFor C.rules query.now commits.now place item }
 {
     match change_item::<C>(commits, query, place) {
         None => false,
@@ -57,7 +57,7 @@ pub(crate) fn is_followed<C: KeyClass>(
     items: &[Item<C::Key>],
 ) -> bool
     requires { opened ≤ length commits.now }
-    ensures { IsTrue result ↔ IsFollowed (matches_query C.rules.is_match (query_of query.now)) opened commits.now items.now }
+    ensures { IsTrue result ↔ IsFollowedFor C.rules query.now opened commits.now items.now }
 {
     let count = commits.len() as u64;
     let mut position = opened;

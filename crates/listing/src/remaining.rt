@@ -1,10 +1,10 @@
-ghost use Rattle.std.specs.Prelude.{◌≡◌, ◌<◌, ◌≤◌, ◌-◌, ◌↔◌, [], ◌∷◌, length, slice_get, Some, IsTrue, IfOk, IfErr, MatchOption, Contains, IsPermutation};
+ghost use Rattle.std.specs.Prelude.{◌≡◌, ◌≤◌, ◌↔◌, [], ◌∷◌, length, IsTrue, IfOk, IfErr, Contains, IsPermutation};
 ghost use Rattle.std.specs.Bool.{OnTrue};
-ghost use Rattle.key_class.specs.Queries.{query_of, matches_query};
 ghost use Rattle.key_class.specs.declared.refusal.Refusal.TheVariants as Refusal;
-ghost use Rattle.change_list.specs.Changes.{snapshot, IsLegal};
+ghost use Rattle.change_list.specs.Changes.{IsLegal};
 ghost use Rattle.change_list.specs.Roomy.{NamesEarlier};
-ghost use Rattle.listing.specs.Remaining.{slots_with, rows_in, AllTaken, HasWrongRow};
+ghost use Rattle.listing.specs.Remaining.{rows_in, slots_for, IsInSlot, TakesRows};
+ghost use Rattle.change_list.specs.Asked.{snapshot_for};
 
 use crate::sameness::is_same_row;
 use change_list::{Item, Row, View, Write};
@@ -55,7 +55,7 @@ impl<K: Copy> Remaining<K> {
 
 /// Whether a row stands in the slot of its number.
 fn has_row<C: KeyClass>(slots: &[Option<Row<C::Key>>], row: Row<C::Key>) -> bool
-    ensures { IsTrue result ↔ ((0 < row.row) × (slice_get slots.now (row.row - 1) ≡ Some (Some row))) }
+    ensures { IsTrue result ↔ IsInSlot slots.now row }
 {
     if row.row == 0 {
         return false;
@@ -90,7 +90,7 @@ pub(crate) fn snapshot<C: KeyClass>(
 ) -> Result<Remaining<C::Key>, Refusal>
     requires opened { opened ≤ length commits.now }
     requires legal { IsLegal commits.now }
-    ensures rows { IfOk result (λ remaining. remaining ≡ snapshot (matches_query C.rules.is_match (query_of query.now)) opened commits.now) }
+    ensures rows { IfOk result (λ v. v ≡ snapshot_for C.rules query.now opened commits.now) }
     ensures refusals { IfErr result (λ why. why ≡ Refusal.OutOfMemory) }
 {
     let mut slots = Vec::new(alloc);
@@ -113,7 +113,7 @@ fn with_slot<C: KeyClass>(
     write: Write<C::Key>,
 ) -> Result<Vec<Option<Row<C::Key>>>, Refusal>
     requires { NamesEarlier (length slots.items) write }
-    ensures slots { IfOk result (λ longer. longer.items ≡ slots_with (matches_query C.rules.is_match (query_of query.now)) slots.items write) }
+    ensures slots { IfOk result (λ v. v.items ≡ slots_for C.rules query.now slots.items write) }
     ensures refusals { IfErr result (λ why. why ≡ Refusal.OutOfMemory) }
 {
     let mut slots = slots;
@@ -136,7 +136,7 @@ pub(crate) fn take_rows<C: KeyClass>(
     remaining: &mut Remaining<C::Key>,
     items: &[Item<C::Key>],
 ) -> Option<usize>
-    ensures { MatchOption result (HasWrongRow remaining.old items.now) (λ count. AllTaken remaining.old items.now count remaining.new) }
+    ensures { TakesRows remaining.old items.now result remaining.new }
 {
     for (place, item) in items.iter().enumerate() {
         let Item::Row(row) = item else {

@@ -1,5 +1,5 @@
 -- What contracts see of an outlet: the items that are still to be taken, and what an offer and a take do to them.
-use Rattle.std.specs.Prelude.{◌≡◌, ℕ, nat_lt, nat_le, Bool, true, false, List, [], ◌∷◌}
+use Rattle.std.specs.Prelude.{◌≡◌, ℕ, nat_lt, nat_le, Bool, true, false, List, [], ◌∷◌, ◌++◌, length}
 use Rattle.change_list.specs.declared.item.Item.{Item}
 use Rattle.mailbox.specs.declared.outlet.Taken.{Taken}
 use Rattle.mailbox.specs.declared.outlet.Taken.TheVariants as taken
@@ -24,6 +24,17 @@ pub record Tray (K : Type 0) : Type 0 where
   pub held : List (Item K)
 
 module _ {K : Type 0} where
+  -- with those unread items an offer may be taken, may be handed back
+  abbrev pub MayTake : Rule → ℕ → List (Item K) → Type 0
+  MayTake rule room items = rule.may_take room (length items) ≡ true
+
+  abbrev pub MayRefuse : Rule → ℕ → List (Item K) → Type 0
+  MayRefuse rule room items = rule.may_refuse room (length items) ≡ true
+
+  -- one item more in a tray, at the end
+  abbrev pub with_item : Tray K → Item K → Tray K
+  with_item tray item = record tray { held = tray.held ++ item ∷ [] }
+
   -- A take gives the front, and nothing exactly where there is no item; where somebody else empties the outlet it
   -- takes nothing out.
   abbrev pub Takes : Bool → List (Item K) → Taken K → List (Item K) → Type 0

@@ -1,6 +1,6 @@
-ghost use Rattle.std.specs.Prelude.{◌≡◌, ℕ, true, List, [], ◌∷◌, ◌++◌, length, IfOk, IfErr, OnOk, OnErr};
+ghost use Rattle.std.specs.Prelude.{◌≡◌, ℕ, List, [], ◌∷◌, ◌++◌, IfOk, IfErr, OnOk, OnErr};
 ghost use Rattle.change_list.specs.declared.item.Item.{Item};
-ghost use Rattle.mailbox.specs.Outlets.{Rule, Takes};
+ghost use Rattle.mailbox.specs.Outlets.{Rule, Takes, MayTake, MayRefuse};
 
 use change_list::Item;
 use std::alloc::{AllocError, Global};
@@ -49,10 +49,10 @@ pub trait Outlet<K>: Drop {
     /// Adds an item, or hands it back.
     fn offer(&mut self, item: Item<K>) -> Result<(), Item<K>>
         ensures taken { OnOk result (unread self.new ≡ unread self.old ++ item ∷ []) }
-        ensures may_take { OnOk result (rule.may_take (room_of self.old) (length (unread self.old)) ≡ true) }
+        ensures may_take { OnOk result (MayTake rule (room_of self.old) (unread self.old)) }
         ensures handed_back { IfErr result (λ back. back ≡ item) }
         ensures unchanged { OnErr result (unread self.new ≡ unread self.old) }
-        ensures may_refuse { OnErr result (rule.may_refuse (room_of self.old) (length (unread self.old)) ≡ true) }
+        ensures may_refuse { OnErr result (MayRefuse rule (room_of self.old) (unread self.old)) }
         ensures room { room_of self.new ≡ room_of self.old }
         ensures end { (end : Self.End) → is_end_of end self.old → is_end_of end self.new };
 

@@ -1,5 +1,5 @@
-ghost use Rattle.std.specs.Prelude.{◌≡◌, ◌<◌, ◌≤◌, ◌↔◌, true, false, List, [], ◌∷◌, ◌++◌, length, IfOk, IfErr, OnOk, OnErr, IsOk, IfSome, slice_get, drop};
-ghost use Rattle.mailbox.specs.Outlets.{Takes, tray_rule};
+ghost use Rattle.std.specs.Prelude.{◌≡◌, ◌<◌, ◌≤◌, ◌↔◌, [], length, IfOk, IfErr, OnOk, IsOk, true, false, List, OnErr, IfSome, slice_get, drop};
+ghost use Rattle.mailbox.specs.Outlets.{tray_rule, with_item, Takes};
 
 use crate::outlet::{Outlet, Taken};
 use change_list::Item;
@@ -48,7 +48,7 @@ impl<K: Copy> Outlet<K> for Tray<K> {
 
     fn offer(&mut self, item: Item<K>) -> Result<(), Item<K>>
         ensures takes { IsOk result ↔ (length self.old.held < self.old.room) }
-        ensures taken { OnOk result (self.new ≡ record self.old { held = self.old.held ++ item ∷ [] }) }
+        ensures taken { OnOk result (self.new ≡ with_item self.old item) }
         ensures handed_back { IfErr result (λ back. (back ≡ item) × (self.new ≡ self.old)) }
     {
         if self.items.len() >= self.room as usize {

@@ -99,6 +99,22 @@ enlarge_parent union c key page = record page { branches = map (widened union c 
 abbrev pub enlarge_child : {K : Type 0} → (K → K → K) → K → Page K → Page K
 enlarge_child union key page = record page { cover = wider union page.cover key }
 
+-- branches to two pages, each told by its number and its cover
+abbrev pub branches_to : {K : Type 0} → ℕ × Option K → ℕ × Option K → List (Branch K)
+branches_to first second = branch_to first.0 first.1 ++ branch_to second.0 second.1
+
+-- the parent names both halves, each told by its number and its cover
+abbrev pub naming_both : {K : Type 0} → Page K → ℕ × Option K → ℕ × Option K → Page K
+naming_both page child sibling = post_parent page child.0 child.1 sibling.0 sibling.1
+
+-- the parent names two pages by their covers
+abbrev pub post_up : {K : Type 0} → Page K → ℕ → Page K → ℕ → Page K → Page K
+post_up page c child s sibling = post_parent page c child.cover s sibling.cover
+
 -- A leaf's rows written anew: one more, some fewer, or one of them dead.
 abbrev pub with_rows : {K : Type 0} → Page K → List (Entry K) → Page K
 with_rows page rows = record page { rows = rows }
+
+-- one row more, at the end
+abbrev pub with_row : {K : Type 0} → Page K → Entry K → Page K
+with_row page entry = with_rows page (page.rows ++ entry ∷ [])

@@ -1,8 +1,8 @@
-ghost use Rattle.std.specs.Prelude.{◌≡◌, ◌+◌, ◌<◌, ◌^◌, ◌++◌, ◌∷◌, [], length, map, filter, IfOk, OnOk, OnErr, option_to_list};
+ghost use Rattle.std.specs.Prelude.{◌≡◌, ◌+◌, ◌<◌, ◌^◌, length, map, filter, IfOk, OnOk, OnErr, option_to_list};
 ghost use Rattle.row_version.specs.Entries.{is_needed, marked};
 ghost use Rattle.node.specs.Pages.{empty_leaf, followed, entries_of, names, has_unneeded, is_within, keys_of};
 ghost use Rattle.node.specs.Parts.{cover_of};
-ghost use Rattle.node.specs.Changes.{split_left, split_right, post_parent, post_child, post_sibling, grown_left, grown_right, risen, enlarge_parent, enlarge_child, with_rows};
+ghost use Rattle.node.specs.Changes.{split_left, split_right, post_child, post_sibling, grown_left, grown_right, risen, enlarge_parent, enlarge_child, with_rows, with_row, naming_both};
 
 use crate::branch::Branch;
 use crate::parts::{
@@ -164,7 +164,7 @@ impl<K: Copy> Page<K> {
     /// # Errors
     /// Memory was wanting; the page is as it was.
     pub fn place(&mut self, entry: Entry<K>) -> Result<(), AllocError>
-        ensures placed { OnOk result (self.new ≡ with_rows self.old (self.old.rows ++ entry ∷ [])) }
+        ensures placed { OnOk result (self.new ≡ with_row self.old entry) }
         ensures unchanged { OnErr result (self.new ≡ self.old) }
     {
         self.rows.push(entry)?;
@@ -239,7 +239,7 @@ impl<K: Copy> Page<K> {
         right: u32,
     ) -> Result<Page<K>, AllocError>
         requires { entries_of self.now ≡ length sides.now }
-        ensures { IfOk result (λ page. page ≡ grown_left C.rules.union_of self.now sides.now right) }
+        ensures { IfOk result (λ v. v ≡ grown_left C.rules.union_of self.now sides.now right) }
     {
         let rows = left_entries(alloc, &self.rows, sides)?;
         let branches = left_entries(alloc, &self.branches, sides)?;
@@ -310,7 +310,7 @@ impl<K: Copy> Page<K> {
         child: (u32, Option<K>),
         sibling: (u32, Option<K>),
     ) -> Result<(), AllocError>
-        ensures named { OnOk result (self.new ≡ post_parent self.old child.0 child.1 sibling.0 sibling.1) }
+        ensures named { OnOk result (self.new ≡ naming_both self.old child sibling) }
         ensures unchanged { OnErr result (self.new ≡ self.old) }
     {
         self.branches.reserve(1)?;

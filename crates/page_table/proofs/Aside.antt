@@ -1,5 +1,5 @@
 -- Pages that were put aside, changed together with others, and put back.
-use Rattle.std.proofs.Common.{◌≡◌, ◌≢◌, ℕ, suc, ◌<◌, List, length, Option, set, get_or, ap, ap₂, sym, ◌∙◌}
+use Rattle.std.proofs.Common.{◌≡◌, ◌≢◌, ℕ, suc, ◌<◌, List, length, set, get_or, ap, ap₂, sym, ◌∙◌}
 use Rattle.std.proofs.lemmas.List.{set_comm, set-set, set-get_or, get_or-set_other, get_or_default}
 use Rattle.node.specs.Pages.{Page}
 use Rattle.node.specs.Changes.{enlarge_parent, enlarge_child, post_parent, post_child, post_sibling}

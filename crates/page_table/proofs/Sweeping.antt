@@ -5,7 +5,6 @@ use Rattle.std.specs.List.{list_any}
 use Rattle.std.proofs.lemmas.List.{set-get_or}
 use Rattle.row_version.specs.Entries.{Entry, is_needed}
 use Rattle.node.specs.Pages.{Page, has_unneeded}
-use Rattle.node.specs.Changes.{with_rows}
 use Rattle.page_table.specs.Trees.{Tree, page_at, no_page, after_rows}
 
 module _ {K : Type 0} (horizon : ℕ) where

@@ -1,4 +1,6 @@
 pub mod Keeping
+pub mod LeafChanges
+pub mod PageChanges
 pub mod Soundness
 pub mod Stacks
 pub mod TraversalLaws

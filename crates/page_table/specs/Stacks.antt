@@ -1,5 +1,5 @@
 -- What is left under the stack of a traversal, and one visit.
-use Rattle.std.specs.Prelude.{ℕ, ◌<◌, ◌≤◌, Bool, List, ◌++◌, length, map, flat_map, reverse, filter, All}
+use Rattle.std.specs.Prelude.{ℕ, ◌<◌, ◌≤◌, Bool, List, [], ◌∷◌, ◌++◌, length, map, flat_map, reverse, filter, All}
 use Rattle.row_version.specs.Entries.{Entry}
 use Rattle.node.specs.declared.branch.Branch.{Branch}
 use Rattle.node.specs.Pages.{followed}
@@ -9,6 +9,10 @@ use Rattle.page_table.specs.Trees.{Tree, page_at, pages_under, rows_under}
 pub record StackItem : Type 0 where
   pub page : ℕ
   pub memo : ℕ
+
+-- the stack of a traversal that begins at the root, with the counter
+abbrev pub root_stack : ℕ → List StackItem
+root_stack counter = (record { page = 0; memo = counter }) ∷ []
 
 -- each item names a page that exists, with a memo up to the counter
 abbrev pub IsStack : {K : Type 0} → Tree K → List StackItem → Type 0

@@ -5,9 +5,18 @@ use Rattle.node.specs.declared.branch.Branch.{Branch}
 use Rattle.node.specs.Pages.{followed}
 use Rattle.page_table.specs.Weights.{weigh, Same, one_if_equal}
 use Rattle.page_table.specs.Trees.{Tree, page_at, pages_under, rows_under, chain, after_rows}
+use Rattle.page_table.specs.Soundness.{IsSound, IsWithin}
 use Rattle.page_table.specs.Stacks.{StackItem, IsStack, rows_left, pages_left, pushed}
 
 module _ {K : Type 0} where
+  -- every sound tree has it
+  abbrev pub EachSound : (K → K → Bool) → (Tree K → Type 0) → Type 0
+  EachSound is_cover Has = (t : Tree K) (fan : ℕ) → IsSound is_cover fan t → Has t
+
+  -- where the tree is sound, this holds
+  abbrev pub IfSound : (K → K → Bool) → Tree K → Type 0 → Type 0
+  IfSound is_cover t This = (fan : ℕ) → IsSound is_cover fan t → This
+
   -- the chain from (p, m) is p, followed by the chain of its right link, where that is followed
   abbrev pub IsChain : Tree K → Type 0
   IsChain t = (p m : ℕ) → p < length t.pages → chain t p m ≡ p ∷ flat_map (λ r. chain t r m) (followed (page_at t p) m)
@@ -58,3 +67,9 @@ module _ {K : Type 0} where
   abbrev pub LeavesChangeAlone : Tree K → Type 0
   LeavesChangeAlone t = (leaf : ℕ) (rows : List (Entry K)) (weight : Entry K → ℕ) → leaf < length t.pages → weigh weight rows ≡ weigh weight (page_at t leaf).rows
       → (q m : ℕ) → q < length t.pages → weigh weight (rows_under (after_rows t leaf rows) q m) ≡ weigh weight (rows_under t q m)
+
+  -- a sound tree stays sound where a leaf gets other rows, no more than fit and each within its cover
+  abbrev pub LeafChangesKeepSound : (K → K → Bool) → Type 0
+  LeafChangesKeepSound is_cover = (t : Tree K) (fan leaf : ℕ) (rows : List (Entry K)) → IsSound is_cover fan t
+      → leaf < length t.pages → (page_at t leaf).level ≡ 0 → length rows ≤ fan → All (λ e. IsWithin is_cover (page_at t leaf).cover e.key) rows
+      → IsSound is_cover fan (after_rows t leaf rows)

@@ -1,11 +1,12 @@
-ghost use Rattle.std.specs.Prelude.{◌≡◌, ◌≢◌, ◌+◌, ◌<◌, ◌≤◌, ◌^◌, ◌++◌, ◌∷◌, [], length, suc, map, filter, true, IfOk, OnOk, OnErr};
+ghost use Rattle.std.specs.Prelude.{◌≡◌, ◌≢◌, ◌+◌, ◌<◌, ◌^◌, length, true, IfOk, OnOk, OnErr};
 ghost use Rattle.std.specs.Borrow.{LendsIfOk, sem};
-ghost use Rattle.row_version.specs.Entries.{is_needed, marked};
-ghost use Rattle.page_table.specs.Trees.{page_at, replaced, added, new_tree, after_rows};
+ghost use Rattle.page_table.specs.Trees.{page_at, replaced, added, new_tree};
 ghost use Rattle.page_table.specs.contracts.table.PageTable.{the_row};
 ghost use Rattle.node.specs.contracts.page.Page.{the_row as page_row};
 ghost use Rattle.node.specs.Pages.{entries_of, has_unneeded};
-ghost use Rattle.node.specs.Changes.{split_left, post_parent, post_child, post_sibling, risen, enlarge_parent, enlarge_child};
+ghost use Rattle.node.specs.Changes.{post_child, post_sibling, enlarge_parent, enlarge_child, post_up};
+ghost use Rattle.page_table.specs.LeafChanges.{after_place, after_sweep, CountsUnneeded, after_bury};
+ghost use Rattle.page_table.specs.PageChanges.{with_rise, with_posting, with_wider, with_part};
 
 use crate::shared_page::SharedPage;
 use key_class::{KeyClass, Sides};
@@ -129,7 +130,7 @@ impl<K: Copy> PageTable<K> {
         requires one_a_place { entries_of (page_at self.old page) ≡ length sides.now }
         requires numbered { length self.old.pages < 2 ^ 32 }
         ensures number { IfOk result (λ number. number ≡ length self.old.pages) }
-        ensures parted { OnOk result (self.new ≡ added (replaced self.old page (split_left C.rules.union_of (page_at self.old page) sides.now (length self.old.pages))) right) }
+        ensures parted { OnOk result (self.new ≡ with_part C.rules self.old page sides.now right) }
         ensures unchanged { OnErr result (self.new ≡ self.old) }
     {
         let number = self.pages.len() as u32;
@@ -154,7 +155,7 @@ impl<K: Copy> PageTable<K> {
     ) -> Result<(), AllocError>
         requires exists { 0 < length self.old.pages }
         requires low { (page_at self.old 0).level + 1 < 2 ^ 32 }
-        ensures raised { OnOk result (self.new ≡ added (added (replaced self.old 0 (risen (page_at self.old 0) branches.items)) left) right) }
+        ensures raised { OnOk result (self.new ≡ with_rise self.old branches.items left right) }
         ensures unchanged { OnErr result (self.new ≡ self.old) }
     {
         let alloc = *self.pages.allocator();
@@ -181,7 +182,7 @@ impl<K: Copy> PageTable<K> {
         requires parent_exists { parent < length self.old.pages }
         requires child_exists { child < length self.old.pages }
         requires apart { parent ≢ child }
-        ensures widened { OnOk result (self.new ≡ replaced (replaced self.old child (enlarge_child C.rules.union_of key (page_at self.old child))) parent (enlarge_parent C.rules.union_of child key (page_at self.old parent))) }
+        ensures widened { OnOk result (self.new ≡ with_wider C.rules self.old parent child key) }
         ensures unchanged { OnErr result (self.new ≡ self.old) }
     {
         mem::swap(&mut self.pages[child as usize], &mut self.aside);
@@ -209,7 +210,7 @@ impl<K: Copy> PageTable<K> {
         requires sibling_apart { parent ≢ sibling }
         requires siblings_apart { child ≢ sibling }
         requires counted { self.old.counter + 1 < 2 ^ 32 }
-        ensures posted { OnOk result (self.new ≡ record { pages = (replaced (replaced (replaced self.old sibling (post_sibling (page_at self.old sibling))) child (post_child (page_at self.old child) (suc self.old.counter))) parent (post_parent (page_at self.old parent) child (page_at self.old child).cover sibling (page_at self.old sibling).cover)).pages; counter = suc self.old.counter }) }
+        ensures posted { OnOk result (self.new ≡ with_posting self.old parent child sibling) }
         ensures unchanged { OnErr result (self.new ≡ self.old) }
     {
         let number = self.counter + 1;
@@ -237,7 +238,7 @@ impl<K: Copy> PageTable<K> {
     #[tactic(auto, unfolding(crate::specs::Trees::after_rows))]
     pub fn place(&mut self, leaf: u32, entry: Entry<K>) -> Result<(), AllocError>
         requires { leaf < length self.old.pages }
-        ensures placed { OnOk result (self.new ≡ after_rows self.old leaf ((page_at self.old leaf).rows ++ entry ∷ [])) }
+        ensures placed { OnOk result (self.new ≡ after_place self.old leaf entry) }
         ensures unchanged { OnErr result (self.new ≡ self.old) }
     {
         self.page_mut(leaf)?.place(entry)
@@ -251,7 +252,7 @@ impl<K: Copy> PageTable<K> {
     pub fn bury(&mut self, leaf: u32, row: u32, commit: u32) -> Result<(), AllocError>
         requires exists { leaf < length self.old.pages }
         requires counted { 0 < commit }
-        ensures buried { OnOk result (self.new ≡ after_rows self.old leaf (map (marked row commit) (page_at self.old leaf).rows)) }
+        ensures buried { OnOk result (self.new ≡ after_bury self.old leaf row commit) }
         ensures unchanged { OnErr result (self.new ≡ self.old) }
     {
         self.page_mut(leaf)?.bury(row, commit);
@@ -265,8 +266,8 @@ impl<K: Copy> PageTable<K> {
     #[tactic(auto, unfolding(crate::specs::Trees::after_rows))]
     pub fn sweep(&mut self, leaf: u32, horizon: u32) -> Result<usize, AllocError>
         requires { leaf < length self.old.pages }
-        ensures swept { OnOk result (self.new ≡ after_rows self.old leaf (filter (is_needed horizon) (page_at self.old leaf).rows)) }
-        ensures count { IfOk result (λ count. count + length (filter (is_needed horizon) (page_at self.old leaf).rows) ≡ length (page_at self.old leaf).rows) }
+        ensures swept { OnOk result (self.new ≡ after_sweep self.old leaf horizon) }
+        ensures count { IfOk result (CountsUnneeded horizon self.old leaf) }
         ensures unchanged { OnErr result (self.new ≡ self.old) }
         ensures memory { OnErr result (has_unneeded horizon (page_at self.old leaf) ≡ true) }
     {
@@ -306,7 +307,7 @@ fn post_both<K: Copy>(
     sibling: u32,
     number: u32,
 ) -> Result<(), AllocError>
-    ensures upper { OnOk result (upper.new ≡ post_parent upper.old child lower.old.cover sibling right.old.cover) }
+    ensures upper { OnOk result (upper.new ≡ post_up upper.old child lower.old sibling right.old) }
     ensures lower { OnOk result (lower.new ≡ post_child lower.old number) }
     ensures right { OnOk result (right.new ≡ post_sibling right.old) }
     ensures upper_stays { OnErr result (upper.new ≡ upper.old) }

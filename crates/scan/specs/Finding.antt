@@ -1,6 +1,7 @@
 -- What a finder looks for, and one visit of it.
-use Rattle.std.specs.Prelude.{◌≡◌, ℕ, ◌≤◌, Bool, false, List, ◌∷◌, [], ◌++◌, Some, nat_eq}
+use Rattle.std.specs.Prelude.{◌≡◌, ℕ, ◌≤◌, Bool, false, List, ◌∷◌, [], ◌++◌, Option, Some, Result, IfOk, IfSome, MatchOption, nat_eq}
 use Rattle.std.specs.List.{list_any}
+use Rattle.key_class.specs.Rules.{Rules}
 use Rattle.row_version.specs.Entries.{Entry}
 use Rattle.change_list.specs.Changes.{commit_at}
 use Rattle.change_list.specs.declared.write.Write.{Write}
@@ -10,7 +11,7 @@ use Rattle.page_table.specs.Stacks.{StackItem, IsStack, rows_left}
 use Rattle.page_table.specs.Trees.{Tree, page_at}
 use Rattle.page_table.specs.Weights.{weigh}
 use Rattle.scan.specs.Agreement.{Agrees, is_row}
-use Rattle.scan.specs.Scanning.{GoesOn, IsNext, LowersWork}
+use Rattle.scan.specs.Scanning.{GoesOn, IsNext, LowersWork, NothingLeft, PushesSome}
 use Rattle.scan.specs.declared.stack.Sought.{Sought}
 use Rattle.scan.specs.declared.stack.Sought.TheVariants.{Here, Further}
 
@@ -56,3 +57,19 @@ module _ {K : Type 0} where
   abbrev pub SeeksLess : (K → K → Bool) → Tree K → List StackItem → Sought → List StackItem → Type 0
   SeeksLess is_cover t old (Here page) new = Unit {0}
   SeeksLess is_cover t old (Further page) new = LowersWork is_cover t old new
+
+  -- nothing is left, or the last item's page is visited for the row with the key
+  abbrev pub SeeksNext : {A : Type 0} → Rules K A → K → ℕ → Tree K → List StackItem → List StackItem → Option Sought → Type 0
+  SeeksNext rules key row t old new r = MatchOption r (NothingLeft old new) (λ met. Seeks (λ bound. rules.is_cover bound key) row t old met new)
+
+  -- a visit keeps the finder of the row with the key
+  abbrev pub KeepsFinding : {A E : Type 0} → Rules K A → K → ℕ → Tree K → List StackItem → Result (Option Sought) E → List StackItem → Type 0
+  KeepsFinding rules key row t old result new = IfOk result (λ r. IfSome r (λ met. KeepsFinder rules.is_cover key row t old new))
+
+  -- in a sound tree a visit that goes on leaves fewer pages
+  abbrev pub SeekLowersWork : {E : Type 0} → (K → K → Bool) → Tree K → List StackItem → Result (Option Sought) E → List StackItem → Type 0
+  SeekLowersWork is_cover t old result new = IfOk result (λ r. IfSome r (λ met. SeeksLess is_cover t old met new))
+
+  -- the page that is visited next is followed by something that may hold the key
+  abbrev pub PushesCovering : (K → K → Bool) → K → Tree K → List StackItem → Type 0
+  PushesCovering is_cover key t stack = PushesSome (λ bound. is_cover bound key) t stack

@@ -1,5 +1,5 @@
 -- What a scan has still to find, and one visit of it.
-use Rattle.std.specs.Prelude.{◌≡◌, ◌≢◌, ◌⊎◌, ℕ, ◌+◌, ◌≤◌, Bool, ◌&&◌, List, [], ◌∷◌, ◌++◌, length, map, filter, reverse}
+use Rattle.std.specs.Prelude.{◌≡◌, ◌≢◌, ◌⊎◌, ℕ, ◌+◌, ◌<◌, ◌≤◌, Bool, ◌&&◌, List, [], ◌∷◌, ◌++◌, length, map, filter, reverse}
 use Rattle.change_list.specs.declared.item.Row.{Row}
 use Rattle.row_version.specs.Entries.{Entry, visible_at}
 use Rattle.node.specs.declared.branch.Branch.{Branch}
@@ -12,6 +12,14 @@ use Rattle.page_table.specs.Weights.{Same}
 pub record IsNext (stack : List StackItem) (item : StackItem) : Type 0 where
   pub rest : List StackItem
   pub is : stack ≡ rest ++ item ∷ []
+
+-- nothing was left to be visited, and nothing changes
+abbrev pub NothingLeft : List StackItem → List StackItem → Type 0
+NothingLeft old new = (old ≡ []) × (new ≡ old)
+
+-- items for pages, each with the memo
+abbrev pub with_memo : ℕ → List ℕ → List StackItem
+with_memo memo pages = map (λ p. record { page = p; memo = memo }) pages
 
 module _ {K : Type 0} where
   -- the row of an entry
@@ -37,6 +45,18 @@ module _ {K : Type 0} where
   -- the items for the children whose bounds are wanted, the first child last
   abbrev pub child_items : (K → Bool) → ℕ → List (Branch K) → List StackItem
   child_items wanted memo branches = reverse (map (λ b. record { page = b.child; memo = memo }) (filter (λ b. wanted b.key) branches))
+
+  -- those items on top of a stack
+  abbrev pub children_on : (K → Bool) → ℕ → List (Branch K) → List StackItem → List StackItem
+  children_on wanted memo branches stack = stack ++ child_items wanted memo branches
+
+  -- of some branches no wanted one is left out
+  abbrev pub KeepsWanted : (K → Bool) → List (Branch K) → List (Branch K) → Type 0
+  KeepsWanted wanted old new = (memo : ℕ) → child_items wanted memo new ≡ child_items wanted memo old
+
+  -- where some are left, one is wanted
+  abbrev pub HasWanted : (K → Bool) → List (Branch K) → List (Branch K) → Type 0
+  HasWanted wanted old new = (memo : ℕ) → 0 < length new → child_items wanted memo old ≢ []
 
   -- the last item goes, and what follows its page is pushed
   pub record GoesOn (wanted : K → Bool) (t : Tree K) (old : List StackItem) (item : StackItem) (new : List StackItem) : Type 0 where

@@ -1,7 +1,7 @@
 ghost use Rattle.std.specs.Prelude.{◌≡◌, ◌≢◌, ◌+◌, ◌≤◌, [], ◌++◌, length, vec_capacity, vec_len, IfOk, OnErr};
-ghost use Rattle.key_class.specs.Queries.{query_of, matches_query};
 ghost use Rattle.scan.specs.Finding.{holds};
 ghost use Rattle.scan.specs.Scanning.{is_seen, seen, row_of};
+ghost use Rattle.scan.specs.QueryVisits.{seen_by};
 
 use crate::key_test::{KeyTest, OneAtom};
 use change_list::Row;
@@ -20,8 +20,8 @@ pub fn seen_rows<C: KeyClass>(
     query: &Pred<C::Atom>,
     commit: u32,
 ) -> Result<VecDeque<Row<C::Key>>, AllocError>
-    ensures seen { IfOk result (λ rows. rows.items ≡ seen (matches_query C.rules.is_match (query_of query.now)) commit entries.now) }
-    ensures memory { OnErr result (seen (matches_query C.rules.is_match (query_of query.now)) commit entries.now ≢ []) }
+    ensures seen { IfOk result (λ v. v.items ≡ seen_by C.rules query.now commit entries.now) }
+    ensures memory { OnErr result (seen_by C.rules query.now commit entries.now ≢ []) }
 {
     match query {
         Pred::Atom(atom) => {
@@ -41,7 +41,7 @@ fn accepted_rows<C: KeyClass, T: KeyTest<C>>(
     test: &T,
     commit: u32,
 ) -> Result<VecDeque<Row<C::Key>>, AllocError>
-    ensures seen { IfOk result (λ rows. rows.items ≡ seen (T.accepts test.now) commit entries.now) }
+    ensures seen { IfOk result (λ v. v.items ≡ seen (T.accepts test.now) commit entries.now) }
     ensures memory { OnErr result (seen (T.accepts test.now) commit entries.now ≢ []) }
 {
     let mut rows = VecDeque::new(alloc);
@@ -61,7 +61,7 @@ pub fn note_rows<C: KeyClass>(
     rows: &mut Vec<Row<C::Key>>,
 )
     requires room { vec_len rows.old + length entries.now ≤ vec_capacity rows.old }
-    ensures { rows.new.items ≡ rows.old.items ++ seen (matches_query C.rules.is_match (query_of query.now)) commit entries.now }
+    ensures { rows.new.items ≡ rows.old.items ++ seen_by C.rules query.now commit entries.now }
 {
     match query {
         Pred::Atom(atom) => {

@@ -1,12 +1,10 @@
-ghost use Rattle.std.specs.Prelude.{◌≡◌, ◌≢◌, ◌<◌, ◌↔◌, ℕ, ◌+◌, ◌++◌, [], ◌∷◌, length, map, true, false, option_to_list, IfOk, OnOk, OnErr, MatchOption, IsTrue};
+ghost use Rattle.std.specs.Prelude.{◌≡◌, ◌≢◌, ◌<◌, ◌↔◌, ℕ, ◌+◌, ◌++◌, [], length, true, option_to_list, IfOk, OnOk, OnErr, MatchOption, IsTrue, false};
 ghost use Rattle.std.specs.Arc.{arc_value};
-ghost use Rattle.scan.specs.Prepared.{IsFresh};
-ghost use Rattle.page_table.specs.Trees.{Tree, page_at};
 ghost use Rattle.smallvec.specs.SmallVec.{HasRoomFor};
-ghost use Rattle.key_class.specs.Queries.{query_of, consistent_with_query, matches_query};
-ghost use Rattle.page_table.specs.Stacks.{IsStack};
-ghost use Rattle.scan.specs.Finding.{Seeks, SeeksLess, KeepsFinder, LacksNext};
-ghost use Rattle.scan.specs.Scanning.{IsNext, GoesOn, Visits, PushesSome, VisitGrows, LosesNothing, LowersWork, child_items, seen_on};
+ghost use Rattle.page_table.specs.Stacks.{IsStack, root_stack};
+ghost use Rattle.scan.specs.Finding.{LacksNext, KeepsFinding, SeekLowersWork, PushesCovering, SeeksNext};
+ghost use Rattle.scan.specs.Scanning.{IsNext, GoesOn, PushesSome, with_memo, children_on, HasWanted, KeepsWanted};
+ghost use Rattle.scan.specs.QueryVisits.{GoesOnBy, AddsUp, Prepares, GrowsBy, Tallies, IsStillNext, Notes, VisitPushes, VisitsOn, VisitsBy, PushesBy, MakesVisit, VisitLowersWork};
 
 use crate::branch_test::{BranchTest, Covering};
 use crate::key_test::OneAtom;
@@ -73,7 +71,7 @@ impl Model for Stack {
 impl Stack {
     /// A traversal that begins at the root, with the table's counter. It takes no memory.
     pub fn at_root(alloc: Global, counter: u32) -> Stack
-        ensures { result ≡ (record { page = 0; memo = counter }) ∷ [] }
+        ensures { result ≡ root_stack counter }
     {
         let mut items = SmallVec::new(alloc);
         items.push_reserved(StackItem {
@@ -103,11 +101,11 @@ impl Stack {
         opened: u32,
     ) -> Result<Option<Visited<C::Key>>, AllocError>
         requires { IsStack table.now self.old }
-        ensures visited { IfOk result (λ r. MatchOption r ((self.old ≡ []) × (self.new ≡ self.old)) (λ v. Visits (consistent_with_query C.rules.is_consistent (query_of query.now)) (matches_query C.rules.is_match (query_of query.now)) opened table.now self.old v.page v.rows.items self.new)) }
-        ensures lost_nothing { IfOk result (λ r. MatchOption r (Unit {0}) (λ v. LosesNothing C.rules.is_cover (matches_query C.rules.is_match (query_of query.now)) opened table.now self.old v.rows.items self.new)) }
-        ensures less_work { IfOk result (λ r. MatchOption r (Unit {0}) (λ v. LowersWork C.rules.is_cover table.now self.old self.new)) }
+        ensures visited { VisitsBy C.rules query.now opened table.now self.old result self.new }
+        ensures lost_nothing { Tallies C.rules query.now opened table.now self.old result self.new }
+        ensures less_work { VisitLowersWork C.rules.is_cover table.now self.old result self.new }
         ensures refused { OnErr result (self.new ≡ self.old) }
-        ensures memory { OnErr result (VisitGrows (consistent_with_query C.rules.is_consistent (query_of query.now)) (matches_query C.rules.is_match (query_of query.now)) opened table.now self.old) }
+        ensures memory { OnErr result (GrowsBy C.rules query.now opened table.now self.old) }
     {
         let Some(item) = self.last() else {
             return Ok(None);
@@ -132,10 +130,10 @@ impl Stack {
         rows: &mut Vec<Row<C::Key>>,
     ) -> Result<Option<u32>, AllocError>
         requires { IsStack table.now self.old }
-        ensures visited { IfOk result (λ r. let wanted = matches_query C.rules.is_match (query_of query.now) in MatchOption r ((self.old ≡ []) × (self.new ≡ self.old)) (λ page. Visits (consistent_with_query C.rules.is_consistent (query_of query.now)) wanted opened table.now self.old page (seen_on wanted opened table.now page) self.new)) }
-        ensures noted { IfOk result (λ r. MatchOption r (rows.new.items ≡ rows.old.items) (λ page. rows.new.items ≡ rows.old.items ++ seen_on (matches_query C.rules.is_match (query_of query.now)) opened table.now page)) }
-        ensures lost_nothing { IfOk result (λ r. let wanted = matches_query C.rules.is_match (query_of query.now) in MatchOption r (Unit {0}) (λ page. LosesNothing C.rules.is_cover wanted opened table.now self.old (seen_on wanted opened table.now page) self.new)) }
-        ensures less_work { IfOk result (λ r. MatchOption r (Unit {0}) (λ page. LowersWork C.rules.is_cover table.now self.old self.new)) }
+        ensures visited { VisitsOn C.rules query.now opened table.now self.old result self.new }
+        ensures noted { Notes C.rules query.now opened table.now rows.old result rows.new }
+        ensures lost_nothing { AddsUp C.rules query.now opened table.now self.old result self.new }
+        ensures less_work { VisitLowersWork C.rules.is_cover table.now self.old result self.new }
         ensures refused { OnErr result (self.new ≡ self.old) }
         ensures none_noted { OnErr result (rows.new.items ≡ rows.old.items) }
     {
@@ -161,7 +159,7 @@ impl Stack {
         opened: u32,
     ) -> Result<Option<PreparedVisit<C>>, AllocError>
         requires { IsStack table.now self.now }
-        ensures prepared { IfOk result (λ r. MatchOption r (self.now ≡ []) (IsFresh self.now table.now (query_of (arc_value query.now)) opened)) }
+        ensures prepared { IfOk result (Prepares (arc_value query.now) self.now table.now opened) }
         ensures refused { OnErr result (self.now ≢ []) }
     {
         let Some(item) = self.last() else {
@@ -182,7 +180,7 @@ impl Stack {
     /// Whether the visit is that of the last item, and its page is as it was.
     pub fn is_due<C: KeyClass>(&self, table: &PageTable<C::Key>, visit: &PreparedVisit<C>) -> bool
         requires { IsStack table.now self.now }
-        ensures { IsTrue result ↔ (IsNext self.now visit.now.item × (page_at table.now visit.now.item.page ≡ visit.now.page)) }
+        ensures { IsTrue result ↔ IsStillNext self.now table.now visit.now }
     {
         let Some(item) = self.last() else {
             return false;
@@ -203,9 +201,9 @@ impl Stack {
     ) -> Result<Visited<C::Key>, AllocError>
         requires next { IsNext self.old visit.item }
         requires worked { visit.worked ≡ true }
-        ensures visited { IfOk result (λ v. (table : Tree C.Key) → table.counter ≡ counter → page_at table visit.item.page ≡ visit.page → Visits (consistent_with_query C.rules.is_consistent visit.query) (matches_query C.rules.is_match visit.query) visit.opened table self.old v.page v.rows.items self.new) }
+        ensures visited { IfOk result (MakesVisit C.rules counter visit self.old self.new) }
         ensures refused { OnErr result (self.new ≡ self.old) }
-        ensures memory { OnErr result ((table : Tree C.Key) → table.counter ≡ counter → page_at table visit.item.page ≡ visit.page → PushesSome (consistent_with_query C.rules.is_consistent visit.query) table self.old) }
+        ensures memory { OnErr result (VisitPushes C.rules counter visit self.old) }
     {
         let PreparedVisit {
             item,
@@ -236,12 +234,12 @@ impl Stack {
         row: u32,
     ) -> Result<Option<Sought>, AllocError>
         requires { IsStack table.now self.old }
-        ensures sought { IfOk result (λ r. MatchOption r ((self.old ≡ []) × (self.new ≡ self.old)) (λ met. Seeks (λ bound. C.rules.is_cover bound key) row table.now self.old met self.new)) }
-        ensures lost_nothing { IfOk result (λ r. MatchOption r (Unit {0}) (λ met. KeepsFinder C.rules.is_cover key row table.now self.old self.new)) }
-        ensures less_work { IfOk result (λ r. MatchOption r (Unit {0}) (λ met. SeeksLess C.rules.is_cover table.now self.old met self.new)) }
+        ensures sought { IfOk result (SeeksNext C.rules key row table.now self.old self.new) }
+        ensures lost_nothing { KeepsFinding C.rules key row table.now self.old result self.new }
+        ensures less_work { SeekLowersWork C.rules.is_cover table.now self.old result self.new }
         ensures refused { OnErr result (self.new ≡ self.old) }
         ensures refused_further { OnErr result (LacksNext row table.now self.old) }
-        ensures memory { OnErr result (PushesSome (λ bound. C.rules.is_cover bound key) table.now self.old) }
+        ensures memory { OnErr result (PushesCovering C.rules.is_cover key table.now self.old) }
     {
         let Some(item) = self.last() else {
             return Ok(None);
@@ -273,9 +271,9 @@ impl Stack {
     ) -> Result<(), AllocError>
         requires next { IsNext self.old item }
         requires exists { item.page < length table.now.pages }
-        ensures ok { OnOk result (GoesOn (consistent_with_query C.rules.is_consistent (query_of query.now)) table.now self.old item self.new) }
+        ensures ok { OnOk result (GoesOnBy C.rules query.now table.now self.old item self.new) }
         ensures refused { OnErr result (self.new ≡ self.old) }
-        ensures memory { OnErr result (PushesSome (consistent_with_query C.rules.is_consistent (query_of query.now)) table.now self.old) }
+        ensures memory { OnErr result (PushesBy C.rules query.now table.now self.old) }
     {
         match query {
             Pred::Atom(atom) => {
@@ -313,8 +311,8 @@ fn up_to_wanted<'a, C: KeyClass, T: BranchTest<C>>(
     branches: &'a [Branch<C::Key>],
     test: &T,
 ) -> &'a [Branch<C::Key>]
-    ensures same { (memo : ℕ) → child_items (T.wants test.now) memo result.now ≡ child_items (T.wants test.now) memo branches.now }
-    ensures wanted { (memo : ℕ) → 0 < length result.now → child_items (T.wants test.now) memo branches.now ≢ [] }
+    ensures same { KeepsWanted (T.wants test.now) branches.now result.now }
+    ensures wanted { HasWanted (T.wants test.now) branches.now result.now }
 {
     let mut count = branches.len();
     while count > 0 {
@@ -345,7 +343,7 @@ fn make_room(items: &mut SmallVec<StackItem, 32>, more: usize) -> Result<(), All
 /// Pushes a right link, where it is followed, with the memo of the page that has it.
 fn push_link(items: &mut SmallVec<StackItem, 32>, right: Option<u32>, memo: u32)
     requires { HasRoomFor items.old 1 }
-    ensures pushed { items.new.items ≡ items.old.items ++ map (λ r. record { page = r; memo = memo }) (option_to_list right) }
+    ensures pushed { items.new.items ≡ items.old.items ++ with_memo memo (option_to_list right) }
     ensures room { (more : ℕ) → HasRoomFor items.old (more + 1) → HasRoomFor items.new more }
 {
     if let Some(page) = right {
@@ -356,7 +354,7 @@ fn push_link(items: &mut SmallVec<StackItem, 32>, right: Option<u32>, memo: u32)
 /// Pushes pages with a memo.
 fn push_pages(items: &mut SmallVec<StackItem, 32>, pages: &[u32], memo: u32)
     requires { HasRoomFor items.old (length pages.now) }
-    ensures { items.new.items ≡ items.old.items ++ map (λ p. record { page = p; memo = memo }) pages.now }
+    ensures { items.new.items ≡ items.old.items ++ with_memo memo pages.now }
 {
     for place in 0..pages.len() {
         items.push_reserved(StackItem {
@@ -374,7 +372,7 @@ fn push_children<C: KeyClass, T: BranchTest<C>>(
     memo: u32,
 )
     requires { HasRoomFor items.old (length branches.now) }
-    ensures { items.new.items ≡ items.old.items ++ child_items (T.wants test.now) memo branches.now }
+    ensures { items.new.items ≡ children_on (T.wants test.now) memo branches.now items.old.items }
 {
     let mut place = branches.len();
     while place > 0 {

@@ -16,6 +16,10 @@ first_failing [] = None
 first_failing ((true, why) ∷ tests) = Some why
 first_failing ((false, why) ∷ tests) = first_failing tests
 
+-- no test fails
+abbrev pub NoneFails : List (Bool × Refusal) → Type 0
+NoneFails tests = first_failing tests ≡ None
+
 -- refused by the first test that fails, or for want of memory after all tests
 abbrev pub IsRefusedBy : List (Bool × Refusal) → Refusal → Type 0
 IsRefusedBy tests why = (first_failing tests ≡ Some why) ⊎ ((first_failing tests ≡ None) × (why ≡ refusal.OutOfMemory))
@@ -26,6 +30,14 @@ config_tests fan least limit =
     (nat_lt fan 4 || (nat_lt 64 fan || (nat_lt least 2 || (nat_lt (fan / 2) least || (nat_lt limit 1 || nat_lt 65536 limit)))), refusal.BadConfig)
     ∷ []
 
+-- the sides have a letter for each of so many entries, and each part has at least the fewest
+abbrev pub sides_well : ℕ → ℕ → List Side → Bool
+sides_well least entries sides = nat_eq (length sides) entries && (nat_le least (count_by is_left sides) && nat_le least (count_by is_right sides))
+
+-- so many sides are left, and so many right
+abbrev pub CountsSides : List Side → ℕ × ℕ → Type 0
+CountsSides sides counts = (counts.0 ≡ count_by is_left sides) × (counts.1 ≡ count_by is_right sides)
+
 module _ {K : Type 0} where
   abbrev pub is_leaf : Tree K → ℕ → Bool
   is_leaf t p = nat_lt p (length t.pages) && nat_eq (page_at t p).level 0
@@ -35,7 +47,7 @@ module _ {K : Type 0} where
 
   -- the sides have a letter for each entry, and each part has at least the fewest entries
   abbrev pub parts_well : ℕ → Page K → List Side → Bool
-  parts_well least page sides = nat_eq (length sides) (entries_of page) && (nat_le least (count_by is_left sides) && nat_le least (count_by is_right sides))
+  parts_well least page sides = sides_well least (entries_of page) sides
 
   abbrev pub place_tests : (K → K → Bool) → SearchTree K → ℕ → K → List (Bool × Refusal)
   place_tests is_cover s p key =
@@ -79,3 +91,28 @@ module _ {K : Type 0} where
   -- some entry of the page isn't needed, so that a sweep takes it out
   abbrev pub HasUnneeded : ℕ → Tree K → ℕ → Type 0
   HasUnneeded horizon t p = list_any (λ e. not (is_needed horizon e)) (page_at t p).rows ≡ true
+
+  -- what refuses a placing, where a test fails, and an enlargement
+  abbrev pub refusal_to_place : (K → K → Bool) → SearchTree K → ℕ → K → Option Refusal
+  refusal_to_place is_cover s p key = first_failing (place_tests is_cover s p key)
+
+  abbrev pub refusal_to_enlarge : (K → K → Bool) → SearchTree K → ℕ → ℕ → K → Option Refusal
+  refusal_to_enlarge is_cover s p c key = first_failing (enlarge_tests is_cover s p c key)
+
+  -- no test of a placing fails, of an enlargement
+  abbrev pub PlacePasses : (K → K → Bool) → SearchTree K → ℕ → K → Type 0
+  PlacePasses is_cover s p key = NoneFails (place_tests is_cover s p key)
+
+  abbrev pub EnlargePasses : (K → K → Bool) → SearchTree K → ℕ → ℕ → K → Type 0
+  EnlargePasses is_cover s p c key = NoneFails (enlarge_tests is_cover s p c key)
+
+  -- a placing is refused by its tests, an enlargement
+  abbrev pub RefusesPlace : (K → K → Bool) → SearchTree K → ℕ → K → Refusal → Type 0
+  RefusesPlace is_cover s p key why = IsRefusedBy (place_tests is_cover s p key) why
+
+  abbrev pub RefusesEnlarge : (K → K → Bool) → SearchTree K → ℕ → ℕ → K → Refusal → Type 0
+  RefusesEnlarge is_cover s p c key why = IsRefusedBy (enlarge_tests is_cover s p c key) why
+
+  -- want of memory is told only where a sweep takes something out
+  abbrev pub WantsMemoryToSweep : ℕ → Tree K → ℕ → Refusal → Type 0
+  WantsMemoryToSweep horizon t p why = why ≡ refusal.OutOfMemory → HasUnneeded horizon t p

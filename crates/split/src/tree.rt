@@ -1,14 +1,10 @@
-ghost use Rattle.std.specs.Prelude.{◌≡◌, ◌+◌, ◌*◌, ◌<◌, ◌≤◌, [], ◌∷◌, ◌++◌, ℕ, suc, length, map, filter, true, count_by, Some, None, IfOk, IfErr, OnOk, OnErr, ◌&&◌, nat_eq, nat_le};
-ghost use Rattle.key_class.specs.Splits.{is_left, is_right};
-ghost use Rattle.row_version.specs.Entries.{is_needed, marked};
-ghost use Rattle.row_version.specs.Entries as model;
-ghost use Rattle.page_table.specs.Weights.{Same, weigh};
-ghost use Rattle.page_table.specs.Trees.{page_at, rows_under, rows_of_tree, new_tree, after_rows};
-ghost use Rattle.page_table.specs.Keeping.{KeepsRows, EachEntry, StandsIn};
+ghost use Rattle.std.specs.Prelude.{◌≡◌, ◌+◌, ◌*◌, ◌<◌, ◌≤◌, length, true, IfOk, IfErr, OnOk, OnErr};
+ghost use Rattle.page_table.specs.Trees.{page_at};
+ghost use Rattle.page_table.specs.Keeping.{KeepsRows, EachEntry, StandsIn, KeepsRowsInOrder, GainsEntry, KeepsRowsAtEveryMemo};
 ghost use Rattle.page_table.specs.Soundness.{IsSound};
-ghost use Rattle.split.specs.SearchTrees.{with_tree};
-ghost use Rattle.split.specs.Steps.{after_split, after_post, after_grow, after_enlarge};
-ghost use Rattle.split.specs.Tests.{first_failing, IsRefusedBy, is_leaf, is_inner, parts_well, config_tests, place_tests, enlarge_tests, split_tests, post_tests, grow_tests, sweep_tests, HasUnneeded};
+ghost use Rattle.split.specs.SearchTrees.{PostsSibling, AreNextTwo, divided, with_death, empty_tree, with_entry, without_unneeded, with_growth, extended};
+ghost use Rattle.split.specs.Tests.{first_failing, IsRefusedBy, is_leaf, config_tests, split_tests, post_tests, grow_tests, sweep_tests, CountsSides, RefusesPlace, PlacePasses, NoneFails, RefusesEnlarge, refusal_to_place, refusal_to_enlarge, sides_well, EnlargePasses, WantsMemoryToSweep};
+ghost use Rattle.page_table.specs.LeafChanges.{CountsUnneeded};
 
 use crate::steps;
 use key_class::{KeyClass, Refusal, Side, Sides};
@@ -45,8 +41,8 @@ impl<C: KeyClass> SearchTree<C> {
     /// # Errors
     /// BadConfig where a limit is out of its range, else want of memory.
     pub fn new(alloc: Global, fan: u64, least: u64, limit: u64) -> Result<SearchTree<C>, Refusal>
-        ensures made { IfOk result (λ t. t ≡ record { tree = new_tree; fan = fan; least = least; limit = limit }) }
-        ensures passed { OnOk result (first_failing (config_tests fan least limit) ≡ None) }
+        ensures made { IfOk result (λ t. t ≡ empty_tree fan least limit) }
+        ensures passed { OnOk result (NoneFails (config_tests fan least limit)) }
         ensures refused { IfErr result (IsRefusedBy (config_tests fan least limit)) }
     {
         if fan < 4 || 64 < fan || least < 2 || fan / 2 < least || limit < 1 || 65_536 < limit {
@@ -100,13 +96,13 @@ impl<C: KeyClass> SearchTree<C> {
     /// NotHere where the parent is no inner page or has no branch to the child, Uncovered where its cover doesn't cover
     /// the key, else want of memory. Nothing is changed then.
     pub fn enlarge(&mut self, parent: u64, child: u64, key: C::Key) -> Result<(), Refusal>
-        ensures passed { OnOk result (first_failing (enlarge_tests C.rules.is_cover self.old parent child key) ≡ None) }
-        ensures enlarged { OnOk result (self.new ≡ with_tree self.old (after_enlarge C.rules.union_of self.old.tree parent child key)) }
-        ensures refused { IfErr result (IsRefusedBy (enlarge_tests C.rules.is_cover self.old parent child key)) }
+        ensures passed { OnOk result (EnlargePasses C.rules.is_cover self.old parent child key) }
+        ensures enlarged { OnOk result (self.new ≡ extended C.rules self.old parent child key) }
+        ensures refused { IfErr result (RefusesEnlarge C.rules.is_cover self.old parent child key) }
         ensures unchanged { OnErr result (self.new ≡ self.old) }
 
         // The bounds alone have changed.
-        ensures same_rows { (q m : ℕ) → q < length self.old.tree.pages → rows_under self.new.tree q m ≡ rows_under self.old.tree q m }
+        ensures same_rows { KeepsRowsInOrder self.old.tree self.new.tree }
         ensures kept { KeepsRows self.old.tree self.new.tree }
         ensures entries { EachEntry (StandsIn self.old.tree) self.new.tree }
         ensures sound { IsSound C.rules.is_cover self.new.fan self.new.tree }
@@ -125,14 +121,14 @@ impl<C: KeyClass> SearchTree<C> {
     /// By the first of these that holds: NotHere where the page is the root or doesn't exist, Owed, Unhung, TooFew where
     /// it isn't full, BadSides, PagesFull; else want of memory. Nothing is changed then.
     pub fn split(&mut self, page: u64, sides: &Sides) -> Result<u32, Refusal>
-        ensures passed { OnOk result (first_failing (split_tests self.old page sides.now) ≡ None) }
+        ensures passed { OnOk result (NoneFails (split_tests self.old page sides.now)) }
         ensures sibling { IfOk result (λ sibling. sibling ≡ length self.old.tree.pages) }
-        ensures split { OnOk result (self.new ≡ with_tree self.old (after_split C.rules.union_of self.old.tree page sides.now)) }
+        ensures split { OnOk result (self.new ≡ divided C.rules self.old page sides.now) }
         ensures refused { IfErr result (IsRefusedBy (split_tests self.old page sides.now)) }
         ensures unchanged { OnErr result (self.new ≡ self.old) }
 
         // At every memo, not only those up to the counter.
-        ensures same_rows { (q m : ℕ) → q < length self.old.tree.pages → Same (rows_under self.new.tree q m) (rows_under self.old.tree q m) }
+        ensures same_rows { KeepsRowsAtEveryMemo self.old.tree self.new.tree }
         ensures kept { KeepsRows self.old.tree self.new.tree }
         ensures entries { EachEntry (StandsIn self.old.tree) self.new.tree }
         ensures sound { IsSound C.rules.is_cover self.new.fan self.new.tree }
@@ -151,8 +147,8 @@ impl<C: KeyClass> SearchTree<C> {
     /// NotHere where the parent is no inner page, has no branch to the child, or the child owes nothing, NodeFull where
     /// the parent is full; else want of memory. Nothing is changed then.
     pub fn post(&mut self, parent: u64, child: u64) -> Result<(), Refusal>
-        ensures passed { OnOk result (first_failing (post_tests self.old parent child) ≡ None) }
-        ensures posted { OnOk result ((sibling : ℕ) × ((page_at self.old.tree child).right ≡ Some sibling) × (self.new ≡ with_tree self.old (after_post self.old.tree parent child sibling))) }
+        ensures passed { OnOk result (NoneFails (post_tests self.old parent child)) }
+        ensures posted { OnOk result (PostsSibling self.old parent child self.new) }
         ensures refused { IfErr result (IsRefusedBy (post_tests self.old parent child)) }
         ensures unchanged { OnErr result (self.new ≡ self.old) }
 
@@ -177,14 +173,14 @@ impl<C: KeyClass> SearchTree<C> {
     /// By the first of these that holds: TooFew where the root isn't full, BadSides, PagesFull where fewer than two pages
     /// are left; else want of memory. Nothing is changed then.
     pub fn grow(&mut self, sides: &Sides) -> Result<(u32, u32), Refusal>
-        ensures passed { OnOk result (first_failing (grow_tests self.old sides.now) ≡ None) }
-        ensures pages { IfOk result (λ pages. (pages.0 ≡ length self.old.tree.pages) × (pages.1 ≡ suc (length self.old.tree.pages))) }
-        ensures grown { OnOk result (self.new ≡ with_tree self.old (after_grow C.rules.union_of self.old.tree sides.now)) }
+        ensures passed { OnOk result (NoneFails (grow_tests self.old sides.now)) }
+        ensures pages { IfOk result (AreNextTwo self.old.tree) }
+        ensures grown { OnOk result (self.new ≡ with_growth C.rules self.old sides.now) }
         ensures refused { IfErr result (IsRefusedBy (grow_tests self.old sides.now)) }
         ensures unchanged { OnErr result (self.new ≡ self.old) }
 
         // At every memo, not only those up to the counter.
-        ensures same_rows { (q m : ℕ) → q < length self.old.tree.pages → Same (rows_under self.new.tree q m) (rows_under self.old.tree q m) }
+        ensures same_rows { KeepsRowsAtEveryMemo self.old.tree self.new.tree }
         ensures kept { KeepsRows self.old.tree self.new.tree }
         ensures entries { EachEntry (StandsIn self.old.tree) self.new.tree }
         ensures sound { IsSound C.rules.is_cover self.new.fan self.new.tree }
@@ -202,13 +198,13 @@ impl<C: KeyClass> SearchTree<C> {
     /// By the first of these that holds: NotHere where the page is no leaf, Uncovered where its cover doesn't cover the
     /// key, NodeFull; else want of memory. Nothing is changed then.
     pub fn place(&mut self, leaf: u64, entry: Entry<C::Key>) -> Result<(), Refusal>
-        ensures passed { OnOk result (first_failing (place_tests C.rules.is_cover self.old leaf entry.key) ≡ None) }
-        ensures placed { OnOk result (self.new ≡ with_tree self.old (after_rows self.old.tree leaf ((page_at self.old.tree leaf).rows ++ entry ∷ []))) }
-        ensures refused { IfErr result (IsRefusedBy (place_tests C.rules.is_cover self.old leaf entry.key)) }
+        ensures passed { OnOk result (PlacePasses C.rules.is_cover self.old leaf entry.key) }
+        ensures placed { OnOk result (self.new ≡ with_entry self.old leaf entry) }
+        ensures refused { IfErr result (RefusesPlace C.rules.is_cover self.old leaf entry.key) }
         ensures unchanged { OnErr result (self.new ≡ self.old) }
 
         // Below the root the entry stands once more, and nothing else has changed.
-        ensures once { OnOk result ((weight : model.Entry C.Key → ℕ) → weigh weight (rows_of_tree self.new.tree) ≡ weigh weight (rows_of_tree self.old.tree) + weight entry) }
+        ensures once { OnOk result (GainsEntry self.old.tree entry self.new.tree) }
         ensures sound { IsSound C.rules.is_cover self.new.fan self.new.tree }
     {
         if let Some(refusal) = self.place_refusal(leaf, entry.key()) {
@@ -225,7 +221,7 @@ impl<C: KeyClass> SearchTree<C> {
     pub fn bury(&mut self, leaf: u32, row: u32, commit: u32) -> Result<(), Refusal>
         requires leaf { is_leaf self.old.tree leaf ≡ true }
         requires counted { 0 < commit }
-        ensures buried { OnOk result (self.new ≡ with_tree self.old (after_rows self.old.tree leaf (map (marked row commit) (page_at self.old.tree leaf).rows))) }
+        ensures buried { OnOk result (self.new ≡ with_death self.old leaf row commit) }
         ensures refused { IfErr result (λ why. why ≡ Refusal.OutOfMemory) }
         ensures unchanged { OnErr result (self.new ≡ self.old) }
         ensures sound { IsSound C.rules.is_cover self.new.fan self.new.tree }
@@ -241,11 +237,11 @@ impl<C: KeyClass> SearchTree<C> {
     /// NotHere where the page is no leaf, else want of memory, which a sweep that takes nothing out never tells. Nothing
     /// is changed then.
     pub fn sweep(&mut self, leaf: u64, horizon: u32) -> Result<usize, Refusal>
-        ensures passed { OnOk result (first_failing (sweep_tests self.old leaf) ≡ None) }
-        ensures swept { OnOk result (self.new ≡ with_tree self.old (after_rows self.old.tree leaf (filter (is_needed horizon) (page_at self.old.tree leaf).rows))) }
-        ensures count { IfOk result (λ count. count + length (filter (is_needed horizon) (page_at self.old.tree leaf).rows) ≡ length (page_at self.old.tree leaf).rows) }
+        ensures passed { OnOk result (NoneFails (sweep_tests self.old leaf)) }
+        ensures swept { OnOk result (self.new ≡ without_unneeded self.old leaf horizon) }
+        ensures count { IfOk result (CountsUnneeded horizon self.old.tree leaf) }
         ensures refused { IfErr result (IsRefusedBy (sweep_tests self.old leaf)) }
-        ensures memory { IfErr result (λ why. why ≡ Refusal.OutOfMemory → HasUnneeded horizon self.old.tree leaf) }
+        ensures memory { IfErr result (WantsMemoryToSweep horizon self.old.tree leaf) }
         ensures unchanged { OnErr result (self.new ≡ self.old) }
         ensures sound { IsSound C.rules.is_cover self.new.fan self.new.tree }
     {
@@ -264,7 +260,7 @@ impl<C: KeyClass> SearchTree<C> {
 
     /// Why a row with the key can't be placed on a leaf.
     pub fn place_refusal(&self, page: u64, key: C::Key) -> Option<Refusal>
-        ensures { result ≡ first_failing (place_tests C.rules.is_cover self.now page key) }
+        ensures { result ≡ refusal_to_place C.rules.is_cover self.now page key }
     {
         if page >= self.table.len() as u64 {
             return Some(Refusal::NotHere);
@@ -283,7 +279,7 @@ impl<C: KeyClass> SearchTree<C> {
     }
 
     fn enlarge_refusal(&self, parent: u64, child: u64, key: C::Key) -> Option<Refusal>
-        ensures { result ≡ first_failing (enlarge_tests C.rules.is_cover self.now parent child key) }
+        ensures { result ≡ refusal_to_enlarge C.rules.is_cover self.now parent child key }
     {
         if parent >= self.table.len() as u64 {
             return Some(Refusal::NotHere);
@@ -369,7 +365,7 @@ impl<C: KeyClass> SearchTree<C> {
 
 /// Whether there is a side for each entry, and at least `least` entries on each side.
 fn parts_well(sides: &Sides, entries: usize, least: usize) -> bool
-    ensures { result ≡ (nat_eq (length sides.now) entries && (nat_le least (count_by is_left sides.now) && nat_le least (count_by is_right sides.now))) }
+    ensures { result ≡ sides_well least entries sides.now }
 {
     let (lefts, rights) = counts(sides);
     sides.len() == entries && least <= lefts && least <= rights
@@ -377,7 +373,7 @@ fn parts_well(sides: &Sides, entries: usize, least: usize) -> bool
 
 /// How many sides are left, and how many right.
 fn counts(sides: &Sides) -> (usize, usize)
-    ensures { (result.0 ≡ count_by is_left sides.now) × (result.1 ≡ count_by is_right sides.now) }
+    ensures { CountsSides sides.now result }
 {
     let mut lefts = 0;
     let mut rights = 0;

@@ -1,11 +1,6 @@
-ghost use Rattle.std.specs.Prelude.{◌≡◌, ℕ, ◌∷◌, [], List, length, IfOk};
-ghost use Rattle.key_class.specs.Queries.{query_of, matches_query};
-ghost use Rattle.change_list.specs.declared.write.Write.{Write};
-ghost use Rattle.change_list.specs.Changes.{IsLegal, snapshot};
+ghost use Rattle.std.specs.Prelude.{ℕ, IfOk};
 ghost use Rattle.page_table.specs.Soundness.{IsSound};
-ghost use Rattle.page_table.specs.Weights.{Same};
-ghost use Rattle.scan.specs.Agreement.{Agrees};
-ghost use Rattle.scan.specs.Scanning.{to_find};
+ghost use Rattle.survey.specs.Surveys.{FindsAll, IsSurvey};
 
 use change_list::Row;
 use key_class::{KeyClass, Pred};
@@ -25,7 +20,7 @@ pub fn live_rows<C: KeyClass>(
     query: &Pred<C::Atom>,
 ) -> Result<Vec<Row<C::Key>>, AllocError>
     requires sound { (fan : ℕ) × IsSound C.rules.is_cover fan table.now }
-    ensures rows { IfOk result (λ rows. (list : List (Write C.Key)) → IsLegal list → Agrees table.now list → length list ≡ commits → rows.items ≡ snapshot (matches_query C.rules.is_match (query_of query.now)) commits list) }
+    ensures rows { IfOk result (λ v. IsSurvey C.rules query.now table.now commits v.items) }
 {
     let mut rows = found_rows::<C>(alloc, table, commits, query)?;
     rows.sort_unstable_by_key(|row| row.row);
@@ -40,7 +35,7 @@ fn found_rows<C: KeyClass>(
     query: &Pred<C::Atom>,
 ) -> Result<Vec<Row<C::Key>>, AllocError>
     requires sound { (fan : ℕ) × IsSound C.rules.is_cover fan table.now }
-    ensures { IfOk result (λ rows. Same rows.items (to_find (matches_query C.rules.is_match (query_of query.now)) commits table.now (record { page = 0; memo = table.now.counter } ∷ []))) }
+    ensures { IfOk result (λ v. FindsAll C.rules query.now commits table.now v.items) }
 {
     let mut stack = Stack::at_root(alloc, table.counter());
     let mut rows = Vec::new(alloc);

@@ -1,0 +1,21 @@
+-- What an insert, a delete and a sweep make of a tree, each on one leaf.
+use Rattle.std.specs.Prelude.{◌≡◌, ℕ, ◌+◌, [], ◌∷◌, ◌++◌, length, map, filter}
+use Rattle.row_version.specs.Entries.{Entry, is_needed, marked}
+use Rattle.page_table.specs.Trees.{Tree, after_rows, page_at}
+
+module _ {K : Type 0} where
+  -- one entry more
+  abbrev pub after_place : Tree K → ℕ → Entry K → Tree K
+  after_place t p entry = after_rows t p ((page_at t p).rows ++ entry ∷ [])
+
+  -- commit n deletes the row
+  abbrev pub after_bury : Tree K → ℕ → ℕ → ℕ → Tree K
+  after_bury t p row n = after_rows t p (map (marked row n) (page_at t p).rows)
+
+  -- without the dead that nobody needs who opened at the horizon or later
+  abbrev pub after_sweep : Tree K → ℕ → ℕ → Tree K
+  after_sweep t p horizon = after_rows t p (filter (is_needed horizon) (page_at t p).rows)
+
+  -- so many rows of the leaf are needed by nobody who opened at the horizon or later
+  abbrev pub CountsUnneeded : ℕ → Tree K → ℕ → ℕ → Type 0
+  CountsUnneeded horizon t p count = count + length (filter (is_needed horizon) (page_at t p).rows) ≡ length (page_at t p).rows
