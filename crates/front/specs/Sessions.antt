@@ -1,23 +1,20 @@
--- Which texts answer which lines, and what a whole session reads and writes.
-use Rattle.std.specs.Prelude.{◌≡◌, ℕ, ◌<◌, ◌≤◌, false, List, [], ◌∷◌, ◌++◌, length, Option, Some, None, Result, Ok, Err, ◌⊎◌}
-use Rattle.std.specs.Io.KnownBytes.{Consumes, Appends}
+-- Which texts answer the tokens of a line, and how a session begins and ends.
+use Rattle.std.specs.Prelude.{◌≡◌, ℕ, List, [], ◌∷◌, length, Option, Some, None, Result, Ok, Err, ◌⊎◌}
 use Rattle.key_class.specs.Rules.{Rules}
 use Rattle.key_class.specs.declared.refusal.Refusal.TheVariants as refusal
 use Rattle.key_class.specs.Queries.{Query}
 use Rattle.store.specs.States.{State}
 use Rattle.query_text.specs.declared.lexeme.Lexeme.{Lexeme}
-use Rattle.query_text.specs.Tokens.{Placed, placed, Cuts}
+use Rattle.query_text.specs.Tokens.{Placed, placed}
 use Rattle.query_text.specs.ClassTexts.{Texts}
 use Rattle.query_text.specs.Grammar.{SpellsQuery, RefusesTokens}
 use Rattle.front.specs.declared.request.Request.{Request}
 use Rattle.front.specs.declared.reply.Reply.{Reply}
 use Rattle.front.specs.declared.reply.Reply.TheVariants as reply
-use Rattle.front.specs.Lines.{AreLines}
 use Rattle.front.specs.Requests.{Command, insert_row, delete_row, next_item, ask_mark, close_cursor, open_cursor, find_rows, sweep_all, asked_by, verb_of, command_of}
 use Rattle.front.specs.Replies.{text_of}
 use Rattle.front.specs.Told.{Told, nothing_told, RepliesInsert, RepliesDelete, RepliesOpen, RepliesNext, RepliesMark, RepliesFind, RepliesSweep, RepliesClose}
 use Rattle.front.specs.AsTold.{IsAsTold, Tells}
-use Rattle.front.specs.Written.{WritesBeginning}
 
 -- what is written of a reply, if there is one
 abbrev pub text_of_answer : {K : Type 0} → (K → List ℕ) → Option (Reply K) → List ℕ
@@ -54,11 +51,9 @@ module _ {K A : Type 0} (texts : Texts K A) where
     RepliesTokens len [] said old new = (said ≡ None) × (new ≡ old)
     RepliesTokens len (t ∷ ts) said old new = RepliesAsked len (asked_by texts.key_at len t.place (verb_of t.token) ts) said old new
 
-    -- a line that is too long is refused at the first byte too many
-    abbrev pub RepliesLine : List ℕ → Option (Reply K) → Told K A → Told K A → Type 0
-    RepliesLine line said old new =
-        ((4096 < length line) × (said ≡ Some (reply.Refused (refusal.Line 4096))) × (new ≡ old))
-        ⊎ ((length line ≤ 4096) × (ts : List Placed) × Cuts false 0 line ts × RepliesTokens (length line) ts said old new)
+    -- the text may answer the tokens of a line with so many bytes, and this is told with it
+    abbrev pub AnswersTold : ℕ → Told K A → List Placed → List ℕ → Told K A → Type 0
+    AnswersTold len old ts text new = (said : Option (Reply K)) × (text ≡ text_of_answer texts.key_text said) × RepliesTokens len ts said old new
 
     -- The calls of a store answer a text as their client is told: a request, its tokens, and the query that lexemes spell
     -- where a cursor is opened on it or its rows are found.
@@ -75,55 +70,10 @@ module _ {K A : Type 0} (texts : Texts K A) where
     abbrev pub TellsFinding : State K A → State K A → List ℕ → List Lexeme → Reply K → Type 0
     TellsFinding old new text lexemes said = Tells rules old new (WithQuery (length text) (placed text lexemes) (RepliesFind rules) said)
 
-    -- the text may answer the lines, one after the other
-    abbrev pub Answers : Told K A → List (List ℕ) → List ℕ → Told K A → Type 0
-    Answers old [] text new = (text ≡ []) × (new ≡ old)
-    Answers old (line ∷ lines) text new =
-        (said : Option (Reply K)) × (mid : Told K A) × (rest : List ℕ) × RepliesLine line said old mid × Answers mid lines rest new × (text ≡ text_of_answer texts.key_text said ++ rest)
-
-    -- The bytes that were read are lines and a last one without a line feed; what was written answers them all, and
-    -- the store is as was told.
-    pub record AnsweredAll (before after : Option (List ℕ)) (held written : Option (List ℕ)) (old new : State K A) : Type 0 where
-      pub bytes : List ℕ
-      pub lines : List (List ℕ)
-      pub rest : List ℕ
-      pub text : List ℕ
-      pub told : Told K A
-      pub read : Consumes before after bytes
-      pub are_lines : AreLines bytes lines rest
-      pub answers : Answers (nothing_told old.limit old.page_limit) (lines ++ rest ∷ []) text told
-      pub wrote : Appends held written text
-      pub as_told : IsAsTold rules new told
-
-    -- The bytes that were read are lines and the beginning of another; what was written answers the lines, and the
-    -- store is as was told.
-    pub record AnsweredWhole (before after : Option (List ℕ)) (held written : Option (List ℕ)) (old new : State K A) : Type 0 where
-      pub bytes : List ℕ
-      pub lines : List (List ℕ)
-      pub rest : List ℕ
-      pub text : List ℕ
-      pub told : Told K A
-      pub read : Consumes before after bytes
-      pub are_lines : AreLines bytes lines rest
-      pub answers : Answers (nothing_told old.limit old.page_limit) lines text told
-      pub wrote : Appends held written text
-      pub as_told : IsAsTold rules new told
-
-    -- The store is as the answers to some first lines of what was read tell, and a beginning of them was written.
-    pub record Stands (before after : Option (List ℕ)) (held written : Option (List ℕ)) (old new : State K A) : Type 0 where
-      pub bytes : List ℕ
-      pub lines : List (List ℕ)
-      pub rest : List ℕ
-      pub first : List (List ℕ)
-      pub others : List (List ℕ)
-      pub text : List ℕ
-      pub told : Told K A
-      pub read : Consumes before after bytes
-      pub are_lines : AreLines bytes lines rest
-      pub parted : lines ++ rest ∷ [] ≡ first ++ others
-      pub answers : Answers (nothing_told old.limit old.page_limit) first text told
-      pub wrote : WritesBeginning held written text
-      pub as_told : IsAsTold rules new told
+-- The client of a new store was told nothing before such a conversation, and then the store is as was told.
+abbrev pub FromNothing : {K A : Type 0} → Rules K A → (Told K A → Told K A → Type 0) → State K A → State K A → Type 0
+FromNothing {K} {A} rules conversation old new =
+    (told : Told K A) × conversation (nothing_told old.limit old.page_limit) told × IsAsTold rules new told
 
 module _ {K A : Type 0} (texts : Texts K A) (rules : Rules K A) where
   -- The text answers the tokens of a line with so many bytes: it is one that may, whatever was told that the store is
