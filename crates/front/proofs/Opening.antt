@@ -3,6 +3,7 @@ use Rattle.std.proofs.Common.{◌≡◌, ◌≢◌, ◌+◌, ◌-◌, ◌<◌, �
 use Rattle.std.specs.Prelude.{nat_eq, nat_lt, IsPermutation, if◌then◌else◌}
 use Rattle.key_class.specs.Queries.{Query}
 use Rattle.key_class.specs.declared.refusal.Refusal.TheVariants as refusal
+use Rattle.key_class.specs.Rules.{Rules}
 use Rattle.change_list.specs.Cursors.{CursorState}
 use Rattle.store.specs.States.{State, cursor_of, open_or_closed, find_cursor, IsOpened, Closes, without_cursor}
 use Rattle.store.proofs.Cursors.{found_as}
@@ -48,9 +49,9 @@ module _ {K A : Type 0} where
       go true e r = let f : nat_eq k.serial d ≡ false = search (arith, e, n) in rw (e, f) r
       go false e r = rw e (ap (λ o. cond (nat_eq k.serial d) (Some k) o) r)
 
-  module _ (matching : A → K → Bool) (old : State K A) (told : Told K A) (t : IsAsTold matching old told) where
-    pub told_opened : (query : Query A) (c : ℕ) (new : State K A) → IsOpened matching old query c new
-        → IsAsTold matching new (record told {
+  module _ (rules : Rules K A) (old : State K A) (told : Told K A) (t : IsAsTold rules old told) where
+    pub told_opened : (query : Query A) (c : ℕ) (new : State K A) → IsOpened rules.is_match old query c new
+        → IsAsTold rules new (record told {
           cursors = with_cursor told.cursors c (Ok (record { query = query; opened = length told.commits; given = []; asked = false }));
           open_cursors = told.open_cursors + 1;
           last = c;
@@ -72,26 +73,26 @@ module _ {K A : Type 0} where
         f : Following K A
         f = record { query = query; opened = length told.commits; given = []; asked = false }
 
-        go : (d : ℕ) (b : Bool) → nat_eq d c ≡ b → AreSame matching new.commits (cursor_of new d) (if b then Ok f else told.cursors d)
+        go : (d : ℕ) (b : Bool) → nat_eq d c ≡ b → AreSame rules new.commits (cursor_of new d) (if b then Ok f else told.cursors d)
         go d true e =
             let n : d ≡ c = search (arith, e) in
             let w : cursor_of new d ≡ Ok o.cursor = ap (cursor_of new) n ∙ o.is_open in
-            rw commits (subst (λ x. AreSame matching old.commits x (Ok f)) (sym w) (record { query = sym o.query; opened = ap length t.commits ∙ sym o.opened; asked = sym o.unasked; fits = o.fits }))
+            rw commits (subst (λ x. AreSame rules old.commits x (Ok f)) (sym w) (record { query = sym o.query; opened = ap length t.commits ∙ sym o.opened; asked = sym o.unasked; fits = o.fits }))
         go d false e =
             let n : d ≢ c = search (arith, e) in
-            rw commits (subst (λ x. AreSame matching old.commits x (told.cursors d)) (sym (opened_other old new o.cursor c d o.serial o.number o.after n)) (t.cursors d))
+            rw commits (subst (λ x. AreSame rules old.commits x (told.cursors d)) (sym (opened_other old new o.cursor c d o.serial o.number o.after n)) (t.cursors d))
 
     pub told_closed : (c : ℕ) (new : State K A) → Closes old c new
-        → (f : Following K A) × (told.cursors c ≡ Ok f) × IsAsTold matching new (record told { cursors = with_cursor told.cursors c (Err refusal.CursorClosed); open_cursors = told.open_cursors - 1 })
+        → (f : Following K A) × (told.cursors c ≡ Ok f) × IsAsTold rules new (record told { cursors = with_cursor told.cursors c (Err refusal.CursorClosed); open_cursors = told.open_cursors - 1 })
     told_closed c new h =
-        let k = told_cursor matching old told t c h.cursor h.was_open in (
+        let k = told_cursor rules old told t c h.cursor h.was_open in (
           k.f,
           k.is,
           record {
             limit = t.limit ∙ sym (ap (λ (s : State K A). s.limit) h.is);
             commits = t.commits ∙ sym (ap (λ (s : State K A). s.commits) h.is);
             page_limit = t.page_limit ∙ sym (ap (λ (s : State K A). s.page_limit) h.is);
-            cursors = λ d. subst (λ (s : State K A). AreSame matching s.commits (cursor_of s d) (with_cursor told.cursors c (Err refusal.CursorClosed) d)) (sym h.is) (go d (nat_eq d c) refl);
+            cursors = λ d. subst (λ (s : State K A). AreSame rules s.commits (cursor_of s d) (with_cursor told.cursors c (Err refusal.CursorClosed) d)) (sym h.is) (go d (nat_eq d c) refl);
             open_cursors = omega (arith, t.open_cursors, h.one_less);
             last = t.last ∙ sym (ap (λ (s : State K A). s.last) h.is);
             dead = subst (λ (s : State K A). IsPermutation told.dead s.dead) (sym h.is) t.dead;
@@ -99,13 +100,13 @@ module _ {K A : Type 0} where
           },
         )
       where
-        go : (d : ℕ) (b : Bool) → nat_eq d c ≡ b → AreSame matching old.commits (cursor_of (without_cursor old c) d) (if b then Err refusal.CursorClosed else told.cursors d)
+        go : (d : ℕ) (b : Bool) → nat_eq d c ≡ b → AreSame rules old.commits (cursor_of (without_cursor old c) d) (if b then Err refusal.CursorClosed else told.cursors d)
         go d true e =
             let n : d ≡ c = search (arith, e) in
             let f = found_as old c h.cursor h.was_open in
             let w : cursor_of (without_cursor old c) c ≡ Err refusal.CursorClosed = rw (f.given, closed_none) refl in
-            subst (λ x. AreSame matching old.commits x (Err refusal.CursorClosed)) (sym (ap (cursor_of (without_cursor old c)) n ∙ w)) refl
+            subst (λ x. AreSame rules old.commits x (Err refusal.CursorClosed)) (sym (ap (cursor_of (without_cursor old c)) n ∙ w)) refl
         go d false e =
             let n : c ≢ d = search (arith, e) in
             let w : cursor_of (without_cursor old c) d ≡ cursor_of old d = ap (λ x. if nat_eq d 0 || nat_lt old.last d then Err refusal.NoSuchCursor else open_or_closed x) (closed_other c d old.cursors n) in
-            subst (λ x. AreSame matching old.commits x (told.cursors d)) (sym w) (t.cursors d)
+            subst (λ x. AreSame rules old.commits x (told.cursors d)) (sym w) (t.cursors d)

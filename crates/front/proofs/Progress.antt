@@ -1,22 +1,17 @@
 -- What a store's answers to lines tell its client.
-use Rattle.std.proofs.Common.{◌≡◌, ℕ, suc, zero, Bool, true, false, List, [], ◌∷◌, ◌++◌, Option, Some, Result, Ok, Err, inl, inr, arith, refl, sym, ap, ◌∙◌, subst}
+use Rattle.std.proofs.Common.{◌≡◌, ℕ, length, suc, zero, Bool, true, false, List, [], ◌∷◌, ◌++◌, Option, Result, Ok, Err, inl, inr, arith, refl, sym, subst}
 use Rattle.std.specs.Result.{OnOk}
 use Rattle.std.specs.Prelude.{nat_eq, nat_lt, ◌||◌}
 use Rattle.std.proofs.lemmas.List.Sorted.{IsPermutation-refl}
-use Rattle.std.proofs.lemmas.List.{append-nil}
 use Rattle.change_list.specs.declared.config.Config.{Config}
-use Rattle.key_class.specs.declared.sides.Rel.{Rel}
-use Rattle.key_class.specs.declared.refusal.Refusal.TheVariants as refusal
+use Rattle.key_class.specs.Rules.{Rules}
 use Rattle.store.specs.States.{State, new_state}
 use Rattle.query_text.specs.Tokens.{Placed}
-use Rattle.query_text.specs.Keys.{Reading}
-use Rattle.front.specs.declared.reply.Reply.{Reply}
-use Rattle.front.specs.declared.reply.Reply.TheVariants as reply
-use Rattle.front.specs.Replies.{refusal_line}
+use Rattle.query_text.specs.ClassTexts.{Texts}
 use Rattle.front.specs.Told.{Told, nothing_told}
 use Rattle.front.specs.AsTold.{IsAsTold}
-use Rattle.front.specs.Conversations as conversations
-use Rattle.front.specs.Sessions.{RepliesLine, text_of_answer, Answers, AnswersTokens, AnsweredAll, AnsweredWhole, Stands}
+use Rattle.front.specs.Conversations.{AnswersLine, AnswersLines, AnsweredAll, AnsweredWhole, AnsweredFirst}
+use Rattle.front.specs.Sessions.{AnswersTokens, AnswersTold, FromNothing}
 
 -- what follows where all went well
 pub if_well : {A E : Type 0} (r : Result A E) {P Q : Type 0} → (P → Q) → OnOk r P → OnOk r Q
@@ -33,8 +28,8 @@ none_given (suc c) = let h : nat_lt 0 (suc c) ≡ true = search arith in rw h (o
     or_true false = refl
 
 -- a new store is as is told before the first line
-pub new_as_told : {K A : Type 0} (matching : A → K → Bool) (store : State K A) → (config : Config) × (store ≡ new_state config) → IsAsTold matching store (nothing_told store.limit store.page_limit)
-new_as_told {K} {A} matching store h = subst (λ (s : State K A). IsAsTold matching s (nothing_told s.limit s.page_limit)) (sym h.1) (record {
+pub new_as_told : {K A : Type 0} (rules : Rules K A) (store : State K A) → (config : Config) × (store ≡ new_state config) → IsAsTold rules store (nothing_told store.limit store.page_limit)
+new_as_told {K} {A} rules store h = subst (λ (s : State K A). IsAsTold rules s (nothing_told s.limit s.page_limit)) (sym h.1) (record {
   limit = refl;
   commits = refl;
   page_limit = refl;
@@ -45,79 +40,57 @@ new_as_told {K} {A} matching store h = subst (λ (s : State K A). IsAsTold match
   finders = omega arith;
 })
 
-module _ {K A : Type 0} (key_at : ℕ → List Placed → Reading K) (atom_of : Rel → K → A) (matching : A → K → Bool) where
-  module _ (key_text : K → List ℕ) where
-    abbrev Carries : ℕ → State K A → List Placed → List ℕ → State K A → Type 0
-    Carries = AnswersTokens key_at atom_of matching key_text
+-- A conversation told another way: where each line that is answered in one state tells as much in the other, so do all.
+module _ {S T : Type 0} (answers : ℕ → S → List Placed → List ℕ → S → Type 0) (tells : ℕ → T → List Placed → List ℕ → T → Type 0) (Alike : S → T → Type 0)
+    (step : (len : ℕ) (old new : S) (ts : List Placed) (text : List ℕ) (told : T) → answers len old ts text new → Alike old told → (after : T) × tells len told ts text after × Alike new after) where
+  tells_line : (old new : S) (line text : List ℕ) (told : T) → AnswersLine answers old line text new → Alike old told → (after : T) × AnswersLine tells told line text after × Alike new after
+  tells_line old new line text told (inl h) t = (told, inl (h.0, h.1, refl), subst (λ (s : S). Alike s told) (sym h.2) t)
+  tells_line old new line text told (inr h) t =
+      let r = step (length line) old new h.1 text told h.3 t in
+      (r.0, inr (h.0, h.1, h.2, r.1), r.2)
 
-    -- what one line's answer tells
-    record TellsLine (old : State K A) (line text : List ℕ) (new : State K A) (told : Told K A) : Type 0 where
-      said : Option (Reply K)
-      after : Told K A
-      is_text : text ≡ text_of_answer key_text said
-      replies : RepliesLine key_at atom_of matching told line said after
-      as_told : IsAsTold matching new after
+  tells_lines : (old new : S) (lines : List (List ℕ)) (text : List ℕ) (told : T) → AnswersLines answers old lines text new → Alike old told → (after : T) × AnswersLines tells told lines text after × Alike new after
+  tells_lines old new [] text told h t = (told, (h.0, refl), subst (λ (s : S). Alike s told) (sym h.1) t)
+  tells_lines old new (line ∷ lines) text told h t =
+      let l = tells_line old h.1 line h.0 told h.3 t in
+      let r = tells_lines h.1 new lines h.2 l.0 h.4 l.2 in
+      (r.0, (h.0, l.0, h.2, l.1, r.1, h.5), r.2)
 
-    tells_line : (old : State K A) (line text : List ℕ) (new : State K A) (told : Told K A) → conversations.AnswersLine Carries old line text new → IsAsTold matching old told → TellsLine old line text new told
-    tells_line old line text new told (inl h) t = record {
-      said = Some (reply.Refused (refusal.Line 4096));
-      after = told;
-      is_text = h.1 ∙ sym (append-nil (refusal_line (refusal.Line 4096)));
-      replies = inl (h.0, refl, refl);
-      as_told = subst (λ (s : State K A). IsAsTold matching s told) (sym h.2) t;
-    }
-    tells_line old line text new told (inr h) t =
-        let a = h.3 in
-        let r = a.replies told t in
-        record { said = a.said; after = r.0; is_text = a.is_text; replies = inr (h.0, h.1, h.2, r.1); as_told = r.2 }
+  module _ (old new : S) (r0 r w0 w : Option (List ℕ)) (told : T) (t : Alike old told) where
+    tells_all : AnsweredAll answers r0 r w0 w old new → (after : T) × AnsweredAll tells r0 r w0 w told after × Alike new after
+    tells_all a =
+        let x = tells_lines old new (a.lines ++ a.rest ∷ []) a.text told a.answers_lines t in (
+          x.0,
+          record { bytes = a.bytes; lines = a.lines; rest = a.rest; text = a.text; read = a.read; are_lines = a.are_lines; answers_lines = x.1; wrote = a.wrote },
+          x.2,
+        )
 
-    -- what the answers to lines tell
-    pub record Tells (old : State K A) (lines : List (List ℕ)) (text : List ℕ) (new : State K A) (told : Told K A) : Type 0 where
-      pub after : Told K A
-      pub answers : Answers key_at atom_of matching key_text told lines text after
-      pub as_told : IsAsTold matching new after
+    tells_whole : AnsweredWhole answers r0 r w0 w old new → (after : T) × AnsweredWhole tells r0 r w0 w told after × Alike new after
+    tells_whole a =
+        let x = tells_lines old new a.lines a.text told a.answers_lines t in (
+          x.0,
+          record { bytes = a.bytes; lines = a.lines; rest = a.rest; text = a.text; read = a.read; are_lines = a.are_lines; answers_lines = x.1; wrote = a.wrote },
+          x.2,
+        )
 
-    pub tells : (old : State K A) (lines : List (List ℕ)) (text : List ℕ) (new : State K A) (told : Told K A) → conversations.AnswersLines Carries old lines text new → IsAsTold matching old told → Tells old lines text new told
-    tells old [] text new told h t = record {
-      after = told;
-      answers = (h.0, refl);
-      as_told = subst (λ (s : State K A). IsAsTold matching s told) (sym h.1) t;
-    }
-    tells old (line ∷ lines) text new told h t =
-        let l = tells_line old line h.0 h.1 told h.3 t in
-        let r = tells h.1 lines h.2 new l.after h.4 l.as_told in
-        record {
-          after = r.after;
-          answers = (l.said, l.after, h.2, l.replies, r.answers, h.5 ∙ ap (λ x. x ++ h.2) l.is_text);
-          as_told = r.as_told;
-        }
+    tells_first : AnsweredFirst answers r0 r w0 w old new → (after : T) × AnsweredFirst tells r0 r w0 w told after × Alike new after
+    tells_first a =
+        let x = tells_lines old new a.first a.text told a.answers_lines t in (
+          x.0,
+          record { bytes = a.bytes; lines = a.lines; rest = a.rest; first = a.first; others = a.others; text = a.text; read = a.read; are_lines = a.are_lines; parted = a.parted; answers_lines = x.1; wrote = a.wrote },
+          x.2,
+        )
 
-    module _ (old new : State K A) (r0 r w0 w : Option (List ℕ)) (is_new : (config : Config) × (old ≡ new_state config)) where
-      pub told_all : conversations.AnsweredAll Carries r0 r w0 w old new → AnsweredAll key_at atom_of matching key_text r0 r w0 w old new
-      told_all a =
-          let t = tells old (a.lines ++ a.rest ∷ []) a.text new (nothing_told old.limit old.page_limit) a.answers_lines (new_as_told matching old is_new) in
-          record { bytes = a.bytes; lines = a.lines; rest = a.rest; text = a.text; told = t.after; read = a.read; are_lines = a.are_lines; answers = t.answers; wrote = a.wrote; as_told = t.as_told }
+module _ {K A : Type 0} (texts : Texts K A) (rules : Rules K A) where
+  tells_tokens : (len : ℕ) (old new : State K A) (ts : List Placed) (text : List ℕ) (told : Told K A) → AnswersTokens texts rules len old ts text new → IsAsTold rules old told → (after : Told K A) × AnswersTold texts rules len told ts text after × IsAsTold rules new after
+  tells_tokens len old new ts text told a t = let r = a.replies told t in (r.0, (a.said, a.is_text, r.1), r.2)
 
-      pub told_whole : conversations.AnsweredWhole Carries r0 r w0 w old new → AnsweredWhole key_at atom_of matching key_text r0 r w0 w old new
-      told_whole a =
-          let t = tells old a.lines a.text new (nothing_told old.limit old.page_limit) a.answers_lines (new_as_told matching old is_new) in
-          record { bytes = a.bytes; lines = a.lines; rest = a.rest; text = a.text; told = t.after; read = a.read; are_lines = a.are_lines; answers = t.answers; wrote = a.wrote; as_told = t.as_told }
+  module _ (old new : State K A) (r0 r w0 w : Option (List ℕ)) (is_new : (config : Config) × (old ≡ new_state config)) where
+    pub told_all : AnsweredAll (AnswersTokens texts rules) r0 r w0 w old new → FromNothing rules (AnsweredAll (AnswersTold texts rules) r0 r w0 w) old new
+    told_all a = tells_all (AnswersTokens texts rules) (AnswersTold texts rules) (IsAsTold rules) tells_tokens old new r0 r w0 w (nothing_told old.limit old.page_limit) (new_as_told rules old is_new) a
 
-      pub told_first : conversations.AnsweredFirst Carries r0 r w0 w old new → Stands key_at atom_of matching key_text r0 r w0 w old new
-      told_first a =
-          let t = tells old a.first a.text new (nothing_told old.limit old.page_limit) a.answers_lines (new_as_told matching old is_new) in
-          record {
-            bytes = a.bytes;
-            lines = a.lines;
-            rest = a.rest;
-            first = a.first;
-            others = a.others;
-            text = a.text;
-            told = t.after;
-            read = a.read;
-            are_lines = a.are_lines;
-            parted = a.parted;
-            answers = t.answers;
-            wrote = a.wrote;
-            as_told = t.as_told;
-          }
+    pub told_whole : AnsweredWhole (AnswersTokens texts rules) r0 r w0 w old new → FromNothing rules (AnsweredWhole (AnswersTold texts rules) r0 r w0 w) old new
+    told_whole a = tells_whole (AnswersTokens texts rules) (AnswersTold texts rules) (IsAsTold rules) tells_tokens old new r0 r w0 w (nothing_told old.limit old.page_limit) (new_as_told rules old is_new) a
+
+    pub told_first : AnsweredFirst (AnswersTokens texts rules) r0 r w0 w old new → FromNothing rules (AnsweredFirst (AnswersTold texts rules) r0 r w0 w) old new
+    told_first a = tells_first (AnswersTokens texts rules) (AnswersTold texts rules) (IsAsTold rules) tells_tokens old new r0 r w0 w (nothing_told old.limit old.page_limit) (new_as_told rules old is_new) a

@@ -1,18 +1,19 @@
 -- A store that is as its client was told.
-use Rattle.std.specs.Prelude.{◌≡◌, ℕ, ◌≤◌, Bool, List, length, Result, Ok, Err, IsPermutation}
+use Rattle.std.specs.Prelude.{◌≡◌, ℕ, ◌≤◌, List, length, Result, Ok, Err, IsPermutation}
+use Rattle.key_class.specs.Rules.{Rules}
 use Rattle.key_class.specs.declared.refusal.Refusal.{Refusal}
 use Rattle.change_list.specs.declared.write.Write.{Write}
 use Rattle.change_list.specs.Cursors.{CursorState, Fits}
 use Rattle.store.specs.States.{State, cursor_of}
 use Rattle.front.specs.Told.{Following, Told}
 
-module _ {K A : Type 0} (matching : A → K → Bool) where
+module _ {K A : Type 0} (rules : Rules K A) where
   -- the open cursor of the store is the client's, and what it was given fits it
   pub record IsSameCursor (commits : List (Write K)) (cursor : CursorState K A) (f : Following K A) : Type 0 where
     pub query : f.query ≡ cursor.query
     pub opened : f.opened ≡ cursor.opened
     pub asked : f.asked ≡ cursor.asked
-    pub fits : Fits matching commits cursor f.given
+    pub fits : Fits rules.is_match commits cursor f.given
 
   abbrev pub AreSame : List (Write K) → Result (CursorState K A) Refusal → Result (Following K A) Refusal → Type 0
   AreSame commits (Ok cursor) (Ok f) = IsSameCursor commits cursor f
@@ -28,3 +29,7 @@ module _ {K A : Type 0} (matching : A → K → Bool) where
     pub last : told.last ≡ state.last
     pub dead : IsPermutation told.dead state.dead
     pub finders : state.finders ≤ told.finders
+
+  -- Whatever was told that the store was as, the replies may follow it, and then the store is as is told.
+  abbrev pub Tells : State K A → State K A → (Told K A → Told K A → Type 0) → Type 0
+  Tells old new replies = (told : Told K A) → IsAsTold old told → (after : Told K A) × replies told after × IsAsTold new after

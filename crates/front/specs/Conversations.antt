@@ -1,11 +1,25 @@
 -- Lines that are answered one after the other, and what a whole conversation reads and writes.
-use Rattle.std.specs.Prelude.{◌≡◌, ℕ, ◌<◌, ◌≤◌, false, List, [], ◌∷◌, ◌++◌, length, Option, ◌⊎◌}
+use Rattle.std.specs.Prelude.{◌≡◌, ℕ, ◌<◌, ◌≤◌, false, List, [], ◌∷◌, ◌++◌, length, Option, Result, Err, ◌⊎◌}
 use Rattle.std.specs.Io.KnownBytes.{Consumes, Appends}
+use Rattle.key_class.specs.declared.refusal.Fault.{Fault}
+use Rattle.key_class.specs.declared.refusal.Fault.TheVariants as fault
 use Rattle.key_class.specs.declared.refusal.Refusal.TheVariants as refusal
 use Rattle.query_text.specs.Tokens.{Placed, Cuts}
 use Rattle.front.specs.Lines.{AreLines}
 use Rattle.front.specs.Replies.{refusal_line}
 use Rattle.front.specs.Written.{WritesBeginning}
+
+-- what may end a conversation before its reader is at its end
+abbrev pub IsConversationFault : Fault → Type 0
+IsConversationFault why = (why ≡ fault.OutOfMemory) ⊎ (why ≡ fault.Read) ⊎ (why ≡ fault.Write)
+
+-- where memory was wanting at the start, this holds
+abbrev pub IfOutOfMemory : {T : Type 0} → Result T Fault → Type 0 → Type 0
+IfOutOfMemory returned P = returned ≡ Err fault.OutOfMemory → P
+
+-- a reader and a writer are as they were
+abbrev pub Kept : {R W : Type 0} → R → R → W → W → Type 0
+Kept reader reader' writer writer' = (reader' ≡ reader) × (writer' ≡ writer)
 
 -- answers: which text may answer the tokens of a line with so many bytes, in one state, and which state comes of it
 module _ {S : Type 0} (answers : ℕ → S → List Placed → List ℕ → S → Type 0) where

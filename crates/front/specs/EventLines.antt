@@ -1,16 +1,18 @@
 -- What an event line asks of a world.
-use Rattle.std.specs.Prelude.{◌≡◌, ℕ, ◌||◌, ◌==◌, Bool, List, [], ◌∷◌, Option, Some, None, Result, Ok, Err, MatchResult, ◌⊎◌, map, if◌then◌else◌, codes}
+use Rattle.std.specs.Prelude.{◌≡◌, ℕ, ◌||◌, ◌==◌, Bool, List, [], ◌∷◌, length, Option, Some, None, Result, Ok, Err, MatchResult, ◌⊎◌, map, if◌then◌else◌, codes}
 use Rattle.std.specs.List.{list_all}
 use Rattle.std.specs.Str.{bytes_eq}
+use Rattle.std.specs.Borrow.{Bor}
 use Rattle.key_class.specs.Queries.{query_of}
 use Rattle.key_class.specs.declared.pred.Pred.{Pred}
 use Rattle.key_class.specs.declared.refusal.Refusal.{Refusal}
 use Rattle.key_class.specs.declared.refusal.Refusal.TheVariants as refusal
-use Rattle.key_class.specs.declared.sides.Rel.{Rel}
 use Rattle.key_class.specs.declared.sides.Side.{Side}
 use Rattle.key_class.specs.declared.sides.Side.TheVariants.{Left, Right}
-use Rattle.query_text.specs.Tokens.{Token, word, Placed, placed}
+use Rattle.query_text.specs.declared.lexeme.Lexeme.{Lexeme}
+use Rattle.query_text.specs.Tokens.{Token, word, Placed, placed, token_in}
 use Rattle.query_text.specs.Keys.{Reading, ◌>>=◌, or_fault_at}
+use Rattle.query_text.specs.ClassTexts.{Texts}
 use Rattle.query_text.specs.Grammar.{SpellsQuery, RefusesTokens}
 use Rattle.world.specs.declared.event.Event.{Event}
 use Rattle.world.specs.declared.event.Event.TheVariants as event
@@ -70,17 +72,17 @@ HasSides (event.Split page sides) = Unit
 HasSides (event.Grow sides) = Unit
 HasSides _ = ⊥
 
-module _ {C K A : Type 0} (key_at : ℕ → List Placed → Reading K) (atom_of : Rel → K → A) where
+module _ {C K A : Type 0} (texts : Texts K A) where
   -- of a line with so many bytes this is the event
   abbrev pub IsEvent : ℕ → Asked C K A → Event C K A → Type 0
   IsEvent len (one_event asked) e = e ≡ asked
-  IsEvent len (cursor_on room ts) e = (query : Pred A) × SpellsQuery key_at atom_of len ts (query_of query) × (e ≡ event.Open query room)
+  IsEvent len (cursor_on room ts) e = (query : Pred A) × SpellsQuery texts len ts (query_of query) × (e ≡ event.Open query room)
 
   -- there is no event: the query's tokens are refused at a place, or memory was wanting for sides or a query
   abbrev pub IsNoEvent : ℕ → Asked C K A → Refusal → Type 0
   IsNoEvent len (one_event asked) why = HasSides asked × (why ≡ refusal.OutOfMemory)
   IsNoEvent len (cursor_on room ts) why =
-      ((place : ℕ) × RefusesTokens key_at atom_of len ts place × (why ≡ refusal.QueryText place))
+      ((place : ℕ) × RefusesTokens texts len ts place × (why ≡ refusal.QueryText place))
       ⊎ (why ≡ refusal.OutOfMemory)
 
 module _ {C K A : Type 0} (key_at : ℕ → List Placed → Reading K) where
@@ -155,6 +157,24 @@ asked_of text (request.AskMark c) = one_event (event.AskMark c)
 asked_of text (request.Take c) = one_event (event.Take c)
 asked_of text (request.Close c) = one_event (event.Close c)
 
--- what was returned is what reading gives
-abbrev pub IsAsked : {C K A : Type 0} → List ℕ → Result (EventRequest K) ℕ → Result (Asked C K A) ℕ → Type 0
-IsAsked text returned read = MatchResult returned (λ r. read ≡ Ok (asked_of text r)) (λ place. read ≡ Err place)
+-- the same by the lexeme of the verb
+abbrev pub asked_from : {C K A : Type 0} → Texts K A → List ℕ → Lexeme → ℕ → List Placed → Result (Asked C K A) ℕ
+asked_from texts text first len ts = asked_by texts.key_at len first.place (verb_of (token_in text first)) ts
+
+-- What was returned is what this reading gives of a text's lexemes. C is the class, A its atoms.
+abbrev pub IsAsked : (C A : Type 0) {K : Type 0} → (ℕ → List Placed → Result (Asked C K A) ℕ) → List ℕ → List Lexeme → Result (EventRequest K) ℕ → Type 0
+IsAsked C A read text lexemes returned =
+    MatchResult returned (λ r. read (length text) (placed text lexemes) ≡ Ok (asked_of text r)) (λ place. read (length text) (placed text lexemes) ≡ Err place)
+
+-- the letters that were returned are those of the sides in front of a text's lexemes
+abbrev pub GivesSides : List ℕ → List Lexeme → Result (Bor (List ℕ) × Bor (List Lexeme)) ℕ → Type 0
+GivesSides text lexemes returned =
+    MatchResult returned (λ r. sides_at (length text) (placed text lexemes) ≡ Ok (map side_of r.0.now, placed text r.1.now)) (λ place. sides_at (length text) (placed text lexemes) ≡ Err place)
+
+-- what a request with lexemes of a text asks is this event
+abbrev pub AsksEvent : {C K A : Type 0} → Texts K A → List ℕ → EventRequest K → Event C K A → Type 0
+AsksEvent texts text asked event = IsEvent texts (length text) (asked_of text asked) event
+
+-- it asks for no event, for this reason
+abbrev pub AsksNoEvent : (C : Type 0) {K A : Type 0} → Texts K A → List ℕ → EventRequest K → Refusal → Type 0
+AsksNoEvent C texts text asked why = IsNoEvent {C = C} texts (length text) (asked_of text asked) why

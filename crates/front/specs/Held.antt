@@ -1,6 +1,8 @@
 -- What a session holds of the line that it reads.
-use Rattle.std.specs.Prelude.{◌≡◌, ℕ, ◌<◌, Bool, true, false, List, [], ◌++◌, length, nat_eq, Option, if◌then◌else◌}
-use Rattle.std.specs.Io.KnownBytes.{Consumes, IsAtEnd}
+use Rattle.std.specs.Prelude.{◌≡◌, ℕ, ◌<◌, Bool, true, false, List, [], ◌++◌, ◌-◌, take, drop, length, nat_eq, Option, if◌then◌else◌}
+use Rattle.std.specs.Io.KnownBytes.{Consumes, Keeps, IsAtEnd}
+use Rattle.key_class.specs.declared.refusal.Fault.{Fault}
+use Rattle.key_class.specs.declared.refusal.Fault.TheVariants as fault
 
 -- the bytes that are held, and whether earlier ones of the line, which is too long, are not
 pub record Held : Type 0 where
@@ -17,6 +19,22 @@ pub record Fills (before after : Option (List ℕ)) (old : Held) (more : Bool) (
   pub consumed : Consumes before after bytes
   pub held : new ≡ record { rest = (with_room old).rest ++ bytes; overlong = (with_room old).overlong }
   pub none_at_end : more ≡ false → (bytes ≡ []) × IsAtEnd after
+
+-- The same of a reader. remaining tells of a reader what it has left.
+abbrev pub FillsFrom : {R : Type 0} → (R → Option (List ℕ)) → R → R → Held → Held → Bool → Type 0
+FillsFrom remaining before after old new more = Fills (remaining before) (remaining after) old more new
+
+-- the reader failed, and has left what it had
+abbrev pub FailsToRead : {R : Type 0} → (R → Option (List ℕ)) → R → R → Fault → Type 0
+FailsToRead remaining before after why = (why ≡ fault.Read) × Keeps (remaining before) (remaining after)
+
+-- so many bytes were read, and stand behind the first of these
+abbrev pub ReadsMore : {R : Type 0} → (R → Option (List ℕ)) → R → R → ℕ → List ℕ → ℕ → Type 0
+ReadsMore remaining before after held bytes n = Consumes (remaining before) (remaining after) (take n (drop held bytes))
+
+-- the bytes from start to end, as many as were told, were moved to the front, and there is room behind them
+abbrev pub AreMovedToFront : ℕ → ℕ → List ℕ → List ℕ → ℕ → Type 0
+AreMovedToFront start end old new n = (n ≡ end - start) × (n < length new) × (take n new ≡ take n (drop start old))
 
 -- the line is all that is held of it, or, where its first bytes were let go, has more bytes than a line may have
 abbrev pub IsRestOf : Bool → List ℕ → List ℕ → Type 0

@@ -1,18 +1,18 @@
 -- Which texts answer which event lines, and what becomes of the world.
-use Rattle.std.specs.Prelude.{◌≡◌, ℕ, List, [], ◌∷◌, Result, Ok, Err, ◌⊎◌}
+use Rattle.std.specs.Prelude.{◌≡◌, ℕ, length, List, [], ◌∷◌, Result, Ok, Err, ◌⊎◌}
 use Rattle.key_class.specs.Rules.{Rules}
 use Rattle.key_class.specs.declared.refusal.Refusal.{Refusal}
 use Rattle.key_class.specs.declared.refusal.Refusal.TheVariants as refusal
-use Rattle.key_class.specs.declared.sides.Rel.{Rel}
-use Rattle.mailbox.specs.Outlets.{Tray, Rule}
+use Rattle.mailbox.specs.Outlets.{Tray, tray_rule}
 use Rattle.query_text.specs.Tokens.{Placed}
-use Rattle.query_text.specs.Keys.{Reading}
+use Rattle.query_text.specs.ClassTexts.{Texts}
 use Rattle.world.specs.States.{State}
 use Rattle.world.specs.Steps.{Step}
 use Rattle.world.specs.declared.event.Event.{Event}
 use Rattle.world.specs.declared.reply.Reply.{Reply}
 use Rattle.world.specs.declared.reply.Reply.TheVariants as reply
-use Rattle.front.specs.EventLines.{Asked, IsEvent, IsNoEvent, asked_by, verb_of}
+use Rattle.front.specs.declared.event_request.EventRequest.{EventRequest}
+use Rattle.front.specs.EventLines.{Asked, IsEvent, IsNoEvent, asked_by, asked_of, verb_of}
 use Rattle.front.specs.EventReplies.{reply_line}
 use Rattle.front.specs.Replies.{refusal_line}
 
@@ -21,20 +21,24 @@ abbrev pub TrayReply : Type 0 → Type 0 → Type 0 → Type 0
 TrayReply C K A = Reply C (Tray K) K A Unit
 
 -- C: the class
-module _ (C : Type 0) {K A : Type 0} (key_at : ℕ → List Placed → Reading K) (atom_of : Rel → K → A) (key_text : K → List ℕ) (rules : Rules K A) (rule : Rule) where
+module _ (C : Type 0) {K A : Type 0} (texts : Texts K A) (rules : Rules K A) where
   -- What a line of so many bytes asks is answered so: the event is one step of the world, with this reply; or there is
   -- no event, and nothing changes.
   abbrev pub RepliesTo : ℕ → State K A → Asked C K A → TrayReply C K A → State K A → Type 0
   RepliesTo len old asked said new =
-      ((event : Event C K A) × IsEvent key_at atom_of len asked event × Step rules rule 0 old event said new)
-      ⊎ ((why : Refusal) × IsNoEvent key_at atom_of len asked why × (said ≡ reply.Refused why) × (new ≡ old))
+      ((event : Event C K A) × IsEvent texts len asked event × Step rules tray_rule 0 old event said new)
+      ⊎ ((why : Refusal) × IsNoEvent texts len asked why × (said ≡ reply.Refused why) × (new ≡ old))
+
+  -- the same of a request with lexemes of a text
+  abbrev pub CarriesOut : List ℕ → EventRequest K → State K A → State K A → TrayReply C K A → Type 0
+  CarriesOut text asked old new said = RepliesTo (length text) old (asked_of text asked) said new
 
   -- what is asked is answered by the line of its reply; a fault of the line is refused at its place
   abbrev pub AnswersAsked : ℕ → State K A → Result (Asked C K A) ℕ → List ℕ → State K A → Type 0
-  AnswersAsked len old (Ok asked) text new = (said : TrayReply C K A) × RepliesTo len old asked said new × (text ≡ reply_line key_text said)
+  AnswersAsked len old (Ok asked) text new = (said : TrayReply C K A) × RepliesTo len old asked said new × (text ≡ reply_line texts.key_text said)
   AnswersAsked len old (Err place) text new = (text ≡ refusal_line (refusal.Line place)) × (new ≡ old)
 
   -- a line without a token has no answer
   abbrev pub AnswersTokens : ℕ → State K A → List Placed → List ℕ → State K A → Type 0
   AnswersTokens len old [] text new = (text ≡ []) × (new ≡ old)
-  AnswersTokens len old (t ∷ ts) text new = AnswersAsked len old (asked_by key_at len t.place (verb_of t.token) ts) text new
+  AnswersTokens len old (t ∷ ts) text new = AnswersAsked len old (asked_by texts.key_at len t.place (verb_of t.token) ts) text new

@@ -15,6 +15,14 @@ abbrev pub listed : {K : Type 0} → Reply K → List (Row K)
 listed (reply.Found rows) = rows.items
 listed _ = []
 
+-- a line of some words and a number
+abbrev pub numbered_line : List ℕ → ℕ → List ℕ
+numbered_line words number = words ++ (decimal number ++ codes "\n")
+
+-- a line of some words and two numbers
+abbrev pub pair_line : List ℕ → ℕ → ℕ → List ℕ
+pair_line words first second = words ++ (decimal first ++ (codes " " ++ (decimal second ++ codes "\n")))
+
 abbrev pub refusal_line : Refusal → List ℕ
 refusal_line why = codes "refused " ++ (refusals.text_of why ++ codes "\n")
 

@@ -1,8 +1,10 @@
 -- What a line of a session asks.
-use Rattle.std.specs.Prelude.{◌≡◌, ℕ, pos, unsigned_abs, List, [], ◌∷◌, Result, Ok, Err, MatchResult, if◌then◌else◌, codes}
+use Rattle.std.specs.Prelude.{◌≡◌, ℕ, pos, unsigned_abs, List, [], ◌∷◌, length, Result, Ok, Err, MatchResult, if◌then◌else◌, codes}
 use Rattle.std.specs.Str.{bytes_eq}
-use Rattle.query_text.specs.Tokens.{Token, word, Placed, placed, most_u64}
+use Rattle.query_text.specs.declared.lexeme.Lexeme.{Lexeme}
+use Rattle.query_text.specs.Tokens.{Token, word, Placed, placed, token_in, most_u64}
 use Rattle.query_text.specs.Keys.{Reading, ◌>>=◌, number_at}
+use Rattle.query_text.specs.ClassTexts.{Texts}
 use Rattle.front.specs.declared.request.Verb.{Verb}
 use Rattle.front.specs.declared.request.Verb.TheVariants as verb
 use Rattle.front.specs.declared.request.Request.{Request}
@@ -84,6 +86,20 @@ command_of text (request.Find lexemes) = find_rows (placed text lexemes.now)
 command_of text request.Sweep = sweep_all
 command_of text (request.Close cursor) = close_cursor cursor
 
--- what was returned is what reading gives
-abbrev pub IsAsked : {K : Type 0} → List ℕ → Result (Request K) ℕ → Result (Command K) ℕ → Type 0
-IsAsked text returned read = MatchResult returned (λ r. read ≡ Ok (command_of text r)) (λ place. read ≡ Err place)
+-- the same by the lexeme of the verb
+abbrev pub asked_from : {K A : Type 0} → Texts K A → List ℕ → Lexeme → ℕ → List Placed → Result (Command K) ℕ
+asked_from texts text first len ts = asked_by texts.key_at len first.place (verb_of (token_in text first)) ts
+
+-- what was returned is what this reading gives of a text's lexemes
+abbrev pub IsAsked : {K : Type 0} → (ℕ → List Placed → Result (Command K) ℕ) → List ℕ → List Lexeme → Result (Request K) ℕ → Type 0
+IsAsked read text lexemes returned =
+    MatchResult returned (λ r. read (length text) (placed text lexemes) ≡ Ok (command_of text r)) (λ place. read (length text) (placed text lexemes) ≡ Err place)
+
+-- the same where it is given as it is read
+abbrev pub IsRead : {A : Type 0} → (ℕ → List Placed → Result A ℕ) → List ℕ → List Lexeme → Result A ℕ → Type 0
+IsRead read text lexemes returned =
+    MatchResult returned (λ a. read (length text) (placed text lexemes) ≡ Ok a) (λ place. read (length text) (placed text lexemes) ≡ Err place)
+
+-- the first of the lexemes stands at the place
+abbrev pub BeginAt : List Lexeme → ℕ → Type 0
+BeginAt lexemes place = (first : Lexeme) × (rest : List Lexeme) × (lexemes ≡ first ∷ rest) × (place ≡ first.place)

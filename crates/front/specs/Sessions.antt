@@ -1,118 +1,84 @@
--- Which texts answer which lines, and what a whole session reads and writes.
-use Rattle.std.specs.Prelude.{◌≡◌, ℕ, ◌<◌, ◌≤◌, Bool, false, List, [], ◌∷◌, ◌++◌, length, Option, Some, None, Result, Ok, Err, ◌⊎◌}
-use Rattle.std.specs.Io.KnownBytes.{Consumes, Appends}
-use Rattle.key_class.specs.declared.sides.Rel.{Rel}
+-- Which texts answer the tokens of a line, and how a session begins and ends.
+use Rattle.std.specs.Prelude.{◌≡◌, ℕ, List, [], ◌∷◌, length, Option, Some, None, Result, Ok, Err, ◌⊎◌}
+use Rattle.key_class.specs.Rules.{Rules}
 use Rattle.key_class.specs.declared.refusal.Refusal.TheVariants as refusal
 use Rattle.key_class.specs.Queries.{Query}
 use Rattle.store.specs.States.{State}
-use Rattle.query_text.specs.Tokens.{Placed, Cuts}
-use Rattle.query_text.specs.Keys.{Reading}
+use Rattle.query_text.specs.declared.lexeme.Lexeme.{Lexeme}
+use Rattle.query_text.specs.Tokens.{Placed, placed}
+use Rattle.query_text.specs.ClassTexts.{Texts}
 use Rattle.query_text.specs.Grammar.{SpellsQuery, RefusesTokens}
+use Rattle.front.specs.declared.request.Request.{Request}
 use Rattle.front.specs.declared.reply.Reply.{Reply}
 use Rattle.front.specs.declared.reply.Reply.TheVariants as reply
-use Rattle.front.specs.Lines.{AreLines}
-use Rattle.front.specs.Requests.{Command, insert_row, delete_row, next_item, ask_mark, close_cursor, open_cursor, find_rows, sweep_all, asked_by, verb_of}
+use Rattle.front.specs.Requests.{Command, insert_row, delete_row, next_item, ask_mark, close_cursor, open_cursor, find_rows, sweep_all, asked_by, verb_of, command_of}
 use Rattle.front.specs.Replies.{text_of}
 use Rattle.front.specs.Told.{Told, nothing_told, RepliesInsert, RepliesDelete, RepliesOpen, RepliesNext, RepliesMark, RepliesFind, RepliesSweep, RepliesClose}
-use Rattle.front.specs.AsTold.{IsAsTold}
-use Rattle.front.specs.Written.{WritesBeginning}
+use Rattle.front.specs.AsTold.{IsAsTold, Tells}
 
 -- what is written of a reply, if there is one
 abbrev pub text_of_answer : {K : Type 0} → (K → List ℕ) → Option (Reply K) → List ℕ
 text_of_answer key_text None = []
 text_of_answer key_text (Some said) = text_of key_text said
 
-module _ {K A : Type 0} (key_at : ℕ → List Placed → Reading K) (atom_of : Rel → K → A) where
+module _ {K A : Type 0} (texts : Texts K A) where
   -- the tokens spell a query, which is answered so; or they are refused at a place; or memory was wanting
-  abbrev pub WithQuery : ℕ → List Placed → (Query A → Type 0) → Told K A → Reply K → Told K A → Type 0
-  WithQuery len ts answered old said new =
-      ((q : Query A) × SpellsQuery key_at atom_of len ts q × answered q)
-      ⊎ ((place : ℕ) × RefusesTokens key_at atom_of len ts place × (said ≡ reply.Refused (refusal.QueryText place)) × (new ≡ old))
+  abbrev pub WithQuery : ℕ → List Placed → (Query A → Reply K → Told K A → Told K A → Type 0) → Reply K → Told K A → Told K A → Type 0
+  WithQuery len ts replies said old new =
+      ((q : Query A) × SpellsQuery texts len ts q × replies q said old new)
+      ⊎ ((place : ℕ) × RefusesTokens texts len ts place × (said ≡ reply.Refused (refusal.QueryText place)) × (new ≡ old))
       ⊎ ((said ≡ reply.Refused refusal.OutOfMemory) × (new ≡ old))
 
-  module _ (matching : A → K → Bool) where
+  module _ (rules : Rules K A) where
     -- the reply may answer what a line of so many bytes asks
-    abbrev pub RepliesTo : ℕ → Told K A → Command K → Reply K → Told K A → Type 0
-    RepliesTo len old (insert_row key tag) said new = RepliesInsert old key tag said new
-    RepliesTo len old (delete_row row) said new = RepliesDelete old row said new
-    RepliesTo len old (open_cursor room ts) said new = WithQuery len ts (λ q. RepliesOpen old room q said new) old said new
-    RepliesTo len old (next_item c) said new = RepliesNext matching old c said new
-    RepliesTo len old (ask_mark c) said new = RepliesMark old c said new
-    RepliesTo len old (find_rows ts) said new = WithQuery len ts (λ q. RepliesFind matching old q said new) old said new
-    RepliesTo len old sweep_all said new = RepliesSweep old said new
-    RepliesTo len old (close_cursor c) said new = RepliesClose old c said new
+    abbrev pub RepliesTo : ℕ → Command K → Reply K → Told K A → Told K A → Type 0
+    RepliesTo len (insert_row key tag) said old new = RepliesInsert key tag said old new
+    RepliesTo len (delete_row row) said old new = RepliesDelete row said old new
+    RepliesTo len (open_cursor room ts) said old new = WithQuery len ts (RepliesOpen room) said old new
+    RepliesTo len (next_item c) said old new = RepliesNext rules c said old new
+    RepliesTo len (ask_mark c) said old new = RepliesMark c said old new
+    RepliesTo len (find_rows ts) said old new = WithQuery len ts (RepliesFind rules) said old new
+    RepliesTo len sweep_all said old new = RepliesSweep said old new
+    RepliesTo len (close_cursor c) said old new = RepliesClose c said old new
 
     -- a command is carried out; a fault of the line is refused at its place
-    abbrev pub RepliesAsked : ℕ → Told K A → Result (Command K) ℕ → Option (Reply K) → Told K A → Type 0
-    RepliesAsked len old (Ok command) said new = (r : Reply K) × (said ≡ Some r) × RepliesTo len old command r new
-    RepliesAsked len old (Err place) said new = (said ≡ Some (reply.Refused (refusal.Line place))) × (new ≡ old)
+    abbrev pub RepliesAsked : ℕ → Result (Command K) ℕ → Option (Reply K) → Told K A → Told K A → Type 0
+    RepliesAsked len (Ok command) said old new = (r : Reply K) × (said ≡ Some r) × RepliesTo len command r old new
+    RepliesAsked len (Err place) said old new = (said ≡ Some (reply.Refused (refusal.Line place))) × (new ≡ old)
 
     -- a line without a token has no answer
-    abbrev pub RepliesTokens : ℕ → Told K A → List Placed → Option (Reply K) → Told K A → Type 0
-    RepliesTokens len old [] said new = (said ≡ None) × (new ≡ old)
-    RepliesTokens len old (t ∷ ts) said new = RepliesAsked len old (asked_by key_at len t.place (verb_of t.token) ts) said new
+    abbrev pub RepliesTokens : ℕ → List Placed → Option (Reply K) → Told K A → Told K A → Type 0
+    RepliesTokens len [] said old new = (said ≡ None) × (new ≡ old)
+    RepliesTokens len (t ∷ ts) said old new = RepliesAsked len (asked_by texts.key_at len t.place (verb_of t.token) ts) said old new
 
-    -- a line that is too long is refused at the first byte too many
-    abbrev pub RepliesLine : Told K A → List ℕ → Option (Reply K) → Told K A → Type 0
-    RepliesLine old line said new =
-        ((4096 < length line) × (said ≡ Some (reply.Refused (refusal.Line 4096))) × (new ≡ old))
-        ⊎ ((length line ≤ 4096) × (ts : List Placed) × Cuts false 0 line ts × RepliesTokens (length line) old ts said new)
+    -- the text may answer the tokens of a line with so many bytes, and this is told with it
+    abbrev pub AnswersTold : ℕ → Told K A → List Placed → List ℕ → Told K A → Type 0
+    AnswersTold len old ts text new = (said : Option (Reply K)) × (text ≡ text_of_answer texts.key_text said) × RepliesTokens len ts said old new
 
-    module _ (key_text : K → List ℕ) where
-      -- the text may answer the lines, one after the other
-      abbrev pub Answers : Told K A → List (List ℕ) → List ℕ → Told K A → Type 0
-      Answers old [] text new = (text ≡ []) × (new ≡ old)
-      Answers old (line ∷ lines) text new =
-          (said : Option (Reply K)) × (mid : Told K A) × (rest : List ℕ) × RepliesLine old line said mid × Answers mid lines rest new × (text ≡ text_of_answer key_text said ++ rest)
+    -- The calls of a store answer a text as their client is told: a request, its tokens, and the query that lexemes spell
+    -- where a cursor is opened on it or its rows are found.
 
-      -- The bytes that were read are lines and a last one without a line feed; what was written answers them all, and
-      -- the store is as was told.
-      pub record AnsweredAll (before after : Option (List ℕ)) (held written : Option (List ℕ)) (old new : State K A) : Type 0 where
-        pub bytes : List ℕ
-        pub lines : List (List ℕ)
-        pub rest : List ℕ
-        pub text : List ℕ
-        pub told : Told K A
-        pub read : Consumes before after bytes
-        pub are_lines : AreLines bytes lines rest
-        pub answers : Answers (nothing_told old.limit old.page_limit) (lines ++ rest ∷ []) text told
-        pub wrote : Appends held written text
-        pub as_told : IsAsTold matching new told
+    abbrev pub TellsRequest : State K A → State K A → List ℕ → Request K → Reply K → Type 0
+    TellsRequest old new text asked said = Tells rules old new (RepliesTo (length text) (command_of text asked) said)
 
-      -- The bytes that were read are lines and the beginning of another; what was written answers the lines, and the
-      -- store is as was told.
-      pub record AnsweredWhole (before after : Option (List ℕ)) (held written : Option (List ℕ)) (old new : State K A) : Type 0 where
-        pub bytes : List ℕ
-        pub lines : List (List ℕ)
-        pub rest : List ℕ
-        pub text : List ℕ
-        pub told : Told K A
-        pub read : Consumes before after bytes
-        pub are_lines : AreLines bytes lines rest
-        pub answers : Answers (nothing_told old.limit old.page_limit) lines text told
-        pub wrote : Appends held written text
-        pub as_told : IsAsTold matching new told
+    abbrev pub TellsTokens : State K A → State K A → List ℕ → List Lexeme → Option (Reply K) → Type 0
+    TellsTokens old new text lexemes said = Tells rules old new (RepliesTokens (length text) (placed text lexemes) said)
 
-      -- The store is as the answers to some first lines of what was read tell, and a beginning of them was written.
-      pub record Stands (before after : Option (List ℕ)) (held written : Option (List ℕ)) (old new : State K A) : Type 0 where
-        pub bytes : List ℕ
-        pub lines : List (List ℕ)
-        pub rest : List ℕ
-        pub first : List (List ℕ)
-        pub others : List (List ℕ)
-        pub text : List ℕ
-        pub told : Told K A
-        pub read : Consumes before after bytes
-        pub are_lines : AreLines bytes lines rest
-        pub parted : lines ++ rest ∷ [] ≡ first ++ others
-        pub answers : Answers (nothing_told old.limit old.page_limit) first text told
-        pub wrote : WritesBeginning held written text
-        pub as_told : IsAsTold matching new told
+    abbrev pub TellsOpening : State K A → State K A → List ℕ → List Lexeme → ℕ → Reply K → Type 0
+    TellsOpening old new text lexemes room said = Tells rules old new (WithQuery (length text) (placed text lexemes) (RepliesOpen room) said)
 
-module _ {K A : Type 0} (key_at : ℕ → List Placed → Reading K) (atom_of : Rel → K → A) (matching : A → K → Bool) (key_text : K → List ℕ) where
+    abbrev pub TellsFinding : State K A → State K A → List ℕ → List Lexeme → Reply K → Type 0
+    TellsFinding old new text lexemes said = Tells rules old new (WithQuery (length text) (placed text lexemes) (RepliesFind rules) said)
+
+-- The client of a new store was told nothing before such a conversation, and then the store is as was told.
+abbrev pub FromNothing : {K A : Type 0} → Rules K A → (Told K A → Told K A → Type 0) → State K A → State K A → Type 0
+FromNothing {K} {A} rules conversation old new =
+    (told : Told K A) × conversation (nothing_told old.limit old.page_limit) told × IsAsTold rules new told
+
+module _ {K A : Type 0} (texts : Texts K A) (rules : Rules K A) where
   -- The text answers the tokens of a line with so many bytes: it is one that may, whatever was told that the store is
   -- as, and then the store is as is told.
   pub record AnswersTokens (len : ℕ) (old : State K A) (ts : List Placed) (text : List ℕ) (new : State K A) : Type 0 where
     pub said : Option (Reply K)
-    pub is_text : text ≡ text_of_answer key_text said
-    pub replies : (told : Told K A) → IsAsTold matching old told → (after : Told K A) × RepliesTokens key_at atom_of matching len told ts said after × IsAsTold matching new after
+    pub is_text : text ≡ text_of_answer texts.key_text said
+    pub replies : Tells rules old new (RepliesTokens texts rules len ts said)

@@ -3,7 +3,8 @@ use Rattle.std.specs.Prelude.{◌≡◌, ℕ, ◌+◌, ◌-◌, ◌<◌, ◌≤�
 use Rattle.std.specs.List.{AllByRecursion}
 use Rattle.key_class.specs.declared.refusal.Refusal.{Refusal}
 use Rattle.key_class.specs.declared.refusal.Refusal.TheVariants as refusal
-use Rattle.key_class.specs.Queries.{Query, matches_query}
+use Rattle.key_class.specs.Queries.{Query}
+use Rattle.key_class.specs.Rules.{Rules, satisfies}
 use Rattle.change_list.specs.declared.write.Write.{Write}
 use Rattle.change_list.specs.declared.write.Write.TheVariants as write
 use Rattle.change_list.specs.declared.write.Status.TheVariants as status
@@ -68,49 +69,49 @@ module _ {K A : Type 0} where
   abbrev pub MayLackPages : Told K A → Type 0
   MayLackPages told = told.page_limit < (length told.commits + 1) + 2
 
-  abbrev pub RepliesInsert : Told K A → K → ℕ → Reply K → Told K A → Type 0
-  RepliesInsert old key tag (reply.Committed n) new =
+  abbrev pub RepliesInsert : K → ℕ → Reply K → Told K A → Told K A → Type 0
+  RepliesInsert key tag (reply.Committed n) old new =
       (¬ IsFull old) × (n ≡ length old.commits + 1) × (new ≡ record old { commits = old.commits ++ write.Insert key tag ∷ [] })
-  RepliesInsert old key tag (reply.Refused refusal.CommitsFull) new = IsFull old × (new ≡ old)
-  RepliesInsert old key tag (reply.Refused refusal.PagesFull) new = (¬ IsFull old) × MayLackPages old × (new ≡ old)
-  RepliesInsert old key tag (reply.Refused refusal.OutOfMemory) new = (¬ IsFull old) × (new ≡ old)
-  RepliesInsert old key tag _ new = ⊥
+  RepliesInsert key tag (reply.Refused refusal.CommitsFull) old new = IsFull old × (new ≡ old)
+  RepliesInsert key tag (reply.Refused refusal.PagesFull) old new = (¬ IsFull old) × MayLackPages old × (new ≡ old)
+  RepliesInsert key tag (reply.Refused refusal.OutOfMemory) old new = (¬ IsFull old) × (new ≡ old)
+  RepliesInsert key tag _ old new = ⊥
 
-  abbrev pub RepliesDelete : Told K A → ℕ → Reply K → Told K A → Type 0
-  RepliesDelete old row (reply.Committed n) new =
+  abbrev pub RepliesDelete : ℕ → Reply K → Told K A → Told K A → Type 0
+  RepliesDelete row (reply.Committed n) old new =
       (status_of old.commits row ≡ status.Live) × (¬ IsFull old) × (n ≡ length old.commits + 1)
       × (new ≡ record old { commits = old.commits ++ write.Delete row ∷ []; dead = (record { row = row; died = n }) ∷ old.dead; finders = old.finders + 1 })
-  RepliesDelete old row (reply.Refused refusal.NoSuchRow) new = (status_of old.commits row ≡ status.NeverIssued) × (new ≡ old)
-  RepliesDelete old row (reply.Refused refusal.AlreadyDeleted) new = (status_of old.commits row ≡ status.Dead) × (new ≡ old)
-  RepliesDelete old row (reply.Refused refusal.CommitsFull) new = (status_of old.commits row ≡ status.Live) × IsFull old × (new ≡ old)
-  RepliesDelete old row (reply.Refused refusal.OutOfMemory) new = (status_of old.commits row ≡ status.Live) × (¬ IsFull old) × (new ≡ record old { finders = old.finders + 1 })
-  RepliesDelete old row (reply.Refused refusal.FindersFull) new = (status_of old.commits row ≡ status.Live) × (¬ IsFull old) × MayLackFinders old × (new ≡ old)
-  RepliesDelete old row _ new = ⊥
+  RepliesDelete row (reply.Refused refusal.NoSuchRow) old new = (status_of old.commits row ≡ status.NeverIssued) × (new ≡ old)
+  RepliesDelete row (reply.Refused refusal.AlreadyDeleted) old new = (status_of old.commits row ≡ status.Dead) × (new ≡ old)
+  RepliesDelete row (reply.Refused refusal.CommitsFull) old new = (status_of old.commits row ≡ status.Live) × IsFull old × (new ≡ old)
+  RepliesDelete row (reply.Refused refusal.OutOfMemory) old new = (status_of old.commits row ≡ status.Live) × (¬ IsFull old) × (new ≡ record old { finders = old.finders + 1 })
+  RepliesDelete row (reply.Refused refusal.FindersFull) old new = (status_of old.commits row ≡ status.Live) × (¬ IsFull old) × MayLackFinders old × (new ≡ old)
+  RepliesDelete row _ old new = ⊥
 
-  abbrev pub RepliesOpen : Told K A → ℕ → Query A → Reply K → Told K A → Type 0
-  RepliesOpen old room query (reply.Opened c) new =
+  abbrev pub RepliesOpen : ℕ → Query A → Reply K → Told K A → Told K A → Type 0
+  RepliesOpen room query (reply.Opened c) old new =
       (¬ IsBadRoom room) × (¬ HasNoCursorLeft old) × (c ≡ old.last + 1)
       × (new ≡ record old {
         cursors = with_cursor old.cursors c (Ok (record { query = query; opened = length old.commits; given = []; asked = false }));
         open_cursors = old.open_cursors + 1;
         last = c;
       })
-  RepliesOpen old room query (reply.Refused refusal.BadConfig) new = IsBadRoom room × (new ≡ old)
-  RepliesOpen old room query (reply.Refused refusal.CursorsFull) new = (¬ IsBadRoom room) × HasNoCursorLeft old × (new ≡ old)
-  RepliesOpen old room query (reply.Refused refusal.OutOfMemory) new = (¬ IsBadRoom room) × (¬ HasNoCursorLeft old) × (new ≡ old)
-  RepliesOpen old room query _ new = ⊥
+  RepliesOpen room query (reply.Refused refusal.BadConfig) old new = IsBadRoom room × (new ≡ old)
+  RepliesOpen room query (reply.Refused refusal.CursorsFull) old new = (¬ IsBadRoom room) × HasNoCursorLeft old × (new ≡ old)
+  RepliesOpen room query (reply.Refused refusal.OutOfMemory) old new = (¬ IsBadRoom room) × (¬ HasNoCursorLeft old) × (new ≡ old)
+  RepliesOpen room query _ old new = ⊥
 
-  abbrev pub RepliesMark : Told K A → ℕ → Reply K → Told K A → Type 0
-  RepliesMark old c reply.Asked new = (f : Following K A) × (old.cursors c ≡ Ok f) × (new ≡ record old { cursors = with_cursor old.cursors c (Ok (record f { asked = true })) })
-  RepliesMark old c (reply.Refused why) new = (old.cursors c ≡ Err why) × (new ≡ old)
-  RepliesMark old c _ new = ⊥
+  abbrev pub RepliesMark : ℕ → Reply K → Told K A → Told K A → Type 0
+  RepliesMark c reply.Asked old new = (f : Following K A) × (old.cursors c ≡ Ok f) × (new ≡ record old { cursors = with_cursor old.cursors c (Ok (record f { asked = true })) })
+  RepliesMark c (reply.Refused why) old new = (old.cursors c ≡ Err why) × (new ≡ old)
+  RepliesMark c _ old new = ⊥
 
-  abbrev pub RepliesClose : Told K A → ℕ → Reply K → Told K A → Type 0
-  RepliesClose old c reply.Closed new =
+  abbrev pub RepliesClose : ℕ → Reply K → Told K A → Told K A → Type 0
+  RepliesClose c reply.Closed old new =
       (f : Following K A) × (old.cursors c ≡ Ok f)
       × (new ≡ record old { cursors = with_cursor old.cursors c (Err refusal.CursorClosed); open_cursors = old.open_cursors - 1 })
-  RepliesClose old c (reply.Refused why) new = (old.cursors c ≡ Err why) × (new ≡ old)
-  RepliesClose old c _ new = ⊥
+  RepliesClose c (reply.Refused why) old new = (old.cursors c ≡ Err why) × (new ≡ old)
+  RepliesClose c _ old new = ⊥
 
   -- each dead row that a sweep leaves died after the opening of some open cursor
   pub record DiedAfterOpening (told : Told K A) (dead : DeadRow) : Type 0 where
@@ -119,34 +120,34 @@ module _ {K A : Type 0} where
     pub is_open : told.cursors serial ≡ Ok cursor
     pub opened : cursor.opened < dead.died
 
-  abbrev pub RepliesSweep : Told K A → Reply K → Told K A → Type 0
-  RepliesSweep old (reply.Swept n) new =
+  abbrev pub RepliesSweep : Reply K → Told K A → Told K A → Type 0
+  RepliesSweep (reply.Swept n) old new =
       (gone left : List DeadRow) × IsPermutation old.dead (gone ++ left) × (n ≡ length gone)
       × AllByRecursion (DiedAfterOpening old) left × (new ≡ record old { dead = left })
-  RepliesSweep old (reply.Refused refusal.OutOfMemory) new =
+  RepliesSweep (reply.Refused refusal.OutOfMemory) old new =
       (gone left : List DeadRow) × IsPermutation old.dead (gone ++ left) × (new ≡ record old { dead = left })
-  RepliesSweep old _ new = ⊥
+  RepliesSweep _ old new = ⊥
 
-module _ {K A : Type 0} (matching : A → K → Bool) where
+module _ {K A : Type 0} (rules : Rules K A) where
   abbrev pub wants : Following K A → K → Bool
-  wants f = matches_query matching f.query
+  wants f = satisfies rules f.query
 
-  abbrev pub RepliesFind : Told K A → Query A → Reply K → Told K A → Type 0
-  RepliesFind old query (reply.Found rows) new = (rows.items ≡ snapshot (matches_query matching query) (length old.commits) old.commits) × (new ≡ old)
-  RepliesFind old query (reply.Refused refusal.OutOfMemory) new = new ≡ old
-  RepliesFind old query _ new = ⊥
+  abbrev pub RepliesFind : Query A → Reply K → Told K A → Told K A → Type 0
+  RepliesFind query (reply.Found rows) old new = (rows.items ≡ snapshot (satisfies rules query) (length old.commits) old.commits) × (new ≡ old)
+  RepliesFind query (reply.Refused refusal.OutOfMemory) old new = new ≡ old
+  RepliesFind query _ old new = ⊥
 
   -- A mark comes only where one is asked for, tells the number of commits, and ends the asking; then all up to it was given.
   abbrev pub GivesTo : List (Write K) → Following K A → Item K → Bool → Type 0
   GivesTo commits f (item.Mark n) asked = (f.asked ≡ true) × (n ≡ length commits) × (asked ≡ false) × IsListing (wants f) f.opened n commits (without_marks f.given)
   GivesTo commits f other asked = asked ≡ f.asked
 
-  abbrev pub RepliesNext : Told K A → ℕ → Reply K → Told K A → Type 0
-  RepliesNext old c (reply.Given given) new =
+  abbrev pub RepliesNext : ℕ → Reply K → Told K A → Told K A → Type 0
+  RepliesNext c (reply.Given given) old new =
       (f : Following K A) × (asked : Bool) × (old.cursors c ≡ Ok f) × GivesTo old.commits f given asked
       × BeginsListing (wants f) f.opened (length old.commits) old.commits (without_marks (f.given ++ given ∷ []))
       × (new ≡ record old { cursors = with_cursor old.cursors c (Ok (record f { given = f.given ++ given ∷ []; asked = asked })) })
-  RepliesNext old c reply.Empty new =
+  RepliesNext c reply.Empty old new =
       (f : Following K A) × (old.cursors c ≡ Ok f) × (f.asked ≡ false) × IsListing (wants f) f.opened (length old.commits) old.commits (without_marks f.given) × (new ≡ old)
-  RepliesNext old c (reply.Refused why) new = ((old.cursors c ≡ Err why) ⊎ ((why ≡ refusal.OutOfMemory) × (f : Following K A) × (old.cursors c ≡ Ok f))) × (new ≡ old)
-  RepliesNext old c _ new = ⊥
+  RepliesNext c (reply.Refused why) old new = ((old.cursors c ≡ Err why) ⊎ ((why ≡ refusal.OutOfMemory) × (f : Following K A) × (old.cursors c ≡ Ok f))) × (new ≡ old)
+  RepliesNext c _ old new = ⊥

@@ -1,6 +1,7 @@
 -- What a session writes: some of it its writer took, the rest is gathered for the writer.
 use Rattle.std.specs.Prelude.{◌≡◌, ℕ, ◌<◌, List, ◌++◌, length, Option, Result, Ok, Err}
 use Rattle.std.specs.Io.KnownBytes.{Appends}
+use Rattle.arrayvec.specs.ArrayVec.{ArrayVec}
 
 -- behind what is gathered there is room for a line
 abbrev pub HasRoomForLine : List ℕ → Type 0
@@ -22,3 +23,11 @@ Writes held gathered written gathered' text = WritesAllBut held written (gathere
 abbrev pub WritesOrFails : {E : Type 0} → Result (Unit {0}) E → Option (List ℕ) → List ℕ → Option (List ℕ) → List ℕ → List ℕ → Type 0
 WritesOrFails (Ok done) held gathered written gathered' text = Writes held gathered written gathered' text
 WritesOrFails (Err fault) held gathered written gathered' text = WritesBeginning held written (gathered ++ text)
+
+-- A writer took a beginning of these bytes, and nothing else. contents tells of a writer what it has.
+abbrev pub TakesBeginning : {W : Type 0} → (W → Option (List ℕ)) → W → W → List ℕ → Type 0
+TakesBeginning contents old new bytes = WritesBeginning (contents old) (contents new) bytes
+
+-- The text is said by a writer and what is gathered for it, unless there is a fault: as above, of both before and after.
+abbrev pub Says : {W E : Type 0} → (W → Option (List ℕ)) → W → W → ArrayVec ℕ → ArrayVec ℕ → List ℕ → Result (Unit {0}) E → Type 0
+Says contents old new gathered gathered' text returned = WritesOrFails returned (contents old) gathered.items (contents new) gathered'.items text

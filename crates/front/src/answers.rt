@@ -1,9 +1,8 @@
-ghost use Rattle.std.specs.Prelude.{◌≡◌, ℕ, ◌+◌, ◌≤◌, List, [], ◌++◌, length, codes, OnOk, IfErr, OnErr};
+ghost use Rattle.std.specs.Prelude.{◌≡◌, ◌+◌, ◌≤◌, [], ◌++◌, length, OnOk, IfErr, OnErr};
 ghost use Rattle.std.specs.List.{flat_map};
-ghost use Rattle.std.specs.Fmt.{decimal};
-ghost use Rattle.front.specs.Replies.{row_text, row_line, item_line, refusal_line, first_line, listed, text_of};
+ghost use Rattle.front.specs.Replies.{row_text, row_line, item_line, refusal_line, first_line, listed, text_of, numbered_line, pair_line};
 ghost use Rattle.std.specs.Io.KnownBytes.{Appends};
-ghost use Rattle.front.specs.Written.{HasRoomForLine, WritesBeginning, WritesOrFails};
+ghost use Rattle.front.specs.Written.{HasRoomForLine, Says, TakesBeginning};
 
 use crate::reply::Reply;
 use arrayvec::ArrayVec;
@@ -27,7 +26,7 @@ pub type Gathered = ArrayVec<u8, ANSWERS>;
 /// `Write` where the writer failed. It took a beginning of the bytes, and is given no more.
 fn write_out<W: Write>(writer: &mut W, bytes: &[u8]) -> Result<(), Fault>
     ensures ok { OnOk result (Appends (W.contents writer.old) (W.contents writer.new) bytes.now) }
-    ensures part { OnErr result (WritesBeginning (W.contents writer.old) (W.contents writer.new) bytes.now) }
+    ensures part { OnErr result (TakesBeginning W.contents writer.old writer.new bytes.now) }
     ensures err { IfErr result (λ e. e ≡ Fault.Write) }
 {
     let mut rest = bytes;
@@ -53,7 +52,7 @@ fn write_out<W: Write>(writer: &mut W, bytes: &[u8]) -> Result<(), Fault>
 /// # Errors
 /// `Write` where the writer failed. It took a beginning, and is given no more.
 pub fn send<W: Write>(writer: &mut W, gathered: &mut Gathered) -> Result<(), Fault>
-    ensures written { WritesOrFails result (W.contents writer.old) gathered.old.items (W.contents writer.new) gathered.new.items [] }
+    ensures written { Says W.contents writer.old writer.new gathered.old gathered.new [] result }
     ensures empty { OnOk result (gathered.new.items ≡ []) }
     ensures err { IfErr result (λ e. e ≡ Fault.Write) }
 {
@@ -67,7 +66,7 @@ pub fn send<W: Write>(writer: &mut W, gathered: &mut Gathered) -> Result<(), Fau
 /// # Errors
 /// `Write` where the writer failed. It took a beginning, and is given no more.
 pub fn send_enough<W: Write>(writer: &mut W, gathered: &mut Gathered) -> Result<(), Fault>
-    ensures written { WritesOrFails result (W.contents writer.old) gathered.old.items (W.contents writer.new) gathered.new.items [] }
+    ensures written { Says W.contents writer.old writer.new gathered.old gathered.new [] result }
     ensures room { OnOk result (HasRoomForLine gathered.new.items) }
     ensures err { IfErr result (λ e. e ≡ Fault.Write) }
 {
@@ -80,7 +79,7 @@ pub fn send_enough<W: Write>(writer: &mut W, gathered: &mut Gathered) -> Result<
 /// Appends a line of some words and a number.
 pub fn append_numbered(gathered: &mut Gathered, words: &[u8], number: u64)
     requires room { length gathered.old.items + (length words.now + 21) ≤ 1024 }
-    ensures { gathered.new.items ≡ gathered.old.items ++ (words.now ++ (decimal number ++ codes "\n")) }
+    ensures { gathered.new.items ≡ gathered.old.items ++ numbered_line words.now number }
 {
     append(gathered, words);
     append_number(gathered, number);
@@ -90,7 +89,7 @@ pub fn append_numbered(gathered: &mut Gathered, words: &[u8], number: u64)
 /// Appends a line of some words and two numbers.
 pub fn append_pair(gathered: &mut Gathered, words: &[u8], first: u64, second: u64)
     requires room { length gathered.old.items + (length words.now + 42) ≤ 1024 }
-    ensures { gathered.new.items ≡ gathered.old.items ++ (words.now ++ (decimal first ++ (codes " " ++ (decimal second ++ codes "\n")))) }
+    ensures { gathered.new.items ≡ gathered.old.items ++ pair_line words.now first second }
 {
     append(gathered, words);
     append_number(gathered, first);
@@ -100,7 +99,7 @@ pub fn append_pair(gathered: &mut Gathered, words: &[u8], first: u64, second: u6
 /// Appends a row's number, key and tag.
 fn append_row<C: ClassText>(gathered: &mut Gathered, row: &Row<C::Key>)
     requires room { length gathered.old.items + 445 ≤ 1024 }
-    ensures text { gathered.new.items ≡ gathered.old.items ++ row_text C.key_text row.now }
+    ensures text { gathered.new.items ≡ gathered.old.items ++ row_text C.texts.key_text row.now }
     ensures short { length gathered.new.items ≤ length gathered.old.items + 445 }
 {
     append_number(gathered, row.row);
@@ -113,7 +112,7 @@ fn append_row<C: ClassText>(gathered: &mut Gathered, row: &Row<C::Key>)
 /// Appends the line of a row.
 fn append_row_line<C: ClassText>(gathered: &mut Gathered, row: &Row<C::Key>)
     requires room { HasRoomForLine gathered.old.items }
-    ensures { gathered.new.items ≡ gathered.old.items ++ row_line C.key_text row.now }
+    ensures { gathered.new.items ≡ gathered.old.items ++ row_line C.texts.key_text row.now }
 {
     append(gathered, b"row ");
     append_row::<C>(gathered, row);
@@ -123,7 +122,7 @@ fn append_row_line<C: ClassText>(gathered: &mut Gathered, row: &Row<C::Key>)
 /// Appends the line of an item.
 pub fn append_item<C: ClassText>(gathered: &mut Gathered, item: &Item<C::Key>)
     requires room { HasRoomForLine gathered.old.items }
-    ensures { gathered.new.items ≡ gathered.old.items ++ item_line C.key_text item.now }
+    ensures { gathered.new.items ≡ gathered.old.items ++ item_line C.texts.key_text item.now }
 {
     match item {
         Item::Row(row) => append_row_line::<C>(gathered, row),
@@ -162,7 +161,7 @@ pub fn gather_refusal<W: Write>(
     gathered: &mut Gathered,
 ) -> Result<(), Fault>
     requires room { HasRoomForLine gathered.old.items }
-    ensures written { WritesOrFails result (W.contents writer.old) gathered.old.items (W.contents writer.new) gathered.new.items (refusal_line why) }
+    ensures written { Says W.contents writer.old writer.new gathered.old gathered.new (refusal_line why) result }
     ensures room { OnOk result (HasRoomForLine gathered.new.items) }
     ensures err { IfErr result (λ e. e ≡ Fault.Write) }
 {
@@ -173,7 +172,7 @@ pub fn gather_refusal<W: Write>(
 /// Appends the first line of a reply.
 fn append_line<C: ClassText>(gathered: &mut Gathered, reply: &Reply<C::Key>)
     requires room { HasRoomForLine gathered.old.items }
-    ensures { gathered.new.items ≡ gathered.old.items ++ first_line C.key_text reply.now }
+    ensures { gathered.new.items ≡ gathered.old.items ++ first_line C.texts.key_text reply.now }
 {
     match reply {
         Reply::Committed(number) => append_numbered(gathered, b"committed ", *number),
@@ -208,7 +207,7 @@ fn write_rows<C: ClassText, W: Write>(
     rows: &[Row<C::Key>],
 ) -> Result<(), Fault>
     requires room { HasRoomForLine gathered.old.items }
-    ensures written { WritesOrFails result (W.contents writer.old) gathered.old.items (W.contents writer.new) gathered.new.items (flat_map (row_line C.key_text) rows.now) }
+    ensures written { Says W.contents writer.old writer.new gathered.old gathered.new (flat_map (row_line C.texts.key_text) rows.now) result }
     ensures room { OnOk result (HasRoomForLine gathered.new.items) }
     ensures err { IfErr result (λ e. e ≡ Fault.Write) }
 {
@@ -229,7 +228,7 @@ pub fn write_reply<C: ClassText, W: Write>(
     reply: &Reply<C::Key>,
 ) -> Result<(), Fault>
     requires room { HasRoomForLine gathered.old.items }
-    ensures written { WritesOrFails result (W.contents writer.old) gathered.old.items (W.contents writer.new) gathered.new.items (text_of C.key_text reply.now) }
+    ensures written { Says W.contents writer.old writer.new gathered.old gathered.new (text_of C.texts.key_text reply.now) result }
     ensures room { OnOk result (HasRoomForLine gathered.new.items) }
     ensures err { IfErr result (λ e. e ≡ Fault.Write) }
 {

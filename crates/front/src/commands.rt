@@ -1,7 +1,7 @@
-ghost use Rattle.std.specs.Prelude.{◌≡◌, ◌≤◌};
+ghost use Rattle.std.specs.Prelude.{◌≤◌};
 ghost use Rattle.key_class.specs.Queries.{query_of, depth_of};
-ghost use Rattle.front.specs.Told.{Told, RepliesInsert, RepliesDelete, RepliesOpen, RepliesNext, RepliesMark, RepliesFind, RepliesSweep, RepliesClose};
-ghost use Rattle.front.specs.AsTold.{IsAsTold};
+ghost use Rattle.front.specs.Told.{RepliesInsert, RepliesDelete, RepliesOpen, RepliesNext, RepliesMark, RepliesFind, RepliesSweep, RepliesClose};
+ghost use Rattle.front.specs.AsTold.{Tells};
 
 use crate::reply::Reply;
 use key_class::{KeyClass, Pred};
@@ -9,7 +9,7 @@ use store::Store;
 
 /// Adds a row.
 pub fn insert<C: KeyClass>(store: &mut Store<C>, key: C::Key, tag: u64) -> Reply<C::Key>
-    ensures { (told : Told C.Key C.Atom) → IsAsTold C.rules.is_match store.old told → (after : Told C.Key C.Atom) × RepliesInsert told key tag result after × IsAsTold C.rules.is_match store.new after }
+    ensures { Tells C.rules store.old store.new (RepliesInsert key tag result) }
 {
     match store.insert(key, tag) {
         Ok(number) => Reply::Committed(number),
@@ -19,7 +19,7 @@ pub fn insert<C: KeyClass>(store: &mut Store<C>, key: C::Key, tag: u64) -> Reply
 
 /// Deletes a row.
 pub fn delete<C: KeyClass>(store: &mut Store<C>, row: u64) -> Reply<C::Key>
-    ensures { (told : Told C.Key C.Atom) → IsAsTold C.rules.is_match store.old told → (after : Told C.Key C.Atom) × RepliesDelete told row result after × IsAsTold C.rules.is_match store.new after }
+    ensures { Tells C.rules store.old store.new (RepliesDelete row result) }
 {
     match store.delete(row) {
         Ok(number) => Reply::Committed(number),
@@ -30,7 +30,7 @@ pub fn delete<C: KeyClass>(store: &mut Store<C>, row: u64) -> Reply<C::Key>
 /// Opens a cursor.
 pub fn open<C: KeyClass>(store: &mut Store<C>, room: u64, query: Pred<C::Atom>) -> Reply<C::Key>
     requires { depth_of (query_of query) ≤ 32 }
-    ensures { (told : Told C.Key C.Atom) → IsAsTold C.rules.is_match store.old told → (after : Told C.Key C.Atom) × RepliesOpen told room (query_of query) result after × IsAsTold C.rules.is_match store.new after }
+    ensures { Tells C.rules store.old store.new (RepliesOpen room (query_of query) result) }
 {
     match store.open(query, room) {
         Ok(cursor) => Reply::Opened(cursor),
@@ -40,7 +40,7 @@ pub fn open<C: KeyClass>(store: &mut Store<C>, room: u64, query: Pred<C::Atom>) 
 
 /// Gives a cursor's next item.
 pub fn next<C: KeyClass>(store: &mut Store<C>, cursor: u64) -> Reply<C::Key>
-    ensures { (told : Told C.Key C.Atom) → IsAsTold C.rules.is_match store.old told → (after : Told C.Key C.Atom) × RepliesNext C.rules.is_match told cursor result after × IsAsTold C.rules.is_match store.new after }
+    ensures { Tells C.rules store.old store.new (RepliesNext C.rules cursor result) }
 {
     match store.next(cursor) {
         Ok(Some(item)) => Reply::Given(item),
@@ -51,7 +51,7 @@ pub fn next<C: KeyClass>(store: &mut Store<C>, cursor: u64) -> Reply<C::Key>
 
 /// Asks a cursor for a mark.
 pub fn mark<C: KeyClass>(store: &mut Store<C>, cursor: u64) -> Reply<C::Key>
-    ensures { (told : Told C.Key C.Atom) → IsAsTold C.rules.is_match store.old told → (after : Told C.Key C.Atom) × RepliesMark told cursor result after × IsAsTold C.rules.is_match store.new after }
+    ensures { Tells C.rules store.old store.new (RepliesMark cursor result) }
 {
     match store.ask_mark(cursor) {
         Ok(()) => Reply::Asked,
@@ -62,7 +62,7 @@ pub fn mark<C: KeyClass>(store: &mut Store<C>, cursor: u64) -> Reply<C::Key>
 /// Finds the rows that match.
 pub fn find<C: KeyClass>(store: &mut Store<C>, query: &Pred<C::Atom>) -> Reply<C::Key>
     requires { depth_of (query_of query.now) ≤ 32 }
-    ensures { (told : Told C.Key C.Atom) → IsAsTold C.rules.is_match store.old told → (after : Told C.Key C.Atom) × RepliesFind C.rules.is_match told (query_of query.now) result after × IsAsTold C.rules.is_match store.new after }
+    ensures { Tells C.rules store.old store.new (RepliesFind C.rules (query_of query.now) result) }
 {
     match store.find(query) {
         Ok(rows) => Reply::Found(rows),
@@ -72,7 +72,7 @@ pub fn find<C: KeyClass>(store: &mut Store<C>, query: &Pred<C::Atom>) -> Reply<C
 
 /// Sweeps the dead rows that no scan needs.
 pub fn sweep<C: KeyClass>(store: &mut Store<C>) -> Reply<C::Key>
-    ensures { (told : Told C.Key C.Atom) → IsAsTold C.rules.is_match store.old told → (after : Told C.Key C.Atom) × RepliesSweep told result after × IsAsTold C.rules.is_match store.new after }
+    ensures { Tells C.rules store.old store.new (RepliesSweep result) }
 {
     match store.sweep_all() {
         Ok(number) => Reply::Swept(number),
@@ -82,7 +82,7 @@ pub fn sweep<C: KeyClass>(store: &mut Store<C>) -> Reply<C::Key>
 
 /// Closes a cursor.
 pub fn close<C: KeyClass>(store: &mut Store<C>, cursor: u64) -> Reply<C::Key>
-    ensures { (told : Told C.Key C.Atom) → IsAsTold C.rules.is_match store.old told → (after : Told C.Key C.Atom) × RepliesClose told cursor result after × IsAsTold C.rules.is_match store.new after }
+    ensures { Tells C.rules store.old store.new (RepliesClose cursor result) }
 {
     match store.close(cursor) {
         Ok(()) => Reply::Closed,

@@ -1,10 +1,10 @@
 //! Lines in, answers out, over what answers them.
-ghost use Rattle.std.specs.Prelude.{◌≡◌, ℕ, ◌≤◌, List, length, ◌⊎◌, OnOk, IfErr, vec_capacity, Err};
+ghost use Rattle.std.specs.Prelude.{◌≡◌, ℕ, ◌≤◌, List, length, OnOk, IfErr, vec_capacity, Err};
 ghost use Rattle.std.specs.Io.KnownBytes.{IsAtEnd};
 ghost use Rattle.query_text.specs.Tokens.{Placed, placed};
-ghost use Rattle.front.specs.Conversations.{AnswersLine, AnsweredAll, AnsweredWhole, AnsweredFirst};
+ghost use Rattle.front.specs.Conversations.{AnswersLine, AnsweredAll, AnsweredWhole, AnsweredFirst, IfOutOfMemory, IsConversationFault, Kept};
 ghost use Rattle.front.specs.Held.{IsRestOf};
-ghost use Rattle.front.specs.Written.{HasRoomForLine, WritesOrFails};
+ghost use Rattle.front.specs.Written.{HasRoomForLine, Says};
 
 use crate::answers::{Gathered, gather_refusal, send};
 use crate::line_buffer::{LineBuffer, MAX_LINE};
@@ -31,7 +31,7 @@ pub trait Responder {
         gathered: &mut Gathered,
     ) -> Result<(), Fault>
         requires room { HasRoomForLine gathered.old.items }
-        ensures answers { (said : List ℕ) × answers (length text.now) self.old (placed text.now lexemes.now) said self.new × WritesOrFails result (W.contents writer.old) gathered.old.items (W.contents writer.new) gathered.new.items said }
+        ensures answers { (said : List ℕ) × answers (length text.now) self.old (placed text.now lexemes.now) said self.new × Says W.contents writer.old writer.new gathered.old gathered.new said result }
         ensures room { OnOk result (HasRoomForLine gathered.new.items) }
         ensures err { IfErr result (λ e. e ≡ Fault.Write) };
 }
@@ -49,7 +49,7 @@ fn answer_line<S: Responder, W: Write>(
     requires capacity { 4096 ≤ vec_capacity lexemes.old }
     requires room { HasRoomForLine gathered.old.items }
     ensures answers { (whole : List ℕ) → IsRestOf overlong whole line.now
-        → (said : List ℕ) × AnswersLine S.answers responder.old whole said responder.new × WritesOrFails result (W.contents writer.old) gathered.old.items (W.contents writer.new) gathered.new.items said }
+        → (said : List ℕ) × AnswersLine S.answers responder.old whole said responder.new × Says W.contents writer.old writer.new gathered.old gathered.new said result }
     ensures capacity { 4096 ≤ vec_capacity lexemes.new }
     ensures room { OnOk result (HasRoomForLine gathered.new.items) }
     ensures err { IfErr result (λ e. e ≡ Fault.Write) }
@@ -80,8 +80,9 @@ pub fn converse<S: Responder, R: Read, W: Write>(
     ensures ok { OnOk result (IsAtEnd (R.remaining reader.new) × AnsweredAll S.answers (R.remaining reader.old) (R.remaining reader.new) (W.contents writer.old) (W.contents writer.new) responder.old responder.new) }
     ensures read { result ≡ Err Fault.Read → AnsweredWhole S.answers (R.remaining reader.old) (R.remaining reader.new) (W.contents writer.old) (W.contents writer.new) responder.old responder.new }
     ensures write { result ≡ Err Fault.Write → AnsweredFirst S.answers (R.remaining reader.old) (R.remaining reader.new) (W.contents writer.old) (W.contents writer.new) responder.old responder.new }
-    ensures memory { result ≡ Err Fault.OutOfMemory → (reader.new ≡ reader.old) × (writer.new ≡ writer.old) × (responder.new ≡ responder.old) }
-    ensures faults { IfErr result (λ e. (e ≡ Fault.OutOfMemory) ⊎ (e ≡ Fault.Read) ⊎ (e ≡ Fault.Write)) }
+    ensures memory { IfOutOfMemory result (Kept reader.old reader.new writer.old writer.new) }
+    ensures unchanged { IfOutOfMemory result (responder.new ≡ responder.old) }
+    ensures faults { IfErr result IsConversationFault }
 {
     let Ok(mut lines) = LineBuffer::new(alloc) else {
         return Err(Fault::OutOfMemory);

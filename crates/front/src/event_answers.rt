@@ -1,7 +1,7 @@
 //! How the replies of a world are written.
 ghost use Rattle.std.specs.Prelude.{◌≡◌, ◌++◌, OnOk, IfErr};
 ghost use Rattle.front.specs.EventReplies.{reply_line};
-ghost use Rattle.front.specs.Written.{HasRoomForLine, WritesOrFails};
+ghost use Rattle.front.specs.Written.{HasRoomForLine, Says};
 
 use crate::answers::{
     Gathered, append_item, append_numbered, append_pair, append_refusal, send_enough,
@@ -15,7 +15,7 @@ use world::Reply;
 /// Appends the line of a reply.
 fn append_line<C: ClassText, O: Outlet<C::Key>>(gathered: &mut Gathered, reply: &Reply<C, O>)
     requires room { HasRoomForLine gathered.old.items }
-    ensures { gathered.new.items ≡ gathered.old.items ++ reply_line C.key_text reply.now }
+    ensures { gathered.new.items ≡ gathered.old.items ++ reply_line C.texts.key_text reply.now }
 {
     match reply {
         Reply::Enlarged => append(gathered, b"enlarged\n"),
@@ -54,7 +54,7 @@ pub fn write_event_reply<C: ClassText, O: Outlet<C::Key>, W: Write>(
     reply: &Reply<C, O>,
 ) -> Result<(), Fault>
     requires room { HasRoomForLine gathered.old.items }
-    ensures written { WritesOrFails result (W.contents writer.old) gathered.old.items (W.contents writer.new) gathered.new.items (reply_line C.key_text reply.now) }
+    ensures written { Says W.contents writer.old writer.new gathered.old gathered.new (reply_line C.texts.key_text reply.now) result }
     ensures room { OnOk result (HasRoomForLine gathered.new.items) }
     ensures err { IfErr result (λ e. e ≡ Fault.Write) }
 {

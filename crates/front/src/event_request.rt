@@ -1,8 +1,8 @@
 //! What an event line asks.
-ghost use Rattle.std.specs.Prelude.{◌≡◌, length, map, MatchResult, Ok, Err};
+ghost use Rattle.std.specs.Prelude.{◌≡◌, Ok, Err};
 ghost use Rattle.std.specs.List.{list_all};
-ghost use Rattle.query_text.specs.Tokens.{token_in, placed};
-ghost use Rattle.front.specs.EventLines.{verb_of, verb_of_word, is_side, side_of, sides_at, two_pages_and_key, page_key_and_tag, page_and_sides, two_pages, only_sides, room_and_query, asked_by, IsAsked};
+ghost use Rattle.query_text.specs.Tokens.{token_in};
+ghost use Rattle.front.specs.EventLines.{verb_of, verb_of_word, is_side, two_pages_and_key, page_key_and_tag, page_and_sides, two_pages, only_sides, room_and_query, asked_from, IsAsked, GivesSides};
 
 use crate::tokens::{end, lone_number, natural};
 use query_text::{ClassText, Kind, Lexeme};
@@ -105,7 +105,7 @@ fn are_sides(word: &[u8]) -> bool
 /// # Errors
 /// The place of the fault, which is the text's length at its end.
 fn sides<'a>(text: &'a [u8], lexemes: &'a [Lexeme]) -> Result<(&'a [u8], &'a [Lexeme]), usize>
-    ensures { MatchResult result (λ r. sides_at (length text.now) (placed text.now lexemes.now) ≡ Ok (map side_of r.0.now, placed text.now r.1.now)) (λ place. sides_at (length text.now) (placed text.now lexemes.now) ≡ Err place) }
+    ensures { GivesSides text.now lexemes.now result }
 {
     match lexemes {
         [] => Err(text.len()),
@@ -127,7 +127,7 @@ fn enlarge<'a, C: ClassText>(
     text: &'a [u8],
     lexemes: &'a [Lexeme],
 ) -> Result<EventRequest<'a, C::Key>, usize>
-    ensures { IsAsked {C = C} {A = C.Atom} text.now result (two_pages_and_key C.key_at (length text.now) (placed text.now lexemes.now)) }
+    ensures { IsAsked C C.Atom (two_pages_and_key C.texts.key_at) text.now lexemes.now result }
 {
     let parent = natural(text, lexemes)?;
     let child = natural(text, parent.1)?;
@@ -140,7 +140,7 @@ fn place<'a, C: ClassText>(
     text: &'a [u8],
     lexemes: &'a [Lexeme],
 ) -> Result<EventRequest<'a, C::Key>, usize>
-    ensures { IsAsked {C = C} {A = C.Atom} text.now result (page_key_and_tag C.key_at (length text.now) (placed text.now lexemes.now)) }
+    ensures { IsAsked C C.Atom (page_key_and_tag C.texts.key_at) text.now lexemes.now result }
 {
     let page = natural(text, lexemes)?;
     let key = C::read_key(text, page.1)?;
@@ -153,7 +153,7 @@ fn split<'a, C: ClassText>(
     text: &'a [u8],
     lexemes: &'a [Lexeme],
 ) -> Result<EventRequest<'a, C::Key>, usize>
-    ensures { IsAsked {C = C} {A = C.Atom} text.now result (page_and_sides (length text.now) (placed text.now lexemes.now)) }
+    ensures { IsAsked C C.Atom page_and_sides text.now lexemes.now result }
 {
     let page = natural(text, lexemes)?;
     let letters = sides(text, page.1)?;
@@ -165,7 +165,7 @@ fn post<'a, C: ClassText>(
     text: &'a [u8],
     lexemes: &'a [Lexeme],
 ) -> Result<EventRequest<'a, C::Key>, usize>
-    ensures { IsAsked {C = C} {A = C.Atom} text.now result (two_pages (length text.now) (placed text.now lexemes.now)) }
+    ensures { IsAsked C C.Atom two_pages text.now lexemes.now result }
 {
     let parent = natural(text, lexemes)?;
     let child = natural(text, parent.1)?;
@@ -177,7 +177,7 @@ fn grow<'a, C: ClassText>(
     text: &'a [u8],
     lexemes: &'a [Lexeme],
 ) -> Result<EventRequest<'a, C::Key>, usize>
-    ensures { IsAsked {C = C} {A = C.Atom} text.now result (only_sides (length text.now) (placed text.now lexemes.now)) }
+    ensures { IsAsked C C.Atom only_sides text.now lexemes.now result }
 {
     let letters = sides(text, lexemes)?;
     end(letters.1)?;
@@ -188,7 +188,7 @@ fn open<'a, C: ClassText>(
     text: &'a [u8],
     lexemes: &'a [Lexeme],
 ) -> Result<EventRequest<'a, C::Key>, usize>
-    ensures { IsAsked {C = C} {A = C.Atom} text.now result (room_and_query (length text.now) (placed text.now lexemes.now)) }
+    ensures { IsAsked C C.Atom room_and_query text.now lexemes.now result }
 {
     let room = natural(text, lexemes)?;
     Ok(EventRequest::Open(room.0, room.1))
@@ -203,7 +203,7 @@ pub fn read_event<'a, C: ClassText>(
     first: Lexeme,
     rest: &'a [Lexeme],
 ) -> Result<EventRequest<'a, C::Key>, usize>
-    ensures { IsAsked {C = C} {A = C.Atom} text.now result (asked_by C.key_at (length text.now) first.place (verb_of (token_in text.now first)) (placed text.now rest.now)) }
+    ensures { IsAsked C C.Atom (asked_from C.texts text.now first) text.now rest.now result }
 {
     match read_verb(text, first) {
         EventVerb::Enlarge => enlarge::<C>(text, rest),

@@ -1,10 +1,9 @@
 //! Events of a world from lines.
-ghost use Rattle.std.specs.Prelude.{◌≡◌, length, map, IfOk, IfErr, OnOk, Err, ◌⊎◌};
+ghost use Rattle.std.specs.Prelude.{◌≡◌, map, IfOk, IfErr, OnOk, Err};
 ghost use Rattle.std.specs.Io.KnownBytes.{IsAtEnd};
-ghost use Rattle.mailbox.specs.Outlets.{tray_rule};
-ghost use Rattle.front.specs.EventLines.{side_of, asked_of, IsEvent, IsNoEvent};
-ghost use Rattle.front.specs.Replays.{RepliesTo, AnswersTokens};
-ghost use Rattle.front.specs.Conversations.{AnsweredAll, AnsweredWhole, AnsweredFirst};
+ghost use Rattle.front.specs.EventLines.{side_of, AsksEvent, AsksNoEvent};
+ghost use Rattle.front.specs.Replays.{AnswersTokens, CarriesOut};
+ghost use Rattle.front.specs.Conversations.{AnsweredAll, AnsweredWhole, AnsweredFirst, IfOutOfMemory, IsConversationFault, Kept};
 
 use crate::answers::{Gathered, gather_refusal};
 use crate::conversation::{Responder, converse};
@@ -50,8 +49,8 @@ fn event_of<C: ClassText>(
     text: &[u8],
     request: EventRequest<'_, C::Key>,
 ) -> Result<Event<C>, Refusal>
-    ensures event { IfOk result (λ event. IsEvent C.key_at C.atom_of (length text.now) (asked_of text.now request.entry) event) }
-    ensures refused { IfErr result (λ why. IsNoEvent {C = C} C.key_at C.atom_of (length text.now) (asked_of text.now request.entry) why) }
+    ensures event { IfOk result (AsksEvent C.texts text.now request.entry) }
+    ensures refused { IfErr result (AsksNoEvent C C.texts text.now request.entry) }
 {
     match request {
         EventRequest::Enlarge(parent, child, key) => Ok(Event::Enlarge(parent, child, key)),
@@ -83,7 +82,7 @@ fn carry_out<C: ClassText>(
     text: &[u8],
     request: EventRequest<'_, C::Key>,
 ) -> Reply<C, Tray<C::Key>>
-    ensures { RepliesTo C C.key_at C.atom_of C.key_text C.rules tray_rule (length text.now) world.old (asked_of text.now request.entry) result world.new }
+    ensures { CarriesOut C C.texts C.rules text.now request.entry world.old world.new result }
 {
     match event_of::<C>(alloc, text, request) {
         Ok(event) => world.step(event),
@@ -92,7 +91,7 @@ fn carry_out<C: ClassText>(
 }
 
 impl<C: ClassText> Responder for World<C, Tray<C::Key>> {
-    ghost answers = { λ len old ts text new. AnswersTokens C C.key_at C.atom_of C.key_text C.rules tray_rule len old ts text new };
+    ghost answers = { λ len old ts text new. AnswersTokens C C.texts C.rules len old ts text new };
 
     fn answer<W: Write>(
         &mut self,
@@ -131,11 +130,12 @@ pub fn replay<C: ClassText, R: Read, W: Write>(
     writer: &mut W,
     world: &mut World<C, Tray<C::Key>>,
 ) -> Result<(), Fault>
-    ensures ok { OnOk result (IsAtEnd (R.remaining reader.new) × AnsweredAll (AnswersTokens C C.key_at C.atom_of C.key_text C.rules tray_rule) (R.remaining reader.old) (R.remaining reader.new) (W.contents writer.old) (W.contents writer.new) world.old world.new) }
-    ensures read { result ≡ Err Fault.Read → AnsweredWhole (AnswersTokens C C.key_at C.atom_of C.key_text C.rules tray_rule) (R.remaining reader.old) (R.remaining reader.new) (W.contents writer.old) (W.contents writer.new) world.old world.new }
-    ensures write { result ≡ Err Fault.Write → AnsweredFirst (AnswersTokens C C.key_at C.atom_of C.key_text C.rules tray_rule) (R.remaining reader.old) (R.remaining reader.new) (W.contents writer.old) (W.contents writer.new) world.old world.new }
-    ensures memory { result ≡ Err Fault.OutOfMemory → (reader.new ≡ reader.old) × (writer.new ≡ writer.old) × (world.new ≡ world.old) }
-    ensures faults { IfErr result (λ e. (e ≡ Fault.OutOfMemory) ⊎ (e ≡ Fault.Read) ⊎ (e ≡ Fault.Write)) }
+    ensures ok { OnOk result (IsAtEnd (R.remaining reader.new) × AnsweredAll (AnswersTokens C C.texts C.rules) (R.remaining reader.old) (R.remaining reader.new) (W.contents writer.old) (W.contents writer.new) world.old world.new) }
+    ensures read { result ≡ Err Fault.Read → AnsweredWhole (AnswersTokens C C.texts C.rules) (R.remaining reader.old) (R.remaining reader.new) (W.contents writer.old) (W.contents writer.new) world.old world.new }
+    ensures write { result ≡ Err Fault.Write → AnsweredFirst (AnswersTokens C C.texts C.rules) (R.remaining reader.old) (R.remaining reader.new) (W.contents writer.old) (W.contents writer.new) world.old world.new }
+    ensures memory { IfOutOfMemory result (Kept reader.old reader.new writer.old writer.new) }
+    ensures unchanged { IfOutOfMemory result (world.new ≡ world.old) }
+    ensures faults { IfErr result IsConversationFault }
 {
     converse(alloc, reader, writer, world)
 }

@@ -1,7 +1,7 @@
-ghost use Rattle.std.specs.Prelude.{◌≡◌, ◌≤◌, ◌+◌, ◌-◌, ◌<◌, Ok, ℕ, List, [], ◌∷◌, ◌++◌, Bool, true, false, length, take, drop, IfOk, IfErr, IfSome, IsNone};
-ghost use Rattle.std.specs.Io.KnownBytes.{Consumes, Keeps, IsAtEnd};
-ghost use Rattle.front.specs.Lines.{HasNoFeed};
-ghost use Rattle.front.specs.Held.{Held, Fills};
+ghost use Rattle.std.specs.Prelude.{◌≡◌, ◌≤◌, ◌+◌, ◌-◌, ◌<◌, Ok, [], true, false, length, take, drop, IfOk, IfErr, IfSome, IsNone};
+ghost use Rattle.std.specs.Io.KnownBytes.{IsAtEnd};
+ghost use Rattle.front.specs.Lines.{HasNoFeed, IsFirstFeed, IsFirstLine};
+ghost use Rattle.front.specs.Held.{Held, AreMovedToFront, FailsToRead, FillsFrom, ReadsMore};
 
 use key_class::Fault;
 use std::alloc::{AllocError, Global};
@@ -65,7 +65,7 @@ impl LineBuffer {
 
     /// The first line of what is held, if its line feed is there.
     pub fn line(&self) -> Option<&[u8]>
-        ensures line { IfSome result (λ l. HasNoFeed l.now × (self.now.rest ≡ l.now ++ 10 ∷ drop (length l.now + 1) self.now.rest)) }
+        ensures line { IfSome result (λ l. IsFirstLine self.now.rest l.now) }
         ensures none { IsNone result → HasNoFeed self.now.rest }
     {
         let rest = self.rest();
@@ -88,8 +88,8 @@ impl LineBuffer {
     /// # Errors
     /// `Read` where the reader failed. What it had left, it has.
     pub fn fill<R: Read>(&mut self, reader: &mut R) -> Result<bool, Fault>
-        ensures ok { IfOk result (λ more. Fills (R.remaining reader.old) (R.remaining reader.new) self.old more self.new) }
-        ensures err { IfErr result (λ e. (e ≡ Fault.Read) × Keeps (R.remaining reader.old) (R.remaining reader.new)) }
+        ensures ok { IfOk result (FillsFrom R.remaining reader.old reader.new self.old self.new) }
+        ensures err { IfErr result (FailsToRead R.remaining reader.old reader.new) }
     {
         let held = match moved_to_front(&mut self.bytes, self.start, self.end) {
             Some(held) => held,
@@ -110,7 +110,7 @@ impl LineBuffer {
 fn moved_to_front(bytes: &mut [u8], start: usize, end: usize) -> Option<usize>
     requires order { start ≤ end }
     requires within { end ≤ length bytes.old }
-    ensures some { IfSome result (λ n. (n ≡ end - start) × (n < length bytes.new) × (take n bytes.new ≡ take n (drop start bytes.old))) }
+    ensures some { IfSome result (AreMovedToFront start end bytes.old bytes.new) }
     ensures none { IsNone result → end - start ≡ length bytes.old }
 {
     let held = end - start;
@@ -124,11 +124,11 @@ fn moved_to_front(bytes: &mut [u8], start: usize, end: usize) -> Option<usize>
 /// Reads bytes behind the first `held`, and gives their number.
 fn read_behind<R: Read>(bytes: &mut [u8], held: usize, reader: &mut R) -> Result<usize, Fault>
     requires { held < length bytes.old }
-    ensures ok { IfOk result (λ n. Consumes (R.remaining reader.old) (R.remaining reader.new) (take n (drop held bytes.new))) }
+    ensures ok { IfOk result (ReadsMore R.remaining reader.old reader.new held bytes.new) }
     ensures within { IfOk result (λ n. held + n ≤ length bytes.new) }
     ensures end { result ≡ Ok 0 → IsAtEnd (R.remaining reader.new) }
     ensures held { take held bytes.new ≡ take held bytes.old }
-    ensures err { IfErr result (λ e. (e ≡ Fault.Read) × Keeps (R.remaining reader.old) (R.remaining reader.new)) }
+    ensures err { IfErr result (FailsToRead R.remaining reader.old reader.new) }
 {
     match reader.read(&mut bytes[held..]) {
         Ok(count) => Ok(count),
@@ -138,7 +138,7 @@ fn read_behind<R: Read>(bytes: &mut [u8], held: usize, reader: &mut R) -> Result
 
 /// Where the first line feed stands.
 fn feed_of(bytes: &[u8]) -> Option<usize>
-    ensures some { IfSome result (λ at. HasNoFeed (take at bytes.now) × (bytes.now ≡ take at bytes.now ++ 10 ∷ drop (at + 1) bytes.now)) }
+    ensures some { IfSome result (IsFirstFeed bytes.now) }
     ensures none { IsNone result → HasNoFeed bytes.now }
 {
     for (at, byte) in bytes.iter().enumerate() {

@@ -1,6 +1,6 @@
-ghost use Rattle.std.specs.Prelude.{◌≡◌, length};
-ghost use Rattle.query_text.specs.Tokens.{token_in, placed};
-ghost use Rattle.front.specs.Requests.{verb_of, verb_of_word, asked_by, key_and_tag, room_and_query, IsAsked};
+ghost use Rattle.std.specs.Prelude.{◌≡◌};
+ghost use Rattle.query_text.specs.Tokens.{token_in};
+ghost use Rattle.front.specs.Requests.{verb_of, verb_of_word, key_and_tag, room_and_query, asked_from, IsAsked};
 
 use crate::tokens::{end, lone_number, natural};
 use query_text::{ClassText, Kind, Lexeme};
@@ -71,7 +71,7 @@ fn insert<'a, C: ClassText>(
     text: &[u8],
     lexemes: &'a [Lexeme],
 ) -> Result<Request<'a, C::Key>, usize>
-    ensures { IsAsked text.now result (key_and_tag C.key_at (length text.now) (placed text.now lexemes.now)) }
+    ensures { IsAsked (key_and_tag C.texts.key_at) text.now lexemes.now result }
 {
     let key = C::read_key(text, lexemes)?;
     let tag = natural(text, key.1)?;
@@ -80,7 +80,7 @@ fn insert<'a, C: ClassText>(
 }
 
 fn open<'a, K: Copy>(text: &[u8], lexemes: &'a [Lexeme]) -> Result<Request<'a, K>, usize>
-    ensures { IsAsked text.now result (room_and_query (length text.now) (placed text.now lexemes.now)) }
+    ensures { IsAsked room_and_query text.now lexemes.now result }
 {
     let room = natural(text, lexemes)?;
     Ok(Request::Open(room.0, room.1))
@@ -95,7 +95,7 @@ pub fn read_request<'a, C: ClassText>(
     first: Lexeme,
     rest: &'a [Lexeme],
 ) -> Result<Request<'a, C::Key>, usize>
-    ensures { IsAsked text.now result (asked_by C.key_at (length text.now) first.place (verb_of (token_in text.now first)) (placed text.now rest.now)) }
+    ensures { IsAsked (asked_from C.texts text.now first) text.now rest.now result }
 {
     match read_verb(text, first) {
         Verb::Insert => insert::<C>(text, rest),

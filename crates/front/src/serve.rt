@@ -1,13 +1,9 @@
-ghost use Rattle.std.specs.Prelude.{◌≡◌, length, Err, ◌⊎◌, OnOk, IfErr};
+ghost use Rattle.std.specs.Prelude.{◌≡◌, Err, OnOk, IfErr};
 ghost use Rattle.std.specs.Io.KnownBytes.{IsAtEnd};
-ghost use Rattle.key_class.specs.Queries.{query_of};
-ghost use Rattle.query_text.specs.Tokens.{placed};
-ghost use Rattle.front.specs.Requests.{command_of};
-ghost use Rattle.front.specs.Told.{Told, RepliesOpen, RepliesFind};
-ghost use Rattle.front.specs.AsTold.{IsAsTold};
-ghost use Rattle.front.specs.Sessions.{WithQuery, RepliesTo, RepliesTokens, AnswersTokens, AnsweredAll, AnsweredWhole, Stands};
+ghost use Rattle.front.specs.Sessions.{AnswersTokens, AnswersTold, FromNothing, TellsFinding, TellsOpening, TellsRequest, TellsTokens};
 ghost use Rattle.store.specs.States.{new_state};
 ghost use Rattle.change_list.specs.declared.config.Config.{Config};
+ghost use Rattle.front.specs.Conversations.{AnsweredAll, AnsweredWhole, AnsweredFirst, IfOutOfMemory, IsConversationFault, Kept};
 
 use crate::answers::{Gathered, write_reply};
 use crate::commands::{close, delete, find, insert, mark, next, open, sweep};
@@ -29,7 +25,7 @@ fn open_query<C: ClassText>(
     room: u64,
     lexemes: &[Lexeme],
 ) -> Reply<C::Key>
-    ensures { (told : Told C.Key C.Atom) → IsAsTold C.rules.is_match store.old told → (after : Told C.Key C.Atom) × WithQuery C.key_at C.atom_of (length text.now) (placed text.now lexemes.now) (λ q. RepliesOpen told room q result after) told result after × IsAsTold C.rules.is_match store.new after }
+    ensures { TellsOpening C.texts C.rules store.old store.new text.now lexemes.now room result }
 {
     match parse_tokens::<C>(alloc, text, lexemes) {
         Ok(query) => open(store, room, query),
@@ -44,7 +40,7 @@ fn find_query<C: ClassText>(
     text: &[u8],
     lexemes: &[Lexeme],
 ) -> Reply<C::Key>
-    ensures { (told : Told C.Key C.Atom) → IsAsTold C.rules.is_match store.old told → (after : Told C.Key C.Atom) × WithQuery C.key_at C.atom_of (length text.now) (placed text.now lexemes.now) (λ q. RepliesFind C.rules.is_match told q result after) told result after × IsAsTold C.rules.is_match store.new after }
+    ensures { TellsFinding C.texts C.rules store.old store.new text.now lexemes.now result }
 {
     match parse_tokens::<C>(alloc, text, lexemes) {
         Ok(query) => find(store, &query),
@@ -59,7 +55,7 @@ fn carry_out<C: ClassText>(
     text: &[u8],
     request: Request<'_, C::Key>,
 ) -> Reply<C::Key>
-    ensures { (told : Told C.Key C.Atom) → IsAsTold C.rules.is_match store.old told → (after : Told C.Key C.Atom) × RepliesTo C.key_at C.atom_of C.rules.is_match (length text.now) told (command_of text.now request.entry) result after × IsAsTold C.rules.is_match store.new after }
+    ensures { TellsRequest C.texts C.rules store.old store.new text.now request.entry result }
 {
     match request {
         Request::Insert(key, tag) => insert(store, key, tag),
@@ -80,7 +76,7 @@ fn reply_to_tokens<C: ClassText>(
     text: &[u8],
     lexemes: &[Lexeme],
 ) -> Option<Reply<C::Key>>
-    ensures { (told : Told C.Key C.Atom) → IsAsTold C.rules.is_match store.old told → (after : Told C.Key C.Atom) × RepliesTokens C.key_at C.atom_of C.rules.is_match (length text.now) told (placed text.now lexemes.now) result after × IsAsTold C.rules.is_match store.new after }
+    ensures { TellsTokens C.texts C.rules store.old store.new text.now lexemes.now result }
 {
     let (first, rest) = first_of(lexemes)?;
     match read_request::<C>(text, first, rest) {
@@ -90,7 +86,7 @@ fn reply_to_tokens<C: ClassText>(
 }
 
 impl<C: ClassText> Responder for Store<C> {
-    ghost answers = { λ len old ts text new. AnswersTokens C.key_at C.atom_of C.rules.is_match C.key_text len old ts text new };
+    ghost answers = { λ len old ts text new. AnswersTokens C.texts C.rules len old ts text new };
 
     fn answer<W: Write>(
         &mut self,
@@ -122,11 +118,12 @@ pub fn session<C: ClassText, R: Read, W: Write>(
     store: &mut Store<C>,
 ) -> Result<(), Fault>
     requires { (config : Config) × (store.old ≡ new_state config) }
-    ensures ok { OnOk result (IsAtEnd (R.remaining reader.new) × AnsweredAll C.key_at C.atom_of C.rules.is_match C.key_text (R.remaining reader.old) (R.remaining reader.new) (W.contents writer.old) (W.contents writer.new) store.old store.new) }
-    ensures read { result ≡ Err Fault.Read → AnsweredWhole C.key_at C.atom_of C.rules.is_match C.key_text (R.remaining reader.old) (R.remaining reader.new) (W.contents writer.old) (W.contents writer.new) store.old store.new }
-    ensures write { result ≡ Err Fault.Write → Stands C.key_at C.atom_of C.rules.is_match C.key_text (R.remaining reader.old) (R.remaining reader.new) (W.contents writer.old) (W.contents writer.new) store.old store.new }
-    ensures memory { result ≡ Err Fault.OutOfMemory → (reader.new ≡ reader.old) × (writer.new ≡ writer.old) × (store.new ≡ store.old) }
-    ensures faults { IfErr result (λ e. (e ≡ Fault.OutOfMemory) ⊎ (e ≡ Fault.Read) ⊎ (e ≡ Fault.Write)) }
+    ensures ok { OnOk result (IsAtEnd (R.remaining reader.new) × FromNothing C.rules (AnsweredAll (AnswersTold C.texts C.rules) (R.remaining reader.old) (R.remaining reader.new) (W.contents writer.old) (W.contents writer.new)) store.old store.new) }
+    ensures read { result ≡ Err Fault.Read → FromNothing C.rules (AnsweredWhole (AnswersTold C.texts C.rules) (R.remaining reader.old) (R.remaining reader.new) (W.contents writer.old) (W.contents writer.new)) store.old store.new }
+    ensures write { result ≡ Err Fault.Write → FromNothing C.rules (AnsweredFirst (AnswersTold C.texts C.rules) (R.remaining reader.old) (R.remaining reader.new) (W.contents writer.old) (W.contents writer.new)) store.old store.new }
+    ensures memory { IfOutOfMemory result (Kept reader.old reader.new writer.old writer.new) }
+    ensures unchanged { IfOutOfMemory result (store.new ≡ store.old) }
+    ensures faults { IfErr result IsConversationFault }
 {
     converse(alloc, reader, writer, store)
 }

@@ -1,9 +1,8 @@
 //! What stands at the front of a line's lexemes.
-ghost use Rattle.std.specs.Prelude.{◌≡◌, List, [], ◌∷◌, length, MatchResult, Ok, Err, OnOk, IfErr, MatchOption};
-ghost use Rattle.query_text.specs.Tokens.{placed};
+ghost use Rattle.std.specs.Prelude.{◌≡◌, [], ◌∷◌, Ok, Err, OnOk, IfErr, MatchOption};
 ghost use Rattle.query_text.specs.Keys.{Gives};
 ghost use Rattle.query_text.specs.declared.lexeme.Lexeme.{Lexeme};
-ghost use Rattle.front.specs.Requests.{natural_at, one_number};
+ghost use Rattle.front.specs.Requests.{natural_at, one_number, BeginAt, IsRead};
 
 use query_text::Lexeme;
 
@@ -22,7 +21,7 @@ pub fn first_of(lexemes: &[Lexeme]) -> Option<(Lexeme, &[Lexeme])>
 /// # Errors
 /// The place of the fault, which is the text's length at its end.
 pub fn natural<'a>(text: &[u8], lexemes: &'a [Lexeme]) -> Result<(u64, &'a [Lexeme]), usize>
-    ensures { Gives text.now result (natural_at (length text.now) (placed text.now lexemes.now)) }
+    ensures { Gives natural_at text.now lexemes.now result }
 {
     match lexemes {
         [] => Err(text.len()),
@@ -39,7 +38,7 @@ pub fn natural<'a>(text: &[u8], lexemes: &'a [Lexeme]) -> Result<(u64, &'a [Lexe
 /// The place of what stands there.
 pub fn end(lexemes: &[Lexeme]) -> Result<(), usize>
     ensures ok { OnOk result (lexemes.now ≡ []) }
-    ensures err { IfErr result (λ place. (first : Lexeme) × (rest : List Lexeme) × (lexemes.now ≡ first ∷ rest) × (place ≡ first.place)) }
+    ensures err { IfErr result (BeginAt lexemes.now) }
 {
     match first_of(lexemes) {
         None => Ok(()),
@@ -52,7 +51,7 @@ pub fn end(lexemes: &[Lexeme]) -> Result<(), usize>
 /// # Errors
 /// The place of the first fault.
 pub fn lone_number(text: &[u8], lexemes: &[Lexeme]) -> Result<u64, usize>
-    ensures { MatchResult result (λ n. one_number (λ m. m) (length text.now) (placed text.now lexemes.now) ≡ Ok n) (λ place. one_number (λ m. m) (length text.now) (placed text.now lexemes.now) ≡ Err place) }
+    ensures { IsRead (one_number (λ m. m)) text.now lexemes.now result }
 {
     let number = natural(text, lexemes)?;
     end(number.1)?;

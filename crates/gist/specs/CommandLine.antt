@@ -1,9 +1,10 @@
 -- The program's command line in clap's words, and what the words on it give.
-use Rattle.std.specs.Prelude.{◌≡◌, ℕ, ◌<◌, ◌^◌, List, [], ◌∷◌, map, drop, Option, Some, None, codes, if◌then◌else◌, true, pos}
+use Rattle.std.specs.Prelude.{◌≡◌, ◌≢◌, ℕ, ◌<◌, ◌^◌, List, [], ◌∷◌, map, drop, Option, Some, None, codes, if◌then◌else◌, true, pos}
 use Rattle.std.specs.Borrow.{Bor}
 use Rattle.std.specs.Str.{bytes_eq}
 use Rattle.std.specs.Str.Parse.{IsNumeral, digits_value, without_leading_plus}
-use Rattle.clap.specs.Words.{App, Row, Rule, Text, first_of, one_of, new_app, new_rule, with_rule, with_subcommand, fault_of, IsAmong}
+use Rattle.clap.specs.Words.{App, Row, Rule, Text, first_of, one_of, new_app, new_rule, with_rule, with_subcommand, fault_of, kind_of, IsAmong}
+use Rattle.clap.specs.declared.error.Error.{Error}
 use Rattle.clap.specs.declared.builder.ValueParser.{ValueParser}
 use Rattle.clap.specs.declared.builder.ValueParser.TheVariants as parser
 use Rattle.clap.specs.declared.error.ErrorKind.{ErrorKind}
@@ -14,6 +15,10 @@ use Rattle.gist.specs.declared.options.Class.TheVariants as classes
 use Rattle.gist.specs.declared.options.StoreOptions.{StoreOptions}
 use Rattle.gist.specs.declared.options.Settings.{Settings}
 use Rattle.gist.specs.declared.options.Settings.TheVariants as settings
+
+-- the words of a command line, where they stand in memory, as texts
+abbrev pub texts_of : List (Bor Text) → List Text
+texts_of words = map (λ word. word.now) words
 
 -- an option with one value, which its parser takes
 abbrev pub option_rule : Text → ValueParser → Rule
@@ -32,7 +37,7 @@ store_command names name =
     (option_rule (codes "fan") number_of_32_bits)) (option_rule (codes "least") number_of_32_bits)
 
 abbrev pub AreClassNames : ClassNames → Type 0
-AreClassNames names = map (λ name. name.now) names.now ≡ codes "interval" ∷ codes "box" ∷ codes "set" ∷ []
+AreClassNames names = texts_of names.now ≡ codes "interval" ∷ codes "box" ∷ codes "set" ∷ []
 
 abbrev pub program : App
 program = record (new_app (codes "gist")) { top = record (new_app (codes "gist")).top { subcommand_required = true; disable_help_subcommand = true } }
@@ -96,6 +101,26 @@ pub record AreWellFormed (words : List Text) : Type 0 where
 -- the words are refused, or ask for help, with an error of this kind
 abbrev pub Refuses : List Text → ErrorKind → Type 0
 Refuses words kind = (line : App) × IsGistLine line × IsAmong kind (fault_of line words)
+
+-- the words are refused, and not because they ask for help
+abbrev pub AreRefused : List Text → Type 0
+AreRefused words = (why : ErrorKind) × Refuses words why × (why ≢ kind.DisplayHelp)
+
+-- the words are refused with the error, unless memory was wanting
+abbrev pub RefusesUnlessMemory : List Text → Error → Type 0
+RefusesUnlessMemory words e = kind_of e ≢ kind.OutOfMemory → Refuses words (kind_of e)
+
+-- memory was wanting
+abbrev pub LacksMemory : Error → Type 0
+LacksMemory e = kind_of e ≡ kind.OutOfMemory
+
+-- the words ask for help
+abbrev pub AsksForHelp : Error → Type 0
+AsksForHelp e = kind_of e ≡ kind.DisplayHelp
+
+-- the error is one of the words: they don't ask for help, and memory was not wanting
+abbrev pub IsOfWords : Error → Type 0
+IsOfWords e = (kind_of e ≢ kind.DisplayHelp) × (kind_of e ≢ kind.OutOfMemory)
 
 -- the words give no settings, and don't ask for help
 abbrev pub NameNothing : List Text → Type 0

@@ -1,16 +1,14 @@
-ghost use Rattle.std.specs.Prelude.{◌≡◌, ◌≢◌, ◌↔◌, ◌⊎◌, ◌<◌, ℕ, List, map, Ok, Err, IfErr};
+ghost use Rattle.std.specs.Prelude.{◌≡◌, ◌≢◌, ◌↔◌, ◌⊎◌, ◌<◌, Ok};
 ghost use Rattle.std.specs.Io.KnownBytes.{IsAtEnd};
-ghost use Rattle.mailbox.specs.Outlets.{tray_rule};
 ghost use Rattle.store.specs.States.{new_state};
 ghost use Rattle.change_list.specs.Configs.{IsWithinLimits};
-ghost use Rattle.world.specs.States.{State as WorldState, new_state as new_world};
-ghost use Rattle.front.specs.Conversations.{AnsweredAll as EventsAnswered};
-ghost use Rattle.front.specs.Replays.{AnswersTokens};
+ghost use Rattle.world.specs.States.{new_state as new_world};
+ghost use Rattle.front.specs.Conversations.{Kept};
 ghost use Rattle.clap.specs.Words.{kind_of};
 ghost use Rattle.clap.specs.declared.error.ErrorKind.{ErrorKind};
 ghost use Rattle.gist.specs.declared.options.Settings.{Settings};
-ghost use Rattle.gist.specs.CommandLine.{AreWellFormed, NameNothing, Gives, Refuses};
-ghost use Rattle.gist.specs.Served.{limits_of, AnsweredOver, Serves, Replays, Does, AreOutOfLimits, NameBadLimits};
+ghost use Rattle.gist.specs.CommandLine.{texts_of, AreWellFormed, NameNothing, Gives, Refuses, AreRefused, AsksForHelp, IsOfWords};
+ghost use Rattle.gist.specs.Served.{limits_of, AnsweredOver, EventsAnsweredOver, Serves, Replays, Does, HaveBadLimits, AreOutOfLimits, RefusesLimits, NameBadLimits};
 
 use crate::options::{Class, Settings, StoreOptions};
 use crate::words::settings;
@@ -52,10 +50,10 @@ fn serve_store<C: ClassText, R: Read, W: Write>(
     writer: &mut W,
 ) -> Result<(), Fault>
     ensures at_end { result ≡ Ok tt → IsAtEnd (R.remaining reader.new) }
-    ensures answered { result ≡ Ok tt → AnsweredOver (R.remaining reader.old) (R.remaining reader.new) (W.contents writer.old) (W.contents writer.new) C.key_at C.atom_of C.rules.is_match C.key_text (new_state config) }
+    ensures answered { result ≡ Ok tt → AnsweredOver (R.remaining reader.old) (R.remaining reader.new) (W.contents writer.old) (W.contents writer.new) C.texts C.rules (new_state config) }
     ensures within { result ≡ Ok tt → IsWithinLimits config }
-    ensures bad { (result ≡ Err (Fault.Refused Refusal.BadConfig)) ↔ (¬ IsWithinLimits config) }
-    ensures unread { ¬ IsWithinLimits config → (reader.new ≡ reader.old) × (writer.new ≡ writer.old) }
+    ensures bad { RefusesLimits result ↔ (¬ IsWithinLimits config) }
+    ensures unread { ¬ IsWithinLimits config → Kept reader.old reader.new writer.old writer.new }
 {
     let mut store = match Store::<C>::new(alloc, config) {
         Ok(store) => store,
@@ -73,8 +71,8 @@ fn serve<R: Read, W: Write>(
     writer: &mut W,
 ) -> Result<(), Fault>
     ensures ok { result ≡ Ok tt → Serves (R.remaining reader.old) (R.remaining reader.new) (W.contents writer.old) (W.contents writer.new) options }
-    ensures bad { (result ≡ Err (Fault.Refused Refusal.BadConfig)) ↔ (¬ IsWithinLimits (limits_of options)) }
-    ensures unread { ¬ IsWithinLimits (limits_of options) → (reader.new ≡ reader.old) × (writer.new ≡ writer.old) }
+    ensures bad { RefusesLimits result ↔ HaveBadLimits options }
+    ensures unread { HaveBadLimits options → Kept reader.old reader.new writer.old writer.new }
 {
     let config = config_of(options);
     match options.class {
@@ -94,10 +92,10 @@ fn replay_world<C: ClassText, R: Read, W: Write>(
     reader: &mut R,
     writer: &mut W,
 ) -> Result<(), Fault>
-    ensures ok { result ≡ Ok tt → (last : WorldState C.Key C.Atom) × IsAtEnd (R.remaining reader.new) × EventsAnswered (AnswersTokens C C.key_at C.atom_of C.key_text C.rules tray_rule) (R.remaining reader.old) (R.remaining reader.new) (W.contents writer.old) (W.contents writer.new) (new_world config) last }
+    ensures ok { result ≡ Ok tt → IsAtEnd (R.remaining reader.new) × EventsAnsweredOver (R.remaining reader.old) (R.remaining reader.new) (W.contents writer.old) (W.contents writer.new) C C.texts C.rules (new_world config) }
     ensures within { result ≡ Ok tt → IsWithinLimits config }
-    ensures bad { (result ≡ Err (Fault.Refused Refusal.BadConfig)) ↔ (¬ IsWithinLimits config) }
-    ensures unread { ¬ IsWithinLimits config → (reader.new ≡ reader.old) × (writer.new ≡ writer.old) }
+    ensures bad { RefusesLimits result ↔ (¬ IsWithinLimits config) }
+    ensures unread { ¬ IsWithinLimits config → Kept reader.old reader.new writer.old writer.new }
 {
     let mut world = match World::<C, Tray<C::Key>>::new(alloc, config) {
         Ok(world) => world,
@@ -115,8 +113,8 @@ fn replay<R: Read, W: Write>(
     writer: &mut W,
 ) -> Result<(), Fault>
     ensures ok { result ≡ Ok tt → Replays (R.remaining reader.old) (R.remaining reader.new) (W.contents writer.old) (W.contents writer.new) options }
-    ensures bad { (result ≡ Err (Fault.Refused Refusal.BadConfig)) ↔ (¬ IsWithinLimits (limits_of options)) }
-    ensures unread { ¬ IsWithinLimits (limits_of options) → (reader.new ≡ reader.old) × (writer.new ≡ writer.old) }
+    ensures bad { RefusesLimits result ↔ HaveBadLimits options }
+    ensures unread { HaveBadLimits options → Kept reader.old reader.new writer.old writer.new }
 {
     let config = config_of(options);
     match options.class {
@@ -134,8 +132,8 @@ fn run<R: Read, W: Write>(
     writer: &mut W,
 ) -> Result<(), Fault>
     ensures ok { result ≡ Ok tt → Does (R.remaining reader.old) (R.remaining reader.new) (W.contents writer.old) (W.contents writer.new) settings }
-    ensures bad { (result ≡ Err (Fault.Refused Refusal.BadConfig)) ↔ AreOutOfLimits settings }
-    ensures unread { AreOutOfLimits settings → (reader.new ≡ reader.old) × (writer.new ≡ writer.old) }
+    ensures bad { RefusesLimits result ↔ AreOutOfLimits settings }
+    ensures unread { AreOutOfLimits settings → Kept reader.old reader.new writer.old writer.new }
 {
     match settings {
         Settings::Serve(options) => serve(alloc, options, reader, writer),
@@ -145,8 +143,8 @@ fn run<R: Read, W: Write>(
 
 /// Shows why there are no settings, and gives the status.
 fn show<W: Write, E: Write>(error: &Error, writer: &mut W, errors: &mut E) -> u8
-    ensures well { result ≡ 0 → (kind_of error.now ≡ ErrorKind.DisplayHelp) × (errors.new ≡ errors.old) }
-    ensures wrong { (result ≡ 2) ↔ ((kind_of error.now ≢ ErrorKind.DisplayHelp) × (kind_of error.now ≢ ErrorKind.OutOfMemory)) }
+    ensures well { result ≡ 0 → AsksForHelp error.now × (errors.new ≡ errors.old) }
+    ensures wrong { (result ≡ 2) ↔ IsOfWords error.now }
     ensures memory { kind_of error.now ≡ ErrorKind.OutOfMemory → result ≡ 1 }
     ensures quiet { kind_of error.now ≢ ErrorKind.DisplayHelp → writer.new ≡ writer.old }
     ensures status { result < 3 }
@@ -181,13 +179,13 @@ pub fn command<R: Read, W: Write, E: Write>(
     writer: &mut W,
     errors: &mut E,
 ) -> u8
-    ensures served { result ≡ 0 → (Refuses (map (λ word. word.now) words.now) ErrorKind.DisplayHelp × (reader.new ≡ reader.old)) ⊎ ((settings : Settings) × Gives (map (λ word. word.now) words.now) settings × Does (R.remaining reader.old) (R.remaining reader.new) (W.contents writer.old) (W.contents writer.new) settings) }
-    ensures taken { AreWellFormed (map (λ word. word.now) words.now) → result ≢ 2 }
+    ensures served { result ≡ 0 → (Refuses (texts_of words.now) ErrorKind.DisplayHelp × (reader.new ≡ reader.old)) ⊎ ((settings : Settings) × Gives (texts_of words.now) settings × Does (R.remaining reader.old) (R.remaining reader.new) (W.contents writer.old) (W.contents writer.new) settings) }
+    ensures taken { AreWellFormed (texts_of words.now) → result ≢ 2 }
     ensures quiet { result ≡ 0 → errors.new ≡ errors.old }
-    ensures wrong_words { result ≡ 2 → (kind : ErrorKind) × Refuses (map (λ word. word.now) words.now) kind × (kind ≢ ErrorKind.DisplayHelp) }
-    ensures unread { result ≡ 2 → (reader.new ≡ reader.old) × (writer.new ≡ writer.old) }
-    ensures refused_words { NameNothing (map (λ word. word.now) words.now) → (result ≡ 2) ⊎ ((result ≡ 1) × (reader.new ≡ reader.old) × (writer.new ≡ writer.old)) }
-    ensures bad_limits { NameBadLimits (map (λ word. word.now) words.now) → (result ≡ 1) × (reader.new ≡ reader.old) × (writer.new ≡ writer.old) }
+    ensures wrong_words { result ≡ 2 → AreRefused (texts_of words.now) }
+    ensures unread { result ≡ 2 → Kept reader.old reader.new writer.old writer.new }
+    ensures refused_words { NameNothing (texts_of words.now) → (result ≡ 2) ⊎ ((result ≡ 1) × Kept reader.old reader.new writer.old writer.new) }
+    ensures bad_limits { NameBadLimits (texts_of words.now) → (result ≡ 1) × Kept reader.old reader.new writer.old writer.new }
     ensures status { result < 3 }
 {
     let settings = match settings(alloc, words) {

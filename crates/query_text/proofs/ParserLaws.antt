@@ -10,6 +10,7 @@ use Rattle.query_text.specs.declared.parser.Pending.{Pending}
 use Rattle.query_text.specs.declared.parser.Pending.TheVariants.{Not, Bracket, And, Or}
 use Rattle.query_text.specs.Tokens.{Placed}
 use Rattle.query_text.specs.Keys.{Reading}
+use Rattle.query_text.specs.ClassTexts.{Texts}
 use Rattle.query_text.specs.Grammar.{most_depth, terminal_of, Level, whole, conjunction, unit, Spells, one_conjunction, or_of, one_unit, and_of, not_of, in_brackets, relation_of, before, behind, move, refused, Refused, ends_before, ends_open, stuck, moves, bad_key, good_key, RefusesTokens, no_spelling, too_deep}
 use Rattle.query_text.specs.Parsing.{open_brackets, Waits, at_start, in_whole, in_conjunction, behind_or, behind_and, behind_not, behind_bracket, HasRead, Completes, pending}
 
@@ -243,8 +244,8 @@ module _ {K A : Type 0} (key_at : List Placed → Reading K) (atom_of : Rel → 
 
 -- what is refused, as the calls say it
 
-pub refuses_empty : {K A : Type 0} (key_at : ℕ → List Placed → Reading K) (atom_of : Rel → K → A) (len : ℕ) (ts : List Placed) → ts ≡ [] → RefusesTokens key_at atom_of len ts len
-refuses_empty key_at atom_of len ts e = rw e (no_spelling ends_before)
+pub refuses_empty : {K A : Type 0} (texts : Texts K A) (len : ℕ) (ts : List Placed) → ts ≡ [] → RefusesTokens texts len ts len
+refuses_empty texts len ts e = rw e (no_spelling ends_before)
 
-pub refuses_deep : {K A : Type 0} (key_at : ℕ → List Placed → Reading K) (atom_of : Rel → K → A) (len : ℕ) (ts us : List Placed) (t : Placed) (q : Query A) → ts ≡ t ∷ us → Spells (key_at len) atom_of whole ts q [] → most_depth < depth_of q → RefusesTokens key_at atom_of len ts t.place
-refuses_deep key_at atom_of len ts us t q e s d = rw e (too_deep (rw e at s) d)
+pub refuses_deep : {K A : Type 0} (texts : Texts K A) (len : ℕ) (ts us : List Placed) (t : Placed) (q : Query A) → ts ≡ t ∷ us → Spells (texts.key_at len) texts.atom_of whole ts q [] → most_depth < depth_of q → RefusesTokens texts len ts t.place
+refuses_deep texts len ts us t q e s d = rw e (too_deep (rw e at s) d)

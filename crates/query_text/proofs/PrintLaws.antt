@@ -10,8 +10,9 @@ use Rattle.key_class.specs.Queries.{Query, atom, both, either, never, depth_of}
 use Rattle.query_text.specs.declared.terminal.Terminal.TheVariants as terminal
 use Rattle.query_text.specs.Tokens.{Placed, at, word, open_bracket, close_bracket, is_letter, begins, beginning, Cuts, cut_nothing, cut_space, cut_token}
 use Rattle.query_text.specs.Keys.{Reading, ReadsBack}
+use Rattle.query_text.specs.ClassTexts.{Texts, AtomReadsBack}
 use Rattle.query_text.specs.Grammar.{most_bytes, most_depth, rel_word, keyword_of, Level, whole, conjunction, unit, Spells, one_conjunction, or_of, one_unit, and_of, not_of, in_brackets, relation_of, SpellsText}
-use Rattle.query_text.specs.Printing.{is_or, is_and_or_or, bracketed, text_of, atom_text, begins_apart, EachAtom, IsSpelling}
+use Rattle.query_text.specs.Printing.{is_or, is_and_or_or, bracketed, text_of, begins_apart, EachAtom, IsSpelling}
 use Rattle.query_text.proofs.TextLaws.{cuts_open, cuts_close}
 
 not_letter : (b : ℕ) → not (is_letter b) ≡ true → is_letter b ≡ false
@@ -102,36 +103,36 @@ module _ {K A : Type 0} (key_at : ℕ → List Placed → Reading K) (atom_of : 
       let same : (rel_word r ++ text) ++ bytes ≡ rel_word r ++ (text ++ bytes) = append_assoc (rel_word r) text bytes in
       (at place (word (rel_word r)) ∷ m.0, rw same (cuts_rel r place (text ++ bytes) m.0 (begins_apart-append text bytes h) m.1), relation_of (keyword_of_rel r) m.2)
 
-  module _ (key_text : K → List ℕ) (rel_of : A → Rel) (operand_of : A → K) (parts : (a : A) → atom_of (rel_of a) (operand_of a) ≡ a) (apart : (k : K) → begins_apart (key_text k) ≡ true) where
-    abbrev written : Query A → List ℕ
-    written q = text_of (atom_text rel_of operand_of key_text) q
+module _ {K A : Type 0} (texts : Texts K A) (parts : (a : A) → texts.atom_of (texts.rel_of a) (texts.operand_of a) ≡ a) (apart : (k : K) → begins_apart (texts.key_text k) ≡ true) where
+  abbrev written : Query A → List ℕ
+  written q = text_of texts q
 
-    -- a query, one that isn't an `or`, and one that is neither, with brackets where it is
-    abbrev ReadsEach : Query A → Type 0
-    ReadsEach q = Reads whole (written q) q × Reads conjunction (bracketed (is_or q) (written q)) q × Reads unit (bracketed (is_and_or_or q) (written q)) q
+  -- a query, one that isn't an `or`, and one that is neither, with brackets where it is
+  abbrev ReadsEach : Query A → Type 0
+  ReadsEach q = Reads texts.key_at texts.atom_of whole (written q) q × Reads texts.key_at texts.atom_of conjunction (bracketed (is_or q) (written q)) q × Reads texts.key_at texts.atom_of unit (bracketed (is_and_or_or q) (written q)) q
 
-    from_unit : (t : List ℕ) (q : Query A) → Reads unit t q → Reads whole t q × Reads conjunction t q × Reads unit t q
-    from_unit t q u = (as_whole t q (as_conjunction t q u), as_conjunction t q u, u)
+  from_unit : (t : List ℕ) (q : Query A) → Reads texts.key_at texts.atom_of unit t q → Reads texts.key_at texts.atom_of whole t q × Reads texts.key_at texts.atom_of conjunction t q × Reads texts.key_at texts.atom_of unit t q
+  from_unit t q u = (as_whole texts.key_at texts.atom_of t q (as_conjunction texts.key_at texts.atom_of t q u), as_conjunction texts.key_at texts.atom_of t q u, u)
 
-    reads_each : (q : Query A) → EachAtom (λ a. ReadsBack key_at (key_text (operand_of a)) (operand_of a)) q → ReadsEach q
-    reads_each (atom a) h =
-        let u = rw parts at (reads_atom (rel_of a) (operand_of a) (key_text (operand_of a)) (apart (operand_of a)) h) in
-        from_unit (written (atom a)) (atom a) u
-    reads_each (never q) h =
-        from_unit (written (never q)) (never q) (reads_not (bracketed (is_and_or_or q) (written q)) q (reads_each q h).2)
-    reads_each (both l r) h =
-        let c = reads_and (bracketed (is_or l) (written l)) (bracketed (is_and_or_or r) (written r)) l r (reads_each l h.0).1 (reads_each r h.1).2 in
-        let w = as_whole (written (both l r)) (both l r) c in
-        (w, c, reads_brackets (written (both l r)) (both l r) w)
-    reads_each (either l r) h =
-        let w = reads_or (written l) (bracketed (is_or r) (written r)) l r (reads_each l h.0).0 (reads_each r h.1).1 in
-        let u = reads_brackets (written (either l r)) (either l r) w in
-        (w, as_conjunction (bracketed true (written (either l r))) (either l r) u, u)
+  reads_each : (q : Query A) → EachAtom (AtomReadsBack texts) q → ReadsEach q
+  reads_each (atom a) h =
+      let u = rw parts at (reads_atom texts.key_at texts.atom_of (texts.rel_of a) (texts.operand_of a) (texts.key_text (texts.operand_of a)) (apart (texts.operand_of a)) h) in
+      from_unit (written (atom a)) (atom a) u
+  reads_each (never q) h =
+      from_unit (written (never q)) (never q) (reads_not texts.key_at texts.atom_of (bracketed (is_and_or_or q) (written q)) q (reads_each q h).2)
+  reads_each (both l r) h =
+      let c = reads_and texts.key_at texts.atom_of (bracketed (is_or l) (written l)) (bracketed (is_and_or_or r) (written r)) l r (reads_each l h.0).1 (reads_each r h.1).2 in
+      let w = as_whole texts.key_at texts.atom_of (written (both l r)) (both l r) c in
+      (w, c, reads_brackets texts.key_at texts.atom_of (written (both l r)) (both l r) w)
+  reads_each (either l r) h =
+      let w = reads_or texts.key_at texts.atom_of (written l) (bracketed (is_or r) (written r)) l r (reads_each l h.0).0 (reads_each r h.1).1 in
+      let u = reads_brackets texts.key_at texts.atom_of (written (either l r)) (either l r) w in
+      (w, as_conjunction texts.key_at texts.atom_of (bracketed true (written (either l r))) (either l r) u, u)
 
-    pub spells_written : (text : List ℕ) (q : Query A) → text ≡ written q → EachAtom (λ a. ReadsBack key_at (key_text (operand_of a)) (operand_of a)) q → IsSpelling key_at atom_of text q
-    spells_written text q e h =
-        let r = (reads_each q h).0 (length (written q)) 0 [] [] (cut_nothing refl) in
-        rw (e) (r.0, rw append-nil at r.1, r.2)
+  pub spells_written : (text : List ℕ) (q : Query A) → text ≡ written q → EachAtom (AtomReadsBack texts) q → IsSpelling texts text q
+  spells_written text q e h =
+      let r = (reads_each q h).0 (length (written q)) 0 [] [] (cut_nothing refl) in
+      rw (e) (r.0, rw append-nil at r.1, r.2)
 
-  pub spelling_is_read : (text : List ℕ) (q : Query A) → IsSpelling key_at atom_of text q → length text ≤ most_bytes → depth_of q ≤ most_depth → SpellsText key_at atom_of text q
-  spelling_is_read text q s short shallow = record { short = short; tokens = s.0; cut = s.1; query = record { spelled = s.2; shallow = shallow } }
+pub spelling_is_read : {K A : Type 0} (texts : Texts K A) (text : List ℕ) (q : Query A) → IsSpelling texts text q → length text ≤ most_bytes → depth_of q ≤ most_depth → SpellsText texts text q
+spelling_is_read texts text q s short shallow = record { short = short; tokens = s.0; cut = s.1; query = record { spelled = s.2; shallow = shallow } }

@@ -7,6 +7,7 @@ use Rattle.box_class.specs.declared.boxes.BoxKey.{BoxKey}
 use Rattle.box_class.specs.declared.atom.Atom.{Atom}
 use Rattle.query_text.specs.Tokens.{Placed, least_i32, most_i32}
 use Rattle.query_text.specs.Keys.{Reading, ◌>>=◌, or_fault_at, when, expected_at, number_at, is_open_bracket, is_close_bracket}
+use Rattle.query_text.specs.ClassTexts.{Texts}
 
 -- the box with these ends, where both pairs are in order
 abbrev pub box_of : ℤ → ℤ → ℤ → ℤ → Option BoxKey
@@ -24,8 +25,22 @@ box_at len ts = do
   close ← expected_at is_close_bracket len y2.1
   or_fault_at bracket.0 close.1 (box_of x1.0 y1.0 x2.0 y2.0)
 
+-- the numbers of a point
+abbrev pub point_text : ℤ → ℤ → List ℕ
+point_text x y = signed_decimal x ++ (codes " " ++ signed_decimal y)
+
 abbrev pub box_text : BoxKey → List ℕ
 box_text k = codes "(" ++ (signed_decimal k.x1 ++ (codes " " ++ (signed_decimal k.y1 ++ (codes " " ++ (signed_decimal k.x2 ++ (codes " " ++ (signed_decimal k.y2 ++ codes ")")))))))
 
 abbrev pub atom_of : Rel → BoxKey → Atom
 atom_of rel operand = record { rel = rel; operand = operand }
+
+-- the texts of the class
+abbrev pub box_texts : Texts BoxKey Atom
+box_texts = record {
+  key_at = box_at;
+  key_text = box_text;
+  atom_of = atom_of;
+  rel_of = λ a. a.rel;
+  operand_of = λ a. a.operand;
+}

@@ -1,13 +1,17 @@
 -- Which tokens spell which query, and where other tokens are refused.
-use Rattle.std.specs.Prelude.{◌≡◌, ◌⊎◌, ℕ, suc, ◌<◌, ◌≤◌, false, List, [], ◌∷◌, length, Ok, Err, if◌then◌else◌, codes}
+use Rattle.std.specs.Prelude.{◌≡◌, ◌⊎◌, ℕ, suc, ◌<◌, ◌≤◌, false, List, [], ◌∷◌, length, Result, Ok, Err, if◌then◌else◌, codes}
 use Rattle.std.specs.Str.{bytes_eq}
 use Rattle.key_class.specs.declared.sides.Rel.{Rel}
 use Rattle.key_class.specs.declared.sides.Rel.TheVariants.{Overlaps, Within, Holds, Same}
+use Rattle.key_class.specs.declared.refusal.Refusal.{Refusal}
+use Rattle.key_class.specs.declared.refusal.Refusal.TheVariants as refusal
 use Rattle.key_class.specs.Queries.{Query, atom, both, either, never, depth_of}
 use Rattle.query_text.specs.declared.terminal.Terminal.{Terminal}
 use Rattle.query_text.specs.declared.terminal.Terminal.TheVariants as terminal
-use Rattle.query_text.specs.Tokens.{Token, open_bracket, close_bracket, word, Placed, Cuts}
+use Rattle.query_text.specs.declared.lexeme.Lexeme.{Lexeme}
+use Rattle.query_text.specs.Tokens.{Token, open_bracket, close_bracket, word, Placed, placed, Cuts}
 use Rattle.query_text.specs.Keys.{Reading}
+use Rattle.query_text.specs.ClassTexts.{Texts}
 
 -- how many bytes a query's text may have
 abbrev pub most_bytes : ℕ
@@ -89,32 +93,56 @@ pub data Refused {K : Type 0} (key_at : List Placed → Reading K) (len : ℕ) :
   good_key : {point : Point} {d place : ℕ} {t : Placed} {ts rest : List Placed} {k : K} → move point d (terminal_of t.token) ≡ key_follows → key_at ts ≡ Ok (k, rest) → Refused key_at len behind d rest place → Refused key_at len point d (t ∷ ts) place
 
 -- The tokens of a text with len bytes spell the query, which is no deeper than a query may be.
-pub record SpellsQuery {K A : Type 0} (key_at : ℕ → List Placed → Reading K) (atom_of : Rel → K → A) (len : ℕ) (ts : List Placed) (q : Query A) : Type 0 where
-  pub spelled : Spells (key_at len) atom_of whole ts q []
+pub record SpellsQuery {K A : Type 0} (texts : Texts K A) (len : ℕ) (ts : List Placed) (q : Query A) : Type 0 where
+  pub spelled : Spells (texts.key_at len) texts.atom_of whole ts q []
   pub shallow : depth_of q ≤ most_depth
 
 -- The tokens of a text with len bytes are refused as a query at the place; a query that is too deep, at its first token.
-pub data RefusesTokens {K A : Type 0} (key_at : ℕ → List Placed → Reading K) (atom_of : Rel → K → A) (len : ℕ) : List Placed → ℕ → Type 0 where
-  no_spelling : {ts : List Placed} {place : ℕ} → Refused (key_at len) len before 0 ts place → RefusesTokens key_at atom_of len ts place
-  too_deep : {t : Placed} {ts : List Placed} {q : Query A} → Spells (key_at len) atom_of whole (t ∷ ts) q [] → most_depth < depth_of q → RefusesTokens key_at atom_of len (t ∷ ts) t.place
+pub data RefusesTokens {K A : Type 0} (texts : Texts K A) (len : ℕ) : List Placed → ℕ → Type 0 where
+  no_spelling : {ts : List Placed} {place : ℕ} → Refused (texts.key_at len) len before 0 ts place → RefusesTokens texts len ts place
+  too_deep : {t : Placed} {ts : List Placed} {q : Query A} → Spells (texts.key_at len) texts.atom_of whole (t ∷ ts) q [] → most_depth < depth_of q → RefusesTokens texts len (t ∷ ts) t.place
 
 -- the text is a spelling of the query
-pub record SpellsText {K A : Type 0} (key_at : ℕ → List Placed → Reading K) (atom_of : Rel → K → A) (text : List ℕ) (q : Query A) : Type 0 where
+pub record SpellsText {K A : Type 0} (texts : Texts K A) (text : List ℕ) (q : Query A) : Type 0 where
   pub short : length text ≤ most_bytes
   pub tokens : List Placed
   pub cut : Cuts false 0 text tokens
-  pub query : SpellsQuery key_at atom_of (length text) tokens q
+  pub query : SpellsQuery texts (length text) tokens q
 
 -- the text is refused as a query at the place
-pub data RefusesText {K A : Type 0} (key_at : ℕ → List Placed → Reading K) (atom_of : Rel → K → A) : List ℕ → ℕ → Type 0 where
-  too_long : {text : List ℕ} → most_bytes < length text → RefusesText key_at atom_of text most_bytes
-  refuses_tokens : {text : List ℕ} {ts : List Placed} {place : ℕ} → length text ≤ most_bytes → Cuts false 0 text ts → RefusesTokens key_at atom_of (length text) ts place → RefusesText key_at atom_of text place
+pub data RefusesText {K A : Type 0} (texts : Texts K A) : List ℕ → ℕ → Type 0 where
+  too_long : {text : List ℕ} → most_bytes < length text → RefusesText texts text most_bytes
+  refuses_tokens : {text : List ℕ} {ts : List Placed} {place : ℕ} → length text ≤ most_bytes → Cuts false 0 text ts → RefusesTokens texts (length text) ts place → RefusesText texts text place
 
-module _ {K A : Type 0} (key_at : ℕ → List Placed → Reading K) (atom_of : Rel → K → A) where
+module _ {K A : Type 0} (texts : Texts K A) where
   -- the tokens of a text with len bytes spell some query, or are refused at some place
   abbrev pub SpellOrAreRefused : ℕ → List Placed → Type 0
-  SpellOrAreRefused len ts = ((q : Query A) × SpellsQuery key_at atom_of len ts q) ⊎ ((place : ℕ) × RefusesTokens key_at atom_of len ts place)
+  SpellOrAreRefused len ts = ((q : Query A) × SpellsQuery texts len ts q) ⊎ ((place : ℕ) × RefusesTokens texts len ts place)
 
   -- the text is a spelling of some query, or is refused at some place
   abbrev pub SpellsOrIsRefused : List ℕ → Type 0
-  SpellsOrIsRefused text = ((q : Query A) × SpellsText key_at atom_of text q) ⊎ ((place : ℕ) × RefusesText key_at atom_of text place)
+  SpellsOrIsRefused text = ((q : Query A) × SpellsText texts text q) ⊎ ((place : ℕ) × RefusesText texts text place)
+
+  -- the same tokens spell a query and are refused
+  abbrev pub SpellAndAreRefused : ℕ → List Placed → Type 0
+  SpellAndAreRefused len ts = ((q : Query A) × SpellsQuery texts len ts q) × ((place : ℕ) × RefusesTokens texts len ts place)
+
+  -- the same text is a spelling of a query and is refused
+  abbrev pub SpellsAndIsRefused : List ℕ → Type 0
+  SpellsAndIsRefused text = ((q : Query A) × SpellsText texts text q) × ((place : ℕ) × RefusesText texts text place)
+
+  -- the lexemes of a text spell the query, up to their end
+  abbrev pub LexemesSpell : List ℕ → List Lexeme → Query A → Type 0
+  LexemesSpell text lexemes q = SpellsQuery texts (length text) (placed text lexemes) q
+
+  -- the lexemes of a text are refused as a query at the place
+  abbrev pub LexemesAreRefused : List ℕ → List Lexeme → ℕ → Type 0
+  LexemesAreRefused text lexemes place = RefusesTokens texts (length text) (placed text lexemes) place
+
+-- where what was returned is that the text is refused at a place, this holds of the place
+abbrev pub IfQueryText : {T : Type 0} → Result T Refusal → (ℕ → Type 0) → Type 0
+IfQueryText returned P = (place : ℕ) → returned ≡ Err (refusal.QueryText place) → P place
+
+-- memory was wanting, or a text is refused at some place
+abbrev pub IsParseRefusal : Refusal → Type 0
+IsParseRefusal why = (why ≡ refusal.OutOfMemory) ⊎ ((place : ℕ) × (why ≡ refusal.QueryText place))

@@ -7,6 +7,7 @@ use Rattle.interval_class.specs.declared.interval.Interval.{Interval}
 use Rattle.interval_class.specs.declared.atom.Atom.{Atom}
 use Rattle.query_text.specs.Tokens.{Placed, least_i64, most_i64}
 use Rattle.query_text.specs.Keys.{Reading, ◌>>=◌, or_fault_at, when, expected_at, number_at, is_open_bracket, is_close_bracket}
+use Rattle.query_text.specs.ClassTexts.{Texts}
 
 -- the interval with these ends, where they are in order
 abbrev pub interval_of : ℤ → ℤ → Option Interval
@@ -26,3 +27,13 @@ interval_text k = codes "(" ++ (signed_decimal k.lo ++ (codes " " ++ (signed_dec
 
 abbrev pub atom_of : Rel → Interval → Atom
 atom_of rel operand = record { rel = rel; operand = operand }
+
+-- the texts of the class
+abbrev pub interval_texts : Texts Interval Atom
+interval_texts = record {
+  key_at = interval_at;
+  key_text = interval_text;
+  atom_of = atom_of;
+  rel_of = λ a. a.rel;
+  operand_of = λ a. a.operand;
+}

@@ -1,8 +1,10 @@
 pub mod BoxTexts
+pub mod ClassTexts
 pub mod Grammar
 pub mod IntervalTexts
 pub mod KeyLengths
 pub mod Keys
+pub mod OneMeaning
 pub mod Parsing
 pub mod Printing
 pub mod Scanning

@@ -1,5 +1,6 @@
 -- What the reader of queries has read, and what it still waits for.
-use Rattle.std.specs.Prelude.{◌≡◌, ℕ, suc, ◌<◌, List, [], ◌∷◌, length, reverse, Result, Ok, Err}
+use Rattle.std.specs.Prelude.{◌≡◌, ℕ, suc, ◌<◌, List, [], ◌∷◌, ◌++◌, length, reverse, Result, Ok, Err, IfOk}
+use Rattle.std.specs.Borrow.{Bor}
 use Rattle.key_class.specs.declared.sides.Rel.{Rel}
 use Rattle.key_class.specs.declared.pred.Pred.{Pred}
 use Rattle.key_class.specs.Queries.{Query, query_of}
@@ -13,6 +14,7 @@ use Rattle.query_text.specs.declared.parser.Next.{Next}
 use Rattle.query_text.specs.declared.parser.Next.TheVariants.{More, End}
 use Rattle.query_text.specs.Tokens.{Placed, placed}
 use Rattle.query_text.specs.Keys.{Reading}
+use Rattle.query_text.specs.ClassTexts.{Texts}
 use Rattle.query_text.specs.Grammar.{terminal_of, Level, whole, conjunction, unit, Spells, before, Refused}
 
 -- how many brackets are open
@@ -48,20 +50,41 @@ RefusedAt key_at len ts (At place) = Refused key_at len before 0 ts place
 abbrev pub pending : {A : Type 0} → List (Pending A) → List (Pending A)
 pending ps = reverse ps
 
--- wherever a unit was due, an atom was read, and the rest stands
-abbrev pub ReadsUnit : {K A : Type 0} → (List Placed → Reading K) → (Rel → K → A) → List (Pending A) → List Placed → List (Pending A) → Query A → List Placed → Type 0
-ReadsUnit key_at atom_of ps us qs q rest = (ts : List Placed) → Waits key_at atom_of ps unit ts us → HasRead key_at atom_of qs unit q ts rest
+-- Wherever the one query was read at the first level, in a text of any length, the other was read at the second. The
+-- queries stand over what is pending before and after.
+abbrev pub Lifts : {K A : Type 0} → Texts K A → Level → Level → List (Pending A) → List (Pending A) → Pred A → Pred A → Type 0
+Lifts texts from to old new read made =
+    (len : ℕ) → Completes (texts.key_at len) texts.atom_of (pending old) from (query_of read) (pending new) to (query_of made)
+
+-- the lexemes of a text spell the query up to their end, however deep
+abbrev pub SpellsToEnd : {K A : Type 0} → Texts K A → List ℕ → List Lexeme → Query A → Type 0
+SpellsToEnd texts text lexemes q = Spells (texts.key_at (length text)) texts.atom_of whole (placed text lexemes) q []
+
+-- the error says where the lexemes of a text are refused
+abbrev pub RefusedIn : {K A : Type 0} → Texts K A → List ℕ → List Lexeme → ParseError → Type 0
+RefusedIn texts text lexemes e = RefusedAt (texts.key_at (length text)) (length text) (placed text lexemes) e
+
+-- the stack has lost its top, which is a list's last
+abbrev pub LosesTop : {X : Type 0} → List X → List X → Type 0
+LosesTop {X = X} old new = (top : X) × (old ≡ new ++ top ∷ [])
+
+-- wherever a unit was due, an atom was read, if one was returned, and the rest stands
+abbrev pub ReadsUnit : {K A : Type 0} → Texts K A → List ℕ → List Lexeme → List (Pending A) → List (Pending A) → Result (Pred A × Bor (List Lexeme)) ParseError → Type 0
+ReadsUnit texts text lexemes old new returned =
+    IfOk returned (λ r. (ts : List Placed) → Waits (texts.key_at (length text)) texts.atom_of (pending old) unit ts (placed text lexemes) → HasRead (texts.key_at (length text)) texts.atom_of (pending new) unit (query_of r.0) ts (placed text r.1.now))
 
 -- wherever a unit was due, the error says where the tokens are refused
-abbrev pub RefusesUnit : {K A : Type 0} → (List Placed → Reading K) → (Rel → K → A) → ℕ → List (Pending A) → List Placed → ParseError → Type 0
-RefusesUnit key_at atom_of len ps us e = (ts : List Placed) → Waits key_at atom_of ps unit ts us → RefusedAt key_at len ts e
+abbrev pub RefusesUnit : {K A : Type 0} → Texts K A → List ℕ → List Lexeme → List (Pending A) → ParseError → Type 0
+RefusesUnit texts text lexemes old e =
+    (ts : List Placed) → Waits (texts.key_at (length text)) texts.atom_of (pending old) unit ts (placed text lexemes) → RefusedAt (texts.key_at (length text)) (length text) ts e
 
 -- what comes behind a unit, if the tokens ts were read so far
-abbrev pub ComesNext : {K A : Type 0} → (ℕ → List Placed → Reading K) → (Rel → K → A) → List ℕ → List Lexeme → List (Pending A) → List Placed → Result (Next A) ParseError → Type 0
-ComesNext key_at atom_of text lexemes ps ts (Ok (More rest)) = Waits (key_at (length text)) atom_of ps unit ts (placed text rest.now) × (length rest.now < length lexemes)
-ComesNext key_at atom_of text lexemes ps ts (Ok (End found)) = Spells (key_at (length text)) atom_of whole ts (query_of found) []
-ComesNext key_at atom_of text lexemes ps ts (Err e) = RefusedAt (key_at (length text)) (length text) ts e
+abbrev pub ComesNext : {K A : Type 0} → Texts K A → List ℕ → List Lexeme → List (Pending A) → List Placed → Result (Next A) ParseError → Type 0
+ComesNext texts text lexemes ps ts (Ok (More rest)) = Waits (texts.key_at (length text)) texts.atom_of ps unit ts (placed text rest.now) × (length rest.now < length lexemes)
+ComesNext texts text lexemes ps ts (Ok (End found)) = Spells (texts.key_at (length text)) texts.atom_of whole ts (query_of found) []
+ComesNext texts text lexemes ps ts (Err e) = RefusedAt (texts.key_at (length text)) (length text) ts e
 
 -- wherever the unit was read, this comes behind it
-abbrev pub GoesOn : {K A : Type 0} → (ℕ → List Placed → Reading K) → (Rel → K → A) → List ℕ → List (Pending A) → Query A → List Lexeme → List (Pending A) → Result (Next A) ParseError → Type 0
-GoesOn key_at atom_of text ps q lexemes qs returned = (ts : List Placed) → HasRead (key_at (length text)) atom_of ps unit q ts (placed text lexemes) → ComesNext key_at atom_of text lexemes qs ts returned
+abbrev pub GoesOn : {K A : Type 0} → Texts K A → List ℕ → List Lexeme → List (Pending A) → List (Pending A) → Pred A → Result (Next A) ParseError → Type 0
+GoesOn texts text lexemes old new read returned =
+    (ts : List Placed) → HasRead (texts.key_at (length text)) texts.atom_of (pending old) unit (query_of read) ts (placed text lexemes) → ComesNext texts text lexemes (pending new) ts returned

@@ -1,10 +1,11 @@
 -- How a query is written.
-use Rattle.std.specs.Prelude.{ℕ, Bool, true, false, not, List, [], ◌∷◌, ◌++◌, length, codes}
-use Rattle.key_class.specs.declared.sides.Rel.{Rel}
-use Rattle.key_class.specs.Queries.{Query, atom, both, either, never}
+use Rattle.std.specs.Prelude.{ℕ, Bool, true, false, not, List, [], ◌∷◌, ◌++◌, length, ◌≤◌, Option, Result, OnOk, codes}
+use Rattle.std.specs.Io.KnownBytes.{Appends}
+use Rattle.key_class.specs.declared.pred.Pred.{Pred}
+use Rattle.key_class.specs.Queries.{Query, query_of, depth_of, atom, both, either, never}
 use Rattle.query_text.specs.Tokens.{Placed, is_letter, Cuts}
-use Rattle.query_text.specs.Keys.{Reading}
-use Rattle.query_text.specs.Grammar.{rel_word, whole, Spells}
+use Rattle.query_text.specs.ClassTexts.{Texts}
+use Rattle.query_text.specs.Grammar.{most_bytes, most_depth, rel_word, whole, Spells, SpellsText}
 
 abbrev pub is_or : {A : Type 0} → Query A → Bool
 is_or (either l r) = true
@@ -19,16 +20,16 @@ abbrev pub bracketed : Bool → List ℕ → List ℕ
 bracketed true text = codes "(" ++ (text ++ codes ")")
 bracketed false text = text
 
--- The text of a query, where each atom is written in its way: a part stands in brackets only where the grammar needs them.
-abbrev pub text_of : {A : Type 0} → (A → List ℕ) → Query A → List ℕ
-text_of atom_text (atom a) = atom_text a
-text_of atom_text (either l r) = text_of atom_text l ++ (codes " or " ++ bracketed (is_or r) (text_of atom_text r))
-text_of atom_text (both l r) = bracketed (is_or l) (text_of atom_text l) ++ (codes " and " ++ bracketed (is_and_or_or r) (text_of atom_text r))
-text_of atom_text (never q) = codes "not " ++ bracketed (is_and_or_or q) (text_of atom_text q)
-
 -- a relation's word and, right behind it, the key
-abbrev pub atom_text : {K A : Type 0} → (A → Rel) → (A → K) → (K → List ℕ) → A → List ℕ
-atom_text rel_of operand_of key_text a = rel_word (rel_of a) ++ key_text (operand_of a)
+abbrev pub atom_text : {K A : Type 0} → Texts K A → A → List ℕ
+atom_text texts a = rel_word (texts.rel_of a) ++ texts.key_text (texts.operand_of a)
+
+-- the text of a query: a part stands in brackets only where the grammar needs them
+abbrev pub text_of : {K A : Type 0} → Texts K A → Query A → List ℕ
+text_of texts (atom a) = atom_text texts a
+text_of texts (either l r) = text_of texts l ++ (codes " or " ++ bracketed (is_or r) (text_of texts r))
+text_of texts (both l r) = bracketed (is_or l) (text_of texts l) ++ (codes " and " ++ bracketed (is_and_or_or r) (text_of texts r))
+text_of texts (never q) = codes "not " ++ bracketed (is_and_or_or q) (text_of texts q)
 
 -- the first byte is no letter, so that it may stand right behind a word
 abbrev pub begins_apart : List ℕ → Bool
@@ -43,5 +44,18 @@ EachAtom P (either l r) = EachAtom P l × EachAtom P r
 EachAtom P (never q) = EachAtom P q
 
 -- the text is cut into tokens that spell the query
-abbrev pub IsSpelling : {K A : Type 0} → (ℕ → List Placed → Reading K) → (Rel → K → A) → List ℕ → Query A → Type 0
-IsSpelling key_at atom_of text q = (ts : List Placed) × Cuts false 0 text ts × Spells (key_at (length text)) atom_of whole ts q []
+abbrev pub IsSpelling : {K A : Type 0} → Texts K A → List ℕ → Query A → Type 0
+IsSpelling texts text q = (ts : List Placed) × Cuts false 0 text ts × Spells (texts.key_at (length text)) texts.atom_of whole ts q []
+
+-- the text is a spelling of the query, unless the text is too long or the query too deep to be read
+abbrev pub ReadsAgain : {K A : Type 0} → Texts K A → List ℕ → Query A → Type 0
+ReadsAgain texts text q = length text ≤ most_bytes → depth_of q ≤ most_depth → SpellsText texts text q
+
+-- If all went well, the atom's text was written behind what the writer had. contents tells of a writer what it has.
+abbrev pub PrintsAtom : {K A W T E : Type 0} → Texts K A → A → (W → Option (List ℕ)) → W → W → Result T E → Type 0
+PrintsAtom texts a contents old new returned = OnOk returned (Appends (contents old) (contents new) (atom_text texts a))
+
+-- the same of a query, in brackets or not
+abbrev pub Prints : {K A W T E : Type 0} → Texts K A → Bool → Pred A → (W → Option (List ℕ)) → W → W → Result T E → Type 0
+Prints texts in_brackets query contents old new returned =
+    OnOk returned (Appends (contents old) (contents new) (bracketed in_brackets (text_of texts (query_of query))))

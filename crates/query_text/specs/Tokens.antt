@@ -1,5 +1,5 @@
 -- The tokens of a text, with their places.
-use Rattle.std.specs.Prelude.{◌≡◌, ℕ, ℤ, pos, negsuc, neg_ℤ, int_le, ◌+◌, ◌-◌, ◌*◌, ◌^◌, Bool, true, false, ◌&&◌, ◌||◌, ◌==◌, List, [], ◌∷◌, length, take, drop, take_while, map, Option, Some, None, if◌then◌else◌}
+use Rattle.std.specs.Prelude.{◌≡◌, ℕ, ℤ, pos, negsuc, neg_ℤ, int_le, ◌+◌, ◌-◌, ◌*◌, ◌^◌, Bool, true, false, ◌&&◌, ◌||◌, ◌==◌, List, [], ◌∷◌, length, take, drop, take_while, map, Option, Some, None, MatchOption, ◌≤◌, if◌then◌else◌}
 use Rattle.std.specs.Char.{is_ascii_digit, is_ascii_lowercase}
 use Rattle.query_text.specs.declared.lexeme.Kind.{Kind}
 use Rattle.query_text.specs.declared.lexeme.Kind.TheVariants as kind
@@ -123,3 +123,11 @@ most_i64 = pos (2 ^ 63 - 1)
 
 abbrev pub most_u64 : ℤ
 most_u64 = pos (2 ^ 64 - 1)
+
+-- the number of a token, where it is one of 64 bits without a sign
+abbrev pub u64_number : Token → Option ℤ
+u64_number t = number_within (pos 0) most_u64 t
+
+-- what was given is the value, or nothing where its size is 2^64 or more
+abbrev pub FitsOrNone : {A : Type 0} → (A → ℕ) → A → Option A → Type 0
+FitsOrNone size value given = MatchOption given (2 ^ 64 ≤ size value) (λ a. a ≡ value)

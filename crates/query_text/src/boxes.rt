@@ -1,6 +1,5 @@
-ghost use Rattle.std.specs.Prelude.{◌≡◌, ◌+◌, ◌≤◌, ◌++◌, length, codes, refl};
-ghost use Rattle.std.specs.Fmt.{signed_decimal};
-ghost use Rattle.query_text.specs.BoxTexts.{box_at, box_text, atom_of};
+ghost use Rattle.std.specs.Prelude.{◌≡◌, ◌+◌, ◌≤◌, ◌++◌, length, refl};
+ghost use Rattle.query_text.specs.BoxTexts.{box_at, box_texts, point_text};
 ghost use Rattle.query_text.specs.KeyLengths.{box_leaves_fewer};
 
 use crate::class::ClassText;
@@ -13,7 +12,7 @@ use key_class::Rel;
 /// Appends the numbers of a point.
 fn append_point(text: &mut KeyText, x: i32, y: i32)
     requires room { length text.old.items + 23 ≤ 403 }
-    ensures numbers { text.new.items ≡ text.old.items ++ (signed_decimal x ++ (codes " " ++ signed_decimal y)) }
+    ensures numbers { text.new.items ≡ text.old.items ++ point_text x y }
     ensures short { length text.new.items ≤ length text.old.items + 23 }
 {
     append_number(text, x);
@@ -22,15 +21,7 @@ fn append_point(text: &mut KeyText, x: i32, y: i32)
 }
 
 impl ClassText for Boxes {
-    ghost key_at = { box_at };
-
-    ghost key_text = { box_text };
-
-    ghost atom_of = { atom_of };
-
-    ghost rel_of = { λ a. a.rel };
-
-    ghost operand_of = { λ a. a.operand };
+    ghost texts = { box_texts };
 
     #[tactic(auto, unfolding(crate::specs::BoxTexts::box_at))]
     fn read_key<'a>(text: &[u8], lexemes: &'a [Lexeme]) -> Result<(BoxKey, &'a [Lexeme]), usize> {

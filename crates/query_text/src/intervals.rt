@@ -1,5 +1,5 @@
-ghost use Rattle.std.specs.Prelude.{◌≡◌, refl};
-ghost use Rattle.query_text.specs.IntervalTexts.{interval_at, interval_text, atom_of};
+ghost use Rattle.std.specs.Prelude.{refl};
+ghost use Rattle.query_text.specs.IntervalTexts.{interval_at, interval_texts};
 ghost use Rattle.query_text.specs.KeyLengths.{interval_leaves_fewer};
 
 use crate::class::ClassText;
@@ -10,15 +10,7 @@ use interval_class::{Atom, Interval, Intervals};
 use key_class::Rel;
 
 impl ClassText for Intervals {
-    ghost key_at = { interval_at };
-
-    ghost key_text = { interval_text };
-
-    ghost atom_of = { atom_of };
-
-    ghost rel_of = { λ a. a.rel };
-
-    ghost operand_of = { λ a. a.operand };
+    ghost texts = { interval_texts };
 
     #[tactic(auto, unfolding(crate::specs::IntervalTexts::interval_at))]
     fn read_key<'a>(text: &[u8], lexemes: &'a [Lexeme]) -> Result<(Interval, &'a [Lexeme]), usize> {

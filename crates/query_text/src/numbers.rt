@@ -1,12 +1,12 @@
-ghost use Rattle.std.specs.Prelude.{◌≡◌, ◌↔◌, ℕ, ℤ, pos, negsuc, ◌≤◌, ◌<◌, ◌^◌, ◌-◌, ◌+◌, ◌*◌, ◌≤ℤ◌, ◌<ℤ◌, unsigned_abs, IsTrue, IfSome, Some, None, MatchOption};
+ghost use Rattle.std.specs.Prelude.{◌≡◌, ◌↔◌, ℤ, pos, negsuc, ◌≤◌, ◌<◌, ◌^◌, ◌-◌, ◌+◌, ◌*◌, ◌≤ℤ◌, unsigned_abs, IsTrue, Some, None};
 ghost use Rattle.std.specs.Option.{option_map};
-ghost use Rattle.query_text.specs.Tokens.{is_negative, digits_of, word, number, token_in, number_value, number_within, decimal_value_after, least_i32, most_i32, least_i64, most_i64, most_u64};
+ghost use Rattle.query_text.specs.Tokens.{is_negative, digits_of, word, token_in, number_value, number_within, decimal_value_after, least_i32, most_i32, least_i64, most_i64, FitsOrNone, u64_number};
 
 use crate::lexeme::{Kind, Lexeme};
 
 /// The number that one more digit makes, unless it is 2^64 or more.
 fn with_digit(value: u64, digit: u8) -> Option<u64>
-    ensures { MatchOption result (2 ^ 64 ≤ value * 10 + (digit - 48)) (λ n. n ≡ value * 10 + (digit - 48)) }
+    ensures { FitsOrNone (λ n. n) (value * 10 + (digit - 48)) result }
 {
     value
         .checked_mul(10)?
@@ -15,7 +15,7 @@ fn with_digit(value: u64, digit: u8) -> Option<u64>
 
 /// The number that digits write, unless it is 2^64 or more.
 fn magnitude(digits: &[u8]) -> Option<u64>
-    ensures { MatchOption result (2 ^ 64 ≤ decimal_value_after 0 digits.now) (λ n. n ≡ decimal_value_after 0 digits.now) }
+    ensures { FitsOrNone (λ n. n) (decimal_value_after 0 digits.now) result }
 {
     let mut value = 0;
     for digit in digits {
@@ -48,7 +48,7 @@ fn digits_of(bytes: &[u8]) -> &[u8]
 
 /// The number that bytes write, unless its size is 2^64 or more.
 fn integer(bytes: &[u8]) -> Option<i128>
-    ensures { MatchOption result (2 ^ 64 ≤ unsigned_abs (number_value bytes.now)) (λ n. n ≡ number_value bytes.now) }
+    ensures { FitsOrNone unsigned_abs (number_value bytes.now) result }
 {
     let size = i128::from(magnitude(digits_of(bytes))?);
     Some(if is_negative(bytes) { -size } else { size })
@@ -79,7 +79,7 @@ impl Lexeme {
 
     /// Its number, where it is one of 64 bits without a sign. Leading zeros count for nothing, and `-0` is 0.
     pub fn unsigned(self, text: &[u8]) -> Option<u64>
-        ensures { option_map pos result ≡ number_within (pos 0) most_u64 (token_in text.now self) }
+        ensures { option_map pos result ≡ u64_number (token_in text.now self) }
     {
         Some(self.number_within(text, 0, i128::from(u64::MAX))? as u64)
     }

@@ -1,11 +1,12 @@
-ghost use Rattle.std.specs.Prelude.{◌≡◌, ℕ, List, ◌<◌, ◌⊎◌, length, Result, Ok, Err, IfOk, IfErr, MatchOption, true, false, [], ◌∷◌, ◌++◌};
-ghost use Rattle.key_class.specs.Queries.{Query, query_of};
-ghost use Rattle.query_text.specs.Tokens.{Placed, placed};
-ghost use Rattle.query_text.specs.Grammar.{unit, conjunction, whole, Spells, SpellsQuery, RefusesTokens, SpellOrAreRefused, SpellsText, RefusesText, SpellsOrIsRefused};
-ghost use Rattle.query_text.specs.Parsing.{Completes, ReadsUnit, RefusesUnit, GoesOn, RefusedAt, pending};
+ghost use Rattle.std.specs.Prelude.{◌≡◌, ℕ, List, ◌<◌, length, Result, Ok, Err, IfOk, IfErr, true, false, []};
+ghost use Rattle.key_class.specs.Queries.{query_of};
+ghost use Rattle.query_text.specs.Tokens.{Placed};
+ghost use Rattle.query_text.specs.Grammar.{unit, conjunction, whole, SpellsQuery, RefusesTokens, SpellOrAreRefused, SpellsText, RefusesText, SpellsOrIsRefused, IfQueryText, IsParseRefusal, LexemesAreRefused, LexemesSpell, SpellAndAreRefused, SpellsAndIsRefused};
+ghost use Rattle.query_text.specs.Parsing.{ReadsUnit, RefusesUnit, GoesOn, Lifts, LosesTop, RefusedIn, SpellsToEnd};
 ghost use Rattle.query_text.specs.declared.terminal.Terminal.TheVariants as terminal;
 ghost use Rattle.query_text.specs.declared.lexeme.Lexeme.{Lexeme};
 ghost use Rattle.query_text.specs.declared.parser.ParseError.TheVariants.{Memory};
+ghost use Rattle.query_text.specs.OneMeaning.{AtMostOne};
 
 use crate::class::ClassText;
 use crate::lexeme::Lexeme;
@@ -56,7 +57,7 @@ fn conjunction_of<C: ClassText>(
     stack: &mut Vec<Pending<C::Atom>>,
     last: Pred<C::Atom>,
 ) -> Result<Pred<C::Atom>, AllocError>
-    ensures { IfOk result (λ part. (len : ℕ) → Completes (C.key_at len) C.atom_of (pending stack.old.items) unit (query_of last) (pending stack.new.items) conjunction (query_of part)) }
+    ensures { IfOk result (Lifts C.texts unit conjunction stack.old.items stack.new.items last) }
 {
     let mut part = last;
     'nots: loop {
@@ -84,7 +85,7 @@ fn query_of_conjunction<C: ClassText>(
     stack: &mut Vec<Pending<C::Atom>>,
     last: Pred<C::Atom>,
 ) -> Result<Pred<C::Atom>, AllocError>
-    ensures { IfOk result (λ found. (len : ℕ) → Completes (C.key_at len) C.atom_of (pending stack.old.items) conjunction (query_of last) (pending stack.new.items) whole (query_of found)) }
+    ensures { IfOk result (Lifts C.texts conjunction whole stack.old.items stack.new.items last) }
 {
     let Some(top) = stack.pop() else {
         return Ok(last);
@@ -104,8 +105,8 @@ fn read_unit<'a, C: ClassText>(
     stack: &mut Vec<Pending<C::Atom>>,
     lexemes: &'a [Lexeme],
 ) -> Result<(Pred<C::Atom>, &'a [Lexeme]), ParseError>
-    ensures read { IfOk result (λ r. ReadsUnit (C.key_at (length text.now)) C.atom_of (pending stack.old.items) (placed text.now lexemes.now) (pending stack.new.items) (query_of r.0) (placed text.now r.1.now)) }
-    ensures refused { IfErr result (λ e. RefusesUnit (C.key_at (length text.now)) C.atom_of (length text.now) (pending stack.old.items) (placed text.now lexemes.now) e) }
+    ensures read { ReadsUnit C.texts text.now lexemes.now stack.old.items stack.new.items result }
+    ensures refused { IfErr result (RefusesUnit C.texts text.now lexemes.now stack.old.items) }
     ensures shorter { IfOk result (λ r. length r.1.now < length lexemes.now) }
 {
     let mut rest = lexemes;
@@ -135,7 +136,7 @@ fn read_unit<'a, C: ClassText>(
 
 /// Drops the top of a stack, if there is one.
 fn drops_top<T: Drop>(stack: &mut Vec<T>) -> bool
-    ensures dropped { result ≡ true → (top : T) × (stack.old.items ≡ stack.new.items ++ top ∷ []) }
+    ensures dropped { result ≡ true → LosesTop stack.old.items stack.new.items }
     ensures empty { result ≡ false → stack.old.items ≡ [] }
 {
     stack.pop().is_some()
@@ -156,7 +157,7 @@ fn read_behind<'a, C: ClassText>(
     read: Pred<C::Atom>,
     lexemes: &'a [Lexeme],
 ) -> Result<Next<'a, C::Atom>, ParseError>
-    ensures { GoesOn C.key_at C.atom_of text.now (pending stack.old.items) (query_of read) lexemes.now (pending stack.new.items) result }
+    ensures { GoesOn C.texts text.now lexemes.now stack.old.items stack.new.items read result }
 {
     let mut part = read;
     let mut rest = lexemes;
@@ -197,8 +198,8 @@ fn query<C: ClassText>(
     text: &[u8],
     lexemes: &[Lexeme],
 ) -> Result<Pred<C::Atom>, ParseError>
-    ensures spells { IfOk result (λ q. Spells (C.key_at (length text.now)) C.atom_of whole (placed text.now lexemes.now) (query_of q) []) }
-    ensures refused { IfErr result (λ e. RefusedAt (C.key_at (length text.now)) (length text.now) (placed text.now lexemes.now) e) }
+    ensures spells { IfOk result (λ q. SpellsToEnd C.texts text.now lexemes.now (query_of q)) }
+    ensures refused { IfErr result (RefusedIn C.texts text.now lexemes.now) }
 {
     let mut stack = Vec::new(alloc);
     let mut rest = lexemes;
@@ -222,9 +223,9 @@ pub fn parse_tokens<C: ClassText>(
     text: &[u8],
     lexemes: &[Lexeme],
 ) -> Result<Pred<C::Atom>, Refusal>
-    ensures spells { IfOk result (λ q. SpellsQuery C.key_at C.atom_of (length text.now) (placed text.now lexemes.now) (query_of q)) }
-    ensures refuses { (place : ℕ) → result ≡ Err (Refusal.QueryText place) → RefusesTokens C.key_at C.atom_of (length text.now) (placed text.now lexemes.now) place }
-    ensures refusals { IfErr result (λ e. (e ≡ Refusal.OutOfMemory) ⊎ ((place : ℕ) × (e ≡ Refusal.QueryText place))) }
+    ensures spells { IfOk result (λ q. LexemesSpell C.texts text.now lexemes.now (query_of q)) }
+    ensures refuses { IfQueryText result (LexemesAreRefused C.texts text.now lexemes.now) }
+    ensures refusals { IfErr result IsParseRefusal }
 {
     let Some((first, _)) = first_of(lexemes) else {
         return Err(Refusal::QueryText(text.len() as u64));
@@ -248,9 +249,9 @@ pub fn parse_tokens<C: ClassText>(
 /// `QueryText` with the place where the text is refused, which for a text of more than [`MAX_BYTES`] bytes is
 /// [`MAX_BYTES`], or `OutOfMemory`.
 pub fn parse<C: ClassText>(alloc: Global, text: &[u8]) -> Result<Pred<C::Atom>, Refusal>
-    ensures spells { IfOk result (λ q. SpellsText C.key_at C.atom_of text.now (query_of q)) }
-    ensures refuses { (place : ℕ) → result ≡ Err (Refusal.QueryText place) → RefusesText C.key_at C.atom_of text.now place }
-    ensures refusals { IfErr result (λ e. (e ≡ Refusal.OutOfMemory) ⊎ ((place : ℕ) × (e ≡ Refusal.QueryText place))) }
+    ensures spells { IfOk result (λ q. SpellsText C.texts text.now (query_of q)) }
+    ensures refuses { IfQueryText result (RefusesText C.texts text.now) }
+    ensures refusals { IfErr result IsParseRefusal }
 {
     if text.len() > MAX_BYTES {
         return Err(Refusal::QueryText(MAX_BYTES as u64));
@@ -263,16 +264,16 @@ pub fn parse<C: ClassText>(alloc: Global, text: &[u8]) -> Result<Pred<C::Atom>, 
 /// Nothing is done: the clauses say that a text spells a query or is refused at a place, that none is both, and that it
 /// spells one query and is refused at one place at most.
 pub fn one_meaning_for_text<C: ClassText>()
-    ensures some_meaning { (text : List ℕ) → SpellsOrIsRefused C.key_at C.atom_of text }
-    ensures one_query { (text : List ℕ) (q r : Query C.Atom) → SpellsText C.key_at C.atom_of text q → SpellsText C.key_at C.atom_of text r → q ≡ r }
-    ensures one_place { (text : List ℕ) (p q : ℕ) → RefusesText C.key_at C.atom_of text p → RefusesText C.key_at C.atom_of text q → p ≡ q }
-    ensures not_both { (text : List ℕ) (q : Query C.Atom) (place : ℕ) → SpellsText C.key_at C.atom_of text q → RefusesText C.key_at C.atom_of text place → ⊥ }
+    ensures some_meaning { (text : List ℕ) → SpellsOrIsRefused C.texts text }
+    ensures one_query { (text : List ℕ) → AtMostOne (SpellsText C.texts text) }
+    ensures one_place { (text : List ℕ) → AtMostOne (RefusesText C.texts text) }
+    ensures not_both { (text : List ℕ) → ¬ SpellsAndIsRefused C.texts text }
 {}
 
 /// Nothing is done: the clauses say the same of the tokens of a text with so many bytes.
 pub fn one_meaning_for_tokens<C: ClassText>()
-    ensures some_meaning { (len : ℕ) (ts : List Placed) → SpellOrAreRefused C.key_at C.atom_of len ts }
-    ensures one_query { (len : ℕ) (ts : List Placed) (q r : Query C.Atom) → SpellsQuery C.key_at C.atom_of len ts q → SpellsQuery C.key_at C.atom_of len ts r → q ≡ r }
-    ensures one_place { (len : ℕ) (ts : List Placed) (p q : ℕ) → RefusesTokens C.key_at C.atom_of len ts p → RefusesTokens C.key_at C.atom_of len ts q → p ≡ q }
-    ensures not_both { (len : ℕ) (ts : List Placed) (q : Query C.Atom) (place : ℕ) → SpellsQuery C.key_at C.atom_of len ts q → RefusesTokens C.key_at C.atom_of len ts place → ⊥ }
+    ensures some_meaning { (n : ℕ) (ts : List Placed) → SpellOrAreRefused C.texts n ts }
+    ensures one_query { (n : ℕ) (ts : List Placed) → AtMostOne (SpellsQuery C.texts n ts) }
+    ensures one_place { (n : ℕ) (ts : List Placed) → AtMostOne (RefusesTokens C.texts n ts) }
+    ensures not_both { (n : ℕ) (ts : List Placed) → ¬ SpellAndAreRefused C.texts n ts }
 {}

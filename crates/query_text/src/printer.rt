@@ -1,10 +1,9 @@
-ghost use Rattle.std.specs.Prelude.{◌≡◌, ◌≤◌, length, IfOk, IfErr, OnOk, codes};
-ghost use Rattle.std.specs.Io.KnownBytes.{Appends};
+ghost use Rattle.std.specs.Prelude.{◌≡◌, IfOk, IfErr, OnOk};
 ghost use Rattle.key_class.specs.declared.sides.Rel.{Rel};
-ghost use Rattle.key_class.specs.Queries.{query_of, depth_of};
-ghost use Rattle.query_text.specs.Keys.{ReadsBack};
-ghost use Rattle.query_text.specs.Grammar.{most_bytes, most_depth, rel_word, SpellsText};
-ghost use Rattle.query_text.specs.Printing.{is_or, is_and_or_or, bracketed, text_of, atom_text, EachAtom, IsSpelling};
+ghost use Rattle.key_class.specs.Queries.{query_of};
+ghost use Rattle.query_text.specs.Grammar.{rel_word};
+ghost use Rattle.query_text.specs.Printing.{is_or, is_and_or_or, text_of, EachAtom, IsSpelling, Prints, PrintsAtom, ReadsAgain};
+ghost use Rattle.query_text.specs.ClassTexts.{AtomReadsBack};
 
 use crate::class::ClassText;
 use key_class::{Pred, Refusal, Rel};
@@ -41,8 +40,8 @@ fn is_and_or_or<A>(query: &Pred<A>) -> bool
 }
 
 fn write_atom<C: ClassText, W: Write>(atom: &C::Atom, writer: &mut W) -> io::Result<()>
-    ensures text { OnOk result (Appends (W.contents writer.old) (W.contents writer.new) (atom_text C.rel_of C.operand_of C.key_text atom.now)) }
-    ensures read_back { OnOk result (ReadsBack C.key_at (C.key_text (C.operand_of atom.now)) (C.operand_of atom.now)) }
+    ensures text { PrintsAtom C.texts atom.now W.contents writer.old writer.new result }
+    ensures read_back { OnOk result (AtomReadsBack C.texts atom.now) }
 {
     let (rel, operand) = C::parts(atom);
     writer.write_all(word_of(rel).as_bytes())?;
@@ -55,8 +54,8 @@ fn write_query<C: ClassText, W: Write>(
     in_brackets: bool,
     writer: &mut W,
 ) -> io::Result<()>
-    ensures text { OnOk result (Appends (W.contents writer.old) (W.contents writer.new) (bracketed in_brackets (text_of (atom_text C.rel_of C.operand_of C.key_text) (query_of query.now)))) }
-    ensures read_back { OnOk result (EachAtom (λ a. ReadsBack C.key_at (C.key_text (C.operand_of a)) (C.operand_of a)) (query_of query.now)) }
+    ensures text { Prints C.texts in_brackets query.now W.contents writer.old writer.new result }
+    ensures read_back { OnOk result (EachAtom (AtomReadsBack C.texts) (query_of query.now)) }
 {
     if in_brackets {
         writer.write_all(b"(")?;
@@ -88,9 +87,9 @@ fn write_query<C: ClassText, W: Write>(
 /// # Errors
 /// `OutOfMemory` alone.
 pub fn print<C: ClassText>(alloc: Global, query: &Pred<C::Atom>) -> Result<Vec<u8>, Refusal>
-    ensures text { IfOk result (λ text. text.items ≡ text_of (atom_text C.rel_of C.operand_of C.key_text) (query_of query.now)) }
-    ensures spelling { IfOk result (λ text. IsSpelling C.key_at C.atom_of text.items (query_of query.now)) }
-    ensures read_again { IfOk result (λ text. length text.items ≤ most_bytes → depth_of (query_of query.now) ≤ most_depth → SpellsText C.key_at C.atom_of text.items (query_of query.now)) }
+    ensures text { IfOk result (λ text. text.items ≡ text_of C.texts (query_of query.now)) }
+    ensures spelling { IfOk result (λ text. IsSpelling C.texts text.items (query_of query.now)) }
+    ensures read_again { IfOk result (λ text. ReadsAgain C.texts text.items (query_of query.now)) }
     ensures refusal { IfErr result (λ e. e ≡ Refusal.OutOfMemory) }
 {
     let mut text = Vec::new(alloc);

@@ -1,6 +1,7 @@
-ghost use Rattle.std.specs.Prelude.{◌≡◌, ℕ, ◌+◌, ◌<◌, ◌≤◌, List, [], ◌∷◌, length, OnOk, OnErr, IsOk, false, take_while, drop, ◌&&◌, vec_capacity};
-ghost use Rattle.query_text.specs.Tokens.{Placed, placed, is_letter, is_digit, starts_with_digit, beginning, Cuts};
+ghost use Rattle.std.specs.Prelude.{◌≡◌, ℕ, ◌+◌, ◌<◌, ◌≤◌, List, [], length, OnOk, OnErr, IsOk, false, take_while, drop, ◌&&◌, vec_capacity};
+ghost use Rattle.query_text.specs.Tokens.{placed, is_letter, is_digit, starts_with_digit, beginning, Cuts};
 ghost use Rattle.query_text.specs.Scanning.{lexeme, seen, FitsIn, kind_glues};
+ghost use Rattle.query_text.specs.OneMeaning.{AtMostOne};
 
 use crate::lexeme::{Kind, Lexeme};
 use std::alloc::AllocError;
@@ -143,5 +144,5 @@ pub fn scan(text: &[u8], lexemes: &mut Vec<Lexeme>) -> Result<(), AllocError>
 
 /// Nothing is done: the clause says that a text is cut into tokens in one way.
 pub fn one_cut_for_text()
-    ensures { (bytes : List ℕ) (ts us : List Placed) → Cuts false 0 bytes ts → Cuts false 0 bytes us → ts ≡ us }
+    ensures { (bytes : List ℕ) → AtMostOne (Cuts false 0 bytes) }
 {}

@@ -1,10 +1,10 @@
-ghost use Rattle.std.specs.Prelude.{◌≡◌, ◌↔◌, ℕ, List, Contains, ◌<◌, ◌≤◌, length, ◌+◌, ◌++◌, IfSome, IfOk, not, ◌&&◌, ◌==◌, refl};
+ghost use Rattle.std.specs.Prelude.{◌≡◌, ℕ, List, ◌<◌, ◌≤◌, length, ◌+◌, ◌++◌, IfSome, IfOk, not, ◌&&◌, ◌==◌, refl};
 ghost use Rattle.std.specs.Int.{bit_at};
 ghost use Rattle.set_class.specs.Sets.{IsElementOf};
 ghost use Rattle.set_class.specs.declared.elements.Elements.{Elements};
-ghost use Rattle.query_text.specs.Tokens.{placed, token_in};
+ghost use Rattle.query_text.specs.Tokens.{token_in};
 ghost use Rattle.query_text.specs.Keys.{Gives};
-ghost use Rattle.query_text.specs.SetTexts.{element_of, elements_at, with_elements, mask_of, elements_below, set_at, set_text, number_text, atom_of};
+ghost use Rattle.query_text.specs.SetTexts.{element_of, set_at, number_text, HasJust, IsElementUnder, elements_of, set_behind_brace, set_named, set_texts};
 ghost use Rattle.query_text.specs.KeyLengths.{set_leaves_fewer};
 
 use crate::class::ClassText;
@@ -24,7 +24,7 @@ fn element(text: &[u8], lexeme: Lexeme) -> Option<u8>
 
 /// The set of the elements before a closing brace.
 fn elements<'a>(text: &[u8], lexemes: &'a [Lexeme]) -> Result<(Elements, &'a [Lexeme]), usize>
-    ensures gives { Gives text.now result (with_elements 0 (elements_at (length text.now) (placed text.now lexemes.now))) }
+    ensures gives { Gives set_behind_brace text.now lexemes.now result }
     ensures shorter { IfOk result (λ r. length r.1.now < length lexemes.now) }
 {
     let mut mask = 0;
@@ -64,15 +64,7 @@ fn append_element(mask: u128, number: u8, is_first: bool, text: &mut KeyText) ->
 }
 
 impl ClassText for Sets {
-    ghost key_at = { set_at };
-
-    ghost key_text = { set_text };
-
-    ghost atom_of = { atom_of };
-
-    ghost rel_of = { λ a. a.rel };
-
-    ghost operand_of = { λ a. a.operand };
+    ghost texts = { set_texts };
 
     #[tactic(auto, unfolding(crate::specs::SetTexts::set_at))]
     fn read_key<'a>(text: &[u8], lexemes: &'a [Lexeme]) -> Result<(Elements, &'a [Lexeme]), usize> {
@@ -109,6 +101,6 @@ impl ClassText for Sets {
 /// Nothing is done: the clauses say that a set has the elements that its text names, and that its text names all of
 /// them.
 pub fn set_texts_name_their_elements()
-    ensures read { (named : List ℕ) (e : ℕ) → IsElementOf (record { mask = mask_of named }) e ↔ Contains named e }
-    ensures written { (set : Elements) (e : ℕ) → Contains (elements_below 128 set.mask) e ↔ ((e < 128) × IsElementOf set e) }
+    ensures read { (named : List ℕ) → HasJust named (IsElementOf (set_named named)) }
+    ensures written { (set : Elements) → HasJust (elements_of set) (IsElementUnder 128 set) }
 {}

@@ -8,7 +8,7 @@ use Rattle.front.proofs.answers.write_rows.Goals as goal
 pub loop-row-preserved : goal.loop-row-preserved
 loop-row-preserved g c =
     let w = g.W.Write.contents in
-    let f = row_line g.C.ClassText.key_text in
+    let f = row_line g.C.ClassText.texts.key_text in
     let line = f c.row-item.result in
     let new : c.append_row_line.new.gathered.items ≡ c.loop-row.gathered.items ++ line = c.append_row_line.ensures in
     let one = gathers (w c.loop-row.writer) c.loop-row.gathered.items c.append_row_line.new.gathered.items line new in
@@ -23,7 +23,7 @@ loop-row-preserved g c =
 pub returns-in_err-send_enough-clause-written : goal.returns-in_err-send_enough-clause-written
 returns-in_err-send_enough-clause-written g c =
     let w = g.W.Write.contents in
-    let f = row_line g.C.ClassText.key_text in
+    let f = row_line g.C.ClassText.texts.key_text in
     let line = f c.row-item.result in
     let new : c.append_row_line.new.gathered.items ≡ c.loop-row.gathered.items ++ line = c.append_row_line.ensures in
     let one = gathers (w c.loop-row.writer) c.loop-row.gathered.items c.append_row_line.new.gathered.items line new in

@@ -6,6 +6,6 @@ use Rattle.front.proofs.answers.write_rows.Given as goal
 
 abbrev pub invariant-loop-row : goal.invariant-loop-row
 invariant-loop-row g l = record {
-  written : Writes (g.W.Write.contents l.initial.writer) l.initial.gathered.items (g.W.Write.contents l.writer) l.gathered.items (flat_map (row_line g.C.ClassText.key_text) (take l.row-index l.rows));
+  written : Writes (g.W.Write.contents l.initial.writer) l.initial.gathered.items (g.W.Write.contents l.writer) l.gathered.items (flat_map (row_line g.C.ClassText.texts.key_text) (take l.row-index l.rows));
   room : HasRoomForLine l.gathered.items;
 }

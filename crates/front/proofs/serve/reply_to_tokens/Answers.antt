@@ -9,5 +9,5 @@ pub returns-in-Ok : goal.returns-in-Ok
 returns-in-Ok g c told t =
     let r = c.carry_out.ensures told t in
     let said = c.carry_out.result in
-    let asked = subst (λ (x : Result (Command _) ℕ). RepliesAsked g.C.ClassText.key_at g.C.ClassText.atom_of g.C.KeyClass.rules.is_match (length c.args.text.now) told x (Some said) r.0) (sym c.in-Ok.ensures) (said, refl, r.1) in
-    (r.0, subst (λ (ls : List Lexeme). RepliesTokens g.C.ClassText.key_at g.C.ClassText.atom_of g.C.KeyClass.rules.is_match (length c.args.text.now) told (placed c.args.text.now ls) (Some said) r.0) (sym c.in_ok-first.ensures) asked, r.2)
+    let asked = subst (λ (x : Result (Command _) ℕ). RepliesAsked g.C.ClassText.texts g.C.KeyClass.rules (length c.args.text.now) x (Some said) told r.0) (sym c.in-Ok.ensures) (said, refl, r.1) in
+    (r.0, subst (λ (ls : List Lexeme). RepliesTokens g.C.ClassText.texts g.C.KeyClass.rules (length c.args.text.now) (placed c.args.text.now ls) (Some said) told r.0) (sym c.in_ok-first.ensures) asked, r.2)

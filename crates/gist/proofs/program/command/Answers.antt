@@ -1,8 +1,8 @@
-use Rattle.std.proofs.Common.{◌≡◌, ◌≢◌, ◌⊎◌, ⊎_elim, ◌∙◌, ℕ, zero, suc, ◌<◌, List, arith, inl, inr, map, refl, subst, sym}
+use Rattle.std.proofs.Common.{◌≡◌, ◌≢◌, ◌⊎◌, ⊎_elim, ◌∙◌, ℕ, zero, suc, ◌<◌, List, arith, inl, inr, refl, subst, sym}
 use Rattle.clap.specs.Words.{Text, kind_of}
 use Rattle.clap.specs.declared.error.ErrorKind.{ErrorKind}
 use Rattle.clap.specs.declared.error.ErrorKind.TheVariants.{DisplayHelp, OutOfMemory}
-use Rattle.gist.specs.CommandLine.{NameNothing, Refuses}
+use Rattle.gist.specs.CommandLine.{texts_of, NameNothing, Refuses}
 use Rattle.gist.proofs.program.command.Goals as goal
 
 one_or_two : (n : ℕ) → n < 3 → n ≢ 0 → (n ≡ 2) ⊎ (n ≡ 1)
@@ -20,7 +20,7 @@ pub returns-in-Err-clause-served : goal.returns-in-Err-clause-served
 returns-in-Err-clause-served g c = λ well.
     let help = (c.show.ensures.well well).0 in
     let refused = c.in-Err.ensures.refused (λ memory. let bad : DisplayHelp ≡ OutOfMemory = sym help ∙ memory in cc) in
-    inl (subst (λ (kind : ErrorKind). Refuses (map (λ word. word.now) c.args.words.now) kind) help refused, refl {a = c.args.reader.now})
+    inl (subst (λ (kind : ErrorKind). Refuses (texts_of c.args.words.now) kind) help refused, refl {a = c.args.reader.now})
 
 pub returns-in-Err-clause-wrong_words : goal.returns-in-Err-clause-wrong_words
 returns-in-Err-clause-wrong_words g c = λ wrong.
@@ -29,14 +29,14 @@ returns-in-Err-clause-wrong_words g c = λ wrong.
 
 pub returns-in-Err-clause-refused_words : goal.returns-in-Err-clause-refused_words
 returns-in-Err-clause-refused_words g c = λ nothing.
-    let other = no_help (map (λ word. word.now) c.args.words.now) (kind_of c.in-Err.error) c.in-Err.ensures.refused nothing in
+    let other = no_help (texts_of c.args.words.now) (kind_of c.in-Err.error) c.in-Err.ensures.refused nothing in
     ⊎_elim
     (λ two. inl two)
-    (λ one. inr (one, refl {a = c.args.reader.now}, c.show.ensures.quiet other))
+    (λ one. inr (one, (refl {a = c.args.reader.now}, c.show.ensures.quiet other)))
     (one_or_two c.show.result c.show.ensures.status (λ none. other (c.show.ensures.well none).0))
 
 pub returns-in-Err-clause-bad_limits : goal.returns-in-Err-clause-bad_limits
 returns-in-Err-clause-bad_limits g c = λ bad.
     let memory : kind_of c.in-Err.error ≡ OutOfMemory = c.in-Err.ensures.taken bad.0 in
     let other : kind_of c.in-Err.error ≢ DisplayHelp = λ help. let wrong : DisplayHelp ≡ OutOfMemory = sym help ∙ memory in cc in
-    (c.show.ensures.memory memory, refl {a = c.args.reader.now}, c.show.ensures.quiet other)
+    (c.show.ensures.memory memory, (refl {a = c.args.reader.now}, c.show.ensures.quiet other))

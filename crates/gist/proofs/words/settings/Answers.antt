@@ -1,8 +1,8 @@
-use Rattle.std.proofs.Common.{◌≡◌, ◌∙◌, map, Option, Some, None, refl, subst, sym, inl, inr}
+use Rattle.std.proofs.Common.{◌≡◌, ◌∙◌, Option, Some, None, refl, subst, sym, inl, inr}
 use Rattle.std.specs.Option.{option_map}
 use Rattle.std.proofs.lemmas.Result.{err_from_is_err_and}
 use Rattle.clap.specs.Words.{Text, app_of, found_of, kind_of, rows_of, subcommand_rows_of}
-use Rattle.gist.specs.CommandLine.{Gives, GivesStore}
+use Rattle.gist.specs.CommandLine.{texts_of, Gives, GivesStore}
 use Rattle.gist.specs.declared.options.Settings.{Settings}
 use Rattle.gist.proofs.Giving.{Meets, gives, meets, names_command}
 use Rattle.gist.proofs.Serving.{refuses}
@@ -16,23 +16,23 @@ fused f g (Some a) = refl
 pub returns-in_err-matches-clause-refused : goal.returns-in_err-matches-clause-refused
 returns-in_err-matches-clause-refused c =
     let p = err_from_is_err_and c.from_residual-in_err-matches.result c.from_residual-in_err-matches.ensures.1 in
-    rw (p.1, p.2) (refuses (app_of c.in_ok-command_line.field-0) (map (λ word. word.now) c.args.words.now) (kind_of c.in_err-matches.field-0.0) c.in_ok-command_line.ensures c.in_err-matches.ensures.kinds)
+    rw (p.1, p.2) (refuses (app_of c.in_ok-command_line.field-0) (texts_of c.args.words.now) (kind_of c.in_err-matches.field-0.0) c.in_ok-command_line.ensures c.in_err-matches.ensures.kinds)
 
 pub returns-in_err-matches-clause-taken : goal.returns-in_err-matches-clause-taken
 returns-in_err-matches-clause-taken c well =
     let p = err_from_is_err_and c.from_residual-in_err-matches.result c.from_residual-in_err-matches.ensures.1 in
-    rw (p.1, p.2) (only_memory (app_of c.in_ok-command_line.field-0) (map (λ word. word.now) c.args.words.now) (kind_of c.in_err-matches.field-0.0) c.in_ok-command_line.ensures c.in_err-matches.ensures.kinds well)
+    rw (p.1, p.2) (only_memory (app_of c.in_ok-command_line.field-0) (texts_of c.args.words.now) (kind_of c.in_err-matches.field-0.0) c.in_ok-command_line.ensures c.in_err-matches.ensures.kinds well)
 
 pub store_settings-requires : goal.store_settings-requires
 store_settings-requires c =
-    let words = map (λ word. word.now) c.args.words.now in
+    let words = texts_of c.args.words.now in
     let met = subcommand_rows_of c.in_ok-matches.matches in
     let m : Meets words met = meets (app_of c.in_ok-command_line.field-0) words met c.in_ok-command_line.ensures c.in_ok-matches.ensures.kinds (λ simple. (c.in_ok-matches.ensures.matches simple).1) in
     names_command words met c.in-Some.command.now m (c.in-Some.ensures.name ∙ fused _ _ _)
 
 pub returns-clause-given : goal.returns-clause-given
 returns-clause-given c =
-    let words = map (λ word. word.now) c.args.words.now in
+    let words = texts_of c.args.words.now in
     let met = subcommand_rows_of c.in_ok-matches.matches in
     let m : Meets words met = meets (app_of c.in_ok-command_line.field-0) words met c.in_ok-command_line.ensures c.in_ok-matches.ensures.kinds (λ simple. (c.in_ok-matches.ensures.matches simple).1) in
     let named : Some c.in-Some.command.now ≡ option_map (λ p. p.0) met = c.in-Some.ensures.name ∙ fused _ _ _ in

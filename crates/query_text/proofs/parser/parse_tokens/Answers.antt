@@ -12,7 +12,7 @@ pub returns-in_default-clause-refuses : goal.returns-in_default-clause-refuses
 returns-in_default-clause-refuses g c = λ place e.
     let text = c.args.text.now in
     let same : length text ≡ place = cc in
-    rw (← same) (refuses_empty g.C.ClassText.key_at g.C.ClassText.atom_of (length text) (placed text c.args.lexemes.now) (ap (placed text) c.in_default.ensures))
+    rw (← same) (refuses_empty g.C.ClassText.texts (length text) (placed text c.args.lexemes.now) (ap (placed text) c.in_default.ensures))
 
 pub returns-else-is_within_depth-clause-refuses : goal.returns-else-is_within_depth-clause-refuses
 returns-else-is_within_depth-clause-refuses g c = λ place e.
@@ -20,7 +20,7 @@ returns-else-is_within_depth-clause-refuses g c = λ place e.
     let same : c.in-Some.first.place ≡ place = cc in
     let first = at c.in-Some.first.place (token_in text c.in-Some.first) in
     let deep = lt-from-false (depth_of (query_of c.in-Ok.found)) most_depth c.if-is_within_depth.ensures.1 in
-    rw (← same) (refuses_deep g.C.ClassText.key_at g.C.ClassText.atom_of (length text) (placed text c.args.lexemes.now) (placed text c.in-Some.field-0-1.now) first (query_of c.in-Ok.found) (ap (placed text) c.in-Some.ensures) c.in-Ok.ensures.spells deep)
+    rw (← same) (refuses_deep g.C.ClassText.texts (length text) (placed text c.args.lexemes.now) (placed text c.in-Some.field-0-1.now) first (query_of c.in-Ok.found) (ap (placed text) c.in-Some.ensures) c.in-Ok.ensures.spells deep)
 
 pub returns-in-Err-At-clause-refuses : goal.returns-in-Err-At-clause-refuses
 returns-in-Err-At-clause-refuses g c = λ place e.

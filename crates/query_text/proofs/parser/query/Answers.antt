@@ -5,7 +5,7 @@ use Rattle.query_text.proofs.ParserLaws.{waits_at_start}
 use Rattle.query_text.proofs.parser.query.Goals as goal
 
 pub units-init : goal.units-init
-units-init g c = waits_at_start (g.C.ClassText.key_at (length c.args.text.now)) g.C.ClassText.atom_of c.new-stack.result.items (placed c.args.text.now c.args.lexemes.now) c.new-stack.ensures.items
+units-init g c = waits_at_start (g.C.ClassText.texts.key_at (length c.args.text.now)) g.C.ClassText.texts.atom_of c.new-stack.result.items (placed c.args.text.now c.args.lexemes.now) c.new-stack.ensures.items
 
 pub returns-in_err-next-clause-refused : goal.returns-in_err-next-clause-refused
 returns-in_err-next-clause-refused g c =

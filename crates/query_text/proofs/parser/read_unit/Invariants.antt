@@ -6,7 +6,7 @@ use Rattle.query_text.proofs.parser.read_unit.Given as goal
 
 abbrev pub invariant-units : goal.invariant-units
 invariant-units g l = record {
-  waits : (ts : List Placed) → Waits (g.C.ClassText.key_at (length l.text)) g.C.ClassText.atom_of (pending l.initial.stack.items) unit ts (placed l.text l.lexemes) → Waits (g.C.ClassText.key_at (length l.text)) g.C.ClassText.atom_of (pending l.stack.items) unit ts (placed l.text l.rest);
+  waits : (ts : List Placed) → Waits (g.C.ClassText.texts.key_at (length l.text)) g.C.ClassText.texts.atom_of (pending l.initial.stack.items) unit ts (placed l.text l.lexemes) → Waits (g.C.ClassText.texts.key_at (length l.text)) g.C.ClassText.texts.atom_of (pending l.stack.items) unit ts (placed l.text l.rest);
   shorter : length l.rest ≤ length l.lexemes;
 }
 

@@ -3,6 +3,6 @@ use Rattle.query_text.proofs.sets.set_texts_name_their_elements.Goals as goal
 
 pub returns : goal.returns
 returns c = record {
-  read = mask_means;
+  read = λ named e. (let m = mask_means named e in (m.1, m.0));
   written = λ set e. elements_mean 128 set.mask e;
 }
