@@ -10,7 +10,7 @@ use Rattle.change_list.specs.declared.item.Item.TheVariants as item
 use Rattle.change_list.specs.Changes.{snapshot, changes}
 use Rattle.change_list.proofs.Pushing.{filter_push, filter_push_not, changes_none, changes_push, changes_split, snapshot_push}
 use Rattle.change_list.specs.Listings.{IsListing, BeginsListing, is_mark, without_marks}
-use Rattle.change_list.specs.Cursors.{CursorState, wants, IsFollowing, Fits}
+use Rattle.change_list.specs.Cursors.{CursorState, wanted_by, IsFollowing, Fits}
 
 pub record IsCut {X : Type 0} (xs b a : List X) (x m : X) : Type 0 where
   pub less : List X
@@ -49,15 +49,15 @@ listing_push wanted s n commits write items l =
 module _ {K A : Type 0} (matching : A → K → Bool) where
   module _ (commits : List (Write K)) (before : CursorState K A) (items : List (Item K)) (f : Fits matching commits before items) where
     -- marks of a list with one more item that is no mark, or a mark at whose place a listing stands
-    marks_push : (x : Item K) → ((n : ℕ) → x ≡ item.Mark n → IsListing (wants matching before) before.opened n commits (without_marks items))
-        → (front behind : List (Item K)) (n : ℕ) → items ++ x ∷ [] ≡ front ++ item.Mark n ∷ behind → IsListing (wants matching before) before.opened n commits (without_marks front)
+    marks_push : (x : Item K) → ((n : ℕ) → x ≡ item.Mark n → IsListing (wanted_by matching before) before.opened n commits (without_marks items))
+        → (front behind : List (Item K)) (n : ℕ) → items ++ x ∷ [] ≡ front ++ item.Mark n ∷ behind → IsListing (wanted_by matching before) before.opened n commits (without_marks front)
     marks_push x h front behind n e =
         ⊎_elim
-        (λ (p : (items ≡ front) × (x ≡ item.Mark n)). subst (λ l. IsListing (wants matching before) before.opened n commits (without_marks l)) p.0 (h n p.1))
+        (λ (p : (items ≡ front) × (x ≡ item.Mark n)). subst (λ l. IsListing (wanted_by matching before) before.opened n commits (without_marks l)) p.0 (h n p.1))
         (λ (c : IsCut items front behind x (item.Mark n)). f.marks front c.less n c.is)
         (cut_push items front behind x (item.Mark n) e)
 
-    no_mark : (x : Item K) → is_mark x ≡ false → (n : ℕ) → x ≡ item.Mark n → IsListing (wants matching before) before.opened n commits (without_marks items)
+    no_mark : (x : Item K) → is_mark x ≡ false → (n : ℕ) → x ≡ item.Mark n → IsListing (wanted_by matching before) before.opened n commits (without_marks items)
     no_mark x h n e = let g : is_mark {K = K} (item.Mark n) ≡ false = subst (λ (y : Item K). is_mark y ≡ false) e h in absurd (cc)
 
     -- the visit of a page, where the same remains
@@ -66,7 +66,7 @@ module _ {K A : Type 0} (matching : A → K → Bool) where
     fits_scan scanning remaining r s = record {
       rows = f.rows;
       is = f.is;
-      each_once = subst (λ l. IsPermutation (snapshot (wants matching before) before.opened commits) (f.rows ++ l)) r f.each_once;
+      each_once = subst (λ l. IsPermutation (snapshot (wanted_by matching before) before.opened commits) (f.rows ++ l)) r f.each_once;
       in_order = ⊎_elim (λ (p : IsFollowing matching before). inl (record { scanned = s p; none_remaining = sym r ∙ p.none_remaining })) (λ (p : before.position ≡ before.opened). inr p) f.in_order;
       from_opening = f.from_opening;
       within = f.within;
@@ -77,7 +77,7 @@ module _ {K A : Type 0} (matching : A → K → Bool) where
     pub fits_row : (row : Row K) (scanning : Bool) (rest : List (Row K)) → before.remaining ≡ row ∷ rest
         → Fits matching commits (record before { scanning = scanning; remaining = rest }) (items ++ item.Row row ∷ [])
     fits_row row scanning rest r =
-        let w = wants matching before in
+        let w = wanted_by matching before in
         let at : before.position ≡ before.opened =
         ⊎_elim (λ (p : IsFollowing matching before). let z = p.none_remaining in absurd (cc)) (λ (p : before.position ≡ before.opened). p) f.in_order in
         let none : changes w before.opened before.position commits ≡ [] = ap (λ p. changes w before.opened p commits) at ∙ changes_none w before.opened commits in
@@ -94,10 +94,10 @@ module _ {K A : Type 0} (matching : A → K → Bool) where
 
     -- past commits, with the item of the last
     pub fits_changes : (given : Option (Item K)) (position : ℕ) → IsFollowing matching before → before.position ≤ position → position ≤ length commits
-        → changes (wants matching before) before.position position commits ≡ option_to_list given → IfSome given (λ x. is_mark x ≡ false)
+        → changes (wanted_by matching before) before.position position commits ≡ option_to_list given → IfSome given (λ x. is_mark x ≡ false)
         → Fits matching commits (record before { position = position }) (items ++ option_to_list given)
     fits_changes given position h l b t m =
-        let w = wants matching before in
+        let w = wanted_by matching before in
         let o : before.opened ≤ position = omega (arith, f.from_opening, l) in
         let e : before.position + (position - before.position) ≡ position = omega (arith, l) in
         let longer : changes w before.opened position commits ≡ changes w before.opened before.position commits ++ option_to_list given =
@@ -118,12 +118,12 @@ module _ {K A : Type 0} (matching : A → K → Bool) where
         plain (Some x) n = filter_push (λ i. not (is_mark i)) items x (ap not n)
 
         marks : (g : Option (Item K)) → IfSome g (λ x. is_mark x ≡ false) → (front behind : List (Item K)) (n : ℕ) → items ++ option_to_list g ≡ front ++ item.Mark n ∷ behind
-            → IsListing (wants matching before) before.opened n commits (without_marks front)
+            → IsListing (wanted_by matching before) before.opened n commits (without_marks front)
         marks None n front behind k e = f.marks front behind k (sym (append-nil items) ∙ e)
         marks (Some x) n front behind k e = marks_push x (no_mark x n) front behind k e
 
     -- with nothing to come, all that was given is a listing
-    pub fits_done : IsFollowing matching before → length commits ≤ before.position → IsListing (wants matching before) before.opened (length commits) commits (without_marks items)
+    pub fits_done : IsFollowing matching before → length commits ≤ before.position → IsListing (wanted_by matching before) before.opened (length commits) commits (without_marks items)
     fits_done h l =
         let e : before.position ≡ length commits = omega (arith, l, f.within) in
         record {
@@ -131,7 +131,7 @@ module _ {K A : Type 0} (matching : A → K → Bool) where
           within = omega arith;
           rows = f.rows;
           each_once = rw (h.none_remaining, append-nil) at f.each_once;
-          is = f.is ∙ ap (λ n. map item.Row f.rows ++ changes (wants matching before) before.opened n commits) e;
+          is = f.is ∙ ap (λ n. map item.Row f.rows ++ changes (wanted_by matching before) before.opened n commits) e;
         }
 
     -- a mark, once nothing is to come
@@ -144,13 +144,13 @@ module _ {K A : Type 0} (matching : A → K → Bool) where
       in_order = inl (record { scanned = h.scanned; none_remaining = h.none_remaining });
       from_opening = f.from_opening;
       within = f.within;
-      marks = marks_push (item.Mark (length commits)) (λ n e. let g : length commits ≡ n = cc in subst (λ n. IsListing (wants matching before) before.opened n commits (without_marks items)) g (fits_done h l));
+      marks = marks_push (item.Mark (length commits)) (λ n e. let g : length commits ≡ n = cc in subst (λ n. IsListing (wanted_by matching before) before.opened n commits (without_marks items)) g (fits_done h l));
     }
 
     -- what was given begins a listing for the present commits
-    pub fits_begins : BeginsListing (wants matching before) before.opened (length commits) commits (without_marks items)
+    pub fits_begins : BeginsListing (wanted_by matching before) before.opened (length commits) commits (without_marks items)
     fits_begins =
-        let w = wants matching before in
+        let w = wanted_by matching before in
         let e : before.position + (length commits - before.position) ≡ length commits = omega (arith, f.within) in
         let whole : changes w before.opened (length commits) commits ≡ changes w before.opened before.position commits ++ changes w before.position (length commits) commits =
         ap (λ n. changes w before.opened n commits) (sym e) ∙ changes_split w before.opened before.position (length commits - before.position) commits f.from_opening
@@ -176,7 +176,7 @@ module _ {K A : Type 0} (matching : A → K → Bool) where
     pub fits_push : (write : Write K) (remaining : List (Row K)) → IsPermutation before.remaining remaining
         → Fits matching (commits ++ write ∷ []) (record before { remaining = remaining }) items
     fits_push write remaining r =
-        let w = wants matching before in
+        let w = wanted_by matching before in
         let b : before.opened ≤ length commits = omega (arith, f.from_opening, f.within) in
         record {
           rows = f.rows;
@@ -197,10 +197,10 @@ module _ {K A : Type 0} (matching : A → K → Bool) where
 
   -- nothing given fits a new cursor
   pub fits_new : (commits : List (Write K)) (cursor : CursorState K A) → cursor.opened ≡ length commits → cursor.position ≡ length commits
-      → IsPermutation (snapshot (wants matching cursor) (length commits) commits) cursor.remaining → Fits matching commits cursor []
+      → IsPermutation (snapshot (wanted_by matching cursor) (length commits) commits) cursor.remaining → Fits matching commits cursor []
   fits_new commits cursor o p r = record {
     rows = [];
-    is = sym (ap (λ n. changes (wants matching cursor) cursor.opened n commits) (p ∙ sym o) ∙ changes_none (wants matching cursor) cursor.opened commits);
+    is = sym (ap (λ n. changes (wanted_by matching cursor) cursor.opened n commits) (p ∙ sym o) ∙ changes_none (wanted_by matching cursor) cursor.opened commits);
     each_once = rw o r;
     in_order = inr (p ∙ sym o);
     from_opening = omega (arith, o, p);

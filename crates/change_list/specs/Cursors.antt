@@ -24,8 +24,8 @@ pub record CursorState (K A : Type 0) : Type 0 where
   pub asked : Bool
 
 module _ {K A : Type 0} (matching : A → K → Bool) where
-  abbrev pub wants : CursorState K A → K → Bool
-  wants cursor = matches_query matching cursor.query
+  abbrev pub wanted_by : CursorState K A → K → Bool
+  wanted_by cursor = matches_query matching cursor.query
 
   -- the scan is over and its rows are given
   pub record IsFollowing (cursor : CursorState K A) : Type 0 where
@@ -36,16 +36,16 @@ module _ {K A : Type 0} (matching : A → K → Bool) where
   -- rows with what remains are the snapshot; no change is given before the last row; and at each mark all was given.
   pub record Fits (commits : List (Write K)) (cursor : CursorState K A) (items : List (Item K)) : Type 0 where
     pub rows : List (Row K)
-    pub is : without_marks items ≡ map item.Row rows ++ changes (wants cursor) cursor.opened cursor.position commits
-    pub each_once : IsPermutation (snapshot (wants cursor) cursor.opened commits) (rows ++ cursor.remaining)
+    pub is : without_marks items ≡ map item.Row rows ++ changes (wanted_by cursor) cursor.opened cursor.position commits
+    pub each_once : IsPermutation (snapshot (wanted_by cursor) cursor.opened commits) (rows ++ cursor.remaining)
     pub in_order : IsFollowing cursor ⊎ (cursor.position ≡ cursor.opened)
     pub from_opening : cursor.opened ≤ cursor.position
     pub within : cursor.position ≤ length commits
     pub marks : (before after : List (Item K)) (n : ℕ) → items ≡ before ++ item.Mark n ∷ after
-        → IsListing (wants cursor) cursor.opened n commits (without_marks before)
+        → IsListing (wanted_by cursor) cursor.opened n commits (without_marks before)
 
   -- neither a row nor a change nor a mark is to come
-  pub record IsDone (commits : List (Write K)) (cursor : CursorState K A) : Type 0 where
+  pub record HasNothingToCome (commits : List (Write K)) (cursor : CursorState K A) : Type 0 where
     pub following : IsFollowing cursor
     pub at_end : length commits ≤ cursor.position
     pub unasked : cursor.asked ≡ false

@@ -1,4 +1,4 @@
-ghost use Rattle.std.specs.Prelude.{◌≡◌, ◌↔◌, true, false, [], IfOk, IfErr, IsTrue, ◌≢◌, ◌⊎◌, ◌+◌, ◌++◌, Some, None, slice_get};
+ghost use Rattle.std.specs.Prelude.{◌≡◌, ◌↔◌, true, false, [], IfOk, IfErr, IsTrue, ◌+◌, Some, None};
 ghost use Rattle.cursor.specs.Preparing.{IsPrepared, IsDue, RefusesVisit};
 ghost use Rattle.std.specs.Arc.{arc_value};
 ghost use Rattle.key_class.specs.Queries.{query_of};

@@ -4,7 +4,7 @@ use Rattle.key_class.specs.Queries.{Query}
 use Rattle.key_class.specs.Rules.{Rules, satisfies}
 use Rattle.change_list.specs.declared.item.Item.{Item}
 use Rattle.listing.specs.Deliveries.{IsDelivered}
-use Rattle.desk.specs.Seats.{Received, Following}
+use Rattle.desk.specs.Seats.{Received, TakerState}
 use Rattle.desk.specs.declared.ending.Ended.{Ended}
 use Rattle.desk.specs.declared.ending.Ended.TheVariants as ended
 
@@ -18,5 +18,5 @@ abbrev pub ShowsDelivery : {K A : Type 0} → Rules K A → Query A → ℕ → 
 ShowsDelivery rules query opened taken r = IsDelivered (satisfies rules query) opened r.commits taken
 
 -- the same, of what a taker's client knows
-abbrev pub ShowsTaken : {K A : Type 0} → Rules K A → Following K A → List (Item K) → Received K → Type 0
+abbrev pub ShowsTaken : {K A : Type 0} → Rules K A → TakerState K A → List (Item K) → Received K → Type 0
 ShowsTaken rules following taken r = ShowsDelivery rules following.query following.opened taken r

@@ -2,11 +2,12 @@
 ghost use Rattle.std.specs.Prelude.{ℕ, ◌≡◌, ◌↔◌, ◌<◌, ◌≤◌, ◌+◌, [], length, Err, IfSome, IfNone, IfOk, IfErr, OnOk, OnErr};
 ghost use Rattle.rtrb.specs.Ring.{received};
 ghost use Rattle.world.specs.declared.event.Event.TheVariants as event;
+ghost use Rattle.world.specs.States.{IsFullOfCommits};
 ghost use Rattle.world.specs.Steps.{Opens};
 ghost use Rattle.insertion.specs.Visits.{Goes};
 ghost use Rattle.removal.specs.Deleting.{Looks};
-ghost use Rattle.removal.specs.Visits.{Seeks};
-ghost use Rattle.desk.specs.Visits.{Closes, Counts, CountsSearch, IsHeld, IsSearchCommitted, IsSplitAtMost, IsSplitInTime, IsWayCommitted, MakesOneEvent, IsReplyTo, IsInsertRefused, IsDeleteRefused, IsOpeningRefused};
+ghost use Rattle.removal.specs.Visits.{SeeksForDelete};
+ghost use Rattle.desk.specs.Visits.{MakesClose, Counts, CountsSearch, IsHeld, IsSearchCommitted, IsSplitAtMost, IsSplitInTime, IsWayCommitted, MakesOneEvent, IsReplyTo, IsInsertRefused, IsDeleteRefused, IsOpeningRefused};
 
 use change_list::{Item, View};
 use insertion::{Way, insert_step, split_at_once, split_prepared};
@@ -98,7 +99,7 @@ impl<C: KeyClass, L: Ledger> Locked<World<C, Ring<C::Key>>, L> {
         ensures held { IsHeld C.rules self.old × IsHeld C.rules self.new }
         ensures unchanged { OnErr result (self.new ≡ self.old) }
         ensures uncounted { OnErr result (share.new.amount ≡ share.old.amount) }
-        ensures full { (result ≡ Err Refusal.CommitsFull) ↔ (self.old.limit ≤ length self.old.commits) }
+        ensures full { (result ≡ Err Refusal.CommitsFull) ↔ IsFullOfCommits self.old }
         ensures committed { IfOk result (IsWayCommitted C.rules) }
         ensures refusals { IfErr result (IsInsertRefused C.rules) }
     {
@@ -168,7 +169,7 @@ impl<C: KeyClass, L: Ledger> Locked<World<C, Ring<C::Key>>, L> {
         row: u64,
     ) -> Result<Search<C::Key>, Refusal>
         requires { 0 < share.old.parts }
-        ensures seeks { IfOk result (λ search. Seeks self.old seat row search self.new) }
+        ensures seeks { IfOk result (λ search. SeeksForDelete self.old seat row search self.new) }
         ensures share { IfOk result (CountsSearch share.old.amount share.new.amount) }
         ensures parts { share.new.parts ≡ share.old.parts }
         ensures one_event { MakesOneEvent C.rules C seat self.old self.new }
@@ -301,7 +302,7 @@ impl<C: KeyClass, L: Ledger> Locked<World<C, Ring<C::Key>>, L> {
         share: &mut Share<L>,
         cursor: u64,
     ) -> Option<View<C::Key>>
-        ensures closed { Closes C.rules C self.old cursor self.new }
+        ensures closed { MakesClose C.rules C self.old cursor self.new }
         ensures view { IfSome result (λ view. view ≡ self.old.commits) }
         ensures number { share.new.amount ≤ length self.old.commits }
         ensures share { share.new.amount ≡ share.old.amount }

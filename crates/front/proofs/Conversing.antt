@@ -7,7 +7,7 @@ use Rattle.std.proofs.KnownBytes.{Consumes-trans, Consumes-kept}
 use Rattle.std.proofs.lemmas.List.{append-nil}
 use Rattle.query_text.specs.Tokens.{Placed}
 use Rattle.front.specs.Lines.{HasNoFeed, ended, AreLines}
-use Rattle.front.specs.Held.{Held, with_room, Fills, IsRestOf}
+use Rattle.front.specs.Held.{Held, with_room, FillsHeld, IsRestOf}
 use Rattle.front.specs.Written.{Writes, WritesBeginning}
 use Rattle.front.specs.Conversations.{AnswersLine, AnswersLines, AnsweredAll, AnsweredWhole, AnsweredFirst}
 use Rattle.front.proofs.Bytes.{no_feed_append}
@@ -120,7 +120,7 @@ keeps_itself None = tt
 keeps_itself (Some xs) = refl
 
 -- at the reader's end what is held has no line feed, as before
-pub no_feed_at_end : (r r' : Option (List ℕ)) (held held' : Held) → HasNoFeed held.rest → Fills r r' held false held' → HasNoFeed held'.rest
+pub no_feed_at_end : (r r' : Option (List ℕ)) (held held' : Held) → HasNoFeed held.rest → FillsHeld r r' held false held' → HasNoFeed held'.rest
 no_feed_at_end r r' held held' n f =
     let z = (f.none_at_end refl).0 in
     let e : held'.rest ≡ (with_room held).rest ++ [] = ap (λ (h : Held). h.rest) f.held ∙ ap (λ b. (with_room held).rest ++ b) z in
@@ -197,7 +197,7 @@ module _ {S : Type 0} (answers : ℕ → S → List Placed → List ℕ → S �
         wrote = writes_then_nothing w0 w w' [] gathered gathered' p.text p.wrote h;
       }
 
-      pub filled : (r' : Option (List ℕ)) (more : Bool) (held' : Held) → HasNoFeed held.rest → Fills r r' held more held' → Progress r' w gathered s held'
+      pub filled : (r' : Option (List ℕ)) (more : Bool) (held' : Held) → HasNoFeed held.rest → FillsHeld r r' held more held' → Progress r' w gathered s held'
       filled r' more held' n f = subst (λ (h : Held). Progress r' w gathered s h) (sym f.held) (record {
         lines = p.lines;
         text = p.text;

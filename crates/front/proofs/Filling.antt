@@ -3,7 +3,7 @@ use Rattle.std.proofs.Common.{◌≡◌, ℕ, suc, zero, ◌+◌, ◌-◌, ◌<�
 use Rattle.std.specs.Prelude.{nat_eq, nat_lt}
 use Rattle.std.specs.Io.KnownBytes.{Consumes, IsAtEnd}
 use Rattle.std.proofs.lemmas.List.{length-take, length-drop}
-use Rattle.front.specs.Held.{Held, with_room, Fills}
+use Rattle.front.specs.Held.{Held, with_room, FillsHeld}
 use Rattle.front.proofs.Bytes.{take_nothing}
 
 pub take_both : (a b : ℕ) (xs : List ℕ) → take (a + b) xs ≡ take a xs ++ take b (drop a xs)
@@ -30,7 +30,7 @@ room_made items start end overlong o w l =
     rw t refl
 
 pub fills : (before after : Option (List ℕ)) (old : Held) (bytes : List ℕ) (held count : ℕ) (overlong : Bool) → Consumes before after (take count (drop held bytes)) → (count ≡ 0 → IsAtEnd after)
-    → take held bytes ≡ (with_room old).rest → overlong ≡ (with_room old).overlong → Fills before after old (nat_lt 0 count) (holding bytes 0 (held + count) overlong)
+    → take held bytes ≡ (with_room old).rest → overlong ≡ (with_room old).overlong → FillsHeld before after old (nat_lt 0 count) (holding bytes 0 (held + count) overlong)
 fills before after old bytes held count overlong c e r o = record {
   bytes = take count (drop held bytes);
   consumed = c;

@@ -5,9 +5,9 @@ use Rattle.key_class.specs.Queries.{Query}
 use Rattle.key_class.specs.declared.refusal.Refusal.TheVariants as refusal
 use Rattle.key_class.specs.Rules.{Rules}
 use Rattle.change_list.specs.Cursors.{CursorState}
-use Rattle.store.specs.States.{State, cursor_of, open_or_closed, find_cursor, IsOpened, Closes, without_cursor}
+use Rattle.store.specs.States.{StoreState, cursor_of, open_or_closed, find_cursor, IsOpened, Closes, without_cursor}
 use Rattle.store.proofs.Cursors.{found_as}
-use Rattle.front.specs.Told.{Following, Told, with_cursor}
+use Rattle.front.specs.Told.{ClientCursor, Told, with_client_cursor}
 use Rattle.front.specs.AsTold.{AreSame, IsAsTold}
 use Rattle.front.proofs.Telling.{told_cursor}
 
@@ -23,12 +23,12 @@ module _ {K A : Type 0} where
   found_before d [] k e = rw e refl
   found_before d (x ∷ ks) k e = ap (λ o. cond (nat_eq x.serial d) (Some x) o) (found_before d ks k e)
 
-  opened_other : (old new : State K A) (k : CursorState K A) (c d : ℕ) → c ≡ old.last + 1 → k.serial ≡ c → new ≡ record old { last = c; cursors = old.cursors ++ k ∷ [] } → d ≢ c → cursor_of new d ≡ cursor_of old d
+  opened_other : (old new : StoreState K A) (k : CursorState K A) (c d : ℕ) → c ≡ old.last + 1 → k.serial ≡ c → new ≡ record old { last = c; cursors = old.cursors ++ k ∷ [] } → d ≢ c → cursor_of new d ≡ cursor_of old d
   opened_other old new k c d s n e o =
       let w : d ≢ old.last + 1 = λ p. o (p ∙ sym s) in
       let l : nat_lt c d ≡ nat_lt old.last d = ap (λ m. nat_lt m d) s ∙ given_later old.last d w in
       let f : nat_eq k.serial d ≡ false = search (arith, n, o) in
-      ap (λ (x : State K A). cursor_of x d) e
+      ap (λ (x : StoreState K A). cursor_of x d) e
       ∙ ap (λ b. if nat_eq d 0 || b then Err refusal.NoSuchCursor else open_or_closed (find_cursor d (old.cursors ++ k ∷ []))) l
       ∙ ap (λ x. if nat_eq d 0 || nat_lt old.last d then Err refusal.NoSuchCursor else open_or_closed x) (found_before d old.cursors k f)
 
@@ -49,28 +49,28 @@ module _ {K A : Type 0} where
       go true e r = let f : nat_eq k.serial d ≡ false = search (arith, e, n) in rw (e, f) r
       go false e r = rw e (ap (λ o. cond (nat_eq k.serial d) (Some k) o) r)
 
-  module _ (rules : Rules K A) (old : State K A) (told : Told K A) (t : IsAsTold rules old told) where
-    pub told_opened : (query : Query A) (c : ℕ) (new : State K A) → IsOpened rules.is_match old query c new
+  module _ (rules : Rules K A) (old : StoreState K A) (told : Told K A) (t : IsAsTold rules old told) where
+    pub told_opened : (query : Query A) (c : ℕ) (new : StoreState K A) → IsOpened rules.is_match old query c new
         → IsAsTold rules new (record told {
-          cursors = with_cursor told.cursors c (Ok (record { query = query; opened = length told.commits; given = []; asked = false }));
+          cursors = with_client_cursor told.cursors c (Ok (record { query = query; opened = length told.commits; given = []; asked = false }));
           open_cursors = told.open_cursors + 1;
           last = c;
         })
     told_opened query c new o = record {
-      limit = t.limit ∙ sym (ap (λ (s : State K A). s.limit) o.after);
+      limit = t.limit ∙ sym (ap (λ (s : StoreState K A). s.limit) o.after);
       commits = t.commits ∙ sym commits;
-      page_limit = t.page_limit ∙ sym (ap (λ (s : State K A). s.page_limit) o.after);
+      page_limit = t.page_limit ∙ sym (ap (λ (s : StoreState K A). s.page_limit) o.after);
       cursors = λ d. go d (nat_eq d c) refl;
-      open_cursors = omega (arith, t.open_cursors, ap (λ (s : State K A). length s.cursors) o.after, length-append old.cursors (o.cursor ∷ []));
-      last = sym (ap (λ (s : State K A). s.last) o.after);
-      dead = subst (λ (s : State K A). IsPermutation told.dead s.dead) (sym o.after) t.dead;
-      finders = omega (arith, t.finders, ap (λ (s : State K A). s.finders) o.after);
+      open_cursors = omega (arith, t.open_cursors, ap (λ (s : StoreState K A). length s.cursors) o.after, length-append old.cursors (o.cursor ∷ []));
+      last = sym (ap (λ (s : StoreState K A). s.last) o.after);
+      dead = subst (λ (s : StoreState K A). IsPermutation told.dead s.dead) (sym o.after) t.dead;
+      finders = omega (arith, t.finders, ap (λ (s : StoreState K A). s.finders) o.after);
     }
       where
         commits : new.commits ≡ old.commits
-        commits = ap (λ (s : State K A). s.commits) o.after
+        commits = ap (λ (s : StoreState K A). s.commits) o.after
 
-        f : Following K A
+        f : ClientCursor K A
         f = record { query = query; opened = length told.commits; given = []; asked = false }
 
         go : (d : ℕ) (b : Bool) → nat_eq d c ≡ b → AreSame rules new.commits (cursor_of new d) (if b then Ok f else told.cursors d)
@@ -82,21 +82,21 @@ module _ {K A : Type 0} where
             let n : d ≢ c = search (arith, e) in
             rw commits (subst (λ x. AreSame rules old.commits x (told.cursors d)) (sym (opened_other old new o.cursor c d o.serial o.number o.after n)) (t.cursors d))
 
-    pub told_closed : (c : ℕ) (new : State K A) → Closes old c new
-        → (f : Following K A) × (told.cursors c ≡ Ok f) × IsAsTold rules new (record told { cursors = with_cursor told.cursors c (Err refusal.CursorClosed); open_cursors = told.open_cursors - 1 })
+    pub told_closed : (c : ℕ) (new : StoreState K A) → Closes old c new
+        → (f : ClientCursor K A) × (told.cursors c ≡ Ok f) × IsAsTold rules new (record told { cursors = with_client_cursor told.cursors c (Err refusal.CursorClosed); open_cursors = told.open_cursors - 1 })
     told_closed c new h =
         let k = told_cursor rules old told t c h.cursor h.was_open in (
           k.f,
           k.is,
           record {
-            limit = t.limit ∙ sym (ap (λ (s : State K A). s.limit) h.is);
-            commits = t.commits ∙ sym (ap (λ (s : State K A). s.commits) h.is);
-            page_limit = t.page_limit ∙ sym (ap (λ (s : State K A). s.page_limit) h.is);
-            cursors = λ d. subst (λ (s : State K A). AreSame rules s.commits (cursor_of s d) (with_cursor told.cursors c (Err refusal.CursorClosed) d)) (sym h.is) (go d (nat_eq d c) refl);
+            limit = t.limit ∙ sym (ap (λ (s : StoreState K A). s.limit) h.is);
+            commits = t.commits ∙ sym (ap (λ (s : StoreState K A). s.commits) h.is);
+            page_limit = t.page_limit ∙ sym (ap (λ (s : StoreState K A). s.page_limit) h.is);
+            cursors = λ d. subst (λ (s : StoreState K A). AreSame rules s.commits (cursor_of s d) (with_client_cursor told.cursors c (Err refusal.CursorClosed) d)) (sym h.is) (go d (nat_eq d c) refl);
             open_cursors = omega (arith, t.open_cursors, h.one_less);
-            last = t.last ∙ sym (ap (λ (s : State K A). s.last) h.is);
-            dead = subst (λ (s : State K A). IsPermutation told.dead s.dead) (sym h.is) t.dead;
-            finders = omega (arith, t.finders, ap (λ (s : State K A). s.finders) h.is);
+            last = t.last ∙ sym (ap (λ (s : StoreState K A). s.last) h.is);
+            dead = subst (λ (s : StoreState K A). IsPermutation told.dead s.dead) (sym h.is) t.dead;
+            finders = omega (arith, t.finders, ap (λ (s : StoreState K A). s.finders) h.is);
           },
         )
       where

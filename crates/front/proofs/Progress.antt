@@ -5,7 +5,7 @@ use Rattle.std.specs.Prelude.{nat_eq, nat_lt, ◌||◌}
 use Rattle.std.proofs.lemmas.List.Sorted.{IsPermutation-refl}
 use Rattle.change_list.specs.declared.config.Config.{Config}
 use Rattle.key_class.specs.Rules.{Rules}
-use Rattle.store.specs.States.{State, new_state}
+use Rattle.store.specs.States.{StoreState, new_store}
 use Rattle.query_text.specs.Tokens.{Placed}
 use Rattle.query_text.specs.ClassTexts.{Texts}
 use Rattle.front.specs.Told.{Told, nothing_told}
@@ -28,8 +28,8 @@ none_given (suc c) = let h : nat_lt 0 (suc c) ≡ true = search arith in rw h (o
     or_true false = refl
 
 -- a new store is as is told before the first line
-pub new_as_told : {K A : Type 0} (rules : Rules K A) (store : State K A) → (config : Config) × (store ≡ new_state config) → IsAsTold rules store (nothing_told store.limit store.page_limit)
-new_as_told {K} {A} rules store h = subst (λ (s : State K A). IsAsTold rules s (nothing_told s.limit s.page_limit)) (sym h.1) (record {
+pub new_as_told : {K A : Type 0} (rules : Rules K A) (store : StoreState K A) → (config : Config) × (store ≡ new_store config) → IsAsTold rules store (nothing_told store.limit store.page_limit)
+new_as_told {K} {A} rules store h = subst (λ (s : StoreState K A). IsAsTold rules s (nothing_told s.limit s.page_limit)) (sym h.1) (record {
   limit = refl;
   commits = refl;
   page_limit = refl;
@@ -82,10 +82,10 @@ module _ {S T : Type 0} (answers : ℕ → S → List Placed → List ℕ → S 
         )
 
 module _ {K A : Type 0} (texts : Texts K A) (rules : Rules K A) where
-  tells_tokens : (len : ℕ) (old new : State K A) (ts : List Placed) (text : List ℕ) (told : Told K A) → AnswersTokens texts rules len old ts text new → IsAsTold rules old told → (after : Told K A) × AnswersTold texts rules len told ts text after × IsAsTold rules new after
+  tells_tokens : (len : ℕ) (old new : StoreState K A) (ts : List Placed) (text : List ℕ) (told : Told K A) → AnswersTokens texts rules len old ts text new → IsAsTold rules old told → (after : Told K A) × AnswersTold texts rules len told ts text after × IsAsTold rules new after
   tells_tokens len old new ts text told a t = let r = a.replies told t in (r.0, (a.said, a.is_text, r.1), r.2)
 
-  module _ (old new : State K A) (r0 r w0 w : Option (List ℕ)) (is_new : (config : Config) × (old ≡ new_state config)) where
+  module _ (old new : StoreState K A) (r0 r w0 w : Option (List ℕ)) (is_new : (config : Config) × (old ≡ new_store config)) where
     pub told_all : AnsweredAll (AnswersTokens texts rules) r0 r w0 w old new → FromNothing rules (AnsweredAll (AnswersTold texts rules) r0 r w0 w) old new
     told_all a = tells_all (AnswersTokens texts rules) (AnswersTold texts rules) (IsAsTold rules) tells_tokens old new r0 r w0 w (nothing_told old.limit old.page_limit) (new_as_told rules old is_new) a
 

@@ -11,20 +11,20 @@ use Rattle.change_list.specs.declared.item.Item.{Item}
 use Rattle.change_list.specs.declared.write.Status.{Status}
 use Rattle.change_list.specs.declared.write.Status.TheVariants.{NeverIssued, Live, Dead}
 use Rattle.change_list.specs.Changes.{status_of}
-use Rattle.store.specs.States.{State, DeadRow, Commits, Keeps, IsOpened, IsBadOpening, IsFullOf, RefusesDelete, Sweeps, SweepsSome, is_needed, Nexts, RefusesNext, Changes, with_asking, Closes}
+use Rattle.store.specs.States.{StoreState, DeadRow, Commits, Keeps, IsOpened, IsBadOpening, IsFullOf, MayRefuseDelete, SweepsStore, SweepsStorePart, is_dead_needed, Nexts, RefusesNext, ChangesCursor, with_asking, Closes}
 use Rattle.query_text.specs.Tokens.{Placed}
 use Rattle.query_text.specs.ClassTexts.{Texts}
 use Rattle.query_text.specs.Grammar.{RefusesTokens, IsParseRefusal}
 use Rattle.front.specs.declared.reply.Reply.{Reply}
 use Rattle.front.specs.declared.reply.Reply.TheVariants as reply
-use Rattle.front.specs.Told.{Told, with_cursor, IsFull, HasNoCursorLeft, MayLackPages, IsBadRoom, RepliesInsert, RepliesDelete, RepliesOpen, RepliesNext, RepliesMark, RepliesSweep, RepliesClose}
+use Rattle.front.specs.Told.{Told, with_client_cursor, IsFullAsTold, HasNoCursorLeft, MayLackPages, IsBadRoom, RepliesInsert, RepliesDelete, RepliesOpen, RepliesNext, RepliesMark, RepliesSweep, RepliesClose}
 use Rattle.front.specs.AsTold.{IsAsTold}
 use Rattle.front.specs.Sessions.{WithQuery}
 use Rattle.front.proofs.Telling.{told_insert, told_delete, told_kept, told_swept, told_given, told_empty, told_wanting, told_asked, told_refusal, each_needed}
 use Rattle.front.proofs.Opening.{told_opened, told_closed}
 
-module _ {K A : Type 0} (rules : Rules K A) (old new : State K A) (told : Told K A) (t : IsAsTold rules old told) where
-  full_told : (old.limit ≤ length old.commits) ↔ IsFull told
+module _ {K A : Type 0} (rules : Rules K A) (old new : StoreState K A) (told : Told K A) (t : IsAsTold rules old told) where
+  full_told : (old.limit ≤ length old.commits) ↔ IsFullAsTold told
   full_told = (λ h. omega (arith, h, t.limit, ap length t.commits), λ h. omega (arith, h, t.limit, ap length t.commits))
 
   pub insert_committed : (key : K) (tag n : ℕ) (r : Result ℕ Refusal) → r ≡ Ok n → n ≡ length old.commits + 1 → ((r ≡ Err refusal.CommitsFull) ↔ (old.limit ≤ length old.commits))
@@ -41,7 +41,7 @@ module _ {K A : Type 0} (rules : Rules K A) (old new : State K A) (told : Told K
       → new.page_limit ≤ new.pages_left + length new.commits + 1 → (after : Told K A) × RepliesInsert key tag (reply.Refused why) told after × IsAsTold rules new after
   insert_refused key tag why r e f w k n few = (told, says why e w, told_kept rules old told t new told.finders k (omega (arith, t.finders, n)))
     where
-      not_full : (x : Refusal) → r ≡ Err x → (x ≡ refusal.CommitsFull → ⊥) → IsFull told → ⊥
+      not_full : (x : Refusal) → r ≡ Err x → (x ≡ refusal.CommitsFull → ⊥) → IsFullAsTold told → ⊥
       not_full x p d h = let y : r ≡ Err refusal.CommitsFull = f.1 (full_told.1 h) in let z : Err x ≡ Err refusal.CommitsFull = sym p ∙ y in d (cc)
 
       lacking : new.pages_left < 2 → MayLackPages told
@@ -67,7 +67,7 @@ module _ {K A : Type 0} (rules : Rules K A) (old new : State K A) (told : Told K
       go Dead e = absurd (a (d.already.1 e))
       go Live e = e
 
-  room_left : (row : ℕ) (r : Result ℕ Refusal) → DeleteRefusals row r → status_of told.commits row ≡ Live → (r ≡ Err refusal.CommitsFull → ⊥) → IsFull told → ⊥
+  room_left : (row : ℕ) (r : Result ℕ Refusal) → DeleteRefusals row r → status_of told.commits row ≡ Live → (r ≡ Err refusal.CommitsFull → ⊥) → IsFullAsTold told → ⊥
   room_left row r d l n h = n (d.full.1 (ap (λ c. status_of c row) (sym t.commits) ∙ l, full_told.1 h))
 
   pub delete_committed : (row n : ℕ) (r : Result ℕ Refusal) → r ≡ Ok n → n ≡ length old.commits + 1 → DeleteRefusals row r → Commits rules.is_match old (write.Delete row) new
@@ -80,18 +80,18 @@ module _ {K A : Type 0} (rules : Rules K A) (old new : State K A) (told : Told K
         told_delete rules old told t row n new c m p w,
       )
 
-  pub delete_refused : (row : ℕ) (why : Refusal) (r : Result ℕ Refusal) → r ≡ Err why → DeleteRefusals row r → RefusesDelete old why → Keeps rules.is_match old new → (why ≢ refusal.OutOfMemory → new ≡ old) → new.finders ≤ old.finders + 1
+  pub delete_refused : (row : ℕ) (why : Refusal) (r : Result ℕ Refusal) → r ≡ Err why → DeleteRefusals row r → MayRefuseDelete old why → Keeps rules.is_match old new → (why ≢ refusal.OutOfMemory → new ≡ old) → new.finders ≤ old.finders + 1
       → (after : Told K A) × RepliesDelete row (reply.Refused why) told after × IsAsTold rules new after
   delete_refused row why r e d w k u n = says w
     where
       -- refused so, it leaves the store as it was
       alike : (x : Refusal) → why ≡ x → (x ≡ refusal.OutOfMemory → ⊥) → RepliesDelete row (reply.Refused x) told told → (after : Told K A) × RepliesDelete row (reply.Refused why) told after × IsAsTold rules new after
-      alike x a q said = (told, subst (λ y. RepliesDelete row (reply.Refused y) told told) (sym a) said, subst (λ (s : State K A). IsAsTold rules s told) (sym (u (λ z. q (sym a ∙ z)))) t)
+      alike x a q said = (told, subst (λ y. RepliesDelete row (reply.Refused y) told told) (sym a) said, subst (λ (s : StoreState K A). IsAsTold rules s told) (sym (u (λ z. q (sym a ∙ z)))) t)
 
       other : (x y : Refusal) → why ≡ x → (x ≡ y → ⊥) → r ≡ Err y → ⊥
       other x y a q s = let z : Err why ≡ Err y = sym e ∙ s in let f : why ≡ y = cc in q (sym a ∙ f)
 
-      says : RefusesDelete old why → (after : Told K A) × RepliesDelete row (reply.Refused why) told after × IsAsTold rules new after
+      says : MayRefuseDelete old why → (after : Told K A) × RepliesDelete row (reply.Refused why) told after × IsAsTold rules new after
       says (inl a) = alike refusal.NoSuchRow a (λ z. cc) (ap (λ l. status_of l row) t.commits ∙ d.never.0 (e ∙ ap Err a), refl)
       says (inr (inl a)) = alike refusal.AlreadyDeleted a (λ z. cc) (ap (λ l. status_of l row) t.commits ∙ d.already.0 (e ∙ ap Err a), refl)
       says (inr (inr (inl a))) = let h = d.full.0 (e ∙ ap Err a) in alike refusal.CommitsFull a (λ z. cc) (ap (λ l. status_of l row) t.commits ∙ h.0, full_told.0 h.1, refl)
@@ -131,7 +131,7 @@ module _ {K A : Type 0} (rules : Rules K A) (old new : State K A) (told : Told K
   pub open_refused : (room : ℕ) (query : Query A) (why : Refusal) (r : Result ℕ Refusal) → r ≡ Err why → depth_of query ≤ 32 → ((r ≡ Err refusal.BadConfig) ↔ IsBadOpening query room)
       → ((r ≡ Err refusal.CursorsFull) ↔ ((¬ IsBadOpening query room) × IsFullOf old)) → (why ≡ refusal.BadConfig) ⊎ (why ≡ refusal.CursorsFull) ⊎ (why ≡ refusal.OutOfMemory) → new ≡ old
       → (after : Told K A) × RepliesOpen room query (reply.Refused why) told after × IsAsTold rules new after
-  open_refused room query why r e s b f w n = (told, says why e w, subst (λ (x : State K A). IsAsTold rules x told) (sym n) t)
+  open_refused room query why r e s b f w n = (told, says why e w, subst (λ (x : StoreState K A). IsAsTold rules x told) (sym n) t)
     where
       says : (x : Refusal) → r ≡ Err x → (x ≡ refusal.BadConfig) ⊎ (x ≡ refusal.CursorsFull) ⊎ (x ≡ refusal.OutOfMemory) → RepliesOpen room query (reply.Refused x) told told
       says x p (inl a) = subst (λ y. RepliesOpen room query (reply.Refused y) told told) (sym a) ((bad_room query room s).0 (b.0 (p ∙ ap Err a)), refl)
@@ -144,42 +144,42 @@ module _ {K A : Type 0} (rules : Rules K A) (old new : State K A) (told : Told K
           subst (λ y. RepliesOpen room query (reply.Refused y) told told) (sym a)
           (λ h. good ((bad_room query room s).1 h), λ h. (let x = f.1 (good, none_left.1 h) in let y : Err refusal.OutOfMemory ≡ Err refusal.CursorsFull = sym q ∙ x in cc), refl)
 
-  pub swept : (n : ℕ) → Sweeps rules.is_match old n new → (after : Told K A) × RepliesSweep (reply.Swept n) told after × IsAsTold rules new after
+  pub swept : (n : ℕ) → SweepsStore rules.is_match old n new → (after : Told K A) × RepliesSweep (reply.Swept n) told after × IsAsTold rules new after
   swept n s =
-      let gone = filter (λ (d : DeadRow). not (is_needed old d)) old.dead in
-      let both : IsPermutation old.dead (gone ++ filter (is_needed old) old.dead) =
-      IsPermutation-trans _ _ _ (IsPermutation-filter_both (is_needed old) (λ (d : DeadRow). not (is_needed old d)) (λ d. refl) old.dead) (IsPermutation-append_comm (filter (is_needed old) old.dead) gone) in
+      let gone = filter (λ (d : DeadRow). not (is_dead_needed old d)) old.dead in
+      let both : IsPermutation old.dead (gone ++ filter (is_dead_needed old) old.dead) =
+      IsPermutation-trans _ _ _ (IsPermutation-filter_both (is_dead_needed old) (λ (d : DeadRow). not (is_dead_needed old d)) (λ d. refl) old.dead) (IsPermutation-append_comm (filter (is_dead_needed old) old.dead) gone) in
       let parted : IsPermutation told.dead (gone ++ new.dead) = IsPermutation-trans _ _ _ t.dead (IsPermutation-trans _ _ _ both (IsPermutation-append_right gone _ _ s.left)) in
       let many : n ≡ length gone = omega (arith, s.counted, length_permutation _ _ t.dead, length_permutation _ _ parted, length-append gone new.dead) in
       (record told { dead = new.dead }, (gone, new.dead, parted, many, each_needed rules old told t new.dead s.needed, refl), told_swept rules old told t new s.rest)
 
-  pub swept_some : SweepsSome rules.is_match old new → (after : Told K A) × RepliesSweep (reply.Refused refusal.OutOfMemory) told after × IsAsTold rules new after
+  pub swept_some : SweepsStorePart rules.is_match old new → (after : Told K A) × RepliesSweep (reply.Refused refusal.OutOfMemory) told after × IsAsTold rules new after
   swept_some s = (record told { dead = new.dead }, (s.gone, new.dead, IsPermutation-trans _ _ _ t.dead s.parted, refl), told_swept rules old told t new s.rest)
 
   pub next_given : (c : ℕ) (given : Item K) → Nexts rules.is_match old c (Some given) new → (after : Told K A) × RepliesNext rules c (reply.Given given) told after × IsAsTold rules new after
   next_given c given n =
       let k = told_given rules old told t c given new n in
-      (record told { cursors = with_cursor told.cursors c (Ok (record k.f { given = k.f.given ++ given ∷ []; asked = k.asked })) }, (k.f, k.asked, k.is, k.gives, k.begins, refl), k.after)
+      (record told { cursors = with_client_cursor told.cursors c (Ok (record k.f { given = k.f.given ++ given ∷ []; asked = k.asked })) }, (k.f, k.asked, k.is, k.gives, k.begins, refl), k.after)
 
   pub next_empty : (c : ℕ) → Nexts rules.is_match old c None new → (after : Told K A) × RepliesNext rules c reply.Empty told after × IsAsTold rules new after
   next_empty c n = let k = told_empty rules old told t c new n in (told, (k.f, k.is, k.unasked, k.listing, refl), k.after)
 
   pub next_refused : (c : ℕ) (why : Refusal) → RefusesNext rules.is_match old c why new → (after : Told K A) × RepliesNext rules c (reply.Refused why) told after × IsAsTold rules new after
-  next_refused c why (inl p) = (told, (inl (told_refusal rules old told t c why p.0), refl), subst (λ (x : State K A). IsAsTold rules x told) (sym p.1) t)
+  next_refused c why (inl p) = (told, (inl (told_refusal rules old told t c why p.0), refl), subst (λ (x : StoreState K A). IsAsTold rules x told) (sym p.1) t)
   next_refused c why (inr p) = let w = told_wanting rules old told t c new p.1 in (told, (inr (p.0, w.0.0, w.0.1), refl), w.1)
 
-  pub mark_asked : (c : ℕ) → Changes with_asking old c new → (after : Told K A) × RepliesMark c reply.Asked told after × IsAsTold rules new after
+  pub mark_asked : (c : ℕ) → ChangesCursor with_asking old c new → (after : Told K A) × RepliesMark c reply.Asked told after × IsAsTold rules new after
   mark_asked c n =
       let k = told_asked rules old told t c new n in
-      (record told { cursors = with_cursor told.cursors c (Ok (record k.0 { asked = true })) }, (k.0, k.1, refl), k.2)
+      (record told { cursors = with_client_cursor told.cursors c (Ok (record k.0 { asked = true })) }, (k.0, k.1, refl), k.2)
 
   pub closes : (c : ℕ) → Closes old c new → (after : Told K A) × RepliesClose c reply.Closed told after × IsAsTold rules new after
   closes c n =
       let k = told_closed rules old told t c new n in
-      (record told { cursors = with_cursor told.cursors c (Err refusal.CursorClosed); open_cursors = told.open_cursors - 1 }, (k.0, k.1, refl), k.2)
+      (record told { cursors = with_client_cursor told.cursors c (Err refusal.CursorClosed); open_cursors = told.open_cursors - 1 }, (k.0, k.1, refl), k.2)
 
 -- a query whose text is refused, or for which memory was wanting
-pub refused_query : {K A : Type 0} (texts : Texts K A) (rules : Rules K A) (old : State K A) (told : Told K A) → IsAsTold rules old told → (len : ℕ) (ts : List Placed) (replies : Query A → Reply K → Told K A → Told K A → Type 0) (why : Refusal) → IsParseRefusal why
+pub refused_query : {K A : Type 0} (texts : Texts K A) (rules : Rules K A) (old : StoreState K A) (told : Told K A) → IsAsTold rules old told → (len : ℕ) (ts : List Placed) (replies : Query A → Reply K → Told K A → Told K A → Type 0) (why : Refusal) → IsParseRefusal why
     → ((place : ℕ) → why ≡ refusal.QueryText place → RefusesTokens texts len ts place) → (after : Told K A) × WithQuery texts len ts replies (reply.Refused why) told after × IsAsTold rules old after
 refused_query texts rules old told t len ts replies why (inl memory) refuses = (told, inr (inr (ap reply.Refused memory, refl)), t)
 refused_query texts rules old told t len ts replies why (inr at) refuses = (told, inr (inl (at.0, refuses at.0 at.1, ap reply.Refused at.1, refl)), t)

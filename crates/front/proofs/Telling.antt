@@ -14,15 +14,15 @@ use Rattle.change_list.specs.declared.item.Item.TheVariants as item
 use Rattle.change_list.specs.Listings.{IsListing, BeginsListing, without_marks}
 use Rattle.change_list.specs.Cursors.{CursorState, Fits, IsFollowing}
 use Rattle.change_list.proofs.Fitting.{fits_begins, fits_done}
-use Rattle.store.specs.States.{State, DeadRow, cursor_of, SameOrStays, Commits, Keeps, KeepsLiving, Changes, with_asking, Nexts, Wants, Answers, IsNeededBy}
+use Rattle.store.specs.States.{StoreState, DeadRow, cursor_of, SameOrStays, Commits, Keeps, KeepsLiving, ChangesCursor, with_asking, Nexts, Wants, Answers, IsNeededBy}
 use Rattle.store.specs.States as states
 use Rattle.store.proofs.Cursors.{cursor_with, cursor_with_other}
-use Rattle.front.specs.Told.{Following, Told, with_cursor, DiedAfterOpening, GivesTo, wants}
+use Rattle.front.specs.Told.{ClientCursor, Told, with_client_cursor, DiedAfterOpening, GivesTo, client_wants}
 use Rattle.front.specs.AsTold.{IsSameCursor, AreSame, IsAsTold}
 
 module _ {K A : Type 0} (rules : Rules K A) where
   -- a cursor that a call left alone is still as told
-  stays_same : (commits later : List (Write K)) (x y : Result (CursorState K A) Refusal) (f : Result (Following K A) Refusal)
+  stays_same : (commits later : List (Write K)) (x y : Result (CursorState K A) Refusal) (f : Result (ClientCursor K A) Refusal)
       → SameOrStays rules.is_match commits later x y → AreSame rules commits x f → AreSame rules later y f
   stays_same commits later (Ok before) (Ok after) (Ok f) s a = record { query = a.query ∙ sym s.query; opened = a.opened ∙ sym s.opened; asked = a.asked ∙ sym s.asked; fits = s.fits f.given a.fits }
   stays_same commits later (Ok before) (Ok after) (Err why) s a = absurd a
@@ -31,8 +31,8 @@ module _ {K A : Type 0} (rules : Rules K A) where
   stays_same commits later (Err why) (Err other) (Ok f) s a = absurd a
   stays_same commits later (Err why) (Err other) (Err third) s a = sym s ∙ a
 
-  module _ (old : State K A) (told : Told K A) (t : IsAsTold rules old told) where
-    pub told_insert : (key : K) (tag : ℕ) (new : State K A) → Commits rules.is_match old (Insert key tag) new → IsPermutation old.dead new.dead → new.finders ≡ old.finders
+  module _ (old : StoreState K A) (told : Told K A) (t : IsAsTold rules old told) where
+    pub told_insert : (key : K) (tag : ℕ) (new : StoreState K A) → Commits rules.is_match old (Insert key tag) new → IsPermutation old.dead new.dead → new.finders ≡ old.finders
         → IsAsTold rules new (record told { commits = told.commits ++ Insert key tag ∷ [] })
     told_insert key tag new c d f = record {
       limit = t.limit ∙ sym c.limit;
@@ -45,7 +45,7 @@ module _ {K A : Type 0} (rules : Rules K A) where
       finders = omega (arith, t.finders, f);
     }
 
-    pub told_delete : (row number : ℕ) (new : State K A) → Commits rules.is_match old (Delete row) new → number ≡ length old.commits + 1
+    pub told_delete : (row number : ℕ) (new : StoreState K A) → Commits rules.is_match old (Delete row) new → number ≡ length old.commits + 1
         → IsPermutation ((record { row = row; died = length old.commits + 1 }) ∷ old.dead) new.dead → new.finders ≤ old.finders + 1
         → IsAsTold rules new (record told { commits = told.commits ++ Delete row ∷ []; dead = (record { row = row; died = number }) ∷ told.dead; finders = told.finders + 1 })
     told_delete row number new c n d f = record {
@@ -60,7 +60,7 @@ module _ {K A : Type 0} (rules : Rules K A) where
     }
 
     -- an insert or a delete that was refused
-    pub told_kept : (new : State K A) (finders : ℕ) → Keeps rules.is_match old new → new.finders ≤ finders → IsAsTold rules new (record told { finders = finders })
+    pub told_kept : (new : StoreState K A) (finders : ℕ) → Keeps rules.is_match old new → new.finders ≤ finders → IsAsTold rules new (record told { finders = finders })
     told_kept new finders c f = record {
       limit = t.limit ∙ sym c.limit;
       commits = t.commits ∙ sym c.commits;
@@ -73,7 +73,7 @@ module _ {K A : Type 0} (rules : Rules K A) where
     }
 
     -- a sweep left these dead rows
-    pub told_swept : (new : State K A) → KeepsLiving rules.is_match old new → IsAsTold rules new (record told { dead = new.dead })
+    pub told_swept : (new : StoreState K A) → KeepsLiving rules.is_match old new → IsAsTold rules new (record told { dead = new.dead })
     told_swept new c = record {
       limit = t.limit ∙ sym c.limit;
       commits = t.commits ∙ sym c.commits;
@@ -88,7 +88,7 @@ module _ {K A : Type 0} (rules : Rules K A) where
     pub needed_told : (d : DeadRow) → IsNeededBy old d → DiedAfterOpening told d
     needed_told d n = go (told.cursors n.serial) refl (subst (λ x. AreSame rules old.commits x (told.cursors n.serial)) n.is_open (t.cursors n.serial))
       where
-        go : (f : Result (Following K A) Refusal) → told.cursors n.serial ≡ f → AreSame rules old.commits (Ok n.cursor) f → DiedAfterOpening told d
+        go : (f : Result (ClientCursor K A) Refusal) → told.cursors n.serial ≡ f → AreSame rules old.commits (Ok n.cursor) f → DiedAfterOpening told d
         go (Ok f) e a = record { serial = n.serial; cursor = f; is_open = e; opened = omega (arith, a.opened, n.opened) }
         go (Err why) e a = absurd a
 
@@ -98,41 +98,41 @@ module _ {K A : Type 0} (rules : Rules K A) where
 
     -- the cursor with a serial is told by its client
     pub record IsToldAs (c : ℕ) (k : CursorState K A) : Type 0 where
-      pub f : Following K A
+      pub f : ClientCursor K A
       pub is : told.cursors c ≡ Ok f
       pub same : IsSameCursor rules old.commits k f
 
     pub told_cursor : (c : ℕ) (k : CursorState K A) → cursor_of old c ≡ Ok k → IsToldAs c k
     told_cursor c k h = go (told.cursors c) refl (subst (λ x. AreSame rules old.commits x (told.cursors c)) h (t.cursors c))
       where
-        go : (f : Result (Following K A) Refusal) → told.cursors c ≡ f → AreSame rules old.commits (Ok k) f → IsToldAs c k
+        go : (f : Result (ClientCursor K A) Refusal) → told.cursors c ≡ f → AreSame rules old.commits (Ok k) f → IsToldAs c k
         go (Ok f) e a = record { f = f; is = e; same = a }
         go (Err why) e a = absurd a
 
     pub told_refusal : (c : ℕ) (why : Refusal) → cursor_of old c ≡ Err why → told.cursors c ≡ Err why
     told_refusal c why h = go (told.cursors c) refl (subst (λ x. AreSame rules old.commits x (told.cursors c)) h (t.cursors c))
       where
-        go : (f : Result (Following K A) Refusal) → told.cursors c ≡ f → AreSame rules old.commits (Err why) f → told.cursors c ≡ Err why
+        go : (f : Result (ClientCursor K A) Refusal) → told.cursors c ≡ f → AreSame rules old.commits (Err why) f → told.cursors c ≡ Err why
         go (Ok f) e a = absurd a
         go (Err other) e a = e ∙ ap Err (sym a)
 
     -- one cursor changed, and is told as it is now
-    changed : (c : ℕ) (before after : CursorState K A) (f : Following K A) → cursor_of old c ≡ Ok before → after.serial ≡ before.serial → IsSameCursor rules old.commits after f
-        → (d : ℕ) → AreSame rules old.commits (cursor_of (states.with_cursor old after) d) (with_cursor told.cursors c (Ok f) d)
+    changed : (c : ℕ) (before after : CursorState K A) (f : ClientCursor K A) → cursor_of old c ≡ Ok before → after.serial ≡ before.serial → IsSameCursor rules old.commits after f
+        → (d : ℕ) → AreSame rules old.commits (cursor_of (states.with_open_cursor old after) d) (with_client_cursor told.cursors c (Ok f) d)
     changed c before after f o s a d = go (nat_eq d c) refl
       where
-        go : (b : Bool) → nat_eq d c ≡ b → AreSame rules old.commits (cursor_of (states.with_cursor old after) d) (if b then Ok f else told.cursors d)
+        go : (b : Bool) → nat_eq d c ≡ b → AreSame rules old.commits (cursor_of (states.with_open_cursor old after) d) (if b then Ok f else told.cursors d)
         go true e =
             let n : d ≡ c = search (arith, e) in
-            let w : cursor_of (states.with_cursor old after) d ≡ Ok after = ap (cursor_of (states.with_cursor old after)) n ∙ cursor_with old c before after o s in
+            let w : cursor_of (states.with_open_cursor old after) d ≡ Ok after = ap (cursor_of (states.with_open_cursor old after)) n ∙ cursor_with old c before after o s in
             subst (λ x. AreSame rules old.commits x (Ok f)) (sym w) a
         go false e =
             let n : c ≢ d = search (arith, e) in
             subst (λ x. AreSame rules old.commits x (told.cursors d)) (sym (cursor_with_other old c d before after o s n)) (t.cursors d)
 
-    pub told_changed : (c : ℕ) (before after : CursorState K A) (f : Following K A) (new : State K A) → cursor_of old c ≡ Ok before → after.serial ≡ before.serial → IsSameCursor rules old.commits after f
-        → new ≡ states.with_cursor old after → IsAsTold rules new (record told { cursors = with_cursor told.cursors c (Ok f) })
-    told_changed c before after f new o s a e = subst (λ (n : State K A). IsAsTold rules n (record told { cursors = with_cursor told.cursors c (Ok f) })) (sym e) (record {
+    pub told_changed : (c : ℕ) (before after : CursorState K A) (f : ClientCursor K A) (new : StoreState K A) → cursor_of old c ≡ Ok before → after.serial ≡ before.serial → IsSameCursor rules old.commits after f
+        → new ≡ states.with_open_cursor old after → IsAsTold rules new (record told { cursors = with_client_cursor told.cursors c (Ok f) })
+    told_changed c before after f new o s a e = subst (λ (n : StoreState K A). IsAsTold rules n (record told { cursors = with_client_cursor told.cursors c (Ok f) })) (sym e) (record {
       limit = t.limit;
       commits = t.commits;
       page_limit = t.page_limit;
@@ -143,17 +143,17 @@ module _ {K A : Type 0} (rules : Rules K A) where
       finders = t.finders;
     })
       where
-        as_many : (ks : List (CursorState K A)) (k : CursorState K A) → length (states.replaced k ks) ≡ length ks
+        as_many : (ks : List (CursorState K A)) (k : CursorState K A) → length (states.put_cursor k ks) ≡ length ks
         as_many [] k = refl
         as_many (x ∷ ks) k = step (nat_eq x.serial k.serial) (as_many ks k)
           where
-            step : (b : Bool) → length (states.replaced k ks) ≡ length ks → length (if b then k ∷ ks else x ∷ states.replaced k ks) ≡ length (x ∷ ks)
+            step : (b : Bool) → length (states.put_cursor k ks) ≡ length ks → length (if b then k ∷ ks else x ∷ states.put_cursor k ks) ≡ length (x ∷ ks)
             step true r = refl
             step false r = ap suc r
 
     -- one cursor got on, and its client was told nothing
-    pub told_unchanged : (c : ℕ) (before after : CursorState K A) (f : Following K A) (new : State K A) → cursor_of old c ≡ Ok before → after.serial ≡ before.serial → IsSameCursor rules old.commits after f
-        → told.cursors c ≡ Ok f → new ≡ states.with_cursor old after → IsAsTold rules new told
+    pub told_unchanged : (c : ℕ) (before after : CursorState K A) (f : ClientCursor K A) (new : StoreState K A) → cursor_of old c ≡ Ok before → after.serial ≡ before.serial → IsSameCursor rules old.commits after f
+        → told.cursors c ≡ Ok f → new ≡ states.with_open_cursor old after → IsAsTold rules new told
     told_unchanged c before after f new o s a i e =
         let h = told_changed c before after f new o s a e in
         record { limit = h.limit; commits = h.commits; page_limit = h.page_limit; cursors = λ d. back d (nat_eq d c) refl (h.cursors d); open_cursors = h.open_cursors; last = h.last; dead = h.dead; finders = h.finders }
@@ -166,26 +166,26 @@ module _ {K A : Type 0} (rules : Rules K A) where
         back d false e h = subst (λ x. AreSame rules new.commits (cursor_of new d) x) (rw e refl) h
 
     -- a cursor that got on, and its client, which was told this
-    same_after : (k after : CursorState K A) (f : Following K A) (items : List (Item K)) → after.query ≡ k.query → after.opened ≡ k.opened → IsSameCursor rules old.commits k f → Fits rules.is_match old.commits after items
+    same_after : (k after : CursorState K A) (f : ClientCursor K A) (items : List (Item K)) → after.query ≡ k.query → after.opened ≡ k.opened → IsSameCursor rules old.commits k f → Fits rules.is_match old.commits after items
         → IsSameCursor rules old.commits after (record f { given = items; asked = after.asked })
     same_after k after f items q o a fits = record { query = a.query ∙ sym q; opened = a.opened ∙ sym o; asked = refl; fits = fits }
 
     -- what a listing of the cursor is, is one for the client
-    module _ (k after : CursorState K A) (f : Following K A) (a : IsSameCursor rules old.commits k f) (q : after.query ≡ k.query) (o : after.opened ≡ k.opened) where
-      client_begins : (items : List (Item K)) → Fits rules.is_match old.commits after items → BeginsListing (wants rules f) f.opened (length told.commits) told.commits (without_marks items)
+    module _ (k after : CursorState K A) (f : ClientCursor K A) (a : IsSameCursor rules old.commits k f) (q : after.query ≡ k.query) (o : after.opened ≡ k.opened) where
+      client_begins : (items : List (Item K)) → Fits rules.is_match old.commits after items → BeginsListing (client_wants rules f) f.opened (length told.commits) told.commits (without_marks items)
       client_begins items fits =
           let e : after.query ≡ f.query = q ∙ sym a.query in
           let p : after.opened ≡ f.opened = o ∙ sym a.opened in
           rw t.commits (subst (λ n. BeginsListing (matches_query rules.is_match f.query) n (length old.commits) old.commits (without_marks items)) p
           (subst (λ x. BeginsListing (matches_query rules.is_match x) after.opened (length old.commits) old.commits (without_marks items)) e (fits_begins rules.is_match old.commits after items fits)))
 
-      client_listing : (n : ℕ) (items : List (Item K)) → IsListing (matches_query rules.is_match after.query) after.opened n old.commits items → IsListing (wants rules f) f.opened n told.commits items
+      client_listing : (n : ℕ) (items : List (Item K)) → IsListing (matches_query rules.is_match after.query) after.opened n old.commits items → IsListing (client_wants rules f) f.opened n told.commits items
       client_listing n items l =
           let e : after.query ≡ f.query = q ∙ sym a.query in
           let p : after.opened ≡ f.opened = o ∙ sym a.opened in
           rw t.commits (subst (λ m. IsListing (matches_query rules.is_match f.query) m n old.commits items) p (subst (λ x. IsListing (matches_query rules.is_match x) after.opened n old.commits items) e l))
 
-    gives_to : (k after : CursorState K A) (f : Following K A) (given : Item K) → IsSameCursor rules old.commits k f → after.query ≡ k.query → after.opened ≡ k.opened
+    gives_to : (k after : CursorState K A) (f : ClientCursor K A) (given : Item K) → IsSameCursor rules old.commits k f → after.query ≡ k.query → after.opened ≡ k.opened
         → Answers rules.is_match old.commits k (Some given) after → Fits rules.is_match old.commits after (f.given ++ given ∷ []) → GivesTo rules told.commits f given after.asked
     gives_to k after f (item.Mark n) a q o w fits =
         (a.asked ∙ w.0, w.1 ∙ ap length (sym t.commits), w.2, client_listing k after f a q o n (without_marks f.given) (fits.marks f.given [] n refl))
@@ -194,15 +194,15 @@ module _ {K A : Type 0} (rules : Rules K A) where
     gives_to k after f (item.Deleted n row) a q o w fits = w ∙ sym a.asked
 
     -- what the client of a cursor is told with an item
-    pub record IsGiven (c : ℕ) (given : Item K) (new : State K A) : Type 0 where
-      pub f : Following K A
+    pub record IsGiven (c : ℕ) (given : Item K) (new : StoreState K A) : Type 0 where
+      pub f : ClientCursor K A
       pub asked : Bool
       pub is : told.cursors c ≡ Ok f
       pub gives : GivesTo rules told.commits f given asked
-      pub begins : BeginsListing (wants rules f) f.opened (length told.commits) told.commits (without_marks (f.given ++ given ∷ []))
-      pub after : IsAsTold rules new (record told { cursors = with_cursor told.cursors c (Ok (record f { given = f.given ++ given ∷ []; asked = asked })) })
+      pub begins : BeginsListing (client_wants rules f) f.opened (length told.commits) told.commits (without_marks (f.given ++ given ∷ []))
+      pub after : IsAsTold rules new (record told { cursors = with_client_cursor told.cursors c (Ok (record f { given = f.given ++ given ∷ []; asked = asked })) })
 
-    pub told_given : (c : ℕ) (given : Item K) (new : State K A) → Nexts rules.is_match old c (Some given) new → IsGiven c given new
+    pub told_given : (c : ℕ) (given : Item K) (new : StoreState K A) → Nexts rules.is_match old c (Some given) new → IsGiven c given new
     told_given c given new n =
         let k = told_cursor c n.before n.is_open in
         let fits = n.gives.fits k.f.given k.same.fits in
@@ -217,14 +217,14 @@ module _ {K A : Type 0} (rules : Rules K A) where
         }
 
     -- what the client is told where nothing is left to give
-    pub record IsEmptied (c : ℕ) (new : State K A) : Type 0 where
-      pub f : Following K A
+    pub record IsEmptied (c : ℕ) (new : StoreState K A) : Type 0 where
+      pub f : ClientCursor K A
       pub is : told.cursors c ≡ Ok f
       pub unasked : f.asked ≡ false
-      pub listing : IsListing (wants rules f) f.opened (length told.commits) told.commits (without_marks f.given)
+      pub listing : IsListing (client_wants rules f) f.opened (length told.commits) told.commits (without_marks f.given)
       pub after : IsAsTold rules new told
 
-    pub told_empty : (c : ℕ) (new : State K A) → Nexts rules.is_match old c None new → IsEmptied c new
+    pub told_empty : (c : ℕ) (new : StoreState K A) → Nexts rules.is_match old c None new → IsEmptied c new
     told_empty c new n =
         let k = told_cursor c n.before n.is_open in
         let fits : Fits rules.is_match old.commits n.after k.f.given = subst (λ l. Fits rules.is_match old.commits n.after l) (append-nil k.f.given) (n.gives.fits k.f.given k.same.fits) in
@@ -234,13 +234,13 @@ module _ {K A : Type 0} (rules : Rules K A) where
           f = k.f;
           is = k.is;
           unasked = k.same.asked ∙ sym n.gives.answer.0 ∙ d.unasked;
-          listing = subst (λ m. IsListing (wants rules k.f) k.f.opened m told.commits (without_marks k.f.given)) (ap length (sym t.commits)) (client_listing n.before n.after k.f k.same n.gives.query n.gives.opened (length old.commits) (without_marks k.f.given) l);
+          listing = subst (λ m. IsListing (client_wants rules k.f) k.f.opened m told.commits (without_marks k.f.given)) (ap length (sym t.commits)) (client_listing n.before n.after k.f k.same n.gives.query n.gives.opened (length old.commits) (without_marks k.f.given) l);
           after = told_unchanged c n.before n.after k.f new n.is_open n.gives.serial
               (record { query = k.same.query ∙ sym n.gives.query; opened = k.same.opened ∙ sym n.gives.opened; asked = k.same.asked ∙ sym n.gives.answer.0; fits = fits }) k.is n.is;
         }
 
     -- a cursor got no memory
-    pub told_wanting : (c : ℕ) (new : State K A) → Wants rules.is_match old c new → ((f : Following K A) × (told.cursors c ≡ Ok f)) × IsAsTold rules new told
+    pub told_wanting : (c : ℕ) (new : StoreState K A) → Wants rules.is_match old c new → ((f : ClientCursor K A) × (told.cursors c ≡ Ok f)) × IsAsTold rules new told
     told_wanting c new n =
         let k = told_cursor c n.before n.is_open in (
           (k.f, k.is),
@@ -248,8 +248,8 @@ module _ {K A : Type 0} (rules : Rules K A) where
               (record { query = k.same.query ∙ sym n.strives.query; opened = k.same.opened ∙ sym n.strives.opened; asked = k.same.asked ∙ sym n.strives.asked; fits = n.strives.fits k.f.given k.same.fits }) k.is n.is,
         )
 
-    pub told_asked : (c : ℕ) (new : State K A) → Changes with_asking old c new
-        → (f : Following K A) × (told.cursors c ≡ Ok f) × IsAsTold rules new (record told { cursors = with_cursor told.cursors c (Ok (record f { asked = true })) })
+    pub told_asked : (c : ℕ) (new : StoreState K A) → ChangesCursor with_asking old c new
+        → (f : ClientCursor K A) × (told.cursors c ≡ Ok f) × IsAsTold rules new (record told { cursors = with_client_cursor told.cursors c (Ok (record f { asked = true })) })
     told_asked c new n =
         let k = told_cursor c n.before n.is_open in
         let fits : Fits rules.is_match old.commits (with_asking n.before) k.f.given = record { rows = k.same.fits.rows; is = k.same.fits.is; each_once = k.same.fits.each_once; in_order = order k.same.fits.in_order; from_opening = k.same.fits.from_opening; within = k.same.fits.within; marks = k.same.fits.marks } in (

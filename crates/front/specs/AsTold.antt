@@ -4,23 +4,23 @@ use Rattle.key_class.specs.Rules.{Rules}
 use Rattle.key_class.specs.declared.refusal.Refusal.{Refusal}
 use Rattle.change_list.specs.declared.write.Write.{Write}
 use Rattle.change_list.specs.Cursors.{CursorState, Fits}
-use Rattle.store.specs.States.{State, cursor_of}
-use Rattle.front.specs.Told.{Following, Told}
+use Rattle.store.specs.States.{StoreState, cursor_of}
+use Rattle.front.specs.Told.{ClientCursor, Told}
 
 module _ {K A : Type 0} (rules : Rules K A) where
   -- the open cursor of the store is the client's, and what it was given fits it
-  pub record IsSameCursor (commits : List (Write K)) (cursor : CursorState K A) (f : Following K A) : Type 0 where
+  pub record IsSameCursor (commits : List (Write K)) (cursor : CursorState K A) (f : ClientCursor K A) : Type 0 where
     pub query : f.query ≡ cursor.query
     pub opened : f.opened ≡ cursor.opened
     pub asked : f.asked ≡ cursor.asked
     pub fits : Fits rules.is_match commits cursor f.given
 
-  abbrev pub AreSame : List (Write K) → Result (CursorState K A) Refusal → Result (Following K A) Refusal → Type 0
+  abbrev pub AreSame : List (Write K) → Result (CursorState K A) Refusal → Result (ClientCursor K A) Refusal → Type 0
   AreSame commits (Ok cursor) (Ok f) = IsSameCursor commits cursor f
   AreSame commits (Err why) (Err other) = why ≡ other
   AreSame commits _ _ = ⊥
 
-  pub record IsAsTold (state : State K A) (told : Told K A) : Type 0 where
+  pub record IsAsTold (state : StoreState K A) (told : Told K A) : Type 0 where
     pub limit : told.limit ≡ state.limit
     pub commits : told.commits ≡ state.commits
     pub page_limit : told.page_limit ≡ state.page_limit
@@ -31,5 +31,5 @@ module _ {K A : Type 0} (rules : Rules K A) where
     pub finders : state.finders ≤ told.finders
 
   -- Whatever was told that the store was as, the replies may follow it, and then the store is as is told.
-  abbrev pub Tells : State K A → State K A → (Told K A → Told K A → Type 0) → Type 0
+  abbrev pub Tells : StoreState K A → StoreState K A → (Told K A → Told K A → Type 0) → Type 0
   Tells old new replies = (told : Told K A) → IsAsTold old told → (after : Told K A) × replies told after × IsAsTold new after

@@ -23,8 +23,8 @@ use Rattle.front.specs.declared.event_request.EventRequest.TheVariants as reques
 use Rattle.front.specs.Requests.{natural_at, alone, one_number}
 
 -- what a word is at the front of an event line
-abbrev pub verb_of_word : List ℕ → EventVerb
-verb_of_word w =
+abbrev pub event_verb_of_word : List ℕ → EventVerb
+event_verb_of_word w =
     if bytes_eq w (codes "enlarge") then verb.Enlarge
     else (if bytes_eq w (codes "place") then verb.Place
     else (if bytes_eq w (codes "split") then verb.Split
@@ -41,9 +41,9 @@ verb_of_word w =
     else (if bytes_eq w (codes "close") then verb.Close
     else verb.Other)))))))))))))
 
-abbrev pub verb_of : Token → EventVerb
-verb_of (word w) = verb_of_word w
-verb_of _ = verb.Other
+abbrev pub event_verb_of : Token → EventVerb
+event_verb_of (word w) = event_verb_of_word w
+event_verb_of _ = verb.Other
 
 -- What is asked: an event, or a cursor with that room on the query of these tokens, which are those up to the line's end.
 pub data Asked (C K A : Type 0) : Type 0 where
@@ -117,28 +117,28 @@ only_sides len ts = do
   sides ← sides_at len ts
   alone (one_event (event.Grow sides.0)) sides.1
 
-abbrev pub room_and_query : {C K A : Type 0} → ℕ → List Placed → Result (Asked C K A) ℕ
-room_and_query len ts = do
+abbrev pub cursor_asked : {C K A : Type 0} → ℕ → List Placed → Result (Asked C K A) ℕ
+cursor_asked len ts = do
   room ← natural_at len ts
   Ok (cursor_on room.0 room.1)
 
 -- what the tokens behind a verb ask, or the place of the first fault; any other first token is one
-abbrev pub asked_by : {C K A : Type 0} → (ℕ → List Placed → Reading K) → ℕ → ℕ → EventVerb → List Placed → Result (Asked C K A) ℕ
-asked_by key_at len place verb.Enlarge ts = two_pages_and_key key_at len ts
-asked_by key_at len place verb.Place ts = page_key_and_tag key_at len ts
-asked_by key_at len place verb.Split ts = page_and_sides len ts
-asked_by key_at len place verb.Post ts = two_pages len ts
-asked_by key_at len place verb.Grow ts = only_sides len ts
-asked_by key_at len place verb.Find ts = one_number (λ row. one_event (event.Find row)) len ts
-asked_by key_at len place verb.Seek ts = one_number (λ f. one_event (event.Seek f)) len ts
-asked_by key_at len place verb.Unfind ts = one_number (λ f. one_event (event.Unfind f)) len ts
-asked_by key_at len place verb.Sweep ts = one_number (λ page. one_event (event.Sweep page)) len ts
-asked_by key_at len place verb.Open ts = room_and_query len ts
-asked_by key_at len place verb.Turn ts = one_number (λ c. one_event (event.Turn c)) len ts
-asked_by key_at len place verb.AskMark ts = one_number (λ c. one_event (event.AskMark c)) len ts
-asked_by key_at len place verb.Take ts = one_number (λ c. one_event (event.Take c)) len ts
-asked_by key_at len place verb.Close ts = one_number (λ c. one_event (event.Close c)) len ts
-asked_by key_at len place verb.Other ts = Err place
+abbrev pub event_asked_by : {C K A : Type 0} → (ℕ → List Placed → Reading K) → ℕ → ℕ → EventVerb → List Placed → Result (Asked C K A) ℕ
+event_asked_by key_at len place verb.Enlarge ts = two_pages_and_key key_at len ts
+event_asked_by key_at len place verb.Place ts = page_key_and_tag key_at len ts
+event_asked_by key_at len place verb.Split ts = page_and_sides len ts
+event_asked_by key_at len place verb.Post ts = two_pages len ts
+event_asked_by key_at len place verb.Grow ts = only_sides len ts
+event_asked_by key_at len place verb.Find ts = one_number (λ row. one_event (event.Find row)) len ts
+event_asked_by key_at len place verb.Seek ts = one_number (λ f. one_event (event.Seek f)) len ts
+event_asked_by key_at len place verb.Unfind ts = one_number (λ f. one_event (event.Unfind f)) len ts
+event_asked_by key_at len place verb.Sweep ts = one_number (λ page. one_event (event.Sweep page)) len ts
+event_asked_by key_at len place verb.Open ts = cursor_asked len ts
+event_asked_by key_at len place verb.Turn ts = one_number (λ c. one_event (event.Turn c)) len ts
+event_asked_by key_at len place verb.AskMark ts = one_number (λ c. one_event (event.AskMark c)) len ts
+event_asked_by key_at len place verb.Take ts = one_number (λ c. one_event (event.Take c)) len ts
+event_asked_by key_at len place verb.Close ts = one_number (λ c. one_event (event.Close c)) len ts
+event_asked_by key_at len place verb.Other ts = Err place
 
 -- what a request with lexemes of a text asks
 abbrev pub asked_of : {C K A : Type 0} → List ℕ → EventRequest K → Asked C K A
@@ -158,12 +158,12 @@ asked_of text (request.Take c) = one_event (event.Take c)
 asked_of text (request.Close c) = one_event (event.Close c)
 
 -- the same by the lexeme of the verb
-abbrev pub asked_from : {C K A : Type 0} → Texts K A → List ℕ → Lexeme → ℕ → List Placed → Result (Asked C K A) ℕ
-asked_from texts text first len ts = asked_by texts.key_at len first.place (verb_of (token_in text first)) ts
+abbrev pub event_asked_from : {C K A : Type 0} → Texts K A → List ℕ → Lexeme → ℕ → List Placed → Result (Asked C K A) ℕ
+event_asked_from texts text first len ts = event_asked_by texts.key_at len first.place (event_verb_of (token_in text first)) ts
 
 -- What was returned is what this reading gives of a text's lexemes. C is the class, A its atoms.
-abbrev pub IsAsked : (C A : Type 0) {K : Type 0} → (ℕ → List Placed → Result (Asked C K A) ℕ) → List ℕ → List Lexeme → Result (EventRequest K) ℕ → Type 0
-IsAsked C A read text lexemes returned =
+abbrev pub IsEventAsked : (C A : Type 0) {K : Type 0} → (ℕ → List Placed → Result (Asked C K A) ℕ) → List ℕ → List Lexeme → Result (EventRequest K) ℕ → Type 0
+IsEventAsked C A read text lexemes returned =
     MatchResult returned (λ r. read (length text) (placed text lexemes) ≡ Ok (asked_of text r)) (λ place. read (length text) (placed text lexemes) ≡ Err place)
 
 -- the letters that were returned are those of the sides in front of a text's lexemes

@@ -14,7 +14,7 @@ abbrev pub with_room : Held → Held
 with_room held = if nat_eq (length held.rest) 4097 then record { rest = []; overlong = true } else held
 
 -- a read put these bytes behind those that are held
-pub record Fills (before after : Option (List ℕ)) (old : Held) (more : Bool) (new : Held) : Type 0 where
+pub record FillsHeld (before after : Option (List ℕ)) (old : Held) (more : Bool) (new : Held) : Type 0 where
   pub bytes : List ℕ
   pub consumed : Consumes before after bytes
   pub held : new ≡ record { rest = (with_room old).rest ++ bytes; overlong = (with_room old).overlong }
@@ -22,7 +22,7 @@ pub record Fills (before after : Option (List ℕ)) (old : Held) (more : Bool) (
 
 -- The same of a reader. remaining tells of a reader what it has left.
 abbrev pub FillsFrom : {R : Type 0} → (R → Option (List ℕ)) → R → R → Held → Held → Bool → Type 0
-FillsFrom remaining before after old new more = Fills (remaining before) (remaining after) old more new
+FillsFrom remaining before after old new more = FillsHeld (remaining before) (remaining after) old more new
 
 -- the reader failed, and has left what it had
 abbrev pub FailsToRead : {R : Type 0} → (R → Option (List ℕ)) → R → R → Fault → Type 0

@@ -12,7 +12,7 @@ use Rattle.world.specs.declared.event.Event.{Event}
 use Rattle.world.specs.declared.reply.Reply.{Reply}
 use Rattle.world.specs.declared.reply.Reply.TheVariants as reply
 use Rattle.front.specs.declared.event_request.EventRequest.{EventRequest}
-use Rattle.front.specs.EventLines.{Asked, IsEvent, IsNoEvent, asked_by, asked_of, verb_of}
+use Rattle.front.specs.EventLines.{Asked, IsEvent, IsNoEvent, event_asked_by, asked_of, event_verb_of}
 use Rattle.front.specs.EventReplies.{reply_line}
 use Rattle.front.specs.Replies.{refusal_line}
 
@@ -24,21 +24,21 @@ TrayReply C K A = Reply C (Tray K) K A Unit
 module _ (C : Type 0) {K A : Type 0} (texts : Texts K A) (rules : Rules K A) where
   -- What a line of so many bytes asks is answered so: the event is one step of the world, with this reply; or there is
   -- no event, and nothing changes.
-  abbrev pub RepliesTo : ℕ → State K A → Asked C K A → TrayReply C K A → State K A → Type 0
-  RepliesTo len old asked said new =
+  abbrev pub RepliesToEvent : ℕ → State K A → Asked C K A → TrayReply C K A → State K A → Type 0
+  RepliesToEvent len old asked said new =
       ((event : Event C K A) × IsEvent texts len asked event × Step rules tray_rule 0 old event said new)
       ⊎ ((why : Refusal) × IsNoEvent texts len asked why × (said ≡ reply.Refused why) × (new ≡ old))
 
   -- the same of a request with lexemes of a text
   abbrev pub CarriesOut : List ℕ → EventRequest K → State K A → State K A → TrayReply C K A → Type 0
-  CarriesOut text asked old new said = RepliesTo (length text) old (asked_of text asked) said new
+  CarriesOut text asked old new said = RepliesToEvent (length text) old (asked_of text asked) said new
 
   -- what is asked is answered by the line of its reply; a fault of the line is refused at its place
   abbrev pub AnswersAsked : ℕ → State K A → Result (Asked C K A) ℕ → List ℕ → State K A → Type 0
-  AnswersAsked len old (Ok asked) text new = (said : TrayReply C K A) × RepliesTo len old asked said new × (text ≡ reply_line texts.key_text said)
+  AnswersAsked len old (Ok asked) text new = (said : TrayReply C K A) × RepliesToEvent len old asked said new × (text ≡ reply_line texts.key_text said)
   AnswersAsked len old (Err place) text new = (text ≡ refusal_line (refusal.Line place)) × (new ≡ old)
 
   -- a line without a token has no answer
-  abbrev pub AnswersTokens : ℕ → State K A → List Placed → List ℕ → State K A → Type 0
-  AnswersTokens len old [] text new = (text ≡ []) × (new ≡ old)
-  AnswersTokens len old (t ∷ ts) text new = AnswersAsked len old (asked_by texts.key_at len t.place (verb_of t.token) ts) text new
+  abbrev pub AnswersEventTokens : ℕ → State K A → List Placed → List ℕ → State K A → Type 0
+  AnswersEventTokens len old [] text new = (text ≡ []) × (new ≡ old)
+  AnswersEventTokens len old (t ∷ ts) text new = AnswersAsked len old (event_asked_by texts.key_at len t.place (event_verb_of t.token) ts) text new

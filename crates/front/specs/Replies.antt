@@ -24,7 +24,7 @@ abbrev pub pair_line : List ℕ → ℕ → ℕ → List ℕ
 pair_line words first second = words ++ (decimal first ++ (codes " " ++ (decimal second ++ codes "\n")))
 
 abbrev pub refusal_line : Refusal → List ℕ
-refusal_line why = codes "refused " ++ (refusals.text_of why ++ codes "\n")
+refusal_line why = codes "refused " ++ (refusals.refusal_text why ++ codes "\n")
 
 module _ {K : Type 0} (key_text : K → List ℕ) where
   -- a row's number, its key and its tag
@@ -53,5 +53,5 @@ module _ {K : Type 0} (key_text : K → List ℕ) where
   first_line (reply.Refused why) = refusal_line why
 
   -- the lines of a reply: those of the rows found stand behind the first
-  abbrev pub text_of : Reply K → List ℕ
-  text_of reply = first_line reply ++ flat_map row_line (listed reply)
+  abbrev pub reply_text : Reply K → List ℕ
+  reply_text reply = first_line reply ++ flat_map row_line (listed reply)

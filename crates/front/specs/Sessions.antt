@@ -3,7 +3,7 @@ use Rattle.std.specs.Prelude.{◌≡◌, ℕ, List, [], ◌∷◌, length, Optio
 use Rattle.key_class.specs.Rules.{Rules}
 use Rattle.key_class.specs.declared.refusal.Refusal.TheVariants as refusal
 use Rattle.key_class.specs.Queries.{Query}
-use Rattle.store.specs.States.{State}
+use Rattle.store.specs.States.{StoreState}
 use Rattle.query_text.specs.declared.lexeme.Lexeme.{Lexeme}
 use Rattle.query_text.specs.Tokens.{Placed, placed}
 use Rattle.query_text.specs.ClassTexts.{Texts}
@@ -12,14 +12,14 @@ use Rattle.front.specs.declared.request.Request.{Request}
 use Rattle.front.specs.declared.reply.Reply.{Reply}
 use Rattle.front.specs.declared.reply.Reply.TheVariants as reply
 use Rattle.front.specs.Requests.{Command, insert_row, delete_row, next_item, ask_mark, close_cursor, open_cursor, find_rows, sweep_all, asked_by, verb_of, command_of}
-use Rattle.front.specs.Replies.{text_of}
+use Rattle.front.specs.Replies.{reply_text}
 use Rattle.front.specs.Told.{Told, nothing_told, RepliesInsert, RepliesDelete, RepliesOpen, RepliesNext, RepliesMark, RepliesFind, RepliesSweep, RepliesClose}
 use Rattle.front.specs.AsTold.{IsAsTold, Tells}
 
 -- what is written of a reply, if there is one
 abbrev pub text_of_answer : {K : Type 0} → (K → List ℕ) → Option (Reply K) → List ℕ
 text_of_answer key_text None = []
-text_of_answer key_text (Some said) = text_of key_text said
+text_of_answer key_text (Some said) = reply_text key_text said
 
 module _ {K A : Type 0} (texts : Texts K A) where
   -- the tokens spell a query, which is answered so; or they are refused at a place; or memory was wanting
@@ -58,27 +58,27 @@ module _ {K A : Type 0} (texts : Texts K A) where
     -- The calls of a store answer a text as their client is told: a request, its tokens, and the query that lexemes spell
     -- where a cursor is opened on it or its rows are found.
 
-    abbrev pub TellsRequest : State K A → State K A → List ℕ → Request K → Reply K → Type 0
+    abbrev pub TellsRequest : StoreState K A → StoreState K A → List ℕ → Request K → Reply K → Type 0
     TellsRequest old new text asked said = Tells rules old new (RepliesTo (length text) (command_of text asked) said)
 
-    abbrev pub TellsTokens : State K A → State K A → List ℕ → List Lexeme → Option (Reply K) → Type 0
+    abbrev pub TellsTokens : StoreState K A → StoreState K A → List ℕ → List Lexeme → Option (Reply K) → Type 0
     TellsTokens old new text lexemes said = Tells rules old new (RepliesTokens (length text) (placed text lexemes) said)
 
-    abbrev pub TellsOpening : State K A → State K A → List ℕ → List Lexeme → ℕ → Reply K → Type 0
+    abbrev pub TellsOpening : StoreState K A → StoreState K A → List ℕ → List Lexeme → ℕ → Reply K → Type 0
     TellsOpening old new text lexemes room said = Tells rules old new (WithQuery (length text) (placed text lexemes) (RepliesOpen room) said)
 
-    abbrev pub TellsFinding : State K A → State K A → List ℕ → List Lexeme → Reply K → Type 0
+    abbrev pub TellsFinding : StoreState K A → StoreState K A → List ℕ → List Lexeme → Reply K → Type 0
     TellsFinding old new text lexemes said = Tells rules old new (WithQuery (length text) (placed text lexemes) (RepliesFind rules) said)
 
 -- The client of a new store was told nothing before such a conversation, and then the store is as was told.
-abbrev pub FromNothing : {K A : Type 0} → Rules K A → (Told K A → Told K A → Type 0) → State K A → State K A → Type 0
+abbrev pub FromNothing : {K A : Type 0} → Rules K A → (Told K A → Told K A → Type 0) → StoreState K A → StoreState K A → Type 0
 FromNothing {K} {A} rules conversation old new =
     (told : Told K A) × conversation (nothing_told old.limit old.page_limit) told × IsAsTold rules new told
 
 module _ {K A : Type 0} (texts : Texts K A) (rules : Rules K A) where
   -- The text answers the tokens of a line with so many bytes: it is one that may, whatever was told that the store is
   -- as, and then the store is as is told.
-  pub record AnswersTokens (len : ℕ) (old : State K A) (ts : List Placed) (text : List ℕ) (new : State K A) : Type 0 where
+  pub record AnswersTokens (len : ℕ) (old : StoreState K A) (ts : List Placed) (text : List ℕ) (new : StoreState K A) : Type 0 where
     pub said : Option (Reply K)
     pub is_text : text ≡ text_of_answer texts.key_text said
     pub replies : Tells rules old new (RepliesTokens texts rules len ts said)

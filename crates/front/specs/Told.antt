@@ -17,7 +17,7 @@ use Rattle.front.specs.declared.reply.Reply.{Reply}
 use Rattle.front.specs.declared.reply.Reply.TheVariants as reply
 
 -- an open cursor, as its client sees it
-pub record Following (K A : Type 0) : Type 0 where
+pub record ClientCursor (K A : Type 0) : Type 0 where
   pub query : Query A
   -- the number of commits at its opening
   pub opened : ℕ
@@ -33,7 +33,7 @@ pub record Told (K A : Type 0) : Type 0 where
   -- the greatest number of pages
   pub page_limit : ℕ
   -- for each serial the open cursor, or why there is none
-  pub cursors : ℕ → Result (Following K A) Refusal
+  pub cursors : ℕ → Result (ClientCursor K A) Refusal
   -- how many cursors are open
   pub open_cursors : ℕ
   -- the last serial that was given
@@ -52,11 +52,11 @@ module _ {K A : Type 0} where
   nothing_told limit page_limit = record { limit = limit; commits = []; page_limit = page_limit; cursors = λ c. Err refusal.NoSuchCursor; open_cursors = 0; last = 0; dead = []; finders = 0 }
 
   -- the serial has this cursor, or none for this reason, and the others what they had
-  abbrev pub with_cursor : (ℕ → Result (Following K A) Refusal) → ℕ → Result (Following K A) Refusal → ℕ → Result (Following K A) Refusal
-  with_cursor cursors c now d = if nat_eq d c then now else cursors d
+  abbrev pub with_client_cursor : (ℕ → Result (ClientCursor K A) Refusal) → ℕ → Result (ClientCursor K A) Refusal → ℕ → Result (ClientCursor K A) Refusal
+  with_client_cursor cursors c now d = if nat_eq d c then now else cursors d
 
-  abbrev pub IsFull : Told K A → Type 0
-  IsFull told = told.limit ≤ length told.commits
+  abbrev pub IsFullAsTold : Told K A → Type 0
+  IsFullAsTold told = told.limit ≤ length told.commits
 
   abbrev pub HasNoCursorLeft : Told K A → Type 0
   HasNoCursorLeft told = (256 ≤ told.open_cursors) ⊎ (4294967295 ≤ told.last)
@@ -71,28 +71,28 @@ module _ {K A : Type 0} where
 
   abbrev pub RepliesInsert : K → ℕ → Reply K → Told K A → Told K A → Type 0
   RepliesInsert key tag (reply.Committed n) old new =
-      (¬ IsFull old) × (n ≡ length old.commits + 1) × (new ≡ record old { commits = old.commits ++ write.Insert key tag ∷ [] })
-  RepliesInsert key tag (reply.Refused refusal.CommitsFull) old new = IsFull old × (new ≡ old)
-  RepliesInsert key tag (reply.Refused refusal.PagesFull) old new = (¬ IsFull old) × MayLackPages old × (new ≡ old)
-  RepliesInsert key tag (reply.Refused refusal.OutOfMemory) old new = (¬ IsFull old) × (new ≡ old)
+      (¬ IsFullAsTold old) × (n ≡ length old.commits + 1) × (new ≡ record old { commits = old.commits ++ write.Insert key tag ∷ [] })
+  RepliesInsert key tag (reply.Refused refusal.CommitsFull) old new = IsFullAsTold old × (new ≡ old)
+  RepliesInsert key tag (reply.Refused refusal.PagesFull) old new = (¬ IsFullAsTold old) × MayLackPages old × (new ≡ old)
+  RepliesInsert key tag (reply.Refused refusal.OutOfMemory) old new = (¬ IsFullAsTold old) × (new ≡ old)
   RepliesInsert key tag _ old new = ⊥
 
   abbrev pub RepliesDelete : ℕ → Reply K → Told K A → Told K A → Type 0
   RepliesDelete row (reply.Committed n) old new =
-      (status_of old.commits row ≡ status.Live) × (¬ IsFull old) × (n ≡ length old.commits + 1)
+      (status_of old.commits row ≡ status.Live) × (¬ IsFullAsTold old) × (n ≡ length old.commits + 1)
       × (new ≡ record old { commits = old.commits ++ write.Delete row ∷ []; dead = (record { row = row; died = n }) ∷ old.dead; finders = old.finders + 1 })
   RepliesDelete row (reply.Refused refusal.NoSuchRow) old new = (status_of old.commits row ≡ status.NeverIssued) × (new ≡ old)
   RepliesDelete row (reply.Refused refusal.AlreadyDeleted) old new = (status_of old.commits row ≡ status.Dead) × (new ≡ old)
-  RepliesDelete row (reply.Refused refusal.CommitsFull) old new = (status_of old.commits row ≡ status.Live) × IsFull old × (new ≡ old)
-  RepliesDelete row (reply.Refused refusal.OutOfMemory) old new = (status_of old.commits row ≡ status.Live) × (¬ IsFull old) × (new ≡ record old { finders = old.finders + 1 })
-  RepliesDelete row (reply.Refused refusal.FindersFull) old new = (status_of old.commits row ≡ status.Live) × (¬ IsFull old) × MayLackFinders old × (new ≡ old)
+  RepliesDelete row (reply.Refused refusal.CommitsFull) old new = (status_of old.commits row ≡ status.Live) × IsFullAsTold old × (new ≡ old)
+  RepliesDelete row (reply.Refused refusal.OutOfMemory) old new = (status_of old.commits row ≡ status.Live) × (¬ IsFullAsTold old) × (new ≡ record old { finders = old.finders + 1 })
+  RepliesDelete row (reply.Refused refusal.FindersFull) old new = (status_of old.commits row ≡ status.Live) × (¬ IsFullAsTold old) × MayLackFinders old × (new ≡ old)
   RepliesDelete row _ old new = ⊥
 
   abbrev pub RepliesOpen : ℕ → Query A → Reply K → Told K A → Told K A → Type 0
   RepliesOpen room query (reply.Opened c) old new =
       (¬ IsBadRoom room) × (¬ HasNoCursorLeft old) × (c ≡ old.last + 1)
       × (new ≡ record old {
-        cursors = with_cursor old.cursors c (Ok (record { query = query; opened = length old.commits; given = []; asked = false }));
+        cursors = with_client_cursor old.cursors c (Ok (record { query = query; opened = length old.commits; given = []; asked = false }));
         open_cursors = old.open_cursors + 1;
         last = c;
       })
@@ -102,21 +102,21 @@ module _ {K A : Type 0} where
   RepliesOpen room query _ old new = ⊥
 
   abbrev pub RepliesMark : ℕ → Reply K → Told K A → Told K A → Type 0
-  RepliesMark c reply.Asked old new = (f : Following K A) × (old.cursors c ≡ Ok f) × (new ≡ record old { cursors = with_cursor old.cursors c (Ok (record f { asked = true })) })
+  RepliesMark c reply.Asked old new = (f : ClientCursor K A) × (old.cursors c ≡ Ok f) × (new ≡ record old { cursors = with_client_cursor old.cursors c (Ok (record f { asked = true })) })
   RepliesMark c (reply.Refused why) old new = (old.cursors c ≡ Err why) × (new ≡ old)
   RepliesMark c _ old new = ⊥
 
   abbrev pub RepliesClose : ℕ → Reply K → Told K A → Told K A → Type 0
   RepliesClose c reply.Closed old new =
-      (f : Following K A) × (old.cursors c ≡ Ok f)
-      × (new ≡ record old { cursors = with_cursor old.cursors c (Err refusal.CursorClosed); open_cursors = old.open_cursors - 1 })
+      (f : ClientCursor K A) × (old.cursors c ≡ Ok f)
+      × (new ≡ record old { cursors = with_client_cursor old.cursors c (Err refusal.CursorClosed); open_cursors = old.open_cursors - 1 })
   RepliesClose c (reply.Refused why) old new = (old.cursors c ≡ Err why) × (new ≡ old)
   RepliesClose c _ old new = ⊥
 
   -- each dead row that a sweep leaves died after the opening of some open cursor
   pub record DiedAfterOpening (told : Told K A) (dead : DeadRow) : Type 0 where
     pub serial : ℕ
-    pub cursor : Following K A
+    pub cursor : ClientCursor K A
     pub is_open : told.cursors serial ≡ Ok cursor
     pub opened : cursor.opened < dead.died
 
@@ -129,8 +129,8 @@ module _ {K A : Type 0} where
   RepliesSweep _ old new = ⊥
 
 module _ {K A : Type 0} (rules : Rules K A) where
-  abbrev pub wants : Following K A → K → Bool
-  wants f = satisfies rules f.query
+  abbrev pub client_wants : ClientCursor K A → K → Bool
+  client_wants f = satisfies rules f.query
 
   abbrev pub RepliesFind : Query A → Reply K → Told K A → Told K A → Type 0
   RepliesFind query (reply.Found rows) old new = (rows.items ≡ snapshot (satisfies rules query) (length old.commits) old.commits) × (new ≡ old)
@@ -138,16 +138,16 @@ module _ {K A : Type 0} (rules : Rules K A) where
   RepliesFind query _ old new = ⊥
 
   -- A mark comes only where one is asked for, tells the number of commits, and ends the asking; then all up to it was given.
-  abbrev pub GivesTo : List (Write K) → Following K A → Item K → Bool → Type 0
-  GivesTo commits f (item.Mark n) asked = (f.asked ≡ true) × (n ≡ length commits) × (asked ≡ false) × IsListing (wants f) f.opened n commits (without_marks f.given)
+  abbrev pub GivesTo : List (Write K) → ClientCursor K A → Item K → Bool → Type 0
+  GivesTo commits f (item.Mark n) asked = (f.asked ≡ true) × (n ≡ length commits) × (asked ≡ false) × IsListing (client_wants f) f.opened n commits (without_marks f.given)
   GivesTo commits f other asked = asked ≡ f.asked
 
   abbrev pub RepliesNext : ℕ → Reply K → Told K A → Told K A → Type 0
   RepliesNext c (reply.Given given) old new =
-      (f : Following K A) × (asked : Bool) × (old.cursors c ≡ Ok f) × GivesTo old.commits f given asked
-      × BeginsListing (wants f) f.opened (length old.commits) old.commits (without_marks (f.given ++ given ∷ []))
-      × (new ≡ record old { cursors = with_cursor old.cursors c (Ok (record f { given = f.given ++ given ∷ []; asked = asked })) })
+      (f : ClientCursor K A) × (asked : Bool) × (old.cursors c ≡ Ok f) × GivesTo old.commits f given asked
+      × BeginsListing (client_wants f) f.opened (length old.commits) old.commits (without_marks (f.given ++ given ∷ []))
+      × (new ≡ record old { cursors = with_client_cursor old.cursors c (Ok (record f { given = f.given ++ given ∷ []; asked = asked })) })
   RepliesNext c reply.Empty old new =
-      (f : Following K A) × (old.cursors c ≡ Ok f) × (f.asked ≡ false) × IsListing (wants f) f.opened (length old.commits) old.commits (without_marks f.given) × (new ≡ old)
-  RepliesNext c (reply.Refused why) old new = ((old.cursors c ≡ Err why) ⊎ ((why ≡ refusal.OutOfMemory) × (f : Following K A) × (old.cursors c ≡ Ok f))) × (new ≡ old)
+      (f : ClientCursor K A) × (old.cursors c ≡ Ok f) × (f.asked ≡ false) × IsListing (client_wants f) f.opened (length old.commits) old.commits (without_marks f.given) × (new ≡ old)
+  RepliesNext c (reply.Refused why) old new = ((old.cursors c ≡ Err why) ⊎ ((why ≡ refusal.OutOfMemory) × (f : ClientCursor K A) × (old.cursors c ≡ Ok f))) × (new ≡ old)
   RepliesNext c _ old new = ⊥

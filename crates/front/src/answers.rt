@@ -1,6 +1,6 @@
 ghost use Rattle.std.specs.Prelude.{◌≡◌, ◌+◌, ◌≤◌, [], ◌++◌, length, OnOk, IfErr, OnErr};
 ghost use Rattle.std.specs.List.{flat_map};
-ghost use Rattle.front.specs.Replies.{row_text, row_line, item_line, refusal_line, first_line, listed, text_of, numbered_line, pair_line};
+ghost use Rattle.front.specs.Replies.{row_text, row_line, item_line, refusal_line, first_line, listed, reply_text, numbered_line, pair_line};
 ghost use Rattle.std.specs.Io.KnownBytes.{Appends};
 ghost use Rattle.front.specs.Written.{HasRoomForLine, Says, TakesBeginning};
 
@@ -228,7 +228,7 @@ pub fn write_reply<C: ClassText, W: Write>(
     reply: &Reply<C::Key>,
 ) -> Result<(), Fault>
     requires room { HasRoomForLine gathered.old.items }
-    ensures written { Says W.contents writer.old writer.new gathered.old gathered.new (text_of C.texts.key_text reply.now) result }
+    ensures written { Says W.contents writer.old writer.new gathered.old gathered.new (reply_text C.texts.key_text reply.now) result }
     ensures room { OnOk result (HasRoomForLine gathered.new.items) }
     ensures err { IfErr result (λ e. e ≡ Fault.Write) }
 {

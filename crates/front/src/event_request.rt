@@ -2,7 +2,7 @@
 ghost use Rattle.std.specs.Prelude.{◌≡◌, Ok, Err};
 ghost use Rattle.std.specs.List.{list_all};
 ghost use Rattle.query_text.specs.Tokens.{token_in};
-ghost use Rattle.front.specs.EventLines.{verb_of, verb_of_word, is_side, two_pages_and_key, page_key_and_tag, page_and_sides, two_pages, only_sides, room_and_query, asked_from, IsAsked, GivesSides};
+ghost use Rattle.front.specs.EventLines.{event_verb_of, event_verb_of_word, is_side, two_pages_and_key, page_key_and_tag, page_and_sides, two_pages, only_sides, cursor_asked, event_asked_from, IsEventAsked, GivesSides};
 
 use crate::tokens::{end, lone_number, natural};
 use query_text::{ClassText, Kind, Lexeme};
@@ -48,7 +48,7 @@ pub enum EventRequest<'a, K> {
 }
 
 fn verb_of_word(word: &[u8]) -> EventVerb
-    ensures { result ≡ verb_of_word word.now }
+    ensures { result ≡ event_verb_of_word word.now }
 {
     if word == b"enlarge".as_slice() {
         EventVerb::Enlarge
@@ -85,7 +85,7 @@ fn verb_of_word(word: &[u8]) -> EventVerb
 
 /// What a lexeme is at the front of an event line.
 fn read_verb(text: &[u8], lexeme: Lexeme) -> EventVerb
-    ensures { result ≡ verb_of (token_in text.now lexeme) }
+    ensures { result ≡ event_verb_of (token_in text.now lexeme) }
 {
     match lexeme.kind {
         Kind::Word => verb_of_word(lexeme.bytes(text)),
@@ -127,7 +127,7 @@ fn enlarge<'a, C: ClassText>(
     text: &'a [u8],
     lexemes: &'a [Lexeme],
 ) -> Result<EventRequest<'a, C::Key>, usize>
-    ensures { IsAsked C C.Atom (two_pages_and_key C.texts.key_at) text.now lexemes.now result }
+    ensures { IsEventAsked C C.Atom (two_pages_and_key C.texts.key_at) text.now lexemes.now result }
 {
     let parent = natural(text, lexemes)?;
     let child = natural(text, parent.1)?;
@@ -140,7 +140,7 @@ fn place<'a, C: ClassText>(
     text: &'a [u8],
     lexemes: &'a [Lexeme],
 ) -> Result<EventRequest<'a, C::Key>, usize>
-    ensures { IsAsked C C.Atom (page_key_and_tag C.texts.key_at) text.now lexemes.now result }
+    ensures { IsEventAsked C C.Atom (page_key_and_tag C.texts.key_at) text.now lexemes.now result }
 {
     let page = natural(text, lexemes)?;
     let key = C::read_key(text, page.1)?;
@@ -153,7 +153,7 @@ fn split<'a, C: ClassText>(
     text: &'a [u8],
     lexemes: &'a [Lexeme],
 ) -> Result<EventRequest<'a, C::Key>, usize>
-    ensures { IsAsked C C.Atom page_and_sides text.now lexemes.now result }
+    ensures { IsEventAsked C C.Atom page_and_sides text.now lexemes.now result }
 {
     let page = natural(text, lexemes)?;
     let letters = sides(text, page.1)?;
@@ -165,7 +165,7 @@ fn post<'a, C: ClassText>(
     text: &'a [u8],
     lexemes: &'a [Lexeme],
 ) -> Result<EventRequest<'a, C::Key>, usize>
-    ensures { IsAsked C C.Atom two_pages text.now lexemes.now result }
+    ensures { IsEventAsked C C.Atom two_pages text.now lexemes.now result }
 {
     let parent = natural(text, lexemes)?;
     let child = natural(text, parent.1)?;
@@ -177,7 +177,7 @@ fn grow<'a, C: ClassText>(
     text: &'a [u8],
     lexemes: &'a [Lexeme],
 ) -> Result<EventRequest<'a, C::Key>, usize>
-    ensures { IsAsked C C.Atom only_sides text.now lexemes.now result }
+    ensures { IsEventAsked C C.Atom only_sides text.now lexemes.now result }
 {
     let letters = sides(text, lexemes)?;
     end(letters.1)?;
@@ -188,7 +188,7 @@ fn open<'a, C: ClassText>(
     text: &'a [u8],
     lexemes: &'a [Lexeme],
 ) -> Result<EventRequest<'a, C::Key>, usize>
-    ensures { IsAsked C C.Atom room_and_query text.now lexemes.now result }
+    ensures { IsEventAsked C C.Atom cursor_asked text.now lexemes.now result }
 {
     let room = natural(text, lexemes)?;
     Ok(EventRequest::Open(room.0, room.1))
@@ -203,7 +203,7 @@ pub fn read_event<'a, C: ClassText>(
     first: Lexeme,
     rest: &'a [Lexeme],
 ) -> Result<EventRequest<'a, C::Key>, usize>
-    ensures { IsAsked C C.Atom (asked_from C.texts text.now first) text.now rest.now result }
+    ensures { IsEventAsked C C.Atom (event_asked_from C.texts text.now first) text.now rest.now result }
 {
     match read_verb(text, first) {
         EventVerb::Enlarge => enlarge::<C>(text, rest),

@@ -2,7 +2,7 @@
 ghost use Rattle.std.specs.Prelude.{◌≡◌, map, IfOk, IfErr, OnOk, Err};
 ghost use Rattle.std.specs.Io.KnownBytes.{IsAtEnd};
 ghost use Rattle.front.specs.EventLines.{side_of, AsksEvent, AsksNoEvent};
-ghost use Rattle.front.specs.Replays.{AnswersTokens, CarriesOut};
+ghost use Rattle.front.specs.Replays.{AnswersEventTokens, CarriesOut};
 ghost use Rattle.front.specs.Conversations.{AnsweredAll, AnsweredWhole, AnsweredFirst, IfOutOfMemory, IsConversationFault, Kept};
 
 use crate::answers::{Gathered, gather_refusal};
@@ -91,7 +91,7 @@ fn carry_out<C: ClassText>(
 }
 
 impl<C: ClassText> Responder for World<C, Tray<C::Key>> {
-    ghost answers = { λ len old ts text new. AnswersTokens C C.texts C.rules len old ts text new };
+    ghost answers = { λ len old ts text new. AnswersEventTokens C C.texts C.rules len old ts text new };
 
     fn answer<W: Write>(
         &mut self,
@@ -130,9 +130,9 @@ pub fn replay<C: ClassText, R: Read, W: Write>(
     writer: &mut W,
     world: &mut World<C, Tray<C::Key>>,
 ) -> Result<(), Fault>
-    ensures ok { OnOk result (IsAtEnd (R.remaining reader.new) × AnsweredAll (AnswersTokens C C.texts C.rules) (R.remaining reader.old) (R.remaining reader.new) (W.contents writer.old) (W.contents writer.new) world.old world.new) }
-    ensures read { result ≡ Err Fault.Read → AnsweredWhole (AnswersTokens C C.texts C.rules) (R.remaining reader.old) (R.remaining reader.new) (W.contents writer.old) (W.contents writer.new) world.old world.new }
-    ensures write { result ≡ Err Fault.Write → AnsweredFirst (AnswersTokens C C.texts C.rules) (R.remaining reader.old) (R.remaining reader.new) (W.contents writer.old) (W.contents writer.new) world.old world.new }
+    ensures ok { OnOk result (IsAtEnd (R.remaining reader.new) × AnsweredAll (AnswersEventTokens C C.texts C.rules) (R.remaining reader.old) (R.remaining reader.new) (W.contents writer.old) (W.contents writer.new) world.old world.new) }
+    ensures read { result ≡ Err Fault.Read → AnsweredWhole (AnswersEventTokens C C.texts C.rules) (R.remaining reader.old) (R.remaining reader.new) (W.contents writer.old) (W.contents writer.new) world.old world.new }
+    ensures write { result ≡ Err Fault.Write → AnsweredFirst (AnswersEventTokens C C.texts C.rules) (R.remaining reader.old) (R.remaining reader.new) (W.contents writer.old) (W.contents writer.new) world.old world.new }
     ensures memory { IfOutOfMemory result (Kept reader.old reader.new writer.old writer.new) }
     ensures unchanged { IfOutOfMemory result (world.new ≡ world.old) }
     ensures faults { IfErr result IsConversationFault }

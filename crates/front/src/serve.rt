@@ -1,7 +1,7 @@
 ghost use Rattle.std.specs.Prelude.{◌≡◌, Err, OnOk, IfErr};
 ghost use Rattle.std.specs.Io.KnownBytes.{IsAtEnd};
 ghost use Rattle.front.specs.Sessions.{AnswersTokens, AnswersTold, FromNothing, TellsFinding, TellsOpening, TellsRequest, TellsTokens};
-ghost use Rattle.store.specs.States.{new_state};
+ghost use Rattle.store.specs.States.{new_store};
 ghost use Rattle.change_list.specs.declared.config.Config.{Config};
 ghost use Rattle.front.specs.Conversations.{AnsweredAll, AnsweredWhole, AnsweredFirst, IfOutOfMemory, IsConversationFault, Kept};
 
@@ -117,7 +117,7 @@ pub fn session<C: ClassText, R: Read, W: Write>(
     writer: &mut W,
     store: &mut Store<C>,
 ) -> Result<(), Fault>
-    requires { (config : Config) × (store.old ≡ new_state config) }
+    requires { (config : Config) × (store.old ≡ new_store config) }
     ensures ok { OnOk result (IsAtEnd (R.remaining reader.new) × FromNothing C.rules (AnsweredAll (AnswersTold C.texts C.rules) (R.remaining reader.old) (R.remaining reader.new) (W.contents writer.old) (W.contents writer.new)) store.old store.new) }
     ensures read { result ≡ Err Fault.Read → FromNothing C.rules (AnsweredWhole (AnswersTold C.texts C.rules) (R.remaining reader.old) (R.remaining reader.new) (W.contents writer.old) (W.contents writer.new)) store.old store.new }
     ensures write { result ≡ Err Fault.Write → FromNothing C.rules (AnsweredFirst (AnswersTold C.texts C.rules) (R.remaining reader.old) (R.remaining reader.new) (W.contents writer.old) (W.contents writer.new)) store.old store.new }

@@ -1,6 +1,6 @@
 //! What stands at the front of a line's lexemes.
 ghost use Rattle.std.specs.Prelude.{◌≡◌, [], ◌∷◌, Ok, Err, OnOk, IfErr, MatchOption};
-ghost use Rattle.query_text.specs.Keys.{Gives};
+ghost use Rattle.query_text.specs.Keys.{GivesRead};
 ghost use Rattle.query_text.specs.declared.lexeme.Lexeme.{Lexeme};
 ghost use Rattle.front.specs.Requests.{natural_at, one_number, BeginAt, IsRead};
 
@@ -21,7 +21,7 @@ pub fn first_of(lexemes: &[Lexeme]) -> Option<(Lexeme, &[Lexeme])>
 /// # Errors
 /// The place of the fault, which is the text's length at its end.
 pub fn natural<'a>(text: &[u8], lexemes: &'a [Lexeme]) -> Result<(u64, &'a [Lexeme]), usize>
-    ensures { Gives natural_at text.now lexemes.now result }
+    ensures { GivesRead natural_at text.now lexemes.now result }
 {
     match lexemes {
         [] => Err(text.len()),

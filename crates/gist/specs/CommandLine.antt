@@ -82,9 +82,9 @@ GivesStore command words options =
     (rest : List Text) × (given : List (Text × Text)) × (drop 1 words ≡ command ∷ rest) × SpellsOptions rest given × AreOptions [] given × OptionsGiven given options
 
 -- the first word behind the program's name is the command, and those behind it give its options their values
-abbrev pub Gives : List Text → Settings → Type 0
-Gives words (settings.Serve options) = GivesStore (codes "serve") words options
-Gives words (settings.Replay options) = GivesStore (codes "replay") words options
+abbrev pub GivesSettings : List Text → Settings → Type 0
+GivesSettings words (settings.Serve options) = GivesStore (codes "serve") words options
+GivesSettings words (settings.Replay options) = GivesStore (codes "replay") words options
 
 -- behind the program's name the words are a command and its options, each once at most, and a value that is a word of its
 -- own begins with no hyphen
@@ -124,4 +124,4 @@ IsOfWords e = (kind_of e ≢ kind.DisplayHelp) × (kind_of e ≢ kind.OutOfMemor
 
 -- the words give no settings, and don't ask for help
 abbrev pub NameNothing : List Text → Type 0
-NameNothing words = ((settings : Settings) → ¬ Gives words settings) × (¬ Refuses words kind.DisplayHelp)
+NameNothing words = ((settings : Settings) → ¬ GivesSettings words settings) × (¬ Refuses words kind.DisplayHelp)

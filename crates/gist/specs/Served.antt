@@ -7,7 +7,7 @@ use Rattle.key_class.specs.Rules.{Rules}
 use Rattle.key_class.specs.declared.refusal.Fault.{Fault}
 use Rattle.key_class.specs.declared.refusal.Fault.TheVariants as fault
 use Rattle.key_class.specs.declared.refusal.Refusal.TheVariants as refusal
-use Rattle.store.specs.States.{State, new_state}
+use Rattle.store.specs.States.{StoreState, new_store}
 use Rattle.world.specs.States.{State as World, new_state as new_world}
 use Rattle.interval_class.specs.declared.class.Intervals.{Intervals}
 use Rattle.interval_class.specs.Intervals.{interval_rules}
@@ -21,9 +21,9 @@ use Rattle.query_text.specs.BoxTexts.{box_texts}
 use Rattle.query_text.specs.SetTexts.{set_texts}
 use Rattle.front.specs.Sessions.{AnswersTold, FromNothing}
 use Rattle.front.specs.Conversations.{AnsweredAll}
-use Rattle.front.specs.Replays.{AnswersTokens}
+use Rattle.front.specs.Replays.{AnswersEventTokens}
 use Rattle.clap.specs.Words.{Text}
-use Rattle.gist.specs.CommandLine.{AreWellFormed, Gives}
+use Rattle.gist.specs.CommandLine.{AreWellFormed, GivesSettings}
 use Rattle.gist.specs.declared.options.Class.{Class}
 use Rattle.gist.specs.declared.options.Class.TheVariants as classes
 use Rattle.gist.specs.declared.options.StoreOptions.{StoreOptions}
@@ -38,23 +38,23 @@ limits_of options = record { fan = options.fan; least = options.least; pages = 6
 module _ (before after held written : Option (List ℕ)) where
   -- All bytes of the reader were lines of a session over this store, and what was written answers them. At the end the
   -- store is as the answers tell.
-  abbrev pub AnsweredOver : {K A : Type 0} → Texts K A → Rules K A → State K A → Type 0
-  AnsweredOver {K} {A} texts rules store = (last : State K A) × FromNothing rules (AnsweredAll (AnswersTold texts rules) before after held written) store last
+  abbrev pub AnsweredOver : {K A : Type 0} → Texts K A → Rules K A → StoreState K A → Type 0
+  AnsweredOver {K} {A} texts rules store = (last : StoreState K A) × FromNothing rules (AnsweredAll (AnswersTold texts rules) before after held written) store last
 
   -- the same of a store of the class that is new with these limits
   abbrev pub AnswersSession : Class → Config → Type 0
-  AnswersSession classes.Interval config = AnsweredOver interval_texts interval_rules (new_state config)
-  AnswersSession classes.Box config = AnsweredOver box_texts box_rules (new_state config)
-  AnswersSession classes.Set config = AnsweredOver set_texts set_rules (new_state config)
+  AnswersSession classes.Interval config = AnsweredOver interval_texts interval_rules (new_store config)
+  AnswersSession classes.Box config = AnsweredOver box_texts box_rules (new_store config)
+  AnswersSession classes.Set config = AnsweredOver set_texts set_rules (new_store config)
 
   -- the limits are in their ranges, and a whole session was answered
-  abbrev pub Serves : StoreOptions → Type 0
-  Serves options = IsWithinLimits (limits_of options) × IsAtEnd after × AnswersSession options.class (limits_of options)
+  abbrev pub ServesOptions : StoreOptions → Type 0
+  ServesOptions options = IsWithinLimits (limits_of options) × IsAtEnd after × AnswersSession options.class (limits_of options)
 
   -- All bytes of the reader were lines of events, which were steps of this world, and what was written answers them.
   -- C is the class.
   abbrev pub EventsAnsweredOver : (C : Type 0) {K A : Type 0} → Texts K A → Rules K A → World K A → Type 0
-  EventsAnsweredOver C {K} {A} texts rules world = (last : World K A) × AnsweredAll (AnswersTokens C texts rules) before after held written world last
+  EventsAnsweredOver C {K} {A} texts rules world = (last : World K A) × AnsweredAll (AnswersEventTokens C texts rules) before after held written world last
 
   -- the same of a world of the class that is new with these limits
   abbrev pub AnswersEvents : Class → Config → Type 0
@@ -68,7 +68,7 @@ module _ (before after held written : Option (List ℕ)) where
 
   -- what the settings say was done
   abbrev pub Does : Settings → Type 0
-  Does (settings.Serve options) = Serves options
+  Does (settings.Serve options) = ServesOptions options
   Does (settings.Replay options) = Replays options
 
 -- a number of the options is outside its range
@@ -86,4 +86,4 @@ RefusesLimits returned = returned ≡ Err (fault.Refused refusal.BadConfig)
 
 -- the words are well-formed, and the settings that they give name a number outside its range
 abbrev pub NameBadLimits : List Text → Type 0
-NameBadLimits words = AreWellFormed words × ((settings : Settings) → Gives words settings → AreOutOfLimits settings)
+NameBadLimits words = AreWellFormed words × ((settings : Settings) → GivesSettings words settings → AreOutOfLimits settings)

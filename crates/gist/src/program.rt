@@ -1,14 +1,14 @@
 ghost use Rattle.std.specs.Prelude.{◌≡◌, ◌≢◌, ◌↔◌, ◌⊎◌, ◌<◌, Ok};
 ghost use Rattle.std.specs.Io.KnownBytes.{IsAtEnd};
-ghost use Rattle.store.specs.States.{new_state};
+ghost use Rattle.store.specs.States.{new_store};
 ghost use Rattle.change_list.specs.Configs.{IsWithinLimits};
 ghost use Rattle.world.specs.States.{new_state as new_world};
 ghost use Rattle.front.specs.Conversations.{Kept};
 ghost use Rattle.clap.specs.Words.{kind_of};
 ghost use Rattle.clap.specs.declared.error.ErrorKind.{ErrorKind};
 ghost use Rattle.gist.specs.declared.options.Settings.{Settings};
-ghost use Rattle.gist.specs.CommandLine.{texts_of, AreWellFormed, NameNothing, Gives, Refuses, AreRefused, AsksForHelp, IsOfWords};
-ghost use Rattle.gist.specs.Served.{limits_of, AnsweredOver, EventsAnsweredOver, Serves, Replays, Does, HaveBadLimits, AreOutOfLimits, RefusesLimits, NameBadLimits};
+ghost use Rattle.gist.specs.CommandLine.{texts_of, AreWellFormed, NameNothing, GivesSettings, Refuses, AreRefused, AsksForHelp, IsOfWords};
+ghost use Rattle.gist.specs.Served.{limits_of, AnsweredOver, EventsAnsweredOver, ServesOptions, Replays, Does, HaveBadLimits, AreOutOfLimits, RefusesLimits, NameBadLimits};
 
 use crate::options::{Class, Settings, StoreOptions};
 use crate::words::settings;
@@ -50,7 +50,7 @@ fn serve_store<C: ClassText, R: Read, W: Write>(
     writer: &mut W,
 ) -> Result<(), Fault>
     ensures at_end { result ≡ Ok tt → IsAtEnd (R.remaining reader.new) }
-    ensures answered { result ≡ Ok tt → AnsweredOver (R.remaining reader.old) (R.remaining reader.new) (W.contents writer.old) (W.contents writer.new) C.texts C.rules (new_state config) }
+    ensures answered { result ≡ Ok tt → AnsweredOver (R.remaining reader.old) (R.remaining reader.new) (W.contents writer.old) (W.contents writer.new) C.texts C.rules (new_store config) }
     ensures within { result ≡ Ok tt → IsWithinLimits config }
     ensures bad { RefusesLimits result ↔ (¬ IsWithinLimits config) }
     ensures unread { ¬ IsWithinLimits config → Kept reader.old reader.new writer.old writer.new }
@@ -70,7 +70,7 @@ fn serve<R: Read, W: Write>(
     reader: &mut R,
     writer: &mut W,
 ) -> Result<(), Fault>
-    ensures ok { result ≡ Ok tt → Serves (R.remaining reader.old) (R.remaining reader.new) (W.contents writer.old) (W.contents writer.new) options }
+    ensures ok { result ≡ Ok tt → ServesOptions (R.remaining reader.old) (R.remaining reader.new) (W.contents writer.old) (W.contents writer.new) options }
     ensures bad { RefusesLimits result ↔ HaveBadLimits options }
     ensures unread { HaveBadLimits options → Kept reader.old reader.new writer.old writer.new }
 {
@@ -179,7 +179,7 @@ pub fn command<R: Read, W: Write, E: Write>(
     writer: &mut W,
     errors: &mut E,
 ) -> u8
-    ensures served { result ≡ 0 → (Refuses (texts_of words.now) ErrorKind.DisplayHelp × (reader.new ≡ reader.old)) ⊎ ((settings : Settings) × Gives (texts_of words.now) settings × Does (R.remaining reader.old) (R.remaining reader.new) (W.contents writer.old) (W.contents writer.new) settings) }
+    ensures served { result ≡ 0 → (Refuses (texts_of words.now) ErrorKind.DisplayHelp × (reader.new ≡ reader.old)) ⊎ ((settings : Settings) × GivesSettings (texts_of words.now) settings × Does (R.remaining reader.old) (R.remaining reader.new) (W.contents writer.old) (W.contents writer.new) settings) }
     ensures taken { AreWellFormed (texts_of words.now) → result ≢ 2 }
     ensures quiet { result ≡ 0 → errors.new ≡ errors.old }
     ensures wrong_words { result ≡ 2 → AreRefused (texts_of words.now) }

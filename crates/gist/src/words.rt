@@ -2,7 +2,7 @@ ghost use Rattle.std.specs.Prelude.{◌≡◌, Some, None, codes, IfOk, IfErr, f
 ghost use Rattle.clap.specs.Words.{app_of, found_of, first_value, rule_of, rows_of};
 ghost use Rattle.clap.specs.declared.builder.ValueParser.TheVariants.{Names};
 ghost use Rattle.gist.specs.Spelling.{IsStoreCommand};
-ghost use Rattle.gist.specs.CommandLine.{IsGistLine, OptionsRead, option_rule, number_of_32_bits, store_command, class_named, texts_of, AreWellFormed, Gives, LacksMemory, RefusesUnlessMemory};
+ghost use Rattle.gist.specs.CommandLine.{IsGistLine, OptionsRead, option_rule, number_of_32_bits, store_command, class_named, texts_of, AreWellFormed, GivesSettings, LacksMemory, RefusesUnlessMemory};
 
 use crate::help::{
     ABOUT, FAN_HELP, FIRST_SESSION, LEAST_HELP, REPLAY_ABOUT, REPLAY_GUIDE, SERVE_ABOUT,
@@ -118,7 +118,7 @@ fn store_settings(command: &str, options: StoreOptions) -> Settings
 /// `DisplayHelp` where the words ask for help, `OutOfMemory`, and else why the words are refused; its `Display` is the
 /// text for the user.
 pub fn settings<'a>(alloc: Global, words: &'a [&'a str]) -> Result<Settings, Error>
-    ensures given { IfOk result (Gives (texts_of words.now)) }
+    ensures given { IfOk result (GivesSettings (texts_of words.now)) }
     ensures taken { AreWellFormed (texts_of words.now) → IfErr result LacksMemory }
     ensures refused { IfErr result (RefusesUnlessMemory (texts_of words.now)) }
 {

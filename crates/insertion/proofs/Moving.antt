@@ -26,7 +26,7 @@ use Rattle.world.specs.Promises.{ServesAll, KeepsRowsUnder}
 use Rattle.world.specs.Resting.{Rests, deaths}
 use Rattle.world.specs.Stamps.{Stamp}
 use Rattle.world.specs.States.{State, with_pages, IsSoundWorld}
-use Rattle.world.specs.Steps.{Step, Changes, IsDone, IsRefused, Places}
+use Rattle.world.specs.Steps.{Step, Changes, IsCarriedOut, IsRefused, Places}
 use Rattle.world.specs.Traces.{taken_by}
 use Rattle.insertion.specs.PageSteps.{IsWanting, MayMove, Moves, MovesPages}
 
@@ -118,7 +118,7 @@ rows_pages t p rows = replaced-length t p (with_rows (page_at t p) rows)
 
 module _ {C O K A E : Type 0} (rules : Rules K A) (rule : Rule) (old new : State K A) where
   -- an answer that doesn't refuse
-  done_of : (seat : ℕ) (e : Event C K A) (r : Reply C O K A E) → ((why : Refusal) → r ≡ reply.Refused why → ⊥) → Step rules rule seat old e r new → IsDone rules rule seat old e r new
+  done_of : (seat : ℕ) (e : Event C K A) (r : Reply C O K A E) → ((why : Refusal) → r ≡ reply.Refused why → ⊥) → Step rules rule seat old e r new → IsCarriedOut rules rule seat old e r new
   done_of seat e (reply.Refused why) not d = absurd (not why refl)
   done_of seat e r not d = d
 

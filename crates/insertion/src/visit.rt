@@ -6,7 +6,7 @@ ghost use Rattle.world.specs.Promises.{KeepsMailboxes};
 ghost use Rattle.world.specs.States.{IsFullOfCommits, IsSoundWorld};
 ghost use Rattle.world.specs.Visits.{IsOneEvent, Makes};
 ghost use Rattle.insertion.specs.PageSteps.{IsFullOrWanting, IsWanting};
-ghost use Rattle.insertion.specs.Visits.{CoversKey, IsStep, IsNext, Goes, GoesBy};
+ghost use Rattle.insertion.specs.Visits.{CoversKey, IsStep, IsNextInsertion, Goes, GoesBy};
 
 use descent::{Plan, plan_at, sides_of};
 use key_class::{KeyClass, Refusal};
@@ -63,7 +63,7 @@ fn next_event<C: KeyClass, O: Outlet<C::Key>>(
     key: C::Key,
     tag: u64,
 ) -> Result<Next<C>, Refusal>
-    ensures next { IfOk result (IsNext world.now.search key tag) }
+    ensures next { IfOk result (IsNextInsertion world.now.search key tag) }
     ensures refusals { IfErr result (λ why. why ≡ Refusal.OutOfMemory) }
 {
     world.is_sound();

@@ -59,10 +59,10 @@ abbrev pub number_and_name : Refusal → List ℕ
 number_and_name refusal = decimal (number_of refusal) ++ (codes " " ++ name_of refusal)
 
 -- as it is printed: a fault of a text with its place
-abbrev pub text_of : Refusal → List ℕ
-text_of (QueryText place) = decimal 21 ++ (codes " " ++ (codes "QueryText" ++ (codes " " ++ decimal place)))
-text_of (Line place) = decimal 22 ++ (codes " " ++ (codes "Line" ++ (codes " " ++ decimal place)))
-text_of refusal = number_and_name refusal
+abbrev pub refusal_text : Refusal → List ℕ
+refusal_text (QueryText place) = decimal 21 ++ (codes " " ++ (codes "QueryText" ++ (codes " " ++ decimal place)))
+refusal_text (Line place) = decimal 22 ++ (codes " " ++ (codes "Line" ++ (codes " " ++ decimal place)))
+refusal_text refusal = number_and_name refusal
 
 -- a refusal is one of two
 abbrev pub IsEither : Refusal → Refusal → Refusal → Type 0

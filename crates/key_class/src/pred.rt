@@ -1,4 +1,4 @@
-ghost use Rattle.std.specs.Prelude.{◌≡◌, ◌≤◌, ◌↔◌, IsTrue, IfOk, ◌+◌, ◌<◌, ◌^◌};
+ghost use Rattle.std.specs.Prelude.{◌≡◌, ◌≤◌, ◌↔◌, IsTrue, IfOk, ◌+◌, ◌<◌};
 ghost use Rattle.key_class.specs.Queries.{query_of, matches_query, consistent_with_query, depth_of};
 ghost use Rattle.key_class.specs.QueryLaws.{BoundsAdmitMatches, NoneSatisfiesBelow};
 

@@ -1,5 +1,5 @@
-ghost use Rattle.std.specs.Prelude.{◌≡◌, Some, ℕ, codes};
-ghost use Rattle.key_class.specs.Refusals.{number_of, name_of, text_of};
+ghost use Rattle.std.specs.Prelude.{◌≡◌, Some};
+ghost use Rattle.key_class.specs.Refusals.{number_of, name_of, refusal_text};
 ghost use Rattle.key_class.specs.declared.refusal.Refusal.TheVariants.{OutOfMemory};
 
 use std::alloc::{AllocError, AllocFailed};
@@ -135,7 +135,7 @@ impl Refusal {
 
 /// The number and the name, and the place of a text's fault, as `22 Line 9`.
 impl fmt::Display for Refusal {
-    ghost output = { λ refusal. Some (text_of refusal) };
+    ghost output = { λ refusal. Some (refusal_text refusal) };
 
     fn fmt<W: fmt::Write>(&self, f: &mut fmt::Formatter<W>) -> fmt::Result {
         let number = self.number();

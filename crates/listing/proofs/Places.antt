@@ -10,7 +10,7 @@ use Rattle.change_list.specs.Listings.{is_mark, without_marks}
 use Rattle.change_list.proofs.Lists.{slice_get_within}
 use Rattle.change_list.proofs.Pushing.{changes_more, changes_next, changes_split}
 use Rattle.listing.proofs.Cuts.{drop_next, drop_past}
-use Rattle.listing.specs.Following.{AreChanges, IsFollowed, IsNext}
+use Rattle.listing.specs.Following.{AreChanges, IsFollowed, IsNextPlace}
 
 module _ {K : Type 0} (wanted : K → Bool) (commits : List (Write K)) where
   -- changes up to a number and those behind it
@@ -48,7 +48,7 @@ module _ {K : Type 0} (wanted : K → Bool) (commits : List (Write K)) where
   change_first : (x : Item K) (items : List (Item K)) → is_mark x ≡ false → without_marks (x ∷ items) ≡ x ∷ without_marks items
   change_first x items h = rw h refl
 
-  module _ (p place : ℕ) (next : IsNext wanted commits p place) where
+  module _ (p place : ℕ) (next : IsNextPlace wanted commits p place) where
     through : (x : Item K) (n : ℕ) → item_at wanted commits place ≡ Some x → place < n → changes wanted p n commits ≡ x ∷ changes wanted (place + 1) n commits
     through x n e l =
         split_at p place n next.from_before (omega (arith, l)) ∙ ap (λ r. r ++ changes wanted place n commits) next.none_before
@@ -165,7 +165,7 @@ module _ {K : Type 0} (wanted : K → Bool) (commits : List (Write K)) where
   not_mark (item.Inserted row) h = refl
   not_mark (item.Deleted n row) h = refl
 
-  module _ (p place : ℕ) (next : IsNext wanted commits p place) (items : List (Item K)) (i : ℕ) where
+  module _ (p place : ℕ) (next : IsNextPlace wanted commits p place) (items : List (Item K)) (i : ℕ) where
     one : suc i ≡ i + 1
     one = omega arith
 

@@ -24,7 +24,7 @@ module _ {K : Type 0} where
         → AreChanges wanted s n commits (without_marks before)
 
   -- the first place from another on whose commit has an item; the length of the list where there is none
-  pub record IsNext (wanted : K → Bool) (commits : List (Write K)) (from place : ℕ) : Type 0 where
+  pub record IsNextPlace (wanted : K → Bool) (commits : List (Write K)) (from place : ℕ) : Type 0 where
     pub from_before : from ≤ place
     pub within : place ≤ length commits
     pub none_before : changes wanted from place commits ≡ []

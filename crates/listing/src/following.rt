@@ -1,7 +1,7 @@
 ghost use Rattle.std.specs.Prelude.{◌≡◌, ◌≤◌, ◌↔◌, length, IsTrue};
 ghost use Rattle.key_class.specs.Queries.{query_of};
 ghost use Rattle.change_list.specs.Configs.{IsFrom};
-ghost use Rattle.listing.specs.Following.{IsNext, IsFollowedFor, IsItemFor};
+ghost use Rattle.listing.specs.Following.{IsNextPlace, IsFollowedFor, IsItemFor};
 ghost use Rattle.key_class.specs.Rules.{satisfies};
 
 use crate::sameness::is_same_item;
@@ -17,7 +17,7 @@ fn next_place<C: KeyClass>(
 ) -> u64
     requires from { from ≤ count }
     requires count { count ≡ length commits.now }
-    ensures { IsNext (satisfies C.rules (query_of query.now)) commits.now from result }
+    ensures { IsNextPlace (satisfies C.rules (query_of query.now)) commits.now from result }
 {
     for place in from..count {
         if change_item::<C>(commits, query, place).is_some() {

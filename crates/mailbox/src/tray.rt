@@ -1,5 +1,5 @@
-ghost use Rattle.std.specs.Prelude.{◌≡◌, ◌<◌, ◌≤◌, ◌↔◌, [], length, IfOk, IfErr, OnOk, IsOk, true, false, List, OnErr, IfSome, slice_get, drop};
-ghost use Rattle.mailbox.specs.Outlets.{tray_rule, with_item, Takes};
+ghost use Rattle.std.specs.Prelude.{◌≡◌, ◌<◌, ◌≤◌, ◌↔◌, [], length, IfOk, IfErr, OnOk, IsOk, false};
+ghost use Rattle.mailbox.specs.Outlets.{tray_rule, with_item};
 
 use crate::outlet::{Outlet, Taken};
 use change_list::Item;

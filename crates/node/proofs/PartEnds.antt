@@ -3,7 +3,7 @@ use Rattle.std.proofs.Common.{◌≡◌, ℕ, ◌≤◌, List, [], ◌∷◌, �
 use Rattle.std.proofs.lemmas.List.{append-nil}
 use Rattle.std.proofs.Math.ListN.{drop_of_length-le}
 use Rattle.key_class.specs.declared.sides.Side.{Side}
-use Rattle.node.specs.Parts.{left_part, right_part, joined}
+use Rattle.node.specs.Parts.{left_part, right_part, joined_bound}
 
 pub left_part-nil : {A : Type 0} (sides : List Side) → left_part {A = A} sides [] ≡ []
 left_part-nil [] = refl
@@ -27,7 +27,7 @@ pub right_part_whole : {A : Type 0} (sides : List Side) (xs : List A) (n : ℕ) 
 right_part_whole sides xs n got all l e = sym (append-nil got) ∙ ap (λ r. got ++ r) (sym (right_part_ends sides xs n l)) ∙ e
 
 -- the union of some keys and then of others
-pub joined-append : {K : Type 0} (union : K → K → K) (bound : Option K) (ks ls : List K) → joined union bound (ks ++ ls) ≡ joined union (joined union bound ks) ls
+pub joined-append : {K : Type 0} (union : K → K → K) (bound : Option K) (ks ls : List K) → joined_bound union bound (ks ++ ls) ≡ joined_bound union (joined_bound union bound ks) ls
 joined-append union bound [] ls = refl
 joined-append union None (k ∷ ks) ls = joined-append union (Some k) ks ls
 joined-append union (Some b) (k ∷ ks) ls = joined-append union (Some (union b k)) ks ls

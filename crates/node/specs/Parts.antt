@@ -17,11 +17,11 @@ right_part (Left ∷ sides) (x ∷ xs) = right_part sides xs
 right_part (Right ∷ sides) (x ∷ xs) = x ∷ right_part sides xs
 
 -- the union of a bound, where there is one, and some keys
-abbrev pub joined : {K : Type 0} → (K → K → K) → Option K → List K → Option K
-joined union bound [] = bound
-joined union None (k ∷ ks) = joined union (Some k) ks
-joined union (Some bound) (k ∷ ks) = joined union (Some (union bound k)) ks
+abbrev pub joined_bound : {K : Type 0} → (K → K → K) → Option K → List K → Option K
+joined_bound union bound [] = bound
+joined_bound union None (k ∷ ks) = joined_bound union (Some k) ks
+joined_bound union (Some bound) (k ∷ ks) = joined_bound union (Some (union bound k)) ks
 
 -- the union of some keys: the least key that covers each
 abbrev pub cover_of : {K : Type 0} → (K → K → K) → List K → Option K
-cover_of union keys = joined union None keys
+cover_of union keys = joined_bound union None keys

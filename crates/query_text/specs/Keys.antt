@@ -56,8 +56,8 @@ LeavesFewer n (Ok r) = length r.1 < n
 LeavesFewer n (Err place) = ⊤
 
 -- what was returned is what this reading gives of a text's lexemes
-abbrev pub Gives : {A : Type 0} → (ℕ → List Placed → Reading A) → List ℕ → List Lexeme → Result (A × Bor (List Lexeme)) ℕ → Type 0
-Gives read text lexemes returned =
+abbrev pub GivesRead : {A : Type 0} → (ℕ → List Placed → Reading A) → List ℕ → List Lexeme → Result (A × Bor (List Lexeme)) ℕ → Type 0
+GivesRead read text lexemes returned =
     MatchResult returned (λ r. read (length text) (placed text lexemes) ≡ Ok (r.0, placed text r.1.now)) (λ place. read (length text) (placed text lexemes) ≡ Err place)
 
 -- Wherever the text of a key stands, right behind a word or not, the key is read from it.

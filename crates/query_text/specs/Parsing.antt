@@ -85,6 +85,6 @@ ComesNext texts text lexemes ps ts (Ok (End found)) = Spells (texts.key_at (leng
 ComesNext texts text lexemes ps ts (Err e) = RefusedAt (texts.key_at (length text)) (length text) ts e
 
 -- wherever the unit was read, this comes behind it
-abbrev pub GoesOn : {K A : Type 0} → Texts K A → List ℕ → List Lexeme → List (Pending A) → List (Pending A) → Pred A → Result (Next A) ParseError → Type 0
-GoesOn texts text lexemes old new read returned =
+abbrev pub ReadsOn : {K A : Type 0} → Texts K A → List ℕ → List Lexeme → List (Pending A) → List (Pending A) → Pred A → Result (Next A) ParseError → Type 0
+ReadsOn texts text lexemes old new read returned =
     (ts : List Placed) → HasRead (texts.key_at (length text)) texts.atom_of (pending old) unit (query_of read) ts (placed text lexemes) → ComesNext texts text lexemes (pending new) ts returned

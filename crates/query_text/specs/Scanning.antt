@@ -11,11 +11,11 @@ abbrev pub lexeme : Kind → ℕ → ℕ → Lexeme
 lexeme k p n = record { kind = k; place = p; len = n }
 
 -- what the scanner saw at the front of the bytes
-abbrev pub seen : List ℕ → Front → Beginning
-seen bs Nothing = nothing
-seen bs Space = space
-seen bs NoToken = no_token
-seen bs (Found k n) = begins (token_of k (take n bs)) n
+abbrev pub seen_first : List ℕ → Front → Beginning
+seen_first bs Nothing = nothing
+seen_first bs Space = space
+seen_first bs NoToken = no_token
+seen_first bs (Found k n) = begins (token_of k (take n bs)) n
 
 abbrev pub FitsIn : Front → List ℕ → Type 0
 FitsIn (Found k n) bs = (0 < n) × (n ≤ length bs)

@@ -1,7 +1,7 @@
 ghost use Rattle.std.specs.Prelude.{◌≡◌, ℕ, ◌<◌, true, List, length, IfOk};
 ghost use Rattle.key_class.specs.declared.sides.Rel.{Rel};
 ghost use Rattle.query_text.specs.Tokens.{Placed};
-ghost use Rattle.query_text.specs.Keys.{LeavesFewer, Gives, ReadsBack};
+ghost use Rattle.query_text.specs.Keys.{LeavesFewer, GivesRead, ReadsBack};
 ghost use Rattle.query_text.specs.ClassTexts.{Texts};
 ghost use Rattle.query_text.specs.Printing.{begins_apart};
 
@@ -20,7 +20,7 @@ pub trait ClassText: KeyClass {
     /// The place of the first fault: at the lexeme that can't stand where it stands, at a number outside its type, at
     /// the text's end, or at the opening bracket of a key whose ends are out of order.
     fn read_key<'a>(text: &[u8], lexemes: &'a [Lexeme]) -> Result<(Self::Key, &'a [Lexeme]), usize>
-        ensures gives { Gives texts.key_at text.now lexemes.now result }
+        ensures gives { GivesRead texts.key_at text.now lexemes.now result }
         ensures shorter { IfOk result (λ r. length r.1.now < length lexemes.now) };
 
     /// The key's text.

@@ -2,7 +2,7 @@ ghost use Rattle.std.specs.Prelude.{◌≡◌, ℕ, List, ◌<◌, length, Resul
 ghost use Rattle.key_class.specs.Queries.{query_of};
 ghost use Rattle.query_text.specs.Tokens.{Placed};
 ghost use Rattle.query_text.specs.Grammar.{unit, conjunction, whole, SpellsQuery, RefusesTokens, SpellOrAreRefused, SpellsText, RefusesText, SpellsOrIsRefused, IfQueryText, IsParseRefusal, LexemesAreRefused, LexemesSpell, SpellAndAreRefused, SpellsAndIsRefused};
-ghost use Rattle.query_text.specs.Parsing.{ReadsUnit, RefusesUnit, GoesOn, Lifts, LosesTop, RefusedIn, SpellsToEnd};
+ghost use Rattle.query_text.specs.Parsing.{ReadsUnit, RefusesUnit, ReadsOn, Lifts, LosesTop, RefusedIn, SpellsToEnd};
 ghost use Rattle.query_text.specs.declared.terminal.Terminal.TheVariants as terminal;
 ghost use Rattle.query_text.specs.declared.lexeme.Lexeme.{Lexeme};
 ghost use Rattle.query_text.specs.declared.parser.ParseError.TheVariants.{Memory};
@@ -157,7 +157,7 @@ fn read_behind<'a, C: ClassText>(
     read: Pred<C::Atom>,
     lexemes: &'a [Lexeme],
 ) -> Result<Next<'a, C::Atom>, ParseError>
-    ensures { GoesOn C.texts text.now lexemes.now stack.old.items stack.new.items read result }
+    ensures { ReadsOn C.texts text.now lexemes.now stack.old.items stack.new.items read result }
 {
     let mut part = read;
     let mut rest = lexemes;

@@ -1,6 +1,6 @@
 ghost use Rattle.std.specs.Prelude.{◌≡◌, ◌<◌, [], ◌∷◌, length, IfOk, MatchOption};
 ghost use Rattle.query_text.specs.Tokens.{least_i32, most_i32, least_i64, most_i64};
-ghost use Rattle.query_text.specs.Keys.{Gives, expected_at, number_at, is_open_bracket, is_close_bracket, is_open_brace};
+ghost use Rattle.query_text.specs.Keys.{GivesRead, expected_at, number_at, is_open_bracket, is_close_bracket, is_open_brace};
 
 use crate::lexeme::{Kind, Lexeme};
 
@@ -16,7 +16,7 @@ pub fn first_of(lexemes: &[Lexeme]) -> Option<(Lexeme, &[Lexeme])>
 
 /// The place of an opening bracket at the front, and the lexemes behind it.
 pub fn open_bracket<'a>(text: &[u8], lexemes: &'a [Lexeme]) -> Result<(usize, &'a [Lexeme]), usize>
-    ensures gives { Gives (expected_at is_open_bracket) text.now lexemes.now result }
+    ensures gives { GivesRead (expected_at is_open_bracket) text.now lexemes.now result }
     ensures shorter { IfOk result (λ r. length r.1.now < length lexemes.now) }
 {
     match lexemes {
@@ -30,7 +30,7 @@ pub fn open_bracket<'a>(text: &[u8], lexemes: &'a [Lexeme]) -> Result<(usize, &'
 
 /// The same of a closing bracket.
 pub fn close_bracket<'a>(text: &[u8], lexemes: &'a [Lexeme]) -> Result<(usize, &'a [Lexeme]), usize>
-    ensures gives { Gives (expected_at is_close_bracket) text.now lexemes.now result }
+    ensures gives { GivesRead (expected_at is_close_bracket) text.now lexemes.now result }
     ensures shorter { IfOk result (λ r. length r.1.now < length lexemes.now) }
 {
     match lexemes {
@@ -44,7 +44,7 @@ pub fn close_bracket<'a>(text: &[u8], lexemes: &'a [Lexeme]) -> Result<(usize, &
 
 /// The same of an opening brace.
 pub fn open_brace<'a>(text: &[u8], lexemes: &'a [Lexeme]) -> Result<(usize, &'a [Lexeme]), usize>
-    ensures gives { Gives (expected_at is_open_brace) text.now lexemes.now result }
+    ensures gives { GivesRead (expected_at is_open_brace) text.now lexemes.now result }
     ensures shorter { IfOk result (λ r. length r.1.now < length lexemes.now) }
 {
     match lexemes {
@@ -58,7 +58,7 @@ pub fn open_brace<'a>(text: &[u8], lexemes: &'a [Lexeme]) -> Result<(usize, &'a 
 
 /// A number of 64 bits with a sign at the front, and the lexemes behind it.
 pub fn signed<'a>(text: &[u8], lexemes: &'a [Lexeme]) -> Result<(i64, &'a [Lexeme]), usize>
-    ensures gives { Gives (number_at least_i64 most_i64) text.now lexemes.now result }
+    ensures gives { GivesRead (number_at least_i64 most_i64) text.now lexemes.now result }
     ensures shorter { IfOk result (λ r. length r.1.now < length lexemes.now) }
 {
     match lexemes {
@@ -72,7 +72,7 @@ pub fn signed<'a>(text: &[u8], lexemes: &'a [Lexeme]) -> Result<(i64, &'a [Lexem
 
 /// The same of 32 bits.
 pub fn signed_32<'a>(text: &[u8], lexemes: &'a [Lexeme]) -> Result<(i32, &'a [Lexeme]), usize>
-    ensures gives { Gives (number_at least_i32 most_i32) text.now lexemes.now result }
+    ensures gives { GivesRead (number_at least_i32 most_i32) text.now lexemes.now result }
     ensures shorter { IfOk result (λ r. length r.1.now < length lexemes.now) }
 {
     match lexemes {

@@ -1,6 +1,6 @@
 ghost use Rattle.std.specs.Prelude.{◌≡◌, ℕ, ◌+◌, ◌<◌, ◌≤◌, List, [], length, OnOk, OnErr, IsOk, false, take_while, drop, ◌&&◌, vec_capacity};
 ghost use Rattle.query_text.specs.Tokens.{placed, is_letter, is_digit, starts_with_digit, beginning, Cuts};
-ghost use Rattle.query_text.specs.Scanning.{lexeme, seen, FitsIn, kind_glues};
+ghost use Rattle.query_text.specs.Scanning.{lexeme, seen_first, FitsIn, kind_glues};
 ghost use Rattle.query_text.specs.OneMeaning.{AtMostOne};
 
 use crate::lexeme::{Kind, Lexeme};
@@ -37,7 +37,7 @@ fn starts_with_digit(bytes: &[u8]) -> bool
 }
 
 fn front_of(bytes: &[u8]) -> Front
-    ensures is { beginning bytes.now ≡ seen bytes.now result }
+    ensures is { beginning bytes.now ≡ seen_first bytes.now result }
     ensures fits { FitsIn result bytes.now }
 {
     let [first, rest @ ..] = bytes else {

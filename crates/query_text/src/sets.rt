@@ -3,7 +3,7 @@ ghost use Rattle.std.specs.Int.{bit_at};
 ghost use Rattle.set_class.specs.Sets.{IsElementOf};
 ghost use Rattle.set_class.specs.declared.elements.Elements.{Elements};
 ghost use Rattle.query_text.specs.Tokens.{token_in};
-ghost use Rattle.query_text.specs.Keys.{Gives};
+ghost use Rattle.query_text.specs.Keys.{GivesRead};
 ghost use Rattle.query_text.specs.SetTexts.{element_of, set_at, number_text, HasJust, IsElementUnder, elements_of, set_behind_brace, set_named, set_texts};
 ghost use Rattle.query_text.specs.KeyLengths.{set_leaves_fewer};
 
@@ -24,7 +24,7 @@ fn element(text: &[u8], lexeme: Lexeme) -> Option<u8>
 
 /// The set of the elements before a closing brace.
 fn elements<'a>(text: &[u8], lexemes: &'a [Lexeme]) -> Result<(Elements, &'a [Lexeme]), usize>
-    ensures gives { Gives set_behind_brace text.now lexemes.now result }
+    ensures gives { GivesRead set_behind_brace text.now lexemes.now result }
     ensures shorter { IfOk result (λ r. length r.1.now < length lexemes.now) }
 {
     let mut mask = 0;

@@ -33,7 +33,7 @@ use Rattle.world.specs.declared.reply.Reply.TheVariants as reply
 use Rattle.world.specs.Promises.{ServesAll}
 use Rattle.world.specs.Resting.{death, death_from, deaths, Rests}
 use Rattle.world.specs.States.{State, IsSoundWorld}
-use Rattle.world.specs.Steps.{IsRefused, Sweeps}
+use Rattle.world.specs.Steps.{IsRefused, SweepsLeaf}
 
 weigh_filter : {X : Type 0} (f : X → ℕ) (p : X → Bool) (xs : List X) → weigh f (filter p xs) ≡ weigh (λ x. cond (p x) (f x) 0) xs
 weigh_filter f p [] = refl
@@ -234,7 +234,7 @@ module _ {K A : Type 0} (rules : Rules K A) (rule : Rule) where
         nothing = (h.sound.tree.sound.shape page within).inner level
 
     -- a leaf is swept
-    pub swept_leaf : {C O E : Type 0} (new : State K A) (count : ℕ) → page < length old.search.tree.pages → ServesAll {C = C} {O = O} {E = E} rules rule now (event.Sweep page) (reply.Swept count) new → Sweeps now page count new → IsSoundWorld rules.is_cover new → HasSwept old (page + 1) (number + count) new
+    pub swept_leaf : {C O E : Type 0} (new : State K A) (count : ℕ) → page < length old.search.tree.pages → ServesAll {C = C} {O = O} {E = E} rules rule now (event.Sweep page) (reply.Swept count) new → SweepsLeaf now page count new → IsSoundWorld rules.is_cover new → HasSwept old (page + 1) (number + count) new
     swept_leaf {C} {O} {E} new count l serves s sound = record {
       horizon = h.horizon;
       is = h.is;

@@ -43,8 +43,8 @@ module _ {K A : Type 0} where
       ⊎ ((why ≡ refusal.FindersFull) × IsFullOfFinders s)
 
   -- the row is deleted by the next commit, or none is made
-  abbrev pub Seeks : State K A → ℕ → ℕ → Search K → State K A → Type 0
-  Seeks old seat row search.On new = new.commits ≡ old.commits
-  Seeks old seat row search.Lost new = new ≡ old
-  Seeks old seat row (search.Deleted stamp) new =
+  abbrev pub SeeksForDelete : State K A → ℕ → ℕ → Search K → State K A → Type 0
+  SeeksForDelete old seat row search.On new = new.commits ≡ old.commits
+  SeeksForDelete old seat row search.Lost new = new ≡ old
+  SeeksForDelete old seat row (search.Deleted stamp) new =
       AddsCommit old (Delete row) new × (stamp ≡ record { number = length old.commits + 1; seat = seat; write = Delete row })

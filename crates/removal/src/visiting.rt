@@ -3,7 +3,7 @@ ghost use Rattle.std.specs.Prelude.{◌≡◌, ◌↔◌, ◌+◌, Err, IfOk, If
 ghost use Rattle.key_class.specs.declared.refusal.Refusal.TheVariants.{NoSuchRow, AlreadyDeleted, FindersFull};
 ghost use Rattle.change_list.specs.Changes.{NamesNoRow, NamesLive, NamesDead};
 ghost use Rattle.removal.specs.Deleting.{Looks};
-ghost use Rattle.removal.specs.Visits.{IsFullOfFinders, LacksFinder, RefusesCommit, RefusesDelete, RefusesFinder, Seeks};
+ghost use Rattle.removal.specs.Visits.{IsFullOfFinders, LacksFinder, RefusesCommit, RefusesDelete, RefusesFinder, SeeksForDelete};
 ghost use Rattle.world.specs.Promises.{KeepsMailboxes};
 ghost use Rattle.world.specs.States.{IsSoundWorld};
 ghost use Rattle.world.specs.Visits.{IsOneEvent};
@@ -85,7 +85,7 @@ pub fn seek_row<C: KeyClass, O: Outlet<C::Key>>(
     finder: u64,
     row: u64,
 ) -> Result<Search<C::Key>, Refusal>
-    ensures seeks { IfOk result (λ search. Seeks world.old seat row search world.new) }
+    ensures seeks { IfOk result (λ search. SeeksForDelete world.old seat row search world.new) }
     ensures one_event { IsOneEvent C O O.End C.rules O.rule seat world.old world.new }
     ensures sound { IsSoundWorld C.rules.is_cover world.new }
     ensures mailboxes { KeepsMailboxes C.rules O.rule world.old world.new }
@@ -110,7 +110,7 @@ fn seek_live<C: KeyClass, O: Outlet<C::Key>>(
     row: u64,
 ) -> Result<Search<C::Key>, Refusal>
     requires live { NamesLive world.old.commits row }
-    ensures seeks { IfOk result (λ search. Seeks world.old seat row search world.new) }
+    ensures seeks { IfOk result (λ search. SeeksForDelete world.old seat row search world.new) }
     ensures one_event { IsOneEvent C O O.End C.rules O.rule seat world.old world.new }
     ensures sound { IsSoundWorld C.rules.is_cover world.new }
     ensures mailboxes { KeepsMailboxes C.rules O.rule world.old world.new }

@@ -1,4 +1,4 @@
-ghost use Rattle.std.specs.Prelude.{◌≡◌, ◌<◌, None, true, IsTrue, ◌↔◌};
+ghost use Rattle.std.specs.Prelude.{◌≡◌, ◌<◌, None, IsTrue, ◌↔◌};
 ghost use Rattle.row_version.specs.Entries.{visible_at, is_needed, died_at, marked};
 
 use std::marker::Model;

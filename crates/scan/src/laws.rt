@@ -1,7 +1,7 @@
-ghost use Rattle.std.specs.Prelude.{[], ℕ, List, IsPermutation, map, filter};
+ghost use Rattle.std.specs.Prelude.{[], ℕ, List, IsPermutation};
 ghost use Rattle.change_list.specs.declared.item.Row.{Row};
 ghost use Rattle.page_table.specs.Stacks.{IsStack, root_stack};
-ghost use Rattle.page_table.specs.Trees.{Tree, new_tree, after_rows};
+ghost use Rattle.page_table.specs.Trees.{Tree, new_tree};
 ghost use Rattle.page_table.specs.Weights.{Same};
 ghost use Rattle.scan.specs.Agreement.{Agrees};
 ghost use Rattle.scan.specs.Finding.{IsFinder};

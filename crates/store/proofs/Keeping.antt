@@ -16,7 +16,7 @@ use Rattle.page_table.specs.Trees.{new_tree, pages_under, pages_within}
 use Rattle.cursor.specs.OpenCursors.{OpenCursor, shown}
 use Rattle.world.specs.Resting.{deaths, Rests}
 use Rattle.world.specs.States as world
-use Rattle.store.specs.States.{DeadRow, Stays, SameOrStays, KeepsCursors, Commits, Keeps, open_or_closed, new_state}
+use Rattle.store.specs.States.{DeadRow, Stays, SameOrStays, KeepsCursors, Commits, Keeps, open_or_closed, new_store}
 use Rattle.store.specs.Worlds.{dead_row, store_state, IsQuiet}
 use Rattle.store.proofs.Worlds.{shown_if, found_shown}
 
@@ -114,6 +114,6 @@ module _ {K A : Type 0} (rules : Rules K A) (rule : Rule) (old new : world.State
   still_quiet quiet e = record { no_finder = e ∙ quiet.no_finder; emptied = rw rests.cursors quiet.emptied }
 
 -- a new world's dead are none, and it has one page
-pub new_is : {K A : Type 0} (rules : Rules K A) (rule : Rule) (config : Config) → store_state rules rule (world.new_state config) ≡ new_state {K = K} {A = A} config
+pub new_is : {K A : Type 0} (rules : Rules K A) (rule : Rule) (config : Config) → store_state rules rule (world.new_state config) ≡ new_store {K = K} {A = A} config
 unfolding new_tree pages_under pages_within
 new_is rules rule config = refl

@@ -15,7 +15,7 @@ use Rattle.world.proofs.Serials.{member_at, all_push, all_put, all_without, memb
 use Rattle.world.specs.Serials.{member, without, Rise}
 use Rattle.world.specs.States as world
 use Rattle.world.specs.Steps.{Opens, Asks, opened_cursor, cursor_tests}
-use Rattle.store.specs.States.{State, IsOpened, Changes, Closes, with_asking}
+use Rattle.store.specs.States.{StoreState, IsOpened, ChangesCursor, Closes, with_asking}
 use Rattle.store.specs.Worlds.{store_state, IsQuiet, IsEmptied}
 use Rattle.store.proofs.Worlds.{open_as, with_as, without_shown}
 
@@ -32,7 +32,7 @@ module _ {K A : Type 0} (rules : Rules K A) (rule : Rule) (old new : world.State
     new_passes : first_failing (cursor_tests new c) ≡ None
     new_passes = open_passes new c opened new_open (omega (arith, o.serial)) (subst (λ (s : world.State K A). c ≤ s.last) (sym o.after) (omega (arith, o.serial)))
 
-    abbrev appended : ℕ → List (CursorState K A) → State K A
+    abbrev appended : ℕ → List (CursorState K A) → StoreState K A
     appended last cursors = record (store_state rules rule old) { last = last; cursors = cursors }
 
     pub is_opened : IsOpened rules.is_match (store_state rules rule old) (query_of query) c (store_state rules rule new)
@@ -59,7 +59,7 @@ module _ {K A : Type 0} (rules : Rules K A) (rule : Rule) (old new : world.State
         })
 
   module _ (c : ℕ) (passed : first_failing (cursor_tests old c) ≡ None) where
-    pub asks : Asks old c new → Changes with_asking (store_state rules rule old) c (store_state rules rule new)
+    pub asks : Asks old c new → ChangesCursor with_asking (store_state rules rule old) c (store_state rules rule new)
     asks a = record {
       before = shown rules rule old.search.tree a.before;
       is_open = open_as rules rule old c a.before passed a.is_open;
@@ -91,7 +91,7 @@ module _ {K A : Type 0} (rules : Rules K A) (rule : Rule) (old new : world.State
                 let b : length (map (shown rules rule old.search.tree) old.cursors) ≡ length old.cursors = length-map old.cursors (shown rules rule old.search.tree) in
                 omega (arith, a, b, one_less 0 old.cursors o.cursor sound.serials o.is_open);
             is =
-                let kept : List (CursorState K A) → State K A = λ ks. record (store_state rules rule old) { cursors = ks } in
+                let kept : List (CursorState K A) → StoreState K A = λ ks. record (store_state rules rule old) { cursors = ks } in
                 ap (store_state rules rule) is ∙ ap kept (without_shown rules rule old.search.tree c old.cursors);
           }
         where

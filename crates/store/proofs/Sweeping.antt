@@ -22,7 +22,7 @@ use Rattle.world.proofs.Refusing.{open_passes}
 use Rattle.world.proofs.Serials.{member_at, member_within}
 use Rattle.world.specs.Resting.{death, death_from, deaths, Rests}
 use Rattle.world.specs.States as world
-use Rattle.store.specs.States.{KeepsLiving, Sweeps, SweepsSome as StoreSweepsSome, IsNeededBy, is_needed, horizon_of}
+use Rattle.store.specs.States.{KeepsLiving, SweepsStore, SweepsStorePart as StoreSweepsSome, IsNeededBy, is_dead_needed, horizon_of}
 use Rattle.store.specs.Worlds.{dead_row, store_state}
 use Rattle.store.proofs.Worlds.{open_as}
 use Rattle.store.proofs.Keeping.{keeps_cursors, as_many, dead_rows_permuted}
@@ -79,19 +79,19 @@ module _ {K A : Type 0} (rules : Rules K A) (rule : Rule) (old : world.State K A
   same_horizon : horizon_of (length old.commits) (map (shown rules rule old.search.tree) old.cursors) ≡ horizon
   same_horizon = horizon_unique (length old.commits) old.cursors _ horizon (shown_horizon rules rule old.search.tree (length old.commits) old.cursors) is
 
-  needed_as : (d : ℕ × ℕ) → is_needed (store_state rules rule old) (dead_row d) ≡ is_past horizon d
+  needed_as : (d : ℕ × ℕ) → is_dead_needed (store_state rules rule old) (dead_row d) ≡ is_past horizon d
   needed_as d = ap (λ h. nat_lt h d.1) same_horizon
 
-  filter_as : (ds : List (ℕ × ℕ)) → filter (is_needed (store_state rules rule old)) (map dead_row ds) ≡ map dead_row (filter (is_past horizon) ds)
+  filter_as : (ds : List (ℕ × ℕ)) → filter (is_dead_needed (store_state rules rule old)) (map dead_row ds) ≡ map dead_row (filter (is_past horizon) ds)
   filter_as [] = refl
   filter_as (d ∷ ds) = rw (needed_as d) (go (is_past horizon d) (filter_as ds))
     where
-      go : (b : Bool) → filter (is_needed (store_state rules rule old)) (map dead_row ds) ≡ map dead_row (filter (is_past horizon) ds)
-          → cond b (dead_row d ∷ filter (is_needed (store_state rules rule old)) (map dead_row ds)) (filter (is_needed (store_state rules rule old)) (map dead_row ds)) ≡ map dead_row (cond b (d ∷ filter (is_past horizon) ds) (filter (is_past horizon) ds))
+      go : (b : Bool) → filter (is_dead_needed (store_state rules rule old)) (map dead_row ds) ≡ map dead_row (filter (is_past horizon) ds)
+          → cond b (dead_row d ∷ filter (is_dead_needed (store_state rules rule old)) (map dead_row ds)) (filter (is_dead_needed (store_state rules rule old)) (map dead_row ds)) ≡ map dead_row (cond b (d ∷ filter (is_past horizon) ds) (filter (is_past horizon) ds))
       go true e = ap (λ l. dead_row d ∷ l) e
       go false e = e
 
-  unneeded_as : (ds : List (ℕ × ℕ)) → AllByRecursion (λ d. is_past horizon d ≡ false) ds → AllByRecursion (λ d. is_needed (store_state rules rule old) d ≡ false) (map dead_row ds)
+  unneeded_as : (ds : List (ℕ × ℕ)) → AllByRecursion (λ d. is_past horizon d ≡ false) ds → AllByRecursion (λ d. is_dead_needed (store_state rules rule old) d ≡ false) (map dead_row ds)
   unneeded_as [] a = tt
   unneeded_as (d ∷ ds) a = (needed_as d ∙ a.0, unneeded_as ds a.1)
 
@@ -155,7 +155,7 @@ module _ {K A : Type 0} (rules : Rules K A) (rule : Rule) (old new : world.State
     finders = last_finder;
   }
 
-  pub sweeps : (number : ℕ) → SweepsAll old number new → Sweeps rules.is_match (store_state rules rule old) number (store_state rules rule new)
+  pub sweeps : (number : ℕ) → SweepsAll old number new → SweepsStore rules.is_match (store_state rules rule old) number (store_state rules rule new)
   sweeps number s = record {
     rest = keeps_living;
     counted = let a : length (map dead_row (deaths new.search.tree)) ≡ length (deaths new.search.tree) = length-map (deaths new.search.tree) dead_row in let b : length (map dead_row (deaths old.search.tree)) ≡ length (deaths old.search.tree) = length-map (deaths old.search.tree) dead_row in omega (arith, a, b, s.counted);

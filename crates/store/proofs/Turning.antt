@@ -24,8 +24,8 @@ use Rattle.world.proofs.Serials.{put_same, all_put, member_all, member_serial}
 use Rattle.world.proofs.Serving.{at_work_of}
 use Rattle.world.specs.Serials.{put}
 use Rattle.world.specs.States as world
-use Rattle.world.specs.Steps.{TurnsAt, RefusesTurn, Takes, cursor_tests}
-use Rattle.store.specs.States.{Strives, Gives, Answers, Nexts, RefusesNext, with_cursor}
+use Rattle.world.specs.Steps.{TurnsAt, RefusesTurn, TakesItem, cursor_tests}
+use Rattle.store.specs.States.{Strives, GivesNext, Answers, Nexts, RefusesNext, with_open_cursor}
 use Rattle.store.specs.Worlds.{IsEmptied, IsQuiet, IsFilled, store_state}
 use Rattle.store.proofs.Worlds.{open_as, with_as}
 
@@ -213,7 +213,7 @@ module _ {K A : Type 0} (rules : Rules K A) (rule : Rule) where
             filled : (x : Item K) → m.next ≡ sent x g.later → m.next.unread ≡ [] → ⊥
             filled x e n = no_end g.later.unread x (sym (sent_unread x g.later) ∙ sym (ap (λ (y : OpenCursor K A). y.unread) e) ∙ n)
 
-        module _ (taken : Item K) (last : world.State K A) (t : Takes new c taken last) where
+        module _ (taken : Item K) (last : world.State K A) (t : TakesItem new c taken last) where
           abbrev final : OpenCursor K A
           final = record m.next { unread = t.rest }
 
@@ -245,7 +245,7 @@ module _ {K A : Type 0} (rules : Rules K A) (rule : Rule) where
           answers (item.Inserted row) s = s ∙ g.strives.asked
           answers (item.Deleted n row) s = s ∙ g.strives.asked
 
-          pub gives : Gives rules.is_match old.commits (shown rules rule old.search.tree g.before) (Some taken) (shown rules rule old.search.tree m.next)
+          pub gives : GivesNext rules.is_match old.commits (shown rules rule old.search.tree g.before) (Some taken) (shown rules rule old.search.tree m.next)
           gives = record {
             serial = m.to.serial ∙ g.strives.serial;
             query = m.to.query ∙ g.strives.query;
@@ -286,7 +286,7 @@ module _ {K A : Type 0} (rules : Rules K A) (rule : Rule) where
         let here : Turns rules rule old.search.tree old.commits r.cursor (Err why) r.cursor = subst (λ (s : world.State K A). Turns rules rule s.search.tree s.commits r.cursor (Err why) r.cursor) g.is r.turn in
         subst (λ k. Turns rules rule old.search.tree old.commits k (Err why) k) same here
 
-    now_as : store_state rules rule now ≡ with_cursor (store_state rules rule old) (shown rules rule old.search.tree g.later)
+    now_as : store_state rules rule now ≡ with_open_cursor (store_state rules rule old) (shown rules rule old.search.tree g.later)
     now_as = ap (store_state rules rule) g.is ∙ with_as rules rule old g.later
 
     following : (k : OpenCursor K A) → HasScanned rules rule old.commits k → IsFollowing rules.is_match (shown rules rule old.search.tree k)

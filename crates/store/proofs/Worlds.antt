@@ -12,7 +12,7 @@ use Rattle.cursor.specs.OpenCursors.{OpenCursor, shown}
 use Rattle.world.specs.Serials.{member, put, without}
 use Rattle.world.specs.States as world
 use Rattle.world.specs.Steps.{cursor_tests}
-use Rattle.store.specs.States.{State, RefusesNext, cursor_of, open_or_closed, find_cursor, replaced, with_cursor}
+use Rattle.store.specs.States.{StoreState, RefusesNext, cursor_of, open_or_closed, find_cursor, put_cursor, with_open_cursor}
 use Rattle.store.specs.Worlds.{store_state}
 
 module _ {K A : Type 0} (rules : Rules K A) (rule : Rule) (t : Tree K) where
@@ -29,12 +29,12 @@ module _ {K A : Type 0} (rules : Rules K A) (rule : Rule) (t : Tree K) where
       go true e r = rw e refl
       go false e r = rw e r
 
-  pub put_shown : (x : OpenCursor K A) (ks : List (OpenCursor K A)) → map (shown rules rule t) (put (λ k. k.serial) x ks) ≡ replaced (shown rules rule t x) (map (shown rules rule t) ks)
+  pub put_shown : (x : OpenCursor K A) (ks : List (OpenCursor K A)) → map (shown rules rule t) (put (λ k. k.serial) x ks) ≡ put_cursor (shown rules rule t x) (map (shown rules rule t) ks)
   put_shown x [] = refl
   put_shown x (k ∷ ks) = go (nat_eq k.serial x.serial) (put_shown x ks)
     where
-      go : (b : Bool) → map (shown rules rule t) (put (λ k. k.serial) x ks) ≡ replaced (shown rules rule t x) (map (shown rules rule t) ks)
-          → map (shown rules rule t) (if b then x ∷ ks else k ∷ put (λ k. k.serial) x ks) ≡ (if b then shown rules rule t x ∷ map (shown rules rule t) ks else shown rules rule t k ∷ replaced (shown rules rule t x) (map (shown rules rule t) ks))
+      go : (b : Bool) → map (shown rules rule t) (put (λ k. k.serial) x ks) ≡ put_cursor (shown rules rule t x) (map (shown rules rule t) ks)
+          → map (shown rules rule t) (if b then x ∷ ks else k ∷ put (λ k. k.serial) x ks) ≡ (if b then shown rules rule t x ∷ map (shown rules rule t) ks else shown rules rule t k ∷ put_cursor (shown rules rule t x) (map (shown rules rule t) ks))
       go true r = refl
       go false r = ap (λ l. shown rules rule t k ∷ l) r
 
@@ -73,5 +73,5 @@ module _ {K A : Type 0} (rules : Rules K A) (rule : Rule) (s : world.State K A) 
   open_as k e h = rw (found_shown rules rule s.search.tree c s.cursors) (passing (nat_eq c 0 || nat_lt s.last c) (world.cursor_at s c) k e h)
 
 module _ {K A : Type 0} (rules : Rules K A) (rule : Rule) (s : world.State K A) where
-  pub with_as : (k : OpenCursor K A) → store_state rules rule (world.with_cursor s k) ≡ with_cursor (store_state rules rule s) (shown rules rule s.search.tree k)
-  with_as k = ap (λ (ks : List (CursorState K A)). let t : State K A = record (store_state rules rule s) { cursors = ks } in t) (put_shown rules rule s.search.tree k s.cursors)
+  pub with_as : (k : OpenCursor K A) → store_state rules rule (world.with_cursor s k) ≡ with_open_cursor (store_state rules rule s) (shown rules rule s.search.tree k)
+  with_as k = ap (λ (ks : List (CursorState K A)). let t : StoreState K A = record (store_state rules rule s) { cursors = ks } in t) (put_shown rules rule s.search.tree k s.cursors)

@@ -12,14 +12,14 @@ use Rattle.key_class.specs.Queries.{Query, query_of, depth_of}
 use Rattle.key_class.specs.Rules.{Rules, satisfies}
 use Rattle.change_list.specs.declared.item.Row.{Row}
 use Rattle.change_list.specs.Changes.{NamesLive, snapshot}
-use Rattle.change_list.specs.Cursors.{CursorState, Fits, IsDone, work}
+use Rattle.change_list.specs.Cursors.{CursorState, Fits, HasNothingToCome, work}
 
 -- a dead row that a sweep hasn't removed
 pub record DeadRow : Type 0 where
   pub row : ℕ
   pub died : ℕ
 
-pub record State (K A : Type 0) : Type 0 where
+pub record StoreState (K A : Type 0) : Type 0 where
   -- the greatest number of commits
   pub limit : ℕ
   pub commits : List (Write K)
@@ -37,8 +37,8 @@ pub record State (K A : Type 0) : Type 0 where
   pub finders : ℕ
 
 -- an empty store; one page is made with it
-abbrev pub new_state : {K A : Type 0} → Config → State K A
-new_state config = record { limit = config.commits; commits = []; page_limit = config.pages; cursors = []; last = 0; dead = []; pages_left = config.pages - 1; finders = 0 }
+abbrev pub new_store : {K A : Type 0} → Config → StoreState K A
+new_store config = record { limit = config.commits; commits = []; page_limit = config.pages; cursors = []; last = 0; dead = []; pages_left = config.pages - 1; finders = 0 }
 
 module _ {K A : Type 0} where
   abbrev pub open_or_closed : Option (CursorState K A) → Result (CursorState K A) Refusal
@@ -49,7 +49,7 @@ module _ {K A : Type 0} where
   find_cursor c cursors = find (λ k. nat_eq k.serial c) cursors
 
   -- the open cursor with a serial, or why there is none
-  abbrev pub cursor_of : State K A → ℕ → Result (CursorState K A) Refusal
+  abbrev pub cursor_of : StoreState K A → ℕ → Result (CursorState K A) Refusal
   cursor_of state c = if nat_eq c 0 || nat_lt state.last c then Err refusal.NoSuchCursor else open_or_closed (find_cursor c state.cursors)
 
   -- how much the cursor with a serial has still to do
@@ -57,30 +57,30 @@ module _ {K A : Type 0} where
   work_of commits (Ok cursor) = work commits cursor
   work_of commits (Err why) = 0
 
-  abbrev pub work_at : State K A → ℕ → ℕ
+  abbrev pub work_at : StoreState K A → ℕ → ℕ
   work_at state c = work_of state.commits (cursor_of state c)
 
   -- the cursor stands where that with its serial stood
-  abbrev pub replaced : CursorState K A → List (CursorState K A) → List (CursorState K A)
-  replaced k [] = []
-  replaced k (x ∷ xs) = if nat_eq x.serial k.serial then k ∷ xs else x ∷ replaced k xs
+  abbrev pub put_cursor : CursorState K A → List (CursorState K A) → List (CursorState K A)
+  put_cursor k [] = []
+  put_cursor k (x ∷ xs) = if nat_eq x.serial k.serial then k ∷ xs else x ∷ put_cursor k xs
 
-  abbrev pub with_cursor : State K A → CursorState K A → State K A
-  with_cursor state k = record state { cursors = replaced k state.cursors }
+  abbrev pub with_open_cursor : StoreState K A → CursorState K A → StoreState K A
+  with_open_cursor state k = record state { cursors = put_cursor k state.cursors }
 
-  abbrev pub without_cursor : State K A → ℕ → State K A
+  abbrev pub without_cursor : StoreState K A → ℕ → StoreState K A
   without_cursor state c = record state { cursors = filter (λ k. not (nat_eq k.serial c)) state.cursors }
 
   -- no cursor with the serial is open, which is why nothing is done
-  abbrev pub LacksCursor : State K A → ℕ → Refusal → State K A → Type 0
+  abbrev pub LacksCursor : StoreState K A → ℕ → Refusal → StoreState K A → Type 0
   LacksCursor old c why new = (cursor_of old c ≡ Err why) × (new ≡ old)
 
   -- at most one page more was made than there are commits
-  abbrev pub HasFewPages : State K A → Type 0
+  abbrev pub HasFewPages : StoreState K A → Type 0
   HasFewPages state = state.page_limit ≤ state.pages_left + length state.commits + 1
 
   -- the live rows whose keys satisfy a query, by rising number
-  abbrev pub matching_rows : Rules K A → State K A → Pred A → List (Row K)
+  abbrev pub matching_rows : Rules K A → StoreState K A → Pred A → List (Row K)
   matching_rows rules state query = snapshot (satisfies rules (query_of query)) (length state.commits) state.commits
 
   -- the least opening number of the cursors whose scan isn't over, or the number of commits
@@ -89,11 +89,11 @@ module _ {K A : Type 0} where
   horizon_of n (k ∷ ks) = if k.scanning then min k.opened (horizon_of n ks) else horizon_of n ks
 
   -- a dead row is needed by a scan that began before it died
-  abbrev pub is_needed : State K A → DeadRow → Bool
-  is_needed state dead = nat_lt (horizon_of (length state.commits) state.cursors) dead.died
+  abbrev pub is_dead_needed : StoreState K A → DeadRow → Bool
+  is_dead_needed state dead = nat_lt (horizon_of (length state.commits) state.cursors) dead.died
 
   -- an open cursor whose scan isn't over was opened before the row died
-  pub record IsNeededBy (state : State K A) (dead : DeadRow) : Type 0 where
+  pub record IsNeededBy (state : StoreState K A) (dead : DeadRow) : Type 0 where
     pub serial : ℕ
     pub cursor : CursorState K A
     pub is_open : cursor_of state serial ≡ Ok cursor
@@ -115,11 +115,11 @@ module _ {K A : Type 0} (matching : A → K → Bool) where
   SameOrStays commits later _ _ = ⊥
 
   -- every cursor is open, closed or never given as before, and what fits it before fits it after
-  abbrev pub KeepsCursors : State K A → State K A → Type 0
+  abbrev pub KeepsCursors : StoreState K A → StoreState K A → Type 0
   KeepsCursors old new = (c : ℕ) → SameOrStays old.commits new.commits (cursor_of old c) (cursor_of new c)
 
   -- one commit more, and nothing else but pages
-  pub record Commits (old : State K A) (write : Write K) (new : State K A) : Type 0 where
+  pub record Commits (old : StoreState K A) (write : Write K) (new : StoreState K A) : Type 0 where
     pub limit : new.limit ≡ old.limit
     pub page_limit : new.page_limit ≡ old.page_limit
     pub commits : new.commits ≡ old.commits ++ write ∷ []
@@ -129,7 +129,7 @@ module _ {K A : Type 0} (matching : A → K → Bool) where
     pub pages : new.pages_left ≤ old.pages_left
 
   -- nothing but pages
-  pub record Keeps (old new : State K A) : Type 0 where
+  pub record Keeps (old new : StoreState K A) : Type 0 where
     pub limit : new.limit ≡ old.limit
     pub page_limit : new.page_limit ≡ old.page_limit
     pub commits : new.commits ≡ old.commits
@@ -143,10 +143,10 @@ module _ {K A : Type 0} (matching : A → K → Bool) where
   abbrev pub Answers : List (Write K) → CursorState K A → Option (Item K) → CursorState K A → Type 0
   Answers commits before (Some (item.Mark n)) after = (before.asked ≡ true) × (n ≡ length commits) × (after.asked ≡ false)
   Answers commits before (Some other) after = after.asked ≡ before.asked
-  Answers commits before None after = (after.asked ≡ before.asked) × IsDone matching commits after
+  Answers commits before None after = (after.asked ≡ before.asked) × HasNothingToCome matching commits after
 
   -- a cursor gave an item, or nothing
-  pub record Gives (commits : List (Write K)) (before : CursorState K A) (given : Option (Item K)) (after : CursorState K A) : Type 0 where
+  pub record GivesNext (commits : List (Write K)) (before : CursorState K A) (given : Option (Item K)) (after : CursorState K A) : Type 0 where
     pub serial : after.serial ≡ before.serial
     pub query : after.query ≡ before.query
     pub opened : after.opened ≡ before.opened
@@ -163,7 +163,7 @@ module _ {K A : Type 0} (matching : A → K → Bool) where
     pub fits : (items : List (Item K)) → Fits matching commits before items → Fits matching commits after items
 
   -- a new cursor stands at the present commits, and has given nothing
-  pub record IsOpened (old : State K A) (asked_for : Query A) (c : ℕ) (new : State K A) : Type 0 where
+  pub record IsOpened (old : StoreState K A) (asked_for : Query A) (c : ℕ) (new : StoreState K A) : Type 0 where
     pub serial : c ≡ old.last + 1
     pub cursor : CursorState K A
     pub after : new ≡ record old { last = c; cursors = old.cursors ++ cursor ∷ [] }
@@ -175,47 +175,47 @@ module _ {K A : Type 0} (matching : A → K → Bool) where
     pub fits : Fits matching old.commits cursor []
 
   -- the same, of a query as a program holds it
-  abbrev pub IsOpenedFor : State K A → Pred A → ℕ → State K A → Type 0
+  abbrev pub IsOpenedFor : StoreState K A → Pred A → ℕ → StoreState K A → Type 0
   IsOpenedFor old query c new = IsOpened old (query_of query) c new
 
   -- an open cursor gives its next item, or nothing; all else stays
-  pub record Nexts (old : State K A) (c : ℕ) (given : Option (Item K)) (new : State K A) : Type 0 where
+  pub record Nexts (old : StoreState K A) (c : ℕ) (given : Option (Item K)) (new : StoreState K A) : Type 0 where
     pub before : CursorState K A
     pub after : CursorState K A
     pub is_open : cursor_of old c ≡ Ok before
-    pub gives : Gives old.commits before given after
-    pub is : new ≡ with_cursor old after
+    pub gives : GivesNext old.commits before given after
+    pub is : new ≡ with_open_cursor old after
 
   -- no item comes for want of memory; the cursor may have got on, and what fits it still fits
-  pub record Wants (old : State K A) (c : ℕ) (new : State K A) : Type 0 where
+  pub record Wants (old : StoreState K A) (c : ℕ) (new : StoreState K A) : Type 0 where
     pub before : CursorState K A
     pub after : CursorState K A
     pub is_open : cursor_of old c ≡ Ok before
     pub strives : Strives old.commits before after
-    pub is : new ≡ with_cursor old after
+    pub is : new ≡ with_open_cursor old after
 
   -- a cursor gave these items, one after the other
-  abbrev pub Gave : State K A → ℕ → List (Item K) → State K A → Type 0
+  abbrev pub Gave : StoreState K A → ℕ → List (Item K) → StoreState K A → Type 0
   Gave old c [] new = new ≡ old
-  Gave old c (item ∷ items) new = (mid : State K A) × Nexts old c (Some item) mid × Gave mid c items new
+  Gave old c (item ∷ items) new = (mid : StoreState K A) × Nexts old c (Some item) mid × Gave mid c items new
 
   -- refused by its serial, or for memory
-  abbrev pub RefusesNext : State K A → ℕ → Refusal → State K A → Type 0
+  abbrev pub RefusesNext : StoreState K A → ℕ → Refusal → StoreState K A → Type 0
   RefusesNext old c why new = LacksCursor old c why new ⊎ ((why ≡ refusal.OutOfMemory) × Wants old c new)
 
   -- a cursor has nothing more to give, or was refused
-  abbrev pub EndsDrain : State K A → ℕ → Result (Unit {0}) Refusal → State K A → Type 0
+  abbrev pub EndsDrain : StoreState K A → ℕ → Result (Unit {0}) Refusal → StoreState K A → Type 0
   EndsDrain old c (Ok done) new = Nexts old c None new
   EndsDrain old c (Err why) new = RefusesNext old c why new
 
   -- a cursor gave these items until nothing was left or it was refused
-  pub record Drains (old : State K A) (c : ℕ) (items : List (Item K)) (result : Result (Unit {0}) Refusal) (new : State K A) : Type 0 where
-    pub last_given : State K A
+  pub record Drains (old : StoreState K A) (c : ℕ) (items : List (Item K)) (result : Result (Unit {0}) Refusal) (new : StoreState K A) : Type 0 where
+    pub last_given : StoreState K A
     pub gave : Gave old c items last_given
     pub ended : EndsDrain last_given c result new
 
   -- nothing but dead rows
-  pub record KeepsLiving (old new : State K A) : Type 0 where
+  pub record KeepsLiving (old new : StoreState K A) : Type 0 where
     pub limit : new.limit ≡ old.limit
     pub page_limit : new.page_limit ≡ old.page_limit
     pub commits : new.commits ≡ old.commits
@@ -226,62 +226,62 @@ module _ {K A : Type 0} (matching : A → K → Bool) where
     pub finders : new.finders ≡ old.finders
 
   -- a sweep removed all dead rows that no scan needs, and this many
-  pub record Sweeps (old : State K A) (number : ℕ) (new : State K A) : Type 0 where
+  pub record SweepsStore (old : StoreState K A) (number : ℕ) (new : StoreState K A) : Type 0 where
     pub rest : KeepsLiving old new
     pub counted : number + length new.dead ≡ length old.dead
-    pub left : IsPermutation (filter (is_needed old) old.dead) new.dead
+    pub left : IsPermutation (filter (is_dead_needed old) old.dead) new.dead
     pub needed : AllByRecursion (λ d. IsNeededBy old d) new.dead
 
   -- a sweep that memory stopped removed some dead rows that no scan needs
-  pub record SweepsSome (old new : State K A) : Type 0 where
+  pub record SweepsStorePart (old new : StoreState K A) : Type 0 where
     pub rest : KeepsLiving old new
     pub gone : List DeadRow
     pub parted : IsPermutation old.dead (gone ++ new.dead)
-    pub unneeded : AllByRecursion (λ d. is_needed old d ≡ false) gone
+    pub unneeded : AllByRecursion (λ d. is_dead_needed old d ≡ false) gone
 
 module _ {K A : Type 0} where
   -- no finder can be opened any more
-  abbrev pub HasNoFinderLeft : State K A → Type 0
+  abbrev pub HasNoFinderLeft : StoreState K A → Type 0
   HasNoFinderLeft state = 4294967295 ≤ state.finders
 
   -- no commit can be made any more
-  abbrev pub HasNoCommitLeft : State K A → Type 0
+  abbrev pub HasNoCommitLeft : StoreState K A → Type 0
   HasNoCommitLeft state = state.limit ≤ length state.commits
 
   -- the row is live, but no commit can delete it
-  abbrev pub HasNoCommitFor : State K A → ℕ → Type 0
+  abbrev pub HasNoCommitFor : StoreState K A → ℕ → Type 0
   HasNoCommitFor state row = NamesLive state.commits row × HasNoCommitLeft state
 
   -- the row is live and may be deleted, but no finder of it can be opened
-  abbrev pub HasNoFinderFor : State K A → ℕ → Type 0
+  abbrev pub HasNoFinderFor : StoreState K A → ℕ → Type 0
   HasNoFinderFor state row = NamesLive state.commits row × (length state.commits < state.limit) × HasNoFinderLeft state
 
   -- why a row isn't added, and what is left then
-  abbrev pub RefusesRow : State K A → Refusal → Type 0
+  abbrev pub RefusesRow : StoreState K A → Refusal → Type 0
   RefusesRow new why = (why ≡ refusal.OutOfMemory) ⊎ (why ≡ refusal.CommitsFull) ⊎ ((why ≡ refusal.PagesFull) × (new.pages_left < 2))
 
   -- the next commit's death of the row is one more in the collection
-  abbrev pub AddsDead : State K A → ℕ → State K A → Type 0
+  abbrev pub AddsDead : StoreState K A → ℕ → StoreState K A → Type 0
   AddsDead old row new = IsPermutation ((record { row = row; died = length old.commits + 1 }) ∷ old.dead) new.dead
 
   -- the refusals that a delete may give
-  abbrev pub RefusesDelete : State K A → Refusal → Type 0
-  RefusesDelete old why =
+  abbrev pub MayRefuseDelete : StoreState K A → Refusal → Type 0
+  MayRefuseDelete old why =
       (why ≡ refusal.NoSuchRow) ⊎ (why ≡ refusal.AlreadyDeleted) ⊎ (why ≡ refusal.CommitsFull) ⊎ (why ≡ refusal.OutOfMemory)
       ⊎ ((why ≡ refusal.FindersFull) × HasNoFinderLeft old)
 
   -- the open cursor is open no more, and all else stays
-  pub record Closes (old : State K A) (c : ℕ) (new : State K A) : Type 0 where
+  pub record Closes (old : StoreState K A) (c : ℕ) (new : StoreState K A) : Type 0 where
     pub cursor : CursorState K A
     pub was_open : cursor_of old c ≡ Ok cursor
     pub one_less : length new.cursors + 1 ≡ length old.cursors
     pub is : new ≡ without_cursor old c
 
   -- the open cursor changes in this way, and all else stays
-  pub record Changes (change : CursorState K A → CursorState K A) (old : State K A) (c : ℕ) (new : State K A) : Type 0 where
+  pub record ChangesCursor (change : CursorState K A → CursorState K A) (old : StoreState K A) (c : ℕ) (new : StoreState K A) : Type 0 where
     pub before : CursorState K A
     pub is_open : cursor_of old c ≡ Ok before
-    pub is : new ≡ with_cursor old (change before)
+    pub is : new ≡ with_open_cursor old (change before)
 
   abbrev pub with_asking : CursorState K A → CursorState K A
   with_asking k = record k { asked = true }
@@ -294,13 +294,13 @@ IsBadOpening query room = (room ≡ 0) ⊎ (4096 < room) ⊎ (32 < depth_of quer
 abbrev pub RefusesCursor : Refusal → Type 0
 RefusesCursor why = (why ≡ refusal.BadConfig) ⊎ (why ≡ refusal.CursorsFull) ⊎ (why ≡ refusal.OutOfMemory)
 
-abbrev pub IsFullOf : {K A : Type 0} → State K A → Type 0
+abbrev pub IsFullOf : {K A : Type 0} → StoreState K A → Type 0
 IsFullOf state = (256 ≤ length state.cursors) ⊎ (4294967295 ≤ state.last)
 
 -- the query and the room are in range, but no cursor can be opened
-abbrev pub HasNoCursorFor : {K A : Type 0} → State K A → Query A → ℕ → Type 0
+abbrev pub HasNoCursorFor : {K A : Type 0} → StoreState K A → Query A → ℕ → Type 0
 HasNoCursorFor state query room = (¬ IsBadOpening query room) × IsFullOf state
 
 -- a list got the items that a cursor gave until nothing was left or it was refused
-abbrev pub DrainsInto : {K A : Type 0} → Rules K A → State K A → ℕ → List (Item K) → List (Item K) → Result (Unit {0}) Refusal → State K A → Type 0
+abbrev pub DrainsInto : {K A : Type 0} → Rules K A → StoreState K A → ℕ → List (Item K) → List (Item K) → Result (Unit {0}) Refusal → StoreState K A → Type 0
 DrainsInto rules old c before after result new = (given : List (Item _)) × (after ≡ before ++ given) × Drains rules.is_match old c given result new

@@ -8,14 +8,14 @@ use Rattle.change_list.specs.Cursors.{CursorState}
 use Rattle.cursor.specs.OpenCursors.{OpenCursor, shown}
 use Rattle.world.specs.Resting.{deaths}
 use Rattle.world.specs.States as world
-use Rattle.store.specs.States.{State, DeadRow, Nexts, RefusesNext, cursor_of}
+use Rattle.store.specs.States.{StoreState, DeadRow, Nexts, RefusesNext, cursor_of}
 
 abbrev pub dead_row : ℕ × ℕ → DeadRow
 dead_row (row, died) = record { row = row; died = died }
 
 module _ {K A : Type 0} where
   -- the state of a store, by that of its world
-  abbrev pub store_state : Rules K A → Rule → world.State K A → State K A
+  abbrev pub store_state : Rules K A → Rule → world.State K A → StoreState K A
   store_state rules rule s = record {
     limit = s.limit;
     commits = s.commits;
@@ -35,7 +35,7 @@ module _ {K A : Type 0} where
   RefusesNextIn rules old c why new = RefusesNext rules.is_match (store_state rules tray_rule old) c why (store_state rules tray_rule new)
 
   -- a cursor with the serial is open
-  abbrev pub HasCursor : State K A → ℕ → Type 0
+  abbrev pub HasCursor : StoreState K A → ℕ → Type 0
   HasCursor state c = (k : CursorState K A) × (cursor_of state c ≡ Ok k)
 
   -- the mailbox is empty, and has a place

@@ -2,7 +2,7 @@
 ghost use Rattle.std.specs.Prelude.{◌≡◌, None, IfOk, IfErr};
 ghost use Rattle.store.specs.Worlds.{IsFilled, IsQuiet, NextsIn, RefusesNextIn};
 ghost use Rattle.split.specs.Tests.{first_failing};
-ghost use Rattle.world.specs.Steps.{Takes, cursor_tests};
+ghost use Rattle.world.specs.Steps.{TakesItem, cursor_tests};
 
 use change_list::Item;
 use key_class::{KeyClass, Refusal};
@@ -41,7 +41,7 @@ pub fn next_item<C: KeyClass>(
 fn take_item<C: KeyClass>(world: &mut World<C, Tray<C::Key>>, c: u64) -> Item<C::Key>
     requires open { first_failing (cursor_tests world.old c) ≡ None }
     requires filled { IsFilled world.old c }
-    ensures { Takes world.old c result world.new }
+    ensures { TakesItem world.old c result world.new }
 {
     let Reply::Taken(item) = world.step(Event::Take(c)) else {
         unreachable!()

@@ -1,4 +1,4 @@
-ghost use Rattle.std.specs.Prelude.{◌≡◌, ◌≢◌, ◌+◌, ◌≤◌, ◌<◌, ◌↔◌, ◌⊎◌, length, IfOk, IfErr, OnOk, OnErr, Err, IsPermutation};
+ghost use Rattle.std.specs.Prelude.{◌≡◌, ◌≢◌, ◌+◌, ◌≤◌, ◌<◌, ◌↔◌, length, IfOk, IfErr, OnOk, OnErr, Err, IsPermutation};
 ghost use Rattle.key_class.specs.declared.refusal.Refusal.TheVariants.{BadConfig, OutOfMemory, CommitsFull, NoSuchRow, AlreadyDeleted, FindersFull, CursorsFull};
 ghost use Rattle.key_class.specs.Refusals.{IsEither};
 ghost use Rattle.key_class.specs.Queries.{query_of, depth_of};
@@ -6,7 +6,7 @@ ghost use Rattle.change_list.specs.Configs.{IsWithinLimits};
 ghost use Rattle.change_list.specs.declared.write.Write.TheVariants.{Insert, Delete};
 ghost use Rattle.change_list.specs.Changes.{IsLegal, NamesNoRow, NamesDead, commit_at};
 ghost use Rattle.store.specs.Worlds.{HasCursor};
-ghost use Rattle.store.specs.States.{new_state, Commits, Keeps, cursor_of, IsOpenedFor, IsBadOpening, HasFewPages, HasNoCommitLeft, HasNoCommitFor, HasNoFinderFor, HasNoCursorFor, RefusesRow, RefusesCursor, AddsDead, RefusesDelete, LacksCursor, Closes, DrainsInto, Sweeps, SweepsSome, Nexts, RefusesNext, Changes, with_asking, matching_rows};
+ghost use Rattle.store.specs.States.{new_store, Commits, Keeps, cursor_of, IsOpenedFor, IsBadOpening, HasFewPages, HasNoCommitLeft, HasNoCommitFor, HasNoFinderFor, HasNoCursorFor, RefusesRow, RefusesCursor, AddsDead, MayRefuseDelete, LacksCursor, Closes, DrainsInto, SweepsStore, SweepsStorePart, Nexts, RefusesNext, ChangesCursor, with_asking, matching_rows};
 
 use crate::reading::next_item;
 use change_list::{Config, Item, Row, Status, Write};
@@ -26,11 +26,11 @@ pub struct Store<C: KeyClass> {
 impl<C: KeyClass> Model for Store<C> {
     ghost use Rattle.key_class.specs.QueryCodes.{query_code};
     ghost use Rattle.std.specs.Coded.{codes};
-    ghost use Rattle.store.specs.States.{State};
+    ghost use Rattle.store.specs.States.{StoreState};
     ghost use Rattle.mailbox.specs.Outlets.{tray_rule};
     ghost use Rattle.store.specs.Worlds.{store_state, IsQuiet};
 
-    ghost Value = { State C.Key C.Atom };
+    ghost Value = { StoreState C.Key C.Atom };
 
     ghost coded = { Prim.hlevel (codes, query_code) };
 
@@ -45,7 +45,7 @@ impl<C: KeyClass> Store<C> {
     /// # Errors
     /// `BadConfig` where a limit of the configuration is out of its range, and want of memory.
     pub fn new(alloc: Global, config: Config) -> Result<Store<C>, Refusal>
-        ensures ok { IfOk result (λ store. store ≡ new_state config) }
+        ensures ok { IfOk result (λ store. store ≡ new_store config) }
         ensures bad { (result ≡ Err BadConfig) ↔ (¬ IsWithinLimits config) }
         ensures refusals { IfErr result (IsEither BadConfig OutOfMemory) }
     {
@@ -112,7 +112,7 @@ impl<C: KeyClass> Store<C> {
         ensures already_deleted { (result ≡ Err AlreadyDeleted) ↔ NamesDead self.old.commits row }
         ensures full { (result ≡ Err CommitsFull) ↔ HasNoCommitFor self.old row }
         ensures finders_full { (result ≡ Err FindersFull) ↔ HasNoFinderFor self.old row }
-        ensures refusals { IfErr result (RefusesDelete self.old) }
+        ensures refusals { IfErr result (MayRefuseDelete self.old) }
         ensures found { OnOk result (self.new.finders ≡ self.old.finders + 1) }
         ensures unfound { IfErr result (λ why. why ≢ OutOfMemory → self.new ≡ self.old) }
         ensures finders { self.new.finders ≤ self.old.finders + 1 }
@@ -186,8 +186,8 @@ impl<C: KeyClass> Store<C> {
     /// # Errors
     /// Want of memory; some of those rows may be removed then.
     pub fn sweep_all(&mut self) -> Result<u64, Refusal>
-        ensures ok { IfOk result (λ number. Sweeps C.rules.is_match self.old number self.new) }
-        ensures err { OnErr result (SweepsSome C.rules.is_match self.old self.new) }
+        ensures ok { IfOk result (λ number. SweepsStore C.rules.is_match self.old number self.new) }
+        ensures err { OnErr result (SweepsStorePart C.rules.is_match self.old self.new) }
         ensures refusals { IfErr result (λ e. e ≡ OutOfMemory) }
     {
         self.world.is_sound();
@@ -196,7 +196,7 @@ impl<C: KeyClass> Store<C> {
 
     /// Asks a cursor for a mark.
     pub fn ask_mark(&mut self, c: u64) -> Result<(), Refusal>
-        ensures ok { OnOk result (Changes with_asking self.old c self.new) }
+        ensures ok { OnOk result (ChangesCursor with_asking self.old c self.new) }
         ensures err { IfErr result (λ why. LacksCursor self.old c why self.new) }
     {
         match self.world.step(Event::AskMark(c)) {

@@ -15,7 +15,7 @@ use Rattle.world.specs.declared.reply.Reply.{Reply}
 use Rattle.world.specs.declared.reply.Reply.TheVariants as reply
 use Rattle.world.specs.States.{State}
 use Rattle.world.specs.Traces.{Moment, Trace, written, commits_of, taken_by, taken, mark_number, marks_of, IsAsking, HasAskings}
-use Rattle.world.specs.Promises.{Sends, Serves}
+use Rattle.world.specs.Promises.{SendsAtMostOne, Serves}
 
 -- what a list has before its end
 pub record Has {X : Type 0} (xs : List X) (i : ℕ) : Type 0 where
@@ -186,7 +186,7 @@ module _ {C O K A E : Type 0} (rules : Rules K A) (rule : Rule) (trace : Trace C
                 subst (λ b. FullAskings (trace ++ (e, r) ∷ []) c (marks_of (taken c trace ++ before.unread)) b (length new.commits)) (sym p.2) g
           ])
 
-      go : (sent : List (Item K)) → Sends rules rule old e r c before sent after → FullAskings (trace ++ (e, r) ∷ []) c (marks_of (taken c trace ++ before.unread) ++ marks_of sent) after.asked (length new.commits)
+      go : (sent : List (Item K)) → SendsAtMostOne rules rule old e r c before sent after → FullAskings (trace ++ (e, r) ∷ []) c (marks_of (taken c trace ++ before.unread) ++ marks_of sent) after.asked (length new.commits)
       go [] h = quiet after.asked h
       go (item.Row row ∷ []) h = quiet after.asked h
       go (item.Inserted row ∷ []) h = quiet after.asked h

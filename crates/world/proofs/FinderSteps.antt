@@ -20,7 +20,7 @@ use Rattle.descent.proofs.Seeking.{seeking_begun, seeking_further, finds_at_row,
 use Rattle.world.specs.Serials.{without, put}
 use Rattle.world.specs.Stamps.{Stamp}
 use Rattle.world.specs.States.{State, finder_at, with_finder, IsSoundWorld}
-use Rattle.world.specs.Steps.{find_tests, finder_tests, row_tests, is_insert, Finds, Buries, SeeksOn, Sweeps}
+use Rattle.world.specs.Steps.{find_tests, finder_tests, row_tests, is_insert, Finds, Buries, SeeksOn, SweepsLeaf}
 use Rattle.world.proofs.Refusing.{failing_later, passed_first, passed_at}
 use Rattle.world.proofs.Serials.{member_all}
 use Rattle.world.proofs.FinderLists.{finders_push, finders_put, finders_without}
@@ -112,7 +112,7 @@ module _ {K A : Type 0} (is_cover : K → K → Bool) (old : State K A) (inv : I
       let both = and_parts (nat_lt page (length old.search.tree.pages)) (nat_eq (page_at old.search.tree page).level 0) (sweepable old.search page passed) in
       search (arith, both.0)
 
-  pub sweeps_sound : (page count : ℕ) (new : State K A) → first_failing (sweep_tests old.search page) ≡ None → Sweeps old page count new → IsSoundWorld is_cover new
+  pub sweeps_sound : (page count : ℕ) (new : State K A) → first_failing (sweep_tests old.search page) ≡ None → SweepsLeaf old page count new → IsSoundWorld is_cover new
   sweeps_sound page count new passed d = subst (λ s. IsSoundWorld is_cover s) (sym d.after)
       (swept_sound is_cover old inv page (swept_page page passed) d.horizon (swept is_cover old.search.tree old.search.fan old.search.least old.search.limit inv.tree page (sweepable old.search page passed) d.horizon))
 

@@ -11,19 +11,19 @@ use Rattle.world.specs.declared.reply.Reply.{Reply}
 use Rattle.world.specs.declared.reply.Reply.TheVariants as reply
 use Rattle.world.specs.Stamps.{Stamp}
 use Rattle.world.specs.States.{State, finder_at}
-use Rattle.world.specs.Traces.{Moment, Trace, IsFound, IsWriteOf}
+use Rattle.world.specs.Traces.{Moment, Trace, HasFinder, IsWriteOf}
 use Rattle.world.proofs.Effects.{FinderEffect, Finding, Writing, WritesAs}
 use Rattle.world.proofs.Askings.{take_push, take_end}
 
 module _ {C O K A E : Type 0} where
   -- what holds of the finders of a trace and of the state that it leads to
   pub record Founds (trace : Trace C O K A E) (s : State K A) : Type 0 where
-    pub found : (f : ℕ) (k : OpenFinder K) → finder_at s f ≡ Some k → IsFound trace f k.row
+    pub found : (f : ℕ) (k : OpenFinder K) → finder_at s f ≡ Some k → HasFinder trace f k.row
     pub given : (i f row : ℕ) → slice_get trace i ≡ Some (event.Find row, reply.Finder f) → f ≤ s.last_finder
     pub once : (i j f row other : ℕ) → slice_get trace i ≡ Some (event.Find row, reply.Finder f) → slice_get trace j ≡ Some (event.Find other, reply.Finder f) → i ≡ j
     pub writes : (i : ℕ) (e : Event C K A) (stamp : Stamp K) → slice_get trace i ≡ Some (e, reply.Committed stamp) → IsWriteOf (take i trace) e stamp.write
 
-  found_push : (trace : Trace C O K A E) (m : Moment C O K A E) (f row : ℕ) → IsFound trace f row → IsFound (trace ++ m ∷ []) f row
+  found_push : (trace : Trace C O K A E) (m : Moment C O K A E) (f row : ℕ) → HasFinder trace f row → HasFinder (trace ++ m ∷ []) f row
   found_push trace m f row h = record { place = h.place; is = slice_get_before trace (m ∷ []) h.place (slice_get_within trace h.place _ h.is) ∙ h.is }
 
 module _ {C O K A E : Type 0} (rules : Rules K A) (rule : Rule) (trace : Trace C O K A E) (old new : State K A) (e : Event C K A) (r : Reply C O K A E) (F : Founds trace old) (E' : FinderEffect rules rule old e r new) where
@@ -38,7 +38,7 @@ module _ {C O K A E : Type 0} (rules : Rules K A) (rule : Rule) (trace : Trace C
   pub founds_push : Founds (trace ++ (e, r) ∷ []) new
   founds_push = record {
     found = λ f k h. elim (E'.asked f k h) [
-      | inl b ↦ found_push trace (e, r) f k.row (subst (λ n. IsFound trace f n) b.2 (F.found f b.0 b.1))
+      | inl b ↦ found_push trace (e, r) f k.row (subst (λ n. HasFinder trace f n) b.2 (F.found f b.0 b.1))
       | inr is ↦ record { place = length trace; is = slice_get_end trace (e, r) ∙ ap Some is }
     ];
     given = λ i f row h. elim (slice_get_push trace (e, r) (event.Find row, reply.Finder f) i h) [

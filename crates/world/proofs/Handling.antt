@@ -13,7 +13,7 @@ use Rattle.world.specs.Serials.{without}
 use Rattle.world.specs.declared.event.Event.TheVariants as event
 use Rattle.world.specs.declared.reply.Reply.TheVariants as reply
 use Rattle.world.specs.States.{State, cursor_at, with_cursor, IsAtWork, IsSoundWorld, IsAt}
-use Rattle.world.specs.Steps.{cursor_tests, tests, IsRefused, IsDone, TurnsAt}
+use Rattle.world.specs.Steps.{cursor_tests, tests, IsRefused, IsCarriedOut, TurnsAt}
 use Rattle.cursor.specs.declared.cursor.Turned.{Turned}
 use Rattle.world.proofs.Turning.{turn_unchanged, turn_serial, turn_work}
 use Rattle.std.proofs.Common.{Result}
@@ -62,7 +62,7 @@ module _ {K A : Type 0} (rules : Rules K A) (rule : Rule) (old : State K A) (inv
       put_sound rules.is_cover old inv c at a before is later (ap (λ (k : OpenCursor K A). k.serial) e)
       (rw e (record { stack = h.stack; from_opening = h.from_opening; within = h.within }))
 
-  pub ask_done : (C O E : Type 0) (seat : ℕ) → later ≡ record before { asked = true } → IsDone {C = C} {O = O} {E = E} rules rule seat old (event.AskMark c) reply.Asked (record old { cursors = set old.cursors at later })
+  pub ask_done : (C O E : Type 0) (seat : ℕ) → later ≡ record before { asked = true } → IsCarriedOut {C = C} {O = O} {E = E} rules rule seat old (event.AskMark c) reply.Asked (record old { cursors = set old.cursors at later })
   ask_done C O E seat e = record {
     passed = at_passes rules.is_cover old inv c at a;
     change = record {
@@ -82,7 +82,7 @@ module _ {K A : Type 0} (rules : Rules K A) (rule : Rule) (old : State K A) (inv
   take_passes C e = failing_later (cursor_tests old c) ((rule.is_emptied_elsewhere, refusal.NotHere) ∷ []) (at_passes rules.is_cover old inv c at a) ∙ passes_at rule.is_emptied_elsewhere refusal.NotHere [] e
 
   pub take_done : (C O E : Type 0) (seat : ℕ) (item : Item K) (unread : List (Item K)) → later ≡ record before { unread = unread } → rule.is_emptied_elsewhere ≡ false → before.unread ≡ item ∷ unread
-      → IsDone {C = C} {O = O} {E = E} rules rule seat old (event.Take c) (reply.Taken item) (record old { cursors = set old.cursors at later })
+      → IsCarriedOut {C = C} {O = O} {E = E} rules rule seat old (event.Take c) (reply.Taken item) (record old { cursors = set old.cursors at later })
   take_done C O E seat item unread e here front = record {
     passed = take_passes C here;
     change = record {
@@ -98,7 +98,7 @@ module _ {K A : Type 0} (rules : Rules K A) (rule : Rule) (old : State K A) (inv
   same_put : later ≡ before → record old { cursors = set old.cursors at later } ≡ old
   same_put e = ap (λ k. record old { cursors = set old.cursors at k }) (e ∙ is) ∙ ap (λ ks. record old { cursors = ks }) (set_same old.cursors at before (at_within rules.is_cover old inv c at a))
 
-  pub empty_done : (C O E : Type 0) (seat : ℕ) → later ≡ before → rule.is_emptied_elsewhere ≡ false → before.unread ≡ [] → IsDone {C = C} {O = O} {E = E} rules rule seat old (event.Take c) reply.Nothing (record old { cursors = set old.cursors at later })
+  pub empty_done : (C O E : Type 0) (seat : ℕ) → later ≡ before → rule.is_emptied_elsewhere ≡ false → before.unread ≡ [] → IsCarriedOut {C = C} {O = O} {E = E} rules rule seat old (event.Take c) reply.Nothing (record old { cursors = set old.cursors at later })
   empty_done C O E seat e here none = record {
     passed = take_passes C here;
     change = record { before = before; is_open = at_open rules.is_cover old inv c at a before is; empty = none; unchanged = same_put e };
@@ -147,5 +147,5 @@ module _ {K A : Type 0} (rules : Rules K A) (rule : Rule) (old : State K A) (inv
   pub close_sound : IsSoundWorld rules.is_cover (record old { cursors = others })
   close_sound = subst (λ s. IsSoundWorld rules.is_cover s) (sym others_as) (closed_sound rules.is_cover old inv c)
 
-  pub close_done : (C O E : Type 0) (seat : ℕ) → IsDone {C = C} {O = O} {E = E} rules rule seat old (event.Close c) reply.Closed (record old { cursors = others })
+  pub close_done : (C O E : Type 0) (seat : ℕ) → IsCarriedOut {C = C} {O = O} {E = E} rules rule seat old (event.Close c) reply.Closed (record old { cursors = others })
   close_done C O E seat = record { passed = at_passes rules.is_cover old inv c at a; change = others_as }

@@ -17,7 +17,7 @@ use Rattle.world.specs.declared.event.Event.TheVariants as event
 use Rattle.world.specs.declared.reply.Reply.TheVariants as reply
 use Rattle.world.specs.Stamps.{Stamp}
 use Rattle.world.specs.States.{State, IsSoundWorld}
-use Rattle.world.specs.Steps.{tests, IsRefused, IsDone}
+use Rattle.world.specs.Steps.{tests, IsRefused, IsCarriedOut}
 use Rattle.world.proofs.Sounding.{placed_sound}
 use Rattle.world.proofs.PageSteps.{placed_tree}
 use Rattle.world.proofs.Refusing.{failing_first, failing_later, fails_at, passes_at, passed_first, passed_at}
@@ -61,7 +61,7 @@ module _ {K A : Type 0} (rules : Rules K A) (rule : Rule) (old : State K A) (pag
     place_sound s = rw (placed, pushed, is) (placed_sound rules.is_cover old s page page_exists key tag room (placed_tree rules.is_cover old.search s.tree page key passed _ refl))
 
     pub place_done : (C O E : Type 0) (seat : ℕ) (stamp : Stamp K) → stamp ≡ record { number = length old.commits + 1; seat = seat; write = Insert key tag }
-        → IsDone {C = C} {O = O} {E = E} rules rule seat old (event.Place page key tag) (reply.Committed stamp) (record { search = search'; limit = old.limit; commits = commits; cursors = old.cursors; last = old.last; finders = old.finders; last_finder = old.last_finder })
+        → IsCarriedOut {C = C} {O = O} {E = E} rules rule seat old (event.Place page key tag) (reply.Committed stamp) (record { search = search'; limit = old.limit; commits = commits; cursors = old.cursors; last = old.last; finders = old.finders; last_finder = old.last_finder })
     place_done C O E seat stamp stamped = record {
       passed = place_passed C rules rule old page key tag passed room;
       change = record { stamped = stamped; after = rw (placed, pushed, is) refl };

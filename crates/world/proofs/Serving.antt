@@ -27,7 +27,7 @@ use Rattle.world.specs.declared.event.Event.{Event}
 use Rattle.world.specs.declared.reply.Reply.{Reply}
 use Rattle.world.specs.States.{State, cursor_at, with_pages, with_cursor, IsAtWork, IsSoundWorld}
 use Rattle.world.specs.Traces.{taken_by}
-use Rattle.world.specs.Promises.{Serves, Sends}
+use Rattle.world.specs.Promises.{Serves, SendsAtMostOne}
 use Rattle.world.proofs.Serials.{member_all, member_place, member_serial, put_same, put_other}
 
 pub same_or_not : (c d : ℕ) → (c ≡ d) ⊎ (c ≢ d)
@@ -129,7 +129,7 @@ module _ {C O K A E : Type 0} (rules : Rules K A) (rule : Rule) {same_key : K �
       ]
 
   -- a turn
-  sends_as : (e : Event C K A) (r : Reply C O K A E) (d : ℕ) (was later : OpenCursor K A) (sent : List (Item K)) → was.position ≤ length old.commits → SendsItems old.commits was sent later → Sends rules rule old e r d was sent later
+  sends_as : (e : Event C K A) (r : Reply C O K A E) (d : ℕ) (was later : OpenCursor K A) (sent : List (Item K)) → was.position ≤ length old.commits → SendsItems old.commits was sent later → SendsAtMostOne rules rule old e r d was sent later
   sends_as e r d was later [] within h = inl h
   sends_as e r d was later (item.Row row ∷ []) within h = inl h
   sends_as e r d was later (item.Inserted row ∷ []) within h = inl h

@@ -29,10 +29,10 @@ use Rattle.world.specs.declared.reply.Reply.{Reply}
 use Rattle.world.specs.declared.reply.Reply.TheVariants as reply
 use Rattle.world.specs.Serials.{member, without}
 use Rattle.world.specs.States.{State, cursor_at, finder_at, with_pages, with_cursor, IsAtWork, IsSoundWorld}
-use Rattle.world.specs.Steps.{tests, cursor_tests, opened_cursor, Step, IsRefused, IsDone, TurnsAt}
+use Rattle.world.specs.Steps.{tests, cursor_tests, opened_cursor, Step, IsRefused, IsCarriedOut, TurnsAt}
 use Rattle.world.specs.Traces.{written, taken_by, asks}
 use Rattle.page_table.specs.Keeping.{KeepsRows}
-use Rattle.world.specs.Promises.{Serves, ServesAll, LowersWork, FitsAtOpening, KeepsRowsUnder}
+use Rattle.world.specs.Promises.{Serves, ServesAll, LowersCursorWork, FitsAtOpening, KeepsRowsUnder}
 use Rattle.world.proofs.Serials.{member_serial, member_within, put_same, put_other, without_same, without_other, push_same, push_other}
 use Rattle.world.proofs.Effects.{Effect, FinderEffect, IsShut, IsFresh, Opening, Closing, Numbering, Finding, Writing}
 use Rattle.descent.specs.Finders.{OpenFinder}
@@ -70,7 +70,7 @@ module _ {C O K A E : Type 0} (rules : Rules K A) (rule : Rule) (seat : ℕ) (ol
         | inr p ↦ absurd (none_is_some refusal.CursorClosed (first_failing (tests rules rule old e)) p.0 t)
       ]
 
-  silent_done : (r : Reply C O K A E) → IsDone rules rule seat old e r new → first_failing (tests rules rule old e) ≡ Some refusal.CursorClosed → r ≡ reply.Refused refusal.CursorClosed
+  silent_done : (r : Reply C O K A E) → IsCarriedOut rules rule seat old e r new → first_failing (tests rules rule old e) ≡ Some refusal.CursorClosed → r ≡ reply.Refused refusal.CursorClosed
   silent_done r d t = absurd (none_is_some refusal.CursorClosed (first_failing (tests rules rule old e)) d.passed t)
 
   silent_step : (r : Reply C O K A E) → Step rules rule seat old e r new → first_failing (tests rules rule old e) ≡ Some refusal.CursorClosed → r ≡ reply.Refused refusal.CursorClosed
@@ -286,7 +286,7 @@ module _ {C O K A E : Type 0} (rules : Rules K A) (rule : Rule) {same_key : K �
         };
       }
 
-  leads_by_place : (page : ℕ) (key : K) (tag : ℕ) (stamp : Stamp K) (new : State K A) → IsDone {C = C} {O = O} {E = E} rules rule seat old (event.Place page key tag) (reply.Committed stamp) new
+  leads_by_place : (page : ℕ) (key : K) (tag : ℕ) (stamp : Stamp K) (new : State K A) → IsCarriedOut {C = C} {O = O} {E = E} rules rule seat old (event.Place page key tag) (reply.Committed stamp) new
       → Leads {C = C} {O = O} {E = E} rules rule lawful seat old inv (event.Place page key tag) (reply.Committed stamp) new
   leads_by_place page key tag stamp new d =
       let passed : first_failing (place_tests rules.is_cover old.search page key) ≡ None = passed_first (place_tests rules.is_cover old.search page key) _ d.passed in
@@ -314,7 +314,7 @@ module _ {C O K A E : Type 0} (rules : Rules K A) (rule : Rule) {same_key : K �
         };
       }
 
-  leads_by_open : (query : Pred A) (room c : ℕ) (end : E) (new : State K A) → IsDone {C = C} {O = O} {E = E} rules rule seat old (event.Open query room) (reply.Opened c end) new
+  leads_by_open : (query : Pred A) (room c : ℕ) (end : E) (new : State K A) → IsCarriedOut {C = C} {O = O} {E = E} rules rule seat old (event.Open query room) (reply.Opened c end) new
       → Leads {C = C} {O = O} {E = E} rules rule lawful seat old inv (event.Open query room) (reply.Opened c end) new
   leads_by_open query room c end new d =
       let left = open_leaves_room old query room d.passed in
@@ -360,7 +360,7 @@ module _ {C O K A E : Type 0} (rules : Rules K A) (rule : Rule) {same_key : K �
         };
       }
 
-  leads_by_close : (d : ℕ) (new : State K A) → IsDone {C = C} {O = O} {E = E} rules rule seat old (event.Close d) reply.Closed new → Leads {C = C} {O = O} {E = E} rules rule lawful seat old inv (event.Close d) reply.Closed new
+  leads_by_close : (d : ℕ) (new : State K A) → IsCarriedOut {C = C} {O = O} {E = E} rules rule seat old (event.Close d) reply.Closed new → Leads {C = C} {O = O} {E = E} rules rule lawful seat old inv (event.Close d) reply.Closed new
   leads_by_close d new h =
       let sound : IsSoundWorld rules.is_cover new = subst (λ s. IsSoundWorld rules.is_cover s) (sym h.change) (closed_sound rules.is_cover old inv d) in
       let gone : cursor_at new d ≡ None = ap (λ s. cursor_at s d) h.change ∙ without_same (λ k. k.serial) d old.cursors in
@@ -403,7 +403,7 @@ module _ {C O K A E : Type 0} (rules : Rules K A) (rule : Rule) {same_key : K �
       q.uncommitted (λ c n. q.untaken c) (λ item k. absurd (none_is_some item (taken_by d (event.Turn d, r)) (q.untaken d) k)) q.opening q.closing q.numbering q.finding q.writing
       (turn_serves rules rule lawful old inv (event.Turn d) r d t.before t.later (Ok how) new (q.untaken d) t.after t.is_open t.turn) silent
 
-  leads_by_ask : (d : ℕ) (new : State K A) → IsDone {C = C} {O = O} {E = E} rules rule seat old (event.AskMark d) reply.Asked new → Leads {C = C} {O = O} {E = E} rules rule lawful seat old inv (event.AskMark d) reply.Asked new
+  leads_by_ask : (d : ℕ) (new : State K A) → IsCarriedOut {C = C} {O = O} {E = E} rules rule seat old (event.AskMark d) reply.Asked new → Leads {C = C} {O = O} {E = E} rules rule lawful seat old inv (event.AskMark d) reply.Asked new
   leads_by_ask d new h =
       let t = h.change in
       let k = at_work_of rules.is_cover old inv d t.before t.is_open in
@@ -419,7 +419,7 @@ module _ {C O K A E : Type 0} (rules : Rules K A) (rule : Rule) {same_key : K �
       })
       (λ c s a. silent_when_shut rules rule seat old (event.AskMark d) new reply.Asked h c s a)
 
-  leads_by_take : (d : ℕ) (item : Item K) (new : State K A) → IsDone {C = C} {O = O} {E = E} rules rule seat old (event.Take d) (reply.Taken item) new → Leads {C = C} {O = O} {E = E} rules rule lawful seat old inv (event.Take d) (reply.Taken item) new
+  leads_by_take : (d : ℕ) (item : Item K) (new : State K A) → IsCarriedOut {C = C} {O = O} {E = E} rules rule seat old (event.Take d) (reply.Taken item) new → Leads {C = C} {O = O} {E = E} rules rule lawful seat old inv (event.Take d) (reply.Taken item) new
   leads_by_take d item new h =
       let t = h.change in
       let k = at_work_of rules.is_cover old inv d t.before t.is_open in
@@ -437,7 +437,7 @@ module _ {C O K A E : Type 0} (rules : Rules K A) (rule : Rule) {same_key : K �
       })
       (λ c s a. silent_when_shut rules rule seat old (event.Take d) new (reply.Taken item) h c s a)
 
-  leads_by_find : (row f : ℕ) (new : State K A) → IsDone {C = C} {O = O} {E = E} rules rule seat old (event.Find row) (reply.Finder f) new → Leads {C = C} {O = O} {E = E} rules rule lawful seat old inv (event.Find row) (reply.Finder f) new
+  leads_by_find : (row f : ℕ) (new : State K A) → IsCarriedOut {C = C} {O = O} {E = E} rules rule seat old (event.Find row) (reply.Finder f) new → Leads {C = C} {O = O} {E = E} rules rule lawful seat old inv (event.Find row) (reply.Finder f) new
   leads_by_find row f new d = leads_alike (event.Find row) (reply.Finder f) new refl (λ c. refl) tt tt tt (finds_sound rules.is_cover old inv row f new d.passed d.change)
       (ap (λ s. s.commits) d.change.after) (ap (λ s. s.cursors) d.change.after) (ap (λ s. s.last) d.change.after)
       (λ c k a b. kept_by (event.Find row) (reply.Finder f) new (ap (λ s. s.search.tree) d.change.after) (ap (λ s. s.commits) d.change.after) c k refl)
@@ -456,7 +456,7 @@ module _ {C O K A E : Type 0} (rules : Rules K A) (rule : Rule) {same_key : K �
       })
       (λ c s a. absurd a)
 
-  leads_by_seek : (f : ℕ) (new : State K A) → IsDone {C = C} {O = O} {E = E} rules rule seat old (event.Seek f) reply.Seeking new → Leads {C = C} {O = O} {E = E} rules rule lawful seat old inv (event.Seek f) reply.Seeking new
+  leads_by_seek : (f : ℕ) (new : State K A) → IsCarriedOut {C = C} {O = O} {E = E} rules rule seat old (event.Seek f) reply.Seeking new → Leads {C = C} {O = O} {E = E} rules rule lawful seat old inv (event.Seek f) reply.Seeking new
   leads_by_seek f new d =
       let t = d.change in
       let row : t.later.row ≡ t.before.row = ap (λ k. k.row) t.further.after in
@@ -479,7 +479,7 @@ module _ {C O K A E : Type 0} (rules : Rules K A) (rule : Rule) {same_key : K �
       })
       (λ c s a. absurd a)
 
-  leads_by_unfind : (f : ℕ) (new : State K A) → IsDone {C = C} {O = O} {E = E} rules rule seat old (event.Unfind f) reply.Unfound new → Leads {C = C} {O = O} {E = E} rules rule lawful seat old inv (event.Unfind f) reply.Unfound new
+  leads_by_unfind : (f : ℕ) (new : State K A) → IsCarriedOut {C = C} {O = O} {E = E} rules rule seat old (event.Unfind f) reply.Unfound new → Leads {C = C} {O = O} {E = E} rules rule lawful seat old inv (event.Unfind f) reply.Unfound new
   leads_by_unfind f new d = leads_alike (event.Unfind f) reply.Unfound new refl (λ c. refl) tt tt tt (unfound_sound rules.is_cover old inv f new d.change)
       (ap (λ s. s.commits) d.change) (ap (λ s. s.cursors) d.change) (ap (λ s. s.last) d.change)
       (λ c k a b. kept_by (event.Unfind f) reply.Unfound new (ap (λ s. s.search.tree) d.change) (ap (λ s. s.commits) d.change) c k refl)
@@ -491,7 +491,7 @@ module _ {C O K A E : Type 0} (rules : Rules K A) (rule : Rule) {same_key : K �
       })
       (λ c s a. absurd a)
 
-  leads_by_bury : (f : ℕ) (stamp : Stamp K) (new : State K A) → IsDone {C = C} {O = O} {E = E} rules rule seat old (event.Seek f) (reply.Committed stamp) new → Leads {C = C} {O = O} {E = E} rules rule lawful seat old inv (event.Seek f) (reply.Committed stamp) new
+  leads_by_bury : (f : ℕ) (stamp : Stamp K) (new : State K A) → IsCarriedOut {C = C} {O = O} {E = E} rules rule seat old (event.Seek f) (reply.Committed stamp) new → Leads {C = C} {O = O} {E = E} rules rule lawful seat old inv (event.Seek f) (reply.Committed stamp) new
   leads_by_bury f stamp new d =
       let t = d.change in
       let may = may_seek rules.is_cover old inv f t.finder t.is_open d.passed in
@@ -522,7 +522,7 @@ module _ {C O K A E : Type 0} (rules : Rules K A) (rule : Rule) {same_key : K �
         };
       }
 
-  leads_by_sweep : (page count : ℕ) (new : State K A) → IsDone {C = C} {O = O} {E = E} rules rule seat old (event.Sweep page) (reply.Swept count) new → Leads {C = C} {O = O} {E = E} rules rule lawful seat old inv (event.Sweep page) (reply.Swept count) new
+  leads_by_sweep : (page count : ℕ) (new : State K A) → IsCarriedOut {C = C} {O = O} {E = E} rules rule seat old (event.Sweep page) (reply.Swept count) new → Leads {C = C} {O = O} {E = E} rules rule lawful seat old inv (event.Sweep page) (reply.Swept count) new
   leads_by_sweep page count new d =
       let t = d.change in
       leads_alike (event.Sweep page) (reply.Swept count) new refl (λ c. refl) tt tt tt (sweeps_sound rules.is_cover old inv page count new d.passed t)
@@ -582,7 +582,7 @@ module _ {C O K A E : Type 0} (rules : Rules K A) (rule : Rule) {same_key : K �
   turn_commits c r new d = step_commits (event.Turn c) r new d ∙ append-nil old.commits
 
   -- a turn that isn't refused lowers the work of its cursor
-  pub step_lowers : (e : Event C K A) (r : Reply C O K A E) (new : State K A) → Step rules rule seat old e r new → LowersWork rules rule old e r new
+  pub step_lowers : (e : Event C K A) (r : Reply C O K A E) (new : State K A) → Step rules rule seat old e r new → LowersCursorWork rules rule old e r new
   step_lowers (event.Turn c) reply.Offered new d = lowered rules rule lawful old inv c turned.Offered new d.change
   step_lowers (event.Turn c) (reply.Visited page) new d = lowered rules rule lawful old inv c (turned.Visited page) new d.change
   step_lowers (event.Turn c) (reply.Passed n) new d = lowered rules rule lawful old inv c (turned.Passed n) new d.change

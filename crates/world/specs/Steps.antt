@@ -133,7 +133,7 @@ module _ {K A : Type 0} where
     }
 
   -- the dead that nobody needs go, and their number is told
-  pub record Sweeps (old : State K A) (page count : ℕ) (new : State K A) : Type 0 where
+  pub record SweepsLeaf (old : State K A) (page count : ℕ) (new : State K A) : Type 0 where
     pub horizon : ℕ
     pub is : IsHorizon (length old.commits) old.cursors horizon
     pub counted : count + length (filter (is_needed horizon) (page_at old.search.tree page).rows) ≡ length (page_at old.search.tree page).rows
@@ -155,7 +155,7 @@ module _ {K A : Type 0} where
     pub is_open : cursor_at old c ≡ Some before
     pub after : new ≡ with_cursor old (record before { asked = true })
 
-  pub record Takes (old : State K A) (c : ℕ) (item : Item K) (new : State K A) : Type 0 where
+  pub record TakesItem (old : State K A) (c : ℕ) (item : Item K) (new : State K A) : Type 0 where
     pub before : OpenCursor K A
     pub is_open : cursor_at old c ≡ Some before
     pub rest : List (Item K)
@@ -254,25 +254,25 @@ module _ {C O K A E : Type 0} (rules : Rules K A) (rule : Rule) where
   Changes seat old (event.Seek f) (reply.Committed stamp) new = Buries seat old f stamp new
   Changes seat old (event.Seek f) reply.Seeking new = SeeksOn rules rule old f new
   Changes seat old (event.Unfind f) reply.Unfound new = new ≡ record old { finders = without (λ k. k.serial) f old.finders }
-  Changes seat old (event.Sweep page) (reply.Swept count) new = Sweeps old page count new
+  Changes seat old (event.Sweep page) (reply.Swept count) new = SweepsLeaf old page count new
   Changes seat old (event.Open query room) (reply.Opened c end) new = Opens old query room c new
   Changes seat old (event.Turn c) reply.Offered new = TurnsAt rules rule old c (Ok turned.Offered) new
   Changes seat old (event.Turn c) (reply.Visited page) new = TurnsAt rules rule old c (Ok (turned.Visited page)) new
   Changes seat old (event.Turn c) (reply.Passed n) new = TurnsAt rules rule old c (Ok (turned.Passed n)) new
   Changes seat old (event.AskMark c) reply.Asked new = Asks old c new
-  Changes seat old (event.Take c) (reply.Taken item) new = Takes old c item new
+  Changes seat old (event.Take c) (reply.Taken item) new = TakesItem old c item new
   Changes seat old (event.Take c) reply.Nothing new = FindsNothing old c new
   Changes seat old (event.Close c) reply.Closed new = new ≡ record old { cursors = without (λ k. k.serial) c old.cursors }
   Changes seat old event reply new = ⊥
 
-  pub record IsDone (seat : ℕ) (old : State K A) (event : Event C K A) (reply : Reply C O K A E) (new : State K A) : Type 0 where
+  pub record IsCarriedOut (seat : ℕ) (old : State K A) (event : Event C K A) (reply : Reply C O K A E) (new : State K A) : Type 0 where
     pub passed : first_failing (tests rules rule old event) ≡ None
     pub change : Changes seat old event reply new
 
   -- from old, an event for a seat may be answered so, and leads to new
   abbrev pub Step : ℕ → State K A → Event C K A → Reply C O K A E → State K A → Type 0
   Step seat old event (reply.Refused why) new = IsRefused rules rule old event why new
-  Step seat old event reply new = IsDone seat old event reply new
+  Step seat old event reply new = IsCarriedOut seat old event reply new
 
   -- whatever the seat, the event is answered so and leads to new: a step that commits nothing
   abbrev pub Acts : State K A → Event C K A → Reply C O K A E → State K A → Type 0

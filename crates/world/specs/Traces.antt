@@ -100,14 +100,14 @@ module _ {C O K A E : Type 0} where
     pub opening : IsOpening trace place c query
 
   -- a finder of the row was answered with that serial
-  pub record IsFound (trace : Trace C O K A E) (f row : ℕ) : Type 0 where
+  pub record HasFinder (trace : Trace C O K A E) (f row : ℕ) : Type 0 where
     pub place : ℕ
     pub is : IsMoment trace place (event.Find row) (reply.Finder f)
 
   -- what an event writes: a place inserts its row, and a seek deletes the row that its finder was asked to find
   abbrev pub IsWriteOf : Trace C O K A E → Event C K A → Write K → Type 0
   IsWriteOf before (event.Place page key tag) write = write ≡ Insert key tag
-  IsWriteOf before (event.Seek f) write = (row : ℕ) × IsFound before f row × (write ≡ Delete row)
+  IsWriteOf before (event.Seek f) write = (row : ℕ) × HasFinder before f row × (write ≡ Delete row)
   IsWriteOf before event write = ⊥
 
   -- The headline. The commits are numbered in their order, each is the write of its event, and they are a legal list. What a

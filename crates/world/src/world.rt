@@ -6,7 +6,7 @@ ghost use Rattle.page_table.specs.Trees.{page_at};
 ghost use Rattle.split.specs.Tests.{first_failing};
 ghost use Rattle.world.specs.States.{new_state, IsSoundWorld, IsAt, IsFinderOf, finder_at};
 ghost use Rattle.world.specs.Steps.{FirstFails, Step, cursor_tests};
-ghost use Rattle.world.specs.Promises.{ServesAll, FitsAtOpening, LowersWork, KeepsRowsUnder, KeepsMailboxes, AddsWritten, HandsOut};
+ghost use Rattle.world.specs.Promises.{ServesAll, FitsAtOpening, LowersCursorWork, KeepsRowsUnder, KeepsMailboxes, AddsWritten, HandsOut};
 
 use crate::event::Event;
 use crate::places::place_of;
@@ -200,7 +200,7 @@ impl<C: KeyClass, O: Outlet<C::Key>> World<C, O> {
         ensures sound { IsSoundWorld C.rules.is_cover self.new }
         ensures serves { ServesAll C.rules O.rule self.old event result self.new }
         ensures opening { FitsAtOpening C.rules O.rule result self.new }
-        ensures less_work { LowersWork C.rules O.rule self.old event result self.new }
+        ensures less_work { LowersCursorWork C.rules O.rule self.old event result self.new }
         ensures rows { KeepsRowsUnder self.old event self.new }
         ensures mailboxes { KeepsMailboxes C.rules O.rule self.old self.new }
         ensures fresh { HandsOut O.fresh result }
@@ -215,7 +215,7 @@ impl<C: KeyClass, O: Outlet<C::Key>> World<C, O> {
         ensures sound { IsSoundWorld C.rules.is_cover self.new }
         ensures serves { ServesAll C.rules O.rule self.old event result self.new }
         ensures opening { FitsAtOpening C.rules O.rule result self.new }
-        ensures less_work { LowersWork C.rules O.rule self.old event result self.new }
+        ensures less_work { LowersCursorWork C.rules O.rule self.old event result self.new }
         ensures rows { KeepsRowsUnder self.old event self.new }
         ensures mailboxes { KeepsMailboxes C.rules O.rule self.old self.new }
         ensures fresh { HandsOut O.fresh result }

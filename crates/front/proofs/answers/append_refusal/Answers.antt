@@ -1,11 +1,11 @@
 use Rattle.std.proofs.Common.{◌≡◌, ◌⊎◌, ⊎_elim, ℕ, List, ◌++◌, codes, decimal, refl, append_assoc}
-use Rattle.key_class.specs.Refusals.{text_of, number_of, name_of}
+use Rattle.key_class.specs.Refusals.{refusal_text, number_of, name_of}
 use Rattle.key_class.specs.declared.refusal.Refusal.{Refusal}
 use Rattle.key_class.specs.declared.refusal.Refusal.TheVariants.{QueryText, Line}
 use Rattle.front.proofs.answers.append_refusal.Goals as goal
 
 -- a fault of a text stands in its line with its place
-placed : (why : Refusal) (place : ℕ) → (why ≡ QueryText place) ⊎ (why ≡ Line place) → text_of why ≡ decimal (number_of why) ++ (codes " " ++ (name_of why ++ (codes " " ++ decimal place)))
+placed : (why : Refusal) (place : ℕ) → (why ≡ QueryText place) ⊎ (why ≡ Line place) → refusal_text why ≡ decimal (number_of why) ++ (codes " " ++ (name_of why ++ (codes " " ++ decimal place)))
 placed why place e = ⊎_elim (λ q. rw q refl) (λ l. rw l refl) e
 
 joined : (g number name place t1 t2 t3 t4 t5 : List ℕ) → t1 ≡ g ++ codes "refused " → t2 ≡ t1 ++ number → t3 ≡ t2 ++ codes " " → t4 ≡ t3 ++ name → t5 ≡ t4 ++ (codes " " ++ (place ++ codes "\n"))

@@ -1,5 +1,5 @@
 use Rattle.std.proofs.Common.{arith, ◌+◌, Bool, length, drop, ap, subst}
-use Rattle.front.specs.Held.{Fills}
+use Rattle.front.specs.Held.{FillsHeld}
 use Rattle.front.proofs.Writing.{fails_in}
 use Rattle.front.proofs.Conversing.{begin, stands_now, sent, filled, cut_short, answered, stands_after, ended_all, stands_last, no_feed_at_end, keeps_itself}
 use Rattle.front.proofs.conversation.converse.Goals as goal
@@ -23,14 +23,14 @@ returns-in_err-fill-clause-read g c =
 pub returns-in_err-answer_line-clause-write : goal.returns-in_err-answer_line-clause-write
 returns-in_err-answer_line-clause-write g c =
     let p = filled g.S.Responder.answers (g.R.Read.remaining c.args.reader.now) (g.W.Write.contents c.args.writer.now) c.args.responder.now (g.R.Read.remaining c.reading.reader) (g.W.Write.contents c.send.new.writer) c.send.new.gathered.items c.reading.responder c.reading.lines (sent g.S.Responder.answers (g.R.Read.remaining c.args.reader.now) (g.W.Write.contents c.args.writer.now) c.args.responder.now (g.R.Read.remaining c.reading.reader) (g.W.Write.contents c.reading.writer) c.reading.gathered.items c.reading.responder c.reading.lines c.reading.invariant.progress (g.W.Write.contents c.send.new.writer) c.send.new.gathered.items c.in_ok-send.ensures.written) (g.R.Read.remaining c.fill.new.reader) c.in_ok-fill.field-0 c.fill.new.self c.reading.invariant.no_feed c.in_ok-fill.ensures.ok in
-    let n = no_feed_at_end (g.R.Read.remaining c.reading.reader) (g.R.Read.remaining c.fill.new.reader) c.reading.lines c.fill.new.self c.reading.invariant.no_feed (subst (λ (b : Bool). Fills (g.R.Read.remaining c.reading.reader) (g.R.Read.remaining c.fill.new.reader) c.reading.lines b c.fill.new.self) c.if-not-branch.true c.in_ok-fill.ensures.ok) in
+    let n = no_feed_at_end (g.R.Read.remaining c.reading.reader) (g.R.Read.remaining c.fill.new.reader) c.reading.lines c.fill.new.self c.reading.invariant.no_feed (subst (λ (b : Bool). FillsHeld (g.R.Read.remaining c.reading.reader) (g.R.Read.remaining c.fill.new.reader) c.reading.lines b c.fill.new.self) c.if-not-branch.true c.in_ok-fill.ensures.ok) in
     let f = rw (c.rest.ensures, c.is_overlong.ensures) at c.in_err-answer_line.ensures.answers in
     λ _. stands_last g.S.Responder.answers (g.R.Read.remaining c.args.reader.now) (g.W.Write.contents c.args.writer.now) c.args.responder.now (g.R.Read.remaining c.fill.new.reader) (g.W.Write.contents c.send.new.writer) c.send.new.gathered.items c.reading.responder c.fill.new.self p n c.answer_line.new.responder (g.W.Write.contents c.answer_line.new.writer) f
 
 pub returns-then-not-branch-clause-ok : goal.returns-then-not-branch-clause-ok
 returns-then-not-branch-clause-ok g c =
     let p = filled g.S.Responder.answers (g.R.Read.remaining c.args.reader.now) (g.W.Write.contents c.args.writer.now) c.args.responder.now (g.R.Read.remaining c.reading.reader) (g.W.Write.contents c.send.new.writer) c.send.new.gathered.items c.reading.responder c.reading.lines (sent g.S.Responder.answers (g.R.Read.remaining c.args.reader.now) (g.W.Write.contents c.args.writer.now) c.args.responder.now (g.R.Read.remaining c.reading.reader) (g.W.Write.contents c.reading.writer) c.reading.gathered.items c.reading.responder c.reading.lines c.reading.invariant.progress (g.W.Write.contents c.send.new.writer) c.send.new.gathered.items c.in_ok-send.ensures.written) (g.R.Read.remaining c.fill.new.reader) c.in_ok-fill.field-0 c.fill.new.self c.reading.invariant.no_feed c.in_ok-fill.ensures.ok in
-    let n = no_feed_at_end (g.R.Read.remaining c.reading.reader) (g.R.Read.remaining c.fill.new.reader) c.reading.lines c.fill.new.self c.reading.invariant.no_feed (subst (λ (b : Bool). Fills (g.R.Read.remaining c.reading.reader) (g.R.Read.remaining c.fill.new.reader) c.reading.lines b c.fill.new.self) c.if-not-branch.true c.in_ok-fill.ensures.ok) in
+    let n = no_feed_at_end (g.R.Read.remaining c.reading.reader) (g.R.Read.remaining c.fill.new.reader) c.reading.lines c.fill.new.self c.reading.invariant.no_feed (subst (λ (b : Bool). FillsHeld (g.R.Read.remaining c.reading.reader) (g.R.Read.remaining c.fill.new.reader) c.reading.lines b c.fill.new.self) c.if-not-branch.true c.in_ok-fill.ensures.ok) in
     let f = rw (c.rest.ensures, c.is_overlong.ensures) at c.in_ok-answer_line.ensures.answers in
     let s = c.in_ok-send-2.ensures in (
       (c.in_ok-fill.ensures.ok.none_at_end c.if-not-branch.true).1,
@@ -40,7 +40,7 @@ returns-then-not-branch-clause-ok g c =
 pub returns-in_err-send-2-clause-write : goal.returns-in_err-send-2-clause-write
 returns-in_err-send-2-clause-write g c =
     let p = filled g.S.Responder.answers (g.R.Read.remaining c.args.reader.now) (g.W.Write.contents c.args.writer.now) c.args.responder.now (g.R.Read.remaining c.reading.reader) (g.W.Write.contents c.send.new.writer) c.send.new.gathered.items c.reading.responder c.reading.lines (sent g.S.Responder.answers (g.R.Read.remaining c.args.reader.now) (g.W.Write.contents c.args.writer.now) c.args.responder.now (g.R.Read.remaining c.reading.reader) (g.W.Write.contents c.reading.writer) c.reading.gathered.items c.reading.responder c.reading.lines c.reading.invariant.progress (g.W.Write.contents c.send.new.writer) c.send.new.gathered.items c.in_ok-send.ensures.written) (g.R.Read.remaining c.fill.new.reader) c.in_ok-fill.field-0 c.fill.new.self c.reading.invariant.no_feed c.in_ok-fill.ensures.ok in
-    let n = no_feed_at_end (g.R.Read.remaining c.reading.reader) (g.R.Read.remaining c.fill.new.reader) c.reading.lines c.fill.new.self c.reading.invariant.no_feed (subst (λ (b : Bool). Fills (g.R.Read.remaining c.reading.reader) (g.R.Read.remaining c.fill.new.reader) c.reading.lines b c.fill.new.self) c.if-not-branch.true c.in_ok-fill.ensures.ok) in
+    let n = no_feed_at_end (g.R.Read.remaining c.reading.reader) (g.R.Read.remaining c.fill.new.reader) c.reading.lines c.fill.new.self c.reading.invariant.no_feed (subst (λ (b : Bool). FillsHeld (g.R.Read.remaining c.reading.reader) (g.R.Read.remaining c.fill.new.reader) c.reading.lines b c.fill.new.self) c.if-not-branch.true c.in_ok-fill.ensures.ok) in
     let f = rw (c.rest.ensures, c.is_overlong.ensures) at c.in_ok-answer_line.ensures.answers in
     λ _. stands_last g.S.Responder.answers (g.R.Read.remaining c.args.reader.now) (g.W.Write.contents c.args.writer.now) c.args.responder.now (g.R.Read.remaining c.fill.new.reader) (g.W.Write.contents c.send.new.writer) c.send.new.gathered.items c.reading.responder c.fill.new.self p n c.answer_line.new.responder (g.W.Write.contents c.send-then-not-branch.new.writer)
     (λ whole is. let a = f whole is in (a.0, a.1, fails_in (g.W.Write.contents c.send.new.writer) (g.W.Write.contents c.answer_line.new.writer) (g.W.Write.contents c.send-then-not-branch.new.writer) c.send.new.gathered.items c.answer_line.new.gathered.items a.0 a.2 c.in_err-send-2.ensures.written))

@@ -2,7 +2,7 @@ use Rattle.std.proofs.Common.{◌≡◌, ◌∙◌, Option, Some, None, refl, su
 use Rattle.std.specs.Option.{option_map}
 use Rattle.std.proofs.lemmas.Result.{err_from_is_err_and}
 use Rattle.clap.specs.Words.{Text, app_of, found_of, kind_of, rows_of, subcommand_rows_of}
-use Rattle.gist.specs.CommandLine.{texts_of, Gives, GivesStore}
+use Rattle.gist.specs.CommandLine.{texts_of, GivesSettings, GivesStore}
 use Rattle.gist.specs.declared.options.Settings.{Settings}
 use Rattle.gist.proofs.Giving.{Meets, gives, meets, names_command}
 use Rattle.gist.proofs.Serving.{refuses}
@@ -39,6 +39,6 @@ returns-clause-given c =
     let options = c.store_options.result in
     let given : GivesStore c.in-Some.command.now words options = gives words met c.in-Some.command.now (rows_of (found_of c.in-Some.options.now)) options m named c.in-Some.ensures.rows c.store_options.ensures in
     elim (names_command words met c.in-Some.command.now m named) [
-      | inl is ↦ subst (λ (s : Settings). Gives words s) (sym (c.store_settings.ensures.serve is)) (subst (λ (command : Text). GivesStore command words options) is given)
-      | inr is ↦ subst (λ (s : Settings). Gives words s) (sym (c.store_settings.ensures.replay is)) (subst (λ (command : Text). GivesStore command words options) is given)
+      | inl is ↦ subst (λ (s : Settings). GivesSettings words s) (sym (c.store_settings.ensures.serve is)) (subst (λ (command : Text). GivesStore command words options) is given)
+      | inr is ↦ subst (λ (s : Settings). GivesSettings words s) (sym (c.store_settings.ensures.replay is)) (subst (λ (command : Text). GivesStore command words options) is given)
     ]
