@@ -158,8 +158,8 @@ asked_of text (request.Take c) = one_event (event.Take c)
 asked_of text (request.Close c) = one_event (event.Close c)
 
 -- the same by the lexeme of the verb
-abbrev pub event_asked_from : {C K A : Type 0} → Texts K A → List ℕ → Lexeme → ℕ → List Placed → Result (Asked C K A) ℕ
-event_asked_from texts text first len ts = event_asked_by texts.key_at len first.place (event_verb_of (token_in text first)) ts
+abbrev pub event_from : {C K A : Type 0} → Texts K A → List ℕ → Lexeme → ℕ → List Placed → Result (Asked C K A) ℕ
+event_from texts text first len ts = event_asked_by texts.key_at len first.place (event_verb_of (token_in text first)) ts
 
 -- What was returned is what this reading gives of a text's lexemes. C is the class, A its atoms.
 abbrev pub IsEventAsked : (C A : Type 0) {K : Type 0} → (ℕ → List Placed → Result (Asked C K A) ℕ) → List ℕ → List Lexeme → Result (EventRequest K) ℕ → Type 0

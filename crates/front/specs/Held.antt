@@ -28,7 +28,7 @@ FillsFrom remaining before after old new more = FillsHeld (remaining before) (re
 abbrev pub FailsToRead : {R : Type 0} → (R → Option (List ℕ)) → R → R → Fault → Type 0
 FailsToRead remaining before after why = (why ≡ fault.Read) × Keeps (remaining before) (remaining after)
 
--- so many bytes were read, and stand behind the first of these
+-- n bytes were read, and stand in these bytes behind those that are held
 abbrev pub ReadsMore : {R : Type 0} → (R → Option (List ℕ)) → R → R → ℕ → List ℕ → ℕ → Type 0
 ReadsMore remaining before after held bytes n = Consumes (remaining before) (remaining after) (take n (drop held bytes))
 

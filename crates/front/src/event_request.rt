@@ -2,7 +2,7 @@
 ghost use Rattle.std.specs.Prelude.{◌≡◌, Ok, Err};
 ghost use Rattle.std.specs.List.{list_all};
 ghost use Rattle.query_text.specs.Tokens.{token_in};
-ghost use Rattle.front.specs.EventLines.{event_verb_of, event_verb_of_word, is_side, two_pages_and_key, page_key_and_tag, page_and_sides, two_pages, only_sides, cursor_asked, event_asked_from, IsEventAsked, GivesSides};
+ghost use Rattle.front.specs.EventLines.{event_verb_of, event_verb_of_word, is_side, two_pages_and_key, page_key_and_tag, page_and_sides, two_pages, only_sides, cursor_asked, event_from, IsEventAsked, GivesSides};
 
 use crate::tokens::{end, lone_number, natural};
 use query_text::{ClassText, Kind, Lexeme};
@@ -203,7 +203,7 @@ pub fn read_event<'a, C: ClassText>(
     first: Lexeme,
     rest: &'a [Lexeme],
 ) -> Result<EventRequest<'a, C::Key>, usize>
-    ensures { IsEventAsked C C.Atom (event_asked_from C.texts text.now first) text.now rest.now result }
+    ensures { IsEventAsked C C.Atom (event_from C.texts text.now first) text.now rest.now result }
 {
     match read_verb(text, first) {
         EventVerb::Enlarge => enlarge::<C>(text, rest),

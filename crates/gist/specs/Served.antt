@@ -1,5 +1,6 @@
 -- What a program that ended well did.
-use Rattle.std.specs.Prelude.{◌≡◌, ℕ, List, Option, Result, Err}
+use Rattle.std.specs.Prelude.{◌≡◌, ℕ, List, Option, Result, Err, ◌⊎◌}
+use Rattle.std.specs.Borrow.{Bor}
 use Rattle.std.specs.Io.KnownBytes.{IsAtEnd}
 use Rattle.change_list.specs.Configs.{IsWithinLimits}
 use Rattle.change_list.specs.declared.config.Config.{Config}
@@ -23,7 +24,7 @@ use Rattle.front.specs.Sessions.{AnswersTold, FromNothing}
 use Rattle.front.specs.Conversations.{AnsweredAll}
 use Rattle.front.specs.Replays.{AnswersEventTokens}
 use Rattle.clap.specs.Words.{Text}
-use Rattle.gist.specs.CommandLine.{AreWellFormed, GivesSettings}
+use Rattle.gist.specs.CommandLine.{texts_of, AreWellFormed, GivesSettings, NameNothing}
 use Rattle.gist.specs.declared.options.Class.{Class}
 use Rattle.gist.specs.declared.options.Class.TheVariants as classes
 use Rattle.gist.specs.declared.options.StoreOptions.{StoreOptions}
@@ -87,3 +88,7 @@ RefusesLimits returned = returned ≡ Err (fault.Refused refusal.BadConfig)
 -- the words are well-formed, and the settings that they give name a number outside its range
 abbrev pub NameBadLimits : List Text → Type 0
 NameBadLimits words = AreWellFormed words × ((settings : Settings) → GivesSettings words settings → AreOutOfLimits settings)
+
+-- the words of a command line give no settings and ask for no help, or settings that name a number outside its range
+abbrev pub AreUnfit : List (Bor Text) → Type 0
+AreUnfit words = NameNothing (texts_of words) ⊎ NameBadLimits (texts_of words)

@@ -8,7 +8,7 @@ ghost use Rattle.clap.specs.Words.{kind_of};
 ghost use Rattle.clap.specs.declared.error.ErrorKind.{ErrorKind};
 ghost use Rattle.gist.specs.declared.options.Settings.{Settings};
 ghost use Rattle.gist.specs.CommandLine.{texts_of, AreWellFormed, NameNothing, GivesSettings, Refuses, AreRefused, AsksForHelp, IsOfWords};
-ghost use Rattle.gist.specs.Served.{limits_of, AnsweredOver, EventsAnsweredOver, ServesOptions, Replays, Does, HaveBadLimits, AreOutOfLimits, RefusesLimits, NameBadLimits};
+ghost use Rattle.gist.specs.Served.{limits_of, AnsweredOver, EventsAnsweredOver, ServesOptions, Replays, Does, HaveBadLimits, AreOutOfLimits, RefusesLimits, NameBadLimits, AreUnfit};
 
 use crate::options::{Class, Settings, StoreOptions};
 use crate::words::settings;
@@ -184,8 +184,9 @@ pub fn command<R: Read, W: Write, E: Write>(
     ensures quiet { result ≡ 0 → errors.new ≡ errors.old }
     ensures wrong_words { result ≡ 2 → AreRefused (texts_of words.now) }
     ensures unread { result ≡ 2 → Kept reader.old reader.new writer.old writer.new }
-    ensures refused_words { NameNothing (texts_of words.now) → (result ≡ 2) ⊎ ((result ≡ 1) × Kept reader.old reader.new writer.old writer.new) }
-    ensures bad_limits { NameBadLimits (texts_of words.now) → (result ≡ 1) × Kept reader.old reader.new writer.old writer.new }
+    ensures refused_words { NameNothing (texts_of words.now) → (result ≡ 2) ⊎ (result ≡ 1) }
+    ensures bad_limits { NameBadLimits (texts_of words.now) → result ≡ 1 }
+    ensures unserved { AreUnfit words.now → Kept reader.old reader.new writer.old writer.new }
     ensures status { result < 3 }
 {
     let settings = match settings(alloc, words) {
