@@ -3,7 +3,8 @@ use Rattle.std.specs.Prelude.{◌≡◌, ℕ, suc, ◌<◌, ◌≤◌, true, fal
 use Rattle.key_class.specs.declared.sides.Side.{Side}
 use Rattle.node.specs.Pages.{Page, keys_of}
 use Rattle.node.specs.Parts.{left_part, right_part, cover_of}
-use Rattle.node.specs.Changes.{split_left, split_right, post_parent, post_child, post_sibling, grown_left, grown_right, grown_root, enlarge_parent, enlarge_child}
+use Rattle.node.specs.Changes.{split_left, split_right, grown_left, grown_right, grown_root, enlarge_parent, enlarge_child}
+use Rattle.page_table.specs.PageChanges.{with_posting}
 use Rattle.page_table.specs.Trees.{Tree, page_at, replaced, added, naming}
 
 -- Split(p, sides): page p keeps its left entries and owes the next page, which takes the right ones, a posting.
@@ -14,11 +15,7 @@ after_split union t p sides =
 -- Post(p, c), where s is the right sibling of c: parent p names both by their covers, c owes nothing any more and has
 -- the number of the posting, s is hung.
 unfoldable pub after_post : {K : Type 0} → Tree K → ℕ → ℕ → ℕ → Tree K
-after_post t p c s = record {
-  pages = (replaced (replaced (replaced t s (post_sibling (page_at t s))) c (post_child (page_at t c) (suc t.counter)))
-      p (post_parent (page_at t p) c (page_at t c).cover s (page_at t s).cover)).pages;
-  counter = suc t.counter;
-}
+after_post t p c s = with_posting t p c s
 
 -- Grow(sides): the next two pages a and b take the root's entries, and the root, one level higher, names both.
 unfoldable pub after_grow : {K : Type 0} → (K → K → K) → Tree K → List Side → Tree K
