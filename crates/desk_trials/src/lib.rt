@@ -17,3 +17,5 @@ mod queries;
 mod receipts;
 #[cfg(test)]
 mod seats;
+#[cfg(test)]
+mod storms;

@@ -1,0 +1,41 @@
+-- How a reader of a storm fared.
+use Rattle.std.specs.Prelude.{◌≡◌, ℕ, Bool, List, [], ◌∷◌, ◌++◌, ◌+◌, ◌<◌, length}
+use Rattle.key_class.specs.Queries.{Query}
+use Rattle.key_class.specs.Rules.{Rules, satisfies}
+use Rattle.change_list.specs.declared.write.Write.{Write}
+use Rattle.change_list.specs.declared.item.Item.{Item}
+use Rattle.change_list.specs.declared.item.Item.TheVariants as item
+use Rattle.change_list.specs.Changes.{commit_at}
+use Rattle.change_list.specs.Listings.{IsListing, without_marks}
+use Rattle.desk.specs.declared.ending.Ended.{Ended}
+use Rattle.desk.specs.declared.ending.Ended.TheVariants as ended
+use Rattle.storm.specs.declared.judge.Reading.{Reading}
+
+module _ {K : Type 0} where
+  -- each commit of the first list is the one with its number
+  abbrev pub Begins : List (Write K) → List (Write K) → Type 0
+  Begins first commits = (place : ℕ) → place < length first → commit_at first (place + 1) ≡ commit_at commits (place + 1)
+
+  -- the items, marks left out, are a listing of all commits since an opening
+  abbrev pub IsWholeListing : (K → Bool) → ℕ → List (Write K) → List (Item K) → Type 0
+  IsWholeListing wanted opened commits items = IsListing wanted opened (length commits) commits (without_marks items)
+
+  -- The last item is a mark of all commits, and those before it are their listing; the receipt's commits begin them.
+  pub record IsWhole (wanted : K → Bool) (opened : ℕ) (commits receipt : List (Write K)) (items : List (Item K)) : Type 0 where
+    pub before : List (Item K)
+    pub ends : items ≡ before ++ item.Mark (length commits) ∷ []
+    pub listing : IsWholeListing wanted opened commits before
+    pub begins : Begins receipt commits
+
+-- what is asked of a receipt, where there is one
+abbrev pub OfReceipt : {K : Type 0} → Ended K → (List (Write K) → Type 0) → Type 0
+OfReceipt (ended.Receipt r) P = P r.commits
+OfReceipt ended.NoReceipt P = ⊥
+
+-- the reader closed its cursor with a receipt, and was whole
+abbrev pub IsWholeReading : {K A : Type 0} → Rules K A → Query A → List (Write K) → Reading K → Type 0
+IsWholeReading rules query commits reading =
+    OfReceipt reading.ended (λ receipt. IsWhole (satisfies rules query) reading.opened commits receipt reading.items.items)
+
+abbrev pub HasNoReceipt : {K : Type 0} → Reading K → Type 0
+HasNoReceipt reading = reading.ended ≡ ended.NoReceipt

@@ -1,0 +1,15 @@
+-- How large a storm may be.
+use Rattle.std.specs.Prelude.{◌≤◌}
+use Rattle.storm.specs.declared.limits.Limits.{Limits}
+
+pub record IsStorm (s : Limits) : Type 0 where
+  pub some_writer : 1 ≤ s.writers
+  pub writers : s.writers ≤ 32
+  pub inserts : s.inserts ≤ 1000
+  pub deletes : s.deletes ≤ s.inserts
+  pub readers : s.readers ≤ 32
+  pub some_room : 1 ≤ s.room
+  pub room : s.room ≤ 4096
+  pub some_pump : 1 ≤ s.pumps
+  pub pumps : s.pumps ≤ 8
+  pub sweeps : s.sweeps ≤ 1000

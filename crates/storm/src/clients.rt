@@ -1,0 +1,267 @@
+//! What the clients of a storm do, each in a thread of its own.
+use crate::judge::Reading;
+use crate::limits::Limits;
+use change_list::Item;
+use crossbeam_channel::Sender;
+use desk::{Desk, Ended, Seat, Taker};
+use interval_class::{Atom, Interval, Intervals};
+use key_class::{Pred, Refusal, Rel};
+use pumps::Order;
+use rand_core::Rng;
+use rand_pcg::Pcg32;
+use std::alloc::Global;
+use std::rt::Clock;
+use std::sync::Wait;
+use std::sync::atomic::{AtomicU64, Ordering};
+use std::sync::ledger::Ledger;
+use std::thread;
+use std::thread::Threads;
+use std::time::Duration;
+
+/// What stands for the number of commits while rows are written still.
+pub const WRITING: u64 = u64::MAX;
+
+/// How many turns are ordered at once. An order ends where its cursor's mailbox is full.
+const TURNS: u64 = 64;
+
+/// The microseconds that a reader waits where no item is seen.
+const PAUSE: u64 = 200;
+
+/// After how many such pauses without an item a reader gives up: a minute.
+const PAUSES: u32 = 300_000;
+
+/// The query of all readers.
+pub fn asked() -> Pred<Atom> {
+    match Interval::new(0, 499) {
+        Ok(operand) => Pred::Atom(Atom {
+            rel: Rel::Overlaps,
+            operand,
+        }),
+        Err(_) => unreachable!(),
+    }
+}
+
+/// A small interval, of which some overlap what readers ask for.
+fn small_interval(generator: &mut Pcg32) -> Result<Interval, Refusal> {
+    let low = i64::from(generator.next_u32() % 600);
+    Interval::new(low, low + i64::from(generator.next_u32() % 8))
+}
+
+/// A reader: its seat, and what it read.
+#[derive(Drop)]
+pub struct Reader<L: Ledger> {
+    pub seat: Seat<Intervals, L>,
+    pub reading: Option<Reading<Interval>>,
+}
+
+/// What a storm tells its readers.
+#[derive(Drop)]
+pub struct Told<'s> {
+    pub limits: Limits,
+    pub orders: &'s Sender<Order>,
+    /// The number of commits once all rows were written, `WRITING` before that.
+    pub commits: &'s AtomicU64,
+}
+
+/// Where clients of a storm work: writers `W` and readers `V`.
+pub trait Clients<W, V> {
+    /// Inserts rows and deletes the first of them, up to the first refusal.
+    fn write<R: Wait>(&self, rt: &R, limits: Limits, writer: &mut W);
+
+    /// How many commits a writer made.
+    fn share(&self, writer: &W) -> u64;
+
+    /// Follows a cursor up to a mark of all commits.
+    fn read<R: Wait + Clock>(&self, rt: &R, alloc: Global, told: &Told<'_>, reader: &mut V);
+
+    /// Sweeps pages 0 to 63 in turn, and passes over refusals.
+    fn sweep_pages<R: Wait>(&self, rt: &R, times: u32);
+}
+
+/// Whether the item is a mark of all commits.
+fn is_last(item: Item<Interval>, commits: u64) -> bool {
+    match item {
+        Item::Mark(number) => number == commits,
+        _ => false,
+    }
+}
+
+/// Takes items until it took a mark of all commits. It ends before that where no item comes for a minute, or where memory is
+/// wanting.
+fn follow<L: Ledger, R: Wait + Clock>(
+    rt: &R,
+    desk: &Desk<Intervals, L>,
+    taker: &mut Taker<'_, Intervals, L>,
+    told: &Told<'_>,
+    items: &mut Vec<Item<Interval>>,
+) {
+    let cursor = taker.cursor();
+    let mut is_asked = false;
+    let mut pauses: u32 = 0;
+    'following: for _ in rt.forever() {
+        if pauses == PAUSES {
+            break 'following;
+        }
+        let commits = told.commits.load(Ordering::SeqCst);
+        if !is_asked && commits != WRITING {
+            let _reply = desk.ask_mark(rt, cursor);
+            is_asked = true;
+        }
+        if let Some(item) = taker.take() {
+            pauses = 0;
+            if items.push(item).is_err() || is_last(item, commits) {
+                break 'following;
+            }
+            continue 'following;
+        }
+        pauses = pauses.saturating_add(1);
+        if let Err(refused) = told.orders.try_send(rt, Order::Turn(cursor, TURNS)) {
+            if refused.is_disconnected() {
+                let _reply = desk.turn(rt, cursor);
+            }
+        }
+        thread::sleep(rt, Duration::from_micros(PAUSE));
+    }
+}
+
+impl<L: Ledger> Clients<Seat<Intervals, L>, Reader<L>> for Desk<Intervals, L> {
+    fn write<R: Wait>(&self, rt: &R, limits: Limits, seat: &mut Seat<Intervals, L>) {
+        let state = u64::from(limits.seed) + u64::from(seat.number());
+        let mut generator = Pcg32::new(state, 0);
+        for _ in 0..limits.inserts {
+            let Ok(key) = small_interval(&mut generator) else {
+                return;
+            };
+            if self.insert(rt, seat, key, 0).is_err() {
+                return;
+            }
+        }
+        for place in 0..limits.deletes as usize {
+            let Some(row) = seat.stamps().get(place).map(|stamp| stamp.number()) else {
+                return;
+            };
+            if self.delete(rt, seat, row).is_err() {
+                return;
+            }
+        }
+    }
+
+    fn share(&self, seat: &Seat<Intervals, L>) -> u64 {
+        seat.share()
+    }
+
+    fn read<R: Wait + Clock>(
+        &self,
+        rt: &R,
+        alloc: Global,
+        told: &Told<'_>,
+        reader: &mut Reader<L>,
+    ) {
+        let room = u64::from(told.limits.room);
+        let Ok(mut taker) = self.open_cursor(rt, &mut reader.seat, asked(), room) else {
+            return;
+        };
+        let opened = taker.opened();
+        let mut items = Vec::new(alloc);
+        follow(rt, self, &mut taker, told, &mut items);
+        let ended = taker.close(rt, &mut reader.seat, items.as_slice());
+        reader.reading = Some(Reading {
+            opened,
+            items,
+            ended,
+        });
+    }
+
+    fn sweep_pages<R: Wait>(&self, rt: &R, times: u32) {
+        for time in 0..times {
+            let _reply = self.sweep(rt, u64::from(time % 64));
+        }
+    }
+}
+
+/// Lets all writers write, each in a thread of its own.
+fn write_all<D, W, V, R>(rt: &R, desk: &D, limits: Limits, writers: &mut [W])
+where
+    D: Clients<W, V> + Sync,
+    W: Send,
+    R: Threads + Wait + Sync,
+{
+    let threads = writers.len().max(1);
+    thread::for_each_mut(rt, writers, threads, &|_, writer| desk.write(rt, limits, writer))
+}
+
+/// Lets all readers read, each in a thread of its own.
+fn read_all<D, W, V, R>(rt: &R, alloc: Global, desk: &D, told: &Told<'_>, readers: &mut [V])
+where
+    D: Clients<W, V> + Sync,
+    V: Send,
+    R: Threads + Wait + Clock + Sync,
+{
+    let threads = readers.len().max(1);
+    thread::for_each_mut(rt, readers, threads, &|_, reader| desk.read(rt, alloc, told, reader))
+}
+
+/// Lets all writers write while another thread sweeps, and then tells readers how many commits were made.
+fn write_and_sweep<D, W, V, R>(rt: &R, desk: &D, told: &Told<'_>, writers: &mut [W])
+where
+    D: Clients<W, V> + Sync,
+    W: Send,
+    R: Threads + Wait + Sync,
+{
+    let limits = told.limits;
+    let sweep = || desk.sweep_pages(rt, limits.sweeps);
+    thread::join(rt, sweep, || write_all::<D, W, V, R>(rt, desk, limits, writers));
+    let mut commits: u64 = 0;
+    for writer in writers {
+        commits = commits.saturating_add(desk.share(writer));
+    }
+    told.commits.store(commits, Ordering::SeqCst);
+}
+
+/// Lets all clients work at once, until the last of them has ended.
+fn work_at_once<D, W, V, R>(
+    rt: &R,
+    alloc: Global,
+    desk: &D,
+    told: &Told<'_>,
+    writers: &mut [W],
+    readers: &mut [V],
+) where
+    D: Clients<W, V> + Sync,
+    W: Send,
+    V: Send,
+    R: Threads + Wait + Clock + Sync,
+{
+    let read = || read_all::<D, W, V, R>(rt, alloc, desk, told, readers);
+    thread::join(rt, read, || write_and_sweep::<D, W, V, R>(rt, desk, told, writers));
+}
+
+/// Lets all clients work beside what pumps, whose orders end with the last client.
+pub fn work_beside<D, W, V, R, P>(
+    rt: &R,
+    alloc: Global,
+    desk: &D,
+    limits: Limits,
+    writers: &mut [W],
+    readers: &mut [V],
+    orders: Sender<Order>,
+    pump: P,
+) where
+    D: Clients<W, V> + Sync,
+    W: Send,
+    V: Send,
+    R: Threads + Wait + Clock + Sync,
+    P: FnOnce(),
+    requires { P.pre pump }
+{
+    let commits = AtomicU64::new(WRITING);
+    let clients = move || {
+        let told = Told {
+            limits,
+            orders: &orders,
+            commits: &commits,
+        };
+        work_at_once(rt, alloc, desk, &told, writers, readers);
+    };
+    thread::join(rt, clients, pump);
+}

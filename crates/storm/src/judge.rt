@@ -1,0 +1,129 @@
+//! Whether a reader got what it should.
+ghost use Rattle.std.specs.Prelude.{◌≡◌, ◌↔◌, length, IsTrue, IfOk, IfErr};
+ghost use Rattle.key_class.specs.Queries.{query_of};
+ghost use Rattle.key_class.specs.Rules.{satisfies};
+ghost use Rattle.change_list.specs.Listings.{is_mark, without_marks};
+ghost use Rattle.storm.specs.Judging.{Begins, HasNoReceipt, IsWholeListing, IsWholeReading};
+
+use change_list::{Item, View, Write};
+use desk::Ended;
+use key_class::{KeyClass, Pred, Refusal};
+use listing::is_delivered;
+use std::alloc::Global;
+
+/// How a reader fared.
+#[derive(Clone, Copy, Debug, PartialEq, Eq)]
+pub enum Verdict {
+    /// It took a listing of all commits, and a mark of them.
+    Whole,
+    /// It took something else.
+    NotWhole,
+    /// Its cursor was closed without a receipt.
+    NoReceipt,
+}
+
+/// What a reader took, and what closing its cursor gave.
+#[derive(Drop)]
+pub struct Reading<K> {
+    /// The number of commits at its cursor's opening.
+    pub opened: u64,
+    pub items: Vec<Item<K>>,
+    pub ended: Ended<K>,
+}
+
+fn is_mark<K: Copy>(item: Item<K>) -> bool
+    ensures { result ≡ is_mark item }
+{
+    matches!(item, Item::Mark(_))
+}
+
+/// The items that are no marks.
+fn without_marks<K: Copy>(alloc: Global, items: &[Item<K>]) -> Result<Vec<Item<K>>, Refusal>
+    ensures items { IfOk result (λ left. left.items ≡ without_marks items.now) }
+    ensures refusals { IfErr result (λ why. why ≡ Refusal.OutOfMemory) }
+{
+    let mut left = Vec::new(alloc);
+    for item in items {
+        if !is_mark(*item) && left.push(*item).is_err() {
+            return Err(Refusal::OutOfMemory);
+        }
+    }
+    Ok(left)
+}
+
+/// Whether items, marks left out, are a listing of all commits for a query since an opening: the rows of its snapshot, each
+/// once and in any order, then the later changes in the order of their commits.
+///
+/// # Errors
+/// Want of memory.
+pub fn is_listing<C: KeyClass>(
+    alloc: Global,
+    commits: &View<C::Key>,
+    query: &Pred<C::Atom>,
+    opened: u64,
+    items: &[Item<C::Key>],
+) -> Result<bool, Refusal>
+    ensures listing { IfOk result (λ told. IsTrue told ↔ IsWholeListing (satisfies C.rules (query_of query.now)) opened commits.now items.now) }
+    ensures refusals { IfErr result (λ why. why ≡ Refusal.OutOfMemory) }
+{
+    let mut left = without_marks(alloc, items)?;
+    if left.push(Item::Mark(commits.len() as u64)).is_err() {
+        return Err(Refusal::OutOfMemory);
+    }
+    is_delivered::<C>(alloc, commits, query, opened, left.as_slice())
+}
+
+fn is_same_commit<C: KeyClass>(a: Option<Write<C::Key>>, b: Option<Write<C::Key>>) -> bool
+    ensures { IsTrue result ↔ (a ≡ b) }
+{
+    match (a, b) {
+        (Some(Write::Insert(key, tag)), Some(Write::Insert(other, mark))) => {
+            key == other && tag == mark
+        }
+        (Some(Write::Delete(row)), Some(Write::Delete(other))) => row == other,
+        (None, None) => true,
+        _ => false,
+    }
+}
+
+/// Whether the commits begin with those of another list.
+pub fn begins<C: KeyClass>(first: &View<C::Key>, commits: &View<C::Key>) -> bool
+    ensures { IsTrue result ↔ Begins first.now commits.now }
+{
+    for place in 0..first.len() as u64 {
+        if !is_same_commit::<C>(first.get(place + 1), commits.get(place + 1)) {
+            return false;
+        }
+    }
+    true
+}
+
+/// How a reader of a query fared, told by the commits of the whole storm.
+///
+/// # Errors
+/// Want of memory.
+pub fn judged<C: KeyClass>(
+    alloc: Global,
+    commits: &View<C::Key>,
+    query: &Pred<C::Atom>,
+    reading: &Reading<C::Key>,
+) -> Result<Verdict, Refusal>
+    ensures whole { IfOk result (λ v. (v ≡ Verdict.Whole) ↔ IsWholeReading C.rules (query_of query.now) commits.now reading.now) }
+    ensures no_receipt { IfOk result (λ v. (v ≡ Verdict.NoReceipt) ↔ HasNoReceipt reading.now) }
+    ensures refusals { IfErr result (λ why. why ≡ Refusal.OutOfMemory) }
+{
+    let Ended::Receipt(receipt) = &reading.ended else {
+        return Ok(Verdict::NoReceipt);
+    };
+    let Some((Item::Mark(number), before)) = reading.items.as_slice().split_last() else {
+        return Ok(Verdict::NotWhole);
+    };
+    if *number != commits.len() as u64 || !begins::<C>(receipt.list(), commits) {
+        return Ok(Verdict::NotWhole);
+    }
+    if is_listing::<C>(alloc, commits, query, reading.opened, before)? {
+        Ok(Verdict::Whole)
+    } else {
+        Ok(Verdict::NotWhole)
+    }
+}

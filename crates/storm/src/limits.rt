@@ -1,0 +1,57 @@
+//! How large a storm is.
+ghost use Rattle.std.specs.Prelude.{◌≡◌, ◌↔◌, ◌+◌, ◌*◌, IsTrue};
+ghost use Rattle.storm.specs.Sizes.{IsStorm};
+
+/// How many clients a storm has, and what they do.
+#[derive(Clone, Copy, Debug, PartialEq, Eq)]
+pub struct Limits {
+    /// How many threads insert and delete: 1 to 32.
+    pub writers: u32,
+    /// How many rows each of them inserts: 0 to 1,000.
+    pub inserts: u32,
+    /// How many of its rows each of them deletes: no more than it inserts.
+    pub deletes: u32,
+    /// How many threads follow a cursor: 0 to 32.
+    pub readers: u32,
+    /// How many items a cursor's mailbox holds: 1 to 4,096.
+    pub room: u32,
+    /// How many threads turn cursors: 1 to 8.
+    pub pumps: u32,
+    /// How many leaves are swept meanwhile: 0 to 1,000.
+    pub sweeps: u32,
+    /// From which the keys are drawn.
+    pub seed: u32,
+}
+
+impl Limits {
+    /// Whether each number lies in its range.
+    pub fn is_within(&self) -> bool
+        ensures { IsTrue result ↔ IsStorm self.now }
+    {
+        self.writers >= 1
+            && self.writers <= 32
+            && self.inserts <= 1_000
+            && self.deletes <= self.inserts
+            && self.readers <= 32
+            && self.room >= 1
+            && self.room <= 4_096
+            && self.pumps >= 1
+            && self.pumps <= 8
+            && self.sweeps <= 1_000
+    }
+
+    /// How many seats it takes.
+    pub fn seats(&self) -> usize
+        requires { IsStorm self.now }
+        ensures { result ≡ self.now.writers + self.now.readers }
+    {
+        (self.writers + self.readers) as usize
+    }
+    /// How many commits it makes where nothing is refused.
+    pub fn commits(&self) -> u64
+        requires { IsStorm self.now }
+        ensures { result ≡ self.now.writers * (self.now.inserts + self.now.deletes) }
+    {
+        u64::from(self.writers) * u64::from(self.inserts + self.deletes)
+    }
+}

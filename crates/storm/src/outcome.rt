@@ -1,0 +1,186 @@
+//! A whole storm.
+ghost use Rattle.std.specs.Prelude.{◌≡◌, ◌↔◌, ◌+◌, Err, IfErr};
+ghost use Rattle.key_class.specs.Refusals.{IsEither};
+ghost use Rattle.storm.specs.Sizes.{IsStorm};
+
+use crate::clients::{Reader, asked, work_beside};
+use crate::judge::{Reading, Verdict, judged};
+use crate::limits::Limits;
+use change_list::{ChangeList, Config};
+use crossbeam_channel::bounded;
+use desk::{Desk, Finished, Seat};
+use interval_class::{Interval, Intervals};
+use key_class::Refusal;
+use pumps::{Gate, Pumps};
+use std::alloc::{AllocError, Global};
+use std::rt::Clock;
+use std::sync::Wait;
+use std::sync::ledger::{Blank, Ledger};
+use std::thread::Threads;
+
+const CONFIG: Config = Config {
+    fan: 8,
+    least: 3,
+    pages: 65_536,
+    commits: 16_777_216,
+};
+
+/// How many orders wait for a pump at most.
+const ORDERS: usize = 64;
+
+/// Lets every cursor be turned at any time.
+#[derive(Drop)]
+struct Open;
+
+impl Gate for Open {
+    fn may_turn(&self, _cursor: u64) -> bool {
+        true
+    }
+}
+
+/// What came of a storm.
+#[derive(Drop)]
+pub struct Outcome {
+    /// How many commits were made.
+    pub commits: u64,
+    /// How each reader fared, in the order of their seats.
+    pub verdicts: Vec<Verdict>,
+    /// Whether all rows were written, and the stamps of all seats are the commits.
+    pub is_written: bool,
+}
+
+/// Lets all clients and the pumps work, until the last client has ended.
+fn run_all<L, R>(
+    rt: &R,
+    alloc: Global,
+    desk: &Desk<Intervals, L>,
+    pumps: &Pumps<Open>,
+    limits: Limits,
+    writers: &mut [Seat<Intervals, L>],
+    readers: &mut [Reader<L>],
+) -> Result<(), Refusal>
+where
+    L: Ledger + Send + Sync,
+    R: Threads + Wait + Clock + Sync,
+    ensures refusals { IfErr result (λ why. why ≡ Refusal.OutOfMemory) }
+{
+    let Ok((orders, told)) = bounded(alloc, ORDERS) else {
+        return Err(Refusal::OutOfMemory);
+    };
+    let pump = move || {
+        let _pumped = pumps.run(rt, alloc, desk, &told);
+    };
+    work_beside(rt, alloc, desk, limits, writers, readers, orders, pump);
+    Ok(())
+}
+
+/// The last seats as readers.
+fn readers_of<L: Ledger>(
+    alloc: Global,
+    seats: Vec<Seat<Intervals, L>>,
+) -> Result<Vec<Reader<L>>, AllocError> {
+    let mut readers = Vec::with_capacity(alloc, seats.len())?;
+    for seat in seats {
+        readers.push(Reader {
+            seat,
+            reading: None,
+        })?;
+    }
+    Ok(readers)
+}
+
+/// How readers fared, told by the commits.
+fn verdicts_of(
+    alloc: Global,
+    commits: &ChangeList<Interval>,
+    readings: &[Option<Reading<Interval>>],
+) -> Result<Vec<Verdict>, Refusal>
+    ensures refusals { IfErr result (λ why. why ≡ Refusal.OutOfMemory) }
+{
+    let query = asked();
+    let mut verdicts = Vec::new(alloc);
+    for reading in readings {
+        let verdict = match reading {
+            None => Verdict::NoReceipt,
+            Some(reading) => judged::<Intervals>(alloc, commits.as_view(), &query, reading)?,
+        };
+        if verdicts.push(verdict).is_err() {
+            return Err(Refusal::OutOfMemory);
+        }
+    }
+    Ok(verdicts)
+}
+
+/// What came of it, once all seats came back.
+fn outcome_of<L: Ledger>(
+    alloc: Global,
+    limits: Limits,
+    finished: Finished<Intervals, L>,
+    readings: &[Option<Reading<Interval>>],
+) -> Result<Outcome, Refusal>
+    requires { IsStorm limits }
+    ensures refusals { IfErr result (λ why. why ≡ Refusal.OutOfMemory) }
+{
+    match finished {
+        Finished::Closing(closing) => Ok(Outcome {
+            commits: closing.commits().len() as u64,
+            verdicts: verdicts_of(alloc, closing.commits(), readings)?,
+            is_written: closing.sum() == limits.commits(),
+        }),
+        Finished::Torn(torn) => Ok(Outcome {
+            commits: torn.commits.len() as u64,
+            verdicts: verdicts_of(alloc, &torn.commits, readings)?,
+            is_written: false,
+        }),
+        Finished::SeatsOut(_, _) => Err(Refusal::OutOfMemory),
+    }
+}
+
+/// Writers, readers, pumps and a sweeper at one desk of intervals, each in a thread of its own. Each writer inserts rows with
+/// small keys and deletes the first of them. Each reader follows a cursor up to a mark of all commits. Then the desk is
+/// finished, and what each reader took is compared with the commits.
+///
+/// # Errors
+/// `BadConfig` where a number lies out of its range, or want of memory.
+pub fn run_storm<L, R>(rt: &R, alloc: Global, blank: Blank, limits: Limits) -> Result<Outcome, Refusal>
+where
+    L: Ledger + Send + Sync,
+    R: Threads + Wait + Clock + Sync,
+    requires name { blank.name ≡ L.name }
+    requires parts { blank.parts ≡ L.parts }
+    requires one_each { blank.parts ≡ limits.writers + limits.readers }
+    ensures bad { (result ≡ Err Refusal.BadConfig) ↔ (¬ IsStorm limits) }
+    ensures refusals { IfErr result (IsEither Refusal.BadConfig Refusal.OutOfMemory) }
+{
+    if !limits.is_within() {
+        return Err(Refusal::BadConfig);
+    }
+    let (desk, mut writers) = Desk::<Intervals, L>::new(alloc, blank, CONFIG, limits.seats())?;
+    let Ok(seats) = writers.split_off(limits.writers as usize) else {
+        return Err(Refusal::OutOfMemory);
+    };
+    let Ok(mut readers) = readers_of(alloc, seats) else {
+        return Err(Refusal::OutOfMemory);
+    };
+    let pumps = Pumps::new(limits.pumps as usize, Open)?;
+    run_all(rt, alloc, &desk, &pumps, limits, writers.as_mut_slice(), readers.as_mut_slice())?;
+    let Ok(readings) = take_back(alloc, &mut writers, readers) else {
+        return Err(Refusal::OutOfMemory);
+    };
+    outcome_of(alloc, limits, desk.finish(writers), readings.as_slice())
+}
+
+/// Puts the seats of readers behind those of writers, and gives what the readers read.
+fn take_back<L: Ledger>(
+    alloc: Global,
+    seats: &mut Vec<Seat<Intervals, L>>,
+    readers: Vec<Reader<L>>,
+) -> Result<Vec<Option<Reading<Interval>>>, AllocError> {
+    let mut readings = Vec::with_capacity(alloc, readers.len())?;
+    for reader in readers {
+        let Reader { seat, reading } = reader;
+        seats.push(seat)?;
+        readings.push(reading)?;
+    }
+    Ok(readings)
+}
