@@ -17,7 +17,7 @@ use Rattle.page_table.specs.Trees.{Tree, after_rows, page_at, pages_under, rows_
 use Rattle.page_table.specs.Weights.{one_if_equal, weigh}
 use Rattle.row_version.specs.Entries.{Entry, died_at, marked}
 use Rattle.scan.specs.Agreement.{Agrees, IsDeath, IsEntryOf, is_row}
-use Rattle.scan.specs.LeafChanges.{after_bury}
+use Rattle.page_table.specs.LeafChanges.{after_bury}
 use Rattle.scan.proofs.Commits.{deleted_by}
 use Rattle.world.proofs.Resting.{death_weight, same_pair, same_pair_exact, weigh_filter_map}
 use Rattle.world.specs.Resting.{death, death_from, deaths}

@@ -21,7 +21,7 @@ use Rattle.page_table.specs.Soundness.{IsSound}
 use Rattle.page_table.specs.Trees.{Tree, page_at, rows_of_tree}
 use Rattle.page_table.specs.Weights.{weigh}
 use Rattle.row_version.specs.Entries.{Entry, is_needed, lives_at}
-use Rattle.scan.specs.LeafChanges.{after_sweep}
+use Rattle.page_table.specs.LeafChanges.{after_sweep}
 use Rattle.split.specs.Tests.{first_failing, is_leaf, sweep_tests}
 use Rattle.removal.specs.Sweeping.{SweepsAll, SweepsSome, is_past}
 use Rattle.removal.proofs.Deaths.{rows_changed}

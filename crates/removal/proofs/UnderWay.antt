@@ -21,7 +21,7 @@ use Rattle.page_table.specs.Weights.{weigh}
 use Rattle.row_version.specs.Entries.{Entry, marked}
 use Rattle.scan.specs.Agreement.{is_row}
 use Rattle.scan.proofs.Finders.{seek_pages}
-use Rattle.scan.specs.LeafChanges.{after_bury}
+use Rattle.page_table.specs.LeafChanges.{after_bury}
 use Rattle.split.specs.Tests.{first_failing}
 use Rattle.removal.specs.Deleting.{Looks, Leaves, Deletes}
 use Rattle.removal.specs.Visits.{IsFullOfFinders}

@@ -1,6 +1,7 @@
 -- How a reader of a storm fared.
-use Rattle.std.specs.Prelude.{◌≡◌, ℕ, Bool, List, [], ◌∷◌, ◌++◌, ◌+◌, ◌<◌, length}
-use Rattle.key_class.specs.Queries.{Query}
+use Rattle.std.specs.Prelude.{◌≡◌, ◌↔◌, IsTrue, ℕ, Bool, List, [], ◌∷◌, ◌++◌, ◌+◌, ◌<◌, length}
+use Rattle.key_class.specs.Queries.{Query, query_of}
+use Rattle.key_class.specs.declared.pred.Pred.{Pred}
 use Rattle.key_class.specs.Rules.{Rules, satisfies}
 use Rattle.change_list.specs.declared.write.Write.{Write}
 use Rattle.change_list.specs.declared.item.Item.{Item}
@@ -10,6 +11,8 @@ use Rattle.change_list.specs.Listings.{IsListing, without_marks}
 use Rattle.desk.specs.declared.ending.Ended.{Ended}
 use Rattle.desk.specs.declared.ending.Ended.TheVariants as ended
 use Rattle.storm.specs.declared.judge.Reading.{Reading}
+use Rattle.storm.specs.declared.judge.Verdict.{Verdict}
+use Rattle.storm.specs.declared.judge.Verdict.TheVariants as verdict
 
 module _ {K : Type 0} where
   -- each commit of the first list is the one with its number
@@ -39,3 +42,11 @@ IsWholeReading rules query commits reading =
 
 abbrev pub HasNoReceipt : {K : Type 0} → Reading K → Type 0
 HasNoReceipt reading = reading.ended ≡ ended.NoReceipt
+
+-- it tells whether the items are such a listing of a query
+abbrev pub TellsListing : {K A : Type 0} → Rules K A → Pred A → ℕ → List (Write K) → List (Item K) → Bool → Type 0
+TellsListing rules query opened commits items told = IsTrue told ↔ IsWholeListing (satisfies rules (query_of query)) opened commits items
+
+-- it tells whether a reader of a query was whole
+abbrev pub TellsWhole : {K A : Type 0} → Rules K A → Pred A → List (Write K) → Reading K → Verdict → Type 0
+TellsWhole rules query commits reading told = (told ≡ verdict.Whole) ↔ IsWholeReading rules (query_of query) commits reading

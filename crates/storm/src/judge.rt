@@ -1,9 +1,7 @@
 //! Whether a reader got what it should.
-ghost use Rattle.std.specs.Prelude.{◌≡◌, ◌↔◌, length, IsTrue, IfOk, IfErr};
-ghost use Rattle.key_class.specs.Queries.{query_of};
-ghost use Rattle.key_class.specs.Rules.{satisfies};
+ghost use Rattle.std.specs.Prelude.{◌≡◌, ◌↔◌, IsTrue, IfOk, IfErr};
 ghost use Rattle.change_list.specs.Listings.{is_mark, without_marks};
-ghost use Rattle.storm.specs.Judging.{Begins, HasNoReceipt, IsWholeListing, IsWholeReading};
+ghost use Rattle.storm.specs.Judging.{Begins, HasNoReceipt, TellsListing, TellsWhole};
 
 use change_list::{Item, View, Write};
 use desk::Ended;
@@ -63,7 +61,7 @@ pub fn is_listing<C: KeyClass>(
     opened: u64,
     items: &[Item<C::Key>],
 ) -> Result<bool, Refusal>
-    ensures listing { IfOk result (λ told. IsTrue told ↔ IsWholeListing (satisfies C.rules (query_of query.now)) opened commits.now items.now) }
+    ensures listing { IfOk result (TellsListing C.rules query.now opened commits.now items.now) }
     ensures refusals { IfErr result (λ why. why ≡ Refusal.OutOfMemory) }
 {
     let mut left = without_marks(alloc, items)?;
@@ -108,7 +106,7 @@ pub fn judged<C: KeyClass>(
     query: &Pred<C::Atom>,
     reading: &Reading<C::Key>,
 ) -> Result<Verdict, Refusal>
-    ensures whole { IfOk result (λ v. (v ≡ Verdict.Whole) ↔ IsWholeReading C.rules (query_of query.now) commits.now reading.now) }
+    ensures whole { IfOk result (TellsWhole C.rules query.now commits.now reading.now) }
     ensures no_receipt { IfOk result (λ v. (v ≡ Verdict.NoReceipt) ↔ HasNoReceipt reading.now) }
     ensures refusals { IfErr result (λ why. why ≡ Refusal.OutOfMemory) }
 {

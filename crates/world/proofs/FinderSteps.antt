@@ -11,7 +11,7 @@ use Rattle.change_list.specs.Changes.{commit_at, is_deleted, status_of}
 use Rattle.change_list.specs.declared.write.Status.TheVariants.{Live}
 use Rattle.change_list.specs.declared.write.Write.TheVariants.{Insert}
 use Rattle.page_table.specs.Trees.{page_at}
-use Rattle.scan.specs.LeafChanges.{after_sweep}
+use Rattle.page_table.specs.LeafChanges.{after_sweep}
 use Rattle.split.specs.SearchTrees.{SearchTree, with_tree}
 use Rattle.split.specs.Tests.{first_failing, is_leaf, sweep_tests}
 use Rattle.split.proofs.RowsDone.{buried, swept, sweepable}

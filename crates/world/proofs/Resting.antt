@@ -18,7 +18,7 @@ use Rattle.page_table.specs.Soundness.{IsSound}
 use Rattle.page_table.specs.Trees.{Tree, rows_of_tree}
 use Rattle.page_table.specs.Weights.{weigh}
 use Rattle.cursor.specs.OpenCursors.{OpenCursor, shown}
-use Rattle.scan.specs.LeafChanges.{after_place}
+use Rattle.page_table.specs.LeafChanges.{after_place}
 use Rattle.world.specs.declared.event.Event.{Event}
 use Rattle.world.specs.declared.reply.Reply.{Reply}
 use Rattle.world.specs.Promises.{ServesAll}

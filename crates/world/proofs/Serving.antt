@@ -14,7 +14,7 @@ use Rattle.change_list.specs.Cursors.{Fits}
 use Rattle.page_table.specs.Trees.{Tree, page_at, after_rows}
 use Rattle.page_table.specs.Keeping.{KeepsRows}
 use Rattle.scan.proofs.Scans.{keeps_find, place_find, bury_find, sweep_find}
-use Rattle.scan.specs.LeafChanges.{after_bury, after_sweep}
+use Rattle.page_table.specs.LeafChanges.{after_bury, after_sweep}
 use Rattle.cursor.specs.declared.cursor.Turned.{Turned}
 use Rattle.cursor.specs.OpenCursors.{OpenCursor, Turns, shown, wants}
 use Rattle.cursor.specs.Sending.{SendsItems}

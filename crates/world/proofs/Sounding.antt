@@ -22,7 +22,7 @@ use Rattle.key_class.specs.declared.refusal.Refusal.{Refusal}
 use Rattle.split.proofs.NewSearchTree.{new_search_tree}
 use Rattle.scan.proofs.Agreement.{new_agrees, keeps_agrees, place_agrees, bury_agrees, sweep_agrees}
 use Rattle.scan.specs.Agreement.{is_row}
-use Rattle.scan.specs.LeafChanges.{after_bury, after_sweep}
+use Rattle.page_table.specs.LeafChanges.{after_bury, after_sweep}
 use Rattle.scan.proofs.Scans.{keeps_stack, rows_stack}
 use Rattle.scan.proofs.Opening.{open_stack}
 use Rattle.cursor.specs.OpenCursors.{OpenCursor}

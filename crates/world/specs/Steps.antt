@@ -16,7 +16,7 @@ use Rattle.row_version.specs.Entries.{is_needed}
 use Rattle.page_table.specs.Trees.{page_at, after_rows}
 use Rattle.split.specs.Steps.{after_split, after_post, after_grow, after_enlarge}
 use Rattle.split.specs.Tests.{first_failing, place_tests, enlarge_tests, split_tests, post_tests, grow_tests, sweep_tests, HasUnneeded}
-use Rattle.scan.specs.LeafChanges.{after_bury, after_sweep}
+use Rattle.page_table.specs.LeafChanges.{after_bury, after_sweep}
 use Rattle.scan.specs.Scanning.{PushesSome}
 use Rattle.cursor.specs.declared.cursor.Turned.{Turned}
 use Rattle.cursor.specs.declared.cursor.Turned.TheVariants as turned
