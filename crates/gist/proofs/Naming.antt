@@ -13,10 +13,10 @@ use Rattle.clap.specs.Faults.{bundle_fault, entered_fault, flag_word_fault, othe
 use Rattle.clap.specs.Simple.{built, entered, label_of, names_of, rows_at}
 use Rattle.clap.specs.Walk.{Held, Names, Outcome, Walk, after_flag, after_step, answers_to, arg_by_long, finished, idle, long_or_other, nothing_held, short_or_plain, short_word, subcommand_met, subcommand_or_other, trailing, walk, walk_from, walked, has_row, with_default}
 use Rattle.clap.specs.declared.error.ErrorKind.TheVariants as kind
-use Rattle.gist.specs.CommandLine.{ClassNames, gist_line, number_of_32_bits}
-use Rattle.gist.specs.Spelling.{IsStoreCommand, SpellsOptions}
-use Rattle.gist.proofs.Serving.{checked, last_checks, store_shape}
-use Rattle.gist.proofs.Reading.{H, Taken, at, behind_mark, bundled, dashes, earlier, faulty, help, help_is_asked, help_or_none, later, option_row, reads, rows_at_end, rules, value_rule}
+use Rattle.gist.specs.CommandLine.{ClassNames, gist_line}
+use Rattle.gist.specs.Spelling.{IsStoreCommand, OptionKind, SpellsOptions, store_table}
+use Rattle.gist.proofs.Serving.{checked, last_checks, shape_with}
+use Rattle.gist.proofs.Reading.{H, Taken, at, behind_mark, bundled, dashes, earlier, faulty, help, help_is_asked, help_or_none, later, option_row, reads, rows_at_end, rules}
 
 abbrev pub no_rows : Held
 no_rows = H [] None
@@ -132,17 +132,15 @@ module _ (names : ClassNames) where
   kept_rows false rows = refl
 
   -- no option has a default
-  no_default : (rows : List Row) → fold with_default rows (rules names) ≡ rows
-  no_default rows =
-      ap (λ (rs : List Row). with_default (with_default (with_default rs (value_rule (codes "fan") number_of_32_bits)) (value_rule (codes "least") number_of_32_bits)) help) (kept_rows (has_row (codes "class") rows) rows)
-      ∙ ap (λ (rs : List Row). with_default (with_default rs (value_rule (codes "least") number_of_32_bits)) help) (kept_rows (has_row (codes "fan") rows) rows)
-      ∙ ap (λ (rs : List Row). with_default rs help) (kept_rows (has_row (codes "least") rows) rows) ∙ kept_rows (has_row (codes "help") rows) rows
+  no_default : (table : List (Text × OptionKind)) (rows : List Row) → fold with_default rows (rules names table) ≡ rows
+  no_default [] rows = kept_rows (has_row (codes "help") rows) rows
+  no_default (o ∷ table) rows = ap (λ (rs : List Row). fold with_default rs (rules names table)) (kept_rows (has_row o.0 rows) rows) ∙ no_default table rows
 
   -- how the walk goes over the name of a command
   pub record Enters (command : Text) : Type 0 where
     pub turn : turn_fault top commands (walk_from nothing_held) command ≡ []
     pub walk : walked top.rules commands (walk_from nothing_held) command ≡ stopped_at command []
-    pub shape : find (λ (s : Shape). answers_to command (label_of s)) line.subs ≡ Some (store_shape names command)
+    pub shape : find (λ (s : Shape). answers_to command (label_of s)) line.subs ≡ Some (shape_with (rules names store_table) command)
 
   enters_serve : Enters (codes "serve")
   unfolding walked
@@ -164,15 +162,15 @@ module _ (names : ClassNames) where
     pub is_command : IsStoreCommand command
     pub words_are : drop 1 words ≡ command ∷ rest
     pub options : SpellsOptions rest given
-    pub found : subcommand_of (gist_line names) words ≡ Some (command, map (option_row names) given)
-    pub taken : Taken names [] given
+    pub found : subcommand_of (gist_line names) words ≡ Some (command, map (option_row names store_table) given)
+    pub taken : Taken names store_table [] given
 
   spelled_behind : (words : List Text) (stop : Option (Text × List Text)) → Stops words stop → entered_fault line stop ≡ []
-      → (command : Text) × (rest : List Text) × (given : List (Text × Text)) × IsStoreCommand command × (words ≡ command ∷ rest) × SpellsOptions rest given × (entered line stop ≡ Some (command, map (option_row names) given)) × Taken names [] given
+      → (command : Text) × (rest : List Text) × (given : List (Text × Text)) × IsStoreCommand command × (words ≡ command ∷ rest) × SpellsOptions rest given × (entered line stop ≡ Some (command, map (option_row names store_table) given)) × Taken names store_table [] given
   spelled_behind words stop at_command none =
       let command = at_command.command in
       let rest = at_command.rest in
-      let shape = store_shape names command in
+      let shape = shape_with (rules names store_table) command in
       let enters_it = (enters command at_command.is_command).shape in
       let walking = walk_fault shape [] (walk_from nothing_held) rest in
       let level : level_fault shape [] nothing_held rest false [] ≡ [] =
@@ -180,8 +178,8 @@ module _ (names : ClassNames) where
       (subst (λ (o : Option (Text × List Text)). entered_fault line o ≡ []) at_command.stop_is none) in
       let end = (walk shape.rules [] nothing_held rest).held in
       let settling = settle_fault shape.rules shape.args_override_self end in
-      let found = (reads names command rest).0 [] None (earlier walking _ level) (earlier settling _ (later walking _ level)) in
-      let rows = no_default (rows_at_end names (at no_rows idle) rest) ∙ found.3 in (
+      let found = (reads names store_table command rest).0 [] None (earlier walking _ level) (earlier settling _ (later walking _ level)) in
+      let rows = no_default store_table (rows_at_end names store_table (at no_rows idle) rest) ∙ found.3 in (
         command,
         rest,
         found.0,

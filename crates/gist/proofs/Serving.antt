@@ -1,6 +1,6 @@
 -- Words that have no fault name a command.
 use Rattle.std.proofs.Common.{◌≡◌, ◌∙◌, Bool, true, false, refl, ap, arith, List, [], ◌∷◌, length, ◌⊎◌, inl, inr}
-use Rattle.clap.specs.Words.{App, IsAmong, Kinds, Row, Shape, Text, fault_of, is_simple, is_simple_and_free, with_subcommand}
+use Rattle.clap.specs.Words.{App, IsAmong, Kinds, Row, Rule, Shape, Text, fault_of, is_simple, is_simple_and_free, new_app, with_subcommand}
 use Rattle.clap.specs.declared.error.ErrorKind.{ErrorKind}
 use Rattle.clap.specs.declared.error.ErrorKind.TheVariants.{OutOfMemory}
 use Rattle.clap.proofs.OnLiterals.{clap_on_literals}
@@ -8,7 +8,7 @@ use Rattle.clap.specs.Kinds.{or_else}
 use Rattle.clap.specs.Faults.{check_fault, defaults_fault, level_fault, settle_fault, walk_fault}
 use Rattle.clap.specs.Simple.{built, new_shape}
 use Rattle.clap.specs.Walk.{Held, Names, finished, settled, walk, walk_from}
-use Rattle.gist.specs.CommandLine.{ClassNames, IsGistLine, Refuses, gist_line, program, store_command}
+use Rattle.gist.specs.CommandLine.{ClassNames, IsGistLine, Refuses, gist_line, program}
 
 second : (a b : Kinds) → or_else a b ≡ [] → b ≡ []
 second [] b e = e
@@ -39,9 +39,9 @@ abbrev pub first : List Shape → Shape
 first [] = new_shape []
 first (s ∷ ss) = s
 
--- a command with the options of a store, as it is built
-abbrev pub store_shape : ClassNames → Text → Shape
-store_shape names command = first (built (with_subcommand program (store_command names command).top)).subs
+-- a command with these rules, as it is built
+abbrev pub shape_with : List Rule → Text → Shape
+shape_with rules command = record (first (built (with_subcommand program (new_app command).top)).subs) { rules = rules }
 
 pub is_plain : (names : ClassNames) → is_simple (gist_line names) ≡ true
 unfolding clap_on_literals

@@ -13,14 +13,13 @@ use Rattle.clap.specs.Lexer.{long_of, long_of_rest, short_of, short_of_rest, str
 use Rattle.clap.specs.Faults.{bundle_fault, check_fault, default_fault, defaults_fault, entered_fault, flag_word_fault, level_fault, long_fault, react_fault, settle_fault, step_fault, turn_fault, use_fault, walk_fault}
 use Rattle.clap.specs.Walk.{Held, Waiting, Walk, after_step, arg_by_id, arg_by_long, finished, has_row, idle, option, nothing_held, option_word, settled, settled_rows, short_or_plain, used, walk, walk_from, walked, with_default}
 use Rattle.clap.specs.declared.builder.ValueParser.{ValueParser}
-use Rattle.clap.specs.declared.builder.ValueParser.TheVariants as parser
 use Rattle.clap.specs.Simple.{entered, rows_at}
-use Rattle.gist.specs.CommandLine.{AreWellFormed, ClassNames, IsGistLine, gist_line, number_of_32_bits}
-use Rattle.gist.specs.Spelling.{IsStoreCommand, SpellsPlainly, is_hyphened, no_more, behind_equals, as_next_word}
+use Rattle.gist.specs.CommandLine.{AreWellFormed, ClassNames, IsGistLine, gist_line, parser_of}
+use Rattle.gist.specs.Spelling.{IsStoreCommand, OptionKind, SpellsPlainly, store_table, is_hyphened, no_more, behind_equals, as_next_word}
 use Rattle.gist.proofs.Reading.{Ends, H, Taken, at, dashes, flag_step, help, rules, s, settles, used_row, value_rule, word_step}
 use Rattle.gist.proofs.Naming.{Enters, commands, enters, line, no_rows, stopped_at, stops, top}
-use Rattle.gist.proofs.Serving.{is_free, store_shape}
-use Rattle.gist.proofs.Values.{are_taken, rule_named}
+use Rattle.gist.proofs.Serving.{is_free, shape_with}
+use Rattle.gist.proofs.Values.{are_taken}
 
 both : (a b : Kinds) → a ≡ [] → b ≡ [] → or_else a b ≡ []
 both a b e f = ap (λ (x : Kinds). or_else x b) e ∙ f
@@ -54,25 +53,44 @@ plain_word_is (x ∷ xs) e = record {
         let bad : true ≡ false = subst (λ (w : Text). is_hyphened w ≡ false) ((bytes_eq-Decides (x ∷ xs) dashes).0 is) e in
         absurd (true≢false bad)
 
-module _ (names : ClassNames) (command : Text) where
-  long_named : (name : Text) (takes : ValueParser) → arg_by_id (rules names) name ≡ Some (value_rule name takes) → arg_by_long (rules names) name ≡ Some (value_rule name takes)
-  long_named name takes by_id = elim (rule_named names name takes by_id) [
-    | inl c ↦ subst (λ (m : Text). arg_by_long (rules names) m ≡ Some (value_rule m takes)) (sym c.0) (ap (λ (t : ValueParser). Some (value_rule (codes "class") t)) (sym c.1))
-    | inr n ↦ elim n [
-      | inl f ↦ subst (λ (m : Text). arg_by_long (rules names) m ≡ Some (value_rule m takes)) (sym f.0) (ap (λ (t : ValueParser). Some (value_rule (codes "fan") t)) (sym f.1))
-      | inr l ↦ subst (λ (m : Text). arg_by_long (rules names) m ≡ Some (value_rule m takes)) (sym l.0) (ap (λ (t : ValueParser). Some (value_rule (codes "least") t)) (sym l.1))
-    ]
-  ]
+-- a name that finds the rule of an option as an identifier finds it as a long word too
+long_named : (names : ClassNames) (table : List (Text × OptionKind)) (name : Text) (takes : ValueParser) → arg_by_id (rules names table) name ≡ Some (value_rule name takes) → arg_by_long (rules names table) name ≡ Some (value_rule name takes)
+long_named names [] name takes = go (bytes_eq (codes "help") name)
+  where
+    go : (b : Bool) → cond b (Some help) None ≡ Some (value_rule name takes) → cond (b || false) (Some help) None ≡ Some (value_rule name takes)
+    go true e = e
+    go false e = e
+long_named names (o ∷ table) name takes = go (bytes_eq o.0 name) (long_named names table name takes)
+  where
+    own : Rule
+    own = value_rule o.0 (parser_of names o.1)
 
+    go : (b : Bool) → (arg_by_id (rules names table) name ≡ Some (value_rule name takes) → arg_by_long (rules names table) name ≡ Some (value_rule name takes))
+        → cond b (Some own) (arg_by_id (rules names table) name) ≡ Some (value_rule name takes) → cond (b || false) (Some own) (arg_by_long (rules names table) name) ≡ Some (value_rule name takes)
+    go true rest e = e
+    go false rest e = rest e
+
+no_default_fault : (b : Bool) (kinds : Kinds) → cond (b || true) [] kinds ≡ []
+no_default_fault true kinds = refl
+no_default_fault false kinds = refl
+
+defaults_pass : (names : ClassNames) (table : List (Text × OptionKind)) (rows : List Row) → defaults_fault rows (rules names table) ≡ []
+unfolding defaults_fault
+defaults_pass names [] rows = both (default_fault rows help) _ (no_default_fault (has_row (codes "help") rows) _) refl
+defaults_pass names (o ∷ table) rows =
+    let own = value_rule o.0 (parser_of names o.1) in
+    both (default_fault rows own) _ (no_default_fault (has_row o.0 rows) _) (defaults_pass names table (with_default rows own))
+
+module _ (names : ClassNames) (table : List (Text × OptionKind)) (command : Text) where
   abbrev Passes : Walk → List Text → Type 0
-  Passes w words = (walk_fault (s names command) [] w words ≡ []) × Ends names w words
+  Passes w words = (walk_fault (s names table command) [] w words ≡ []) × Ends names table w words
 
   -- what is left to pass behind a word
   abbrev After : Text → List Text → Held → Waiting → Bool → Option (Text × Option Text) → Type 0
   After word words h waiting b l =
-      (or_else (or_else (cond b [] (flag_word_fault (rules names) false l word h)) (step_fault (s names command) 1 (word_step names word h waiting b l).0 (word_step names word h waiting b l).1))
-      (walk_fault (s names command) [] (after_step (rules names) word (at h waiting) (word_step names word h waiting b l).0 (word_step names word h waiting b l).1) words) ≡ [])
-      × Ends names (after_step (rules names) word (at h waiting) (word_step names word h waiting b l).0 (word_step names word h waiting b l).1) words
+      (or_else (or_else (cond b [] (flag_word_fault (rules names table) false l word h)) (step_fault (s names table command) 1 (word_step names table word h waiting b l).0 (word_step names table word h waiting b l).1))
+      (walk_fault (s names table command) [] (after_step (rules names table) word (at h waiting) (word_step names table word h waiting b l).0 (word_step names table word h waiting b l).1) words) ≡ [])
+      × Ends names table (after_step (rules names table) word (at h waiting) (word_step names table word h waiting b l).0 (word_step names table word h waiting b l).1) words
 
   word_passes : (word : Text) (words : List Text) (rows : List Row) (p : Option (Text × List Text)) → After word words (H rows p) idle (bytes_eq word dashes) (long_of word) → Passes (at (H rows p) idle) (word ∷ words)
   unfolding walked walk_fault
@@ -84,33 +102,33 @@ module _ (names : ClassNames) (command : Text) where
 
   abbrev OptionAfter : Text → List Text → Held → Option Text → Option Rule → Type 0
   OptionAfter word words h x o =
-      (or_else (or_else (long_fault (rules names) false o x h) (step_fault (s names command) 1 (flag_step names word h o x).0 (flag_step names word h o x).1))
-      (walk_fault (s names command) [] (after_step (rules names) word (at h idle) (flag_step names word h o x).0 (flag_step names word h o x).1) words) ≡ [])
-      × Ends names (after_step (rules names) word (at h idle) (flag_step names word h o x).0 (flag_step names word h o x).1) words
+      (or_else (or_else (long_fault (rules names table) false o x h) (step_fault (s names table command) 1 (flag_step names table word h o x).0 (flag_step names table word h o x).1))
+      (walk_fault (s names table command) [] (after_step (rules names table) word (at h idle) (flag_step names table word h o x).0 (flag_step names table word h o x).1) words) ≡ [])
+      × Ends names table (after_step (rules names table) word (at h idle) (flag_step names table word h o x).0 (flag_step names table word h o x).1) words
 
   option_passes : (word : Text) (words : List Text) (rows : List Row) (p : Option (Text × List Text)) (name : Text) (x : Option Text) (takes : ValueParser) → long_of word ≡ Some (name, x)
-      → arg_by_id (rules names) name ≡ Some (value_rule name takes) → OptionAfter word words (H rows p) x (Some (value_rule name takes)) → Passes (at (H rows p) idle) (word ∷ words)
+      → arg_by_id (rules names table) name ≡ Some (value_rule name takes) → OptionAfter word words (H rows p) x (Some (value_rule name takes)) → Passes (at (H rows p) idle) (word ∷ words)
   option_passes word words rows p name x takes long by_id after =
       word_passes word words rows p
       (subst (λ (b : Bool). After word words (H rows p) idle b (long_of word)) (sym (not_marked word (name, x) long))
       (subst (λ (l : Option (Text × Option Text)). After word words (H rows p) idle false l) (sym long)
-      (subst (λ (o : Option Rule). OptionAfter word words (H rows p) x o) (sym (long_named name takes by_id)) after)))
+      (subst (λ (o : Option Rule). OptionAfter word words (H rows p) x o) (sym (long_named names table name takes by_id)) after)))
 
   abbrev ShortAfter : Text → List Text → List Row → Text → Option Text → Type 0
   ShortAfter word words rows name o =
-      (or_else (or_else (option_map_or (λ flags. bundle_fault (rules names) false flags (H rows (Some (name, [])))) o []) (step_fault (s names command) 1 (short_or_plain (rules names) (option name) word o (H rows (Some (name, [])))).0 (short_or_plain (rules names) (option name) word o (H rows (Some (name, [])))).1))
-      (walk_fault (s names command) [] (after_step (rules names) word (at (H rows (Some (name, []))) (option name)) (short_or_plain (rules names) (option name) word o (H rows (Some (name, [])))).0 (short_or_plain (rules names) (option name) word o (H rows (Some (name, [])))).1) words) ≡ [])
-      × Ends names (after_step (rules names) word (at (H rows (Some (name, []))) (option name)) (short_or_plain (rules names) (option name) word o (H rows (Some (name, [])))).0 (short_or_plain (rules names) (option name) word o (H rows (Some (name, [])))).1) words
+      (or_else (or_else (option_map_or (λ flags. bundle_fault (rules names table) false flags (H rows (Some (name, [])))) o []) (step_fault (s names table command) 1 (short_or_plain (rules names table) (option name) word o (H rows (Some (name, [])))).0 (short_or_plain (rules names table) (option name) word o (H rows (Some (name, [])))).1))
+      (walk_fault (s names table command) [] (after_step (rules names table) word (at (H rows (Some (name, []))) (option name)) (short_or_plain (rules names table) (option name) word o (H rows (Some (name, [])))).0 (short_or_plain (rules names table) (option name) word o (H rows (Some (name, [])))).1) words) ≡ [])
+      × Ends names table (after_step (rules names table) word (at (H rows (Some (name, []))) (option name)) (short_or_plain (rules names table) (option name) word o (H rows (Some (name, [])))).0 (short_or_plain (rules names table) (option name) word o (H rows (Some (name, [])))).1) words
 
   abbrev PlainAfter : Text → List Text → List Row → Text → Held × Waiting → Type 0
   PlainAfter word words rows name met = Passes (record (at (H rows (Some (name, []))) (option name)) { held = met.0; waiting = met.1 }) words
 
-  next_word_passes : (value : Text) (words : List Text) (rows : List Row) (name : Text) (takes : ValueParser) → is_hyphened value ≡ false → arg_by_id (rules names) name ≡ Some (value_rule name takes)
+  next_word_passes : (value : Text) (words : List Text) (rows : List Row) (name : Text) (takes : ValueParser) → is_hyphened value ≡ false → arg_by_id (rules names table) name ≡ Some (value_rule name takes)
       → Passes (at (H rows (Some (name, value ∷ []))) idle) words → Passes (at (H rows (Some (name, []))) (option name)) (value ∷ words)
   next_word_passes value words rows name takes bare by_id rest =
       let plain_is = plain_word_is value bare in
       let self : bytes_eq name name ≡ true = (bytes_eq-Decides name name).1 refl in
-      let kept : PlainAfter value words rows name (option_word (arg_by_id (rules names) name) name value (H rows (Some (name, [])))) =
+      let kept : PlainAfter value words rows name (option_word (arg_by_id (rules names table) name) name value (H rows (Some (name, [])))) =
       subst (λ (o : Option Rule). PlainAfter value words rows name (option_word o name value (H rows (Some (name, []))))) (sym by_id)
       (subst (λ (b : Bool). PlainAfter value words rows name (H rows (Some (name, value ∷ [])), cond (nat_lt (cond b 1 0) 1) (option name) idle)) (sym self) rest) in
       value_passes value words rows (Some (name, [])) name
@@ -118,29 +136,30 @@ module _ (names : ClassNames) (command : Text) where
       (subst (λ (l : Option (Text × Option Text)). After value words (H rows (Some (name, []))) (option name) false l) (sym plain_is.long)
       (subst (λ (o : Option Text). ShortAfter value words rows name o) (sym plain_is.short) kept)))
 
-  pub passes : (words : List Text) (given : List (Text × Text)) (rows : List Row) (p : Option (Text × List Text)) → SpellsPlainly words given → settle_fault (rules names) false (H rows p) ≡ []
-      → Taken names (settled_rows (rules names) p rows) given → Passes (at (H rows p) idle) words
+  pub passes : (words : List Text) (given : List (Text × Text)) (rows : List Row) (p : Option (Text × List Text)) → SpellsPlainly words given → settle_fault (rules names table) false (H rows p) ≡ []
+      → Taken names table (settled_rows (rules names table) p rows) given → Passes (at (H rows p) idle) words
   unfolding walk_fault
   passes [] [] rows p no_more settle taken = (refl, settle)
   passes [] (o ∷ given) rows p plainly settle taken = elim plainly [ ]
   passes (word ∷ words) [] rows p plainly settle taken = elim plainly [ ]
   passes (word ∷ words) (o ∷ given) rows p (behind_equals long more) settle taken =
-      let before = settled_rows (rules names) p rows in
+      let before = settled_rows (rules names table) p rows in
       let rule = value_rule o.0 taken.0 in
       let after = used rule (o.1 ∷ []) before in
-      let rest = passes words given after None more refl (subst (λ (rs : List Row). Taken names rs given) (sym (used_row names o.0 taken.0 o.1 before taken.1 taken.2)) taken.3) in
-      let react = both (settle_fault (rules names) false (H rows p)) (use_fault false rule (o.1 ∷ []) before) settle taken.2 in
+      let rest = passes words given after None more refl (subst (λ (rs : List Row). Taken names table rs given) (sym (used_row names table o.0 taken.0 o.1 before taken.1 taken.2)) taken.3) in
+      let react = both (settle_fault (rules names table) false (H rows p)) (use_fault false rule (o.1 ∷ []) before) settle taken.2 in
       option_passes word words rows p o.0 (Some o.1) taken.0 long taken.1
-      (both (or_else (react_fault (rules names) false rule (o.1 ∷ []) (H rows p)) []) _ (both (react_fault (rules names) false rule (o.1 ∷ []) (H rows p)) [] react refl) rest.0, rest.1)
+      (both (or_else (react_fault (rules names table) false rule (o.1 ∷ []) (H rows p)) []) _ (both (react_fault (rules names table) false rule (o.1 ∷ []) (H rows p)) [] react refl) rest.0, rest.1)
   passes (word ∷ value ∷ words) (o ∷ given) rows p (as_next_word long bare more) settle taken =
-      let before = settled_rows (rules names) p rows in
+      let before = settled_rows (rules names table) p rows in
       let settle_value = subst (λ (r : Option Rule). option_map_or (λ a. use_fault false a (o.1 ∷ []) before) r [] ≡ []) (sym taken.1) taken.2 in
       let rest = passes words given before (Some (o.0, o.1 ∷ [])) more settle_value
-      (subst (λ (rs : List Row). Taken names rs given) (sym (settles names o.0 taken.0 o.1 before taken.1 settle_value)) taken.3) in
+      (subst (λ (rs : List Row). Taken names table rs given) (sym (settles names table o.0 taken.0 o.1 before taken.1 settle_value)) taken.3) in
       let turn = next_word_passes value words before o.0 taken.0 bare taken.1 rest in
       option_passes word (value ∷ words) rows p o.0 None taken.0 long taken.1
-      (both (or_else (settle_fault (rules names) false (H rows p)) []) _ (both (settle_fault (rules names) false (H rows p)) [] settle refl) turn.0, turn.1)
+      (both (or_else (settle_fault (rules names table) false (H rows p)) []) _ (both (settle_fault (rules names table) false (H rows p)) [] settle refl) turn.0, turn.1)
 
+module _ (names : ClassNames) (command : Text) where
   stopped_passes : (words : List Text) (name : Text) (passed : List Text) → walk_fault (top names) (commands names) (stopped_at name passed) words ≡ []
   unfolding walked walk_fault
   stopped_passes [] name passed = refl
@@ -151,36 +170,21 @@ module _ (names : ClassNames) (command : Text) where
   stopped_holds [] name passed = refl
   stopped_holds (w ∷ words) name passed = stopped_holds words name (passed ++ w ∷ [])
 
-  no_default_fault : (b : Bool) (kinds : Kinds) → cond (b || true) [] kinds ≡ []
-  no_default_fault true kinds = refl
-  no_default_fault false kinds = refl
-
-  defaults_pass : (rows : List Row) → defaults_fault rows (rules names) ≡ []
-  unfolding defaults_fault
-  defaults_pass rows =
-      let first = with_default rows (value_rule (codes "class") (parser.Names names)) in
-      let second = with_default first (value_rule (codes "fan") number_of_32_bits) in
-      let third = with_default second (value_rule (codes "least") number_of_32_bits) in
-      both (default_fault rows (value_rule (codes "class") (parser.Names names))) _ (no_default_fault (has_row (codes "class") rows) _)
-      (both (default_fault first (value_rule (codes "fan") number_of_32_bits)) _ (no_default_fault (has_row (codes "fan") first) _)
-      (both (default_fault second (value_rule (codes "least") number_of_32_bits)) _ (no_default_fault (has_row (codes "least") second) _)
-      (both (default_fault third help) _ (no_default_fault (has_row (codes "help") third) _) refl)))
-
-  pub takes_words : (name : Text) (rest : List Text) (given : List (Text × Text)) → IsStoreCommand command → SpellsPlainly rest given → Taken names [] given → fault_of (gist_line names) (name ∷ command ∷ rest) ≡ []
+  pub takes_words : (name : Text) (rest : List Text) (given : List (Text × Text)) → IsStoreCommand command → SpellsPlainly rest given → Taken names store_table [] given → fault_of (gist_line names) (name ∷ command ∷ rest) ≡ []
   unfolding walked walk_fault defaults_fault
   takes_words name rest given is_command plainly taken =
-      let shape = store_shape names command in
+      let shape = shape_with (rules names store_table) command in
       let enter : Enters names command = enters names command is_command in
       let end_at_top = fold (walked (top names).rules (commands names)) (walked (top names).rules (commands names) (walk_from nothing_held) command) rest in
       let end_is : end_at_top ≡ fold (walked (top names).rules (commands names)) (stopped_at command []) rest = ap (λ (w : Walk). fold (walked (top names).rules (commands names)) w rest) enter.walk in
       let stop_is : end_at_top.stopped ≡ Some (command, rest) = ap (λ (w : Walk). w.stopped) end_is ∙ stops (top names).rules (commands names) rest command [] in
       let held_is : end_at_top.held ≡ no_rows = ap (λ (w : Walk). w.held) end_is ∙ stopped_holds rest command [] in
-      let leaf = passes rest given [] None plainly refl taken in
+      let leaf = passes names store_table command rest given [] None plainly refl taken in
       let end = (walk shape.rules [] nothing_held rest).held in
       let defaults = defaults_fault (settled shape.rules end).rows shape.rules in
       let level : level_fault shape [] nothing_held rest false [] ≡ [] =
       both (walk_fault shape [] (walk_from nothing_held) rest) _ leaf.0
-      (both (settle_fault shape.rules shape.args_override_self end) _ leaf.1 (both defaults _ (defaults_pass (settled shape.rules end).rows) refl)) in
+      (both (settle_fault shape.rules shape.args_override_self end) _ leaf.1 (both defaults _ (defaults_pass names store_table (settled shape.rules end).rows) refl)) in
       let below : entered_fault (line names) end_at_top.stopped ≡ [] =
       ap (entered_fault (line names)) stop_is ∙ ap (λ (o : Option Shape). option_map_or (λ (s : Shape). level_fault s [] nothing_held rest false []) o []) enter.shape ∙ level in
       let met : is_some (entered (line names) end_at_top.stopped) ≡ true =
@@ -202,7 +206,7 @@ only_memory program words why gist fails well =
     let names = gist.0 in
     let free : is_simple_and_free program ≡ true = ap is_simple_and_free gist.2 ∙ is_free names in
     let none : fault_of program words ≡ [] = ap (λ (l : App). fault_of l words) gist.2 ∙ ap (fault_of (gist_line names)) well.words_are
-    ∙ takes_words names well.command well.name well.rest well.given well.is_command well.spelled (are_taken names [] well.given gist.1 well.are_options) in
+    ∙ takes_words names well.command well.name well.rest well.given well.is_command well.spelled (are_taken names store_table [] well.given gist.1 well.are_options) in
     elim (fails free) [
       | inl memory ↦ memory
       | inr among ↦ absurd (subst (λ (kinds : Kinds). IsAmong why kinds) none among)

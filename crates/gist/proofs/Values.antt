@@ -1,5 +1,5 @@
--- The values that clap takes for the options of `serve`.
-use Rattle.std.proofs.Common.{◌≡◌, ◌∙◌, ◌<◌, ◌^◌, ◌||◌, ◌&&◌, ℕ, Bool, true, false, cond, refl, sym, ap, subst, arith, List, [], ◌∷◌, ◌++◌, map, drop, inl, inr, ◌⊎◌, Option, Some, None, codes, true≢false, pos}
+-- The values that clap takes for the options of a table.
+use Rattle.std.proofs.Common.{◌≡◌, ◌∙◌, ◌<◌, ◌^◌, ◌||◌, ◌&&◌, ℕ, Bool, true, false, cond, refl, sym, ap, subst, arith, List, [], ◌∷◌, ◌++◌, map, drop, inl, inr, Option, Some, None, codes, true≢false, pos}
 use Rattle.std.proofs.lemmas.Int.{ints}
 use Rattle.std.specs.Option.{is_some, option_map, unwrap_or}
 use Rattle.std.specs.List.{list_any}
@@ -21,8 +21,8 @@ use Rattle.clap.specs.declared.builder.ValueParser.TheVariants as parser
 use Rattle.clap.specs.declared.error.ErrorKind.TheVariants as kind
 use Rattle.clap.proofs.ValueTestLemmas.{Accepts-accepts, accepts-Accepts}
 use Rattle.clap.proofs.WalkLemmas.{list_any-map}
-use Rattle.gist.specs.CommandLine.{AreClassNames, ClassNames, NumberGiven, NumberRead, number_of_32_bits}
-use Rattle.gist.specs.Spelling.{AreOptions, IsClassName, IsNumber, IsOption, SpellsNumber, value_of}
+use Rattle.gist.specs.CommandLine.{AreClassNames, ClassNames, NumberGiven, NumberRead, number_of_32_bits, parser_of}
+use Rattle.gist.specs.Spelling.{AreOptions, IsClassName, IsNumber, IsOption, IsValueOf, OptionKind, a_class, a_number, kind_named, SpellsNumber, value_of}
 use Rattle.gist.proofs.Reading.{Taken, earlier, faulty, help, later, option_row, rules, value_rule}
 
 no_plus : (digits : Text) → IsNumeral 10 digits → without_leading_plus digits ≡ digits
@@ -88,26 +88,43 @@ class_taken names value are e = go (bytes_eq (codes "interval") value) refl (byt
 number_taken : (value : Text) → accepts false number_of_32_bits value ≡ true → IsSignedIn (pos 0) (pos 4294967295) value
 number_taken value e = accepts-Accepts false number_of_32_bits value e
 
--- the rule of a name, by its three cases
-pub rule_named : (names : ClassNames) (name : Text) (takes : ValueParser) → arg_by_id (rules names) name ≡ Some (value_rule name takes)
-    → ((name ≡ codes "class") × (takes ≡ parser.Names names)) ⊎ (((name ≡ codes "fan") × (takes ≡ number_of_32_bits)) ⊎ ((name ≡ codes "least") × (takes ≡ number_of_32_bits)))
-rule_named names name takes = go (bytes_eq (codes "class") name) refl (bytes_eq (codes "fan") name) refl (bytes_eq (codes "least") name) refl (bytes_eq (codes "help") name)
+-- the rule of a name is that of the option which the table has of that name
+pub rule_named : (names : ClassNames) (table : List (Text × OptionKind)) (name : Text) (takes : ValueParser) → arg_by_id (rules names table) name ≡ Some (value_rule name takes)
+    → (kind : OptionKind) × (kind_named table name ≡ Some kind) × (takes ≡ parser_of names kind)
+rule_named names [] name takes = go (bytes_eq (codes "help") name)
   where
-    same : (own : Text) (parses : ValueParser) → Some (value_rule own parses) ≡ Some (value_rule name takes) → takes ≡ parses
-    same own parses e = sym (ap (λ (o : Option Rule). unwrap_or (unwrap_or o (value_rule own parses)).parser parses) e)
-
-    go : (a : Bool) → bytes_eq (codes "class") name ≡ a → (b : Bool) → bytes_eq (codes "fan") name ≡ b → (c : Bool) → bytes_eq (codes "least") name ≡ c → (d : Bool)
-        → cond a (Some (value_rule (codes "class") (parser.Names names))) (cond b (Some (value_rule (codes "fan") number_of_32_bits)) (cond c (Some (value_rule (codes "least") number_of_32_bits)) (cond d (Some help) None))) ≡ Some (value_rule name takes)
-        → ((name ≡ codes "class") × (takes ≡ parser.Names names)) ⊎ (((name ≡ codes "fan") × (takes ≡ number_of_32_bits)) ⊎ ((name ≡ codes "least") × (takes ≡ number_of_32_bits)))
-    go true is b f c g d e = inl (sym ((bytes_eq-Decides (codes "class") name).0 is), same (codes "class") (parser.Names names) e)
-    go false h true is c g d e = inr (inl (sym ((bytes_eq-Decides (codes "fan") name).0 is), same (codes "fan") number_of_32_bits e))
-    go false h false f true is d e = inr (inr (sym ((bytes_eq-Decides (codes "least") name).0 is), same (codes "least") number_of_32_bits e))
-    go false h false f false g true e =
+    go : (b : Bool) → cond b (Some help) None ≡ Some (value_rule name takes) → (kind : OptionKind) × (None ≡ Some kind) × (takes ≡ parser_of names kind)
+    go true e =
         let bad : true ≡ false = ap (λ (o : Option Rule). is_some (unwrap_or o help).short) e in
         absurd (true≢false bad)
-    go false h false f false g false e =
+    go false e =
         let bad : false ≡ true = ap (λ (o : Option Rule). is_some o) e in
         absurd (true≢false (sym bad))
+rule_named names (o ∷ table) name takes = go (bytes_eq o.0 name) (rule_named names table name takes)
+  where
+    own : ValueParser
+    own = parser_of names o.1
+
+    go : (b : Bool) → (arg_by_id (rules names table) name ≡ Some (value_rule name takes) → (kind : OptionKind) × (kind_named table name ≡ Some kind) × (takes ≡ parser_of names kind))
+        → cond b (Some (value_rule o.0 own)) (arg_by_id (rules names table) name) ≡ Some (value_rule name takes)
+        → (kind : OptionKind) × (cond b (Some o.1) (kind_named table name) ≡ Some kind) × (takes ≡ parser_of names kind)
+    go true rest e = (o.1, refl, sym (ap (λ (r : Option Rule). unwrap_or (unwrap_or r (value_rule o.0 own)).parser own) e))
+    go false rest e = rest e
+
+-- an option of the table has a rule, which its name finds
+rule_there : (names : ClassNames) (table : List (Text × OptionKind)) (name : Text) (kind : OptionKind) → kind_named table name ≡ Some kind → arg_by_id (rules names table) name ≡ Some (value_rule name (parser_of names kind))
+rule_there names [] name kind e =
+    let bad : false ≡ true = ap (λ (o : Option OptionKind). is_some o) e in
+    absurd (true≢false (sym bad))
+rule_there names (o ∷ table) name kind e = go (bytes_eq o.0 name) refl e (rule_there names table name kind)
+  where
+    go : (b : Bool) → bytes_eq o.0 name ≡ b → cond b (Some o.1) (kind_named table name) ≡ Some kind
+        → (kind_named table name ≡ Some kind → arg_by_id (rules names table) name ≡ Some (value_rule name (parser_of names kind)))
+        → cond b (Some (value_rule o.0 (parser_of names o.1))) (arg_by_id (rules names table) name) ≡ Some (value_rule name (parser_of names kind))
+    go true is f rest =
+        ap (λ (n : Text). Some (value_rule n (parser_of names o.1))) ((bytes_eq-Decides o.0 name).0 is)
+        ∙ ap (λ (k : Option OptionKind). Some (value_rule name (parser_of names (unwrap_or k o.1)))) f
+    go false is f rest = rest f
 
 -- a value that was used passes its parser
 value_accepted : (name : Text) (takes : ValueParser) (value : Text) (rows : List Row) → use_fault false (value_rule name takes) (value ∷ []) rows ≡ [] → accepts false takes value ≡ true
@@ -133,54 +150,55 @@ number_there value passed = go (starts_with_minus value) refl
         let high = rw minus at passed.3 in
         (digits_value 10 (without_leading_plus value), record { digits = passed.0; value = rw minus refl; fits = omega (arith, ints) })
 
-option_taken : (names : ClassNames) (name : Text) (takes : ValueParser) (value : Text) → AreClassNames names → arg_by_id (rules names) name ≡ Some (value_rule name takes) → accepts false takes value ≡ true → IsOption (name, value)
-option_taken names name takes value are by_id e = elim (rule_named names name takes by_id) [
-  | inl c ↦ inl (c.0, class_taken names value are (subst (λ (p : ValueParser). accepts false p value ≡ true) c.1 e))
-  | inr n ↦ elim n [
-    | inl f ↦ inr (inl (f.0, number_there value (number_taken value (subst (λ (p : ValueParser). accepts false p value ≡ true) f.1 e))))
-    | inr l ↦ inr (inr (l.0, number_there value (number_taken value (subst (λ (p : ValueParser). accepts false p value ≡ true) l.1 e))))
-  ]
-]
+kind_taken : (names : ClassNames) (kind : OptionKind) (value : Text) → AreClassNames names → accepts false (parser_of names kind) value ≡ true → IsValueOf kind value
+kind_taken names a_class value are e = class_taken names value are e
+kind_taken names a_number value are e = number_there value (number_taken value e)
 
-seen_rows : (names : ClassNames) (name : Text) (seen : List (Text × Text)) → has_row name (map (option_row names) seen) ≡ list_any (λ (n : Text). bytes_eq n name) (map (λ (o : Text × Text). o.0) seen)
-seen_rows names name [] = refl
-seen_rows names name (o ∷ seen) = ap (λ (b : Bool). bytes_eq o.0 name || b) (seen_rows names name seen)
+option_taken : (names : ClassNames) (table : List (Text × OptionKind)) (name : Text) (takes : ValueParser) (value : Text) → AreClassNames names
+    → arg_by_id (rules names table) name ≡ Some (value_rule name takes) → accepts false takes value ≡ true → IsOption table (name, value)
+option_taken names table name takes value are by_id e =
+    let r = rule_named names table name takes by_id in
+    (r.0, r.1, kind_taken names r.0 value are (subst (λ (p : ValueParser). accepts false p value ≡ true) r.2 e))
 
-pub are_options : (names : ClassNames) (seen given : List (Text × Text)) → AreClassNames names → Taken names (map (option_row names) seen) given → AreOptions (map (λ (o : Text × Text). o.0) seen) given
-are_options names seen [] are taken = tt
-are_options names seen (o ∷ given) are taken =
-    let rows = map (option_row names) seen in
-    let rest = subst (λ (rs : List Row). Taken names rs given) (sym (map-append (option_row names) seen (o ∷ []))) taken.3 in (
-      option_taken names o.0 taken.0 o.1 are taken.1 (value_accepted o.0 taken.0 o.1 rows taken.2),
-      sym (seen_rows names o.0 seen) ∙ unused o.0 taken.0 o.1 rows taken.2,
-      subst (λ (ns : List Text). AreOptions ns given) (map-append (λ (p : Text × Text). p.0) seen (o ∷ [])) (are_options names (seen ++ o ∷ []) given are rest),
+seen_rows : (names : ClassNames) (table : List (Text × OptionKind)) (name : Text) (seen : List (Text × Text)) → has_row name (map (option_row names table) seen) ≡ list_any (λ (n : Text). bytes_eq n name) (map (λ (o : Text × Text). o.0) seen)
+seen_rows names table name [] = refl
+seen_rows names table name (o ∷ seen) = ap (λ (b : Bool). bytes_eq o.0 name || b) (seen_rows names table name seen)
+
+pub are_options : (names : ClassNames) (table : List (Text × OptionKind)) (seen given : List (Text × Text)) → AreClassNames names → Taken names table (map (option_row names table) seen) given → AreOptions table (map (λ (o : Text × Text). o.0) seen) given
+are_options names table seen [] are taken = tt
+are_options names table seen (o ∷ given) are taken =
+    let rows = map (option_row names table) seen in
+    let rest = subst (λ (rs : List Row). Taken names table rs given) (sym (map-append (option_row names table) seen (o ∷ []))) taken.3 in (
+      option_taken names table o.0 taken.0 o.1 are taken.1 (value_accepted o.0 taken.0 o.1 rows taken.2),
+      sym (seen_rows names table o.0 seen) ∙ unused o.0 taken.0 o.1 rows taken.2,
+      subst (λ (ns : List Text). AreOptions table ns given) (map-append (λ (p : Text × Text). p.0) seen (o ∷ [])) (are_options names table (seen ++ o ∷ []) given are rest),
     )
 
 -- the number that the words give an option was taken by its parser
-number_passed : (names : ClassNames) (name : Text) (rows : List Row) (given : List (Text × Text)) → arg_by_id (rules names) name ≡ Some (value_rule name number_of_32_bits) → Taken names rows given
+number_passed : (names : ClassNames) (table : List (Text × OptionKind)) (name : Text) (rows : List Row) (given : List (Text × Text)) → arg_by_id (rules names table) name ≡ Some (value_rule name number_of_32_bits) → Taken names table rows given
     → (value : Text) → value_of name given ≡ Some value → IsSignedIn (pos 0) (pos 4294967295) value
-number_passed names name rows [] by_id taken value e =
+number_passed names table name rows [] by_id taken value e =
     let bad : false ≡ true = ap (λ (o : Option Text). is_some o) e in
     absurd (true≢false (sym bad))
-number_passed names name rows (o ∷ given) by_id taken value e = go (bytes_eq o.0 name) refl e (number_passed names name (rows ++ option_row names o ∷ []) given by_id taken.3 value)
+number_passed names table name rows (o ∷ given) by_id taken value e = go (bytes_eq o.0 name) refl e (number_passed names table name (rows ++ option_row names table o ∷ []) given by_id taken.3 value)
   where
     go : (b : Bool) → bytes_eq o.0 name ≡ b → cond b (Some o.1) (value_of name given) ≡ Some value → (value_of name given ≡ Some value → IsSignedIn (pos 0) (pos 4294967295) value) → IsSignedIn (pos 0) (pos 4294967295) value
     go true is v rest =
         let own = (bytes_eq-Decides o.0 name).0 is in
-        let found : Some (value_rule o.0 taken.0) ≡ Some (value_rule name number_of_32_bits) = sym taken.1 ∙ ap (arg_by_id (rules names)) own ∙ by_id in
+        let found : Some (value_rule o.0 taken.0) ≡ Some (value_rule name number_of_32_bits) = sym taken.1 ∙ ap (arg_by_id (rules names table)) own ∙ by_id in
         let takes : taken.0 ≡ number_of_32_bits = ap (λ (r : Option Rule). unwrap_or (unwrap_or r (value_rule o.0 taken.0)).parser taken.0) found in
         let passed = value_accepted o.0 taken.0 o.1 rows taken.2 in
         let same : o.1 ≡ value = ap (λ (t : Option Text). unwrap_or t o.1) v in
         subst (λ (t : Text). IsSignedIn (pos 0) (pos 4294967295) t) same (number_taken o.1 (subst (λ (p : ValueParser). accepts false p o.1 ≡ true) takes passed))
     go false is v rest = rest v
 
-pub number_given : (names : ClassNames) (name : Text) (given : List (Text × Text)) (usual number : ℕ) → arg_by_id (rules names) name ≡ Some (value_rule name number_of_32_bits) → Taken names [] given
+pub number_given : (names : ClassNames) (table : List (Text × OptionKind)) (name : Text) (given : List (Text × Text)) (usual number : ℕ) → arg_by_id (rules names table) name ≡ Some (value_rule name number_of_32_bits) → Taken names table [] given
     → NumberRead (option_map without_minus (value_of name given)) usual number → NumberGiven (value_of name given) usual number
-number_given names name given usual number by_id taken = go (value_of name given) refl
+number_given names table name given usual number by_id taken = go (value_of name given) refl
   where
     go : (o : Option Text) → value_of name given ≡ o → NumberRead (option_map without_minus o) usual number → NumberGiven o usual number
     go None e r = r
-    go (Some text) e r = number_spelled text number (number_passed names name [] given by_id taken text e) r
+    go (Some text) e r = number_spelled text number (number_passed names table name [] given by_id taken text e) r
 
 class_accepted : (names : ClassNames) (value : Text) → AreClassNames names → IsClassName value → accepts false (parser.Names names) value ≡ true
 class_accepted names value are is =
@@ -202,16 +220,20 @@ used_well name takes value rows free passes =
     subst (λ (b : Bool). or_else (cond (b && true) (kind.ArgumentConflict ∷ []) []) (values_fault (value_rule name takes) (value ∷ [])) ≡ []) (sym free)
     (subst (λ (b : Bool). or_else (cond b [] (refused_kind takes ∷ [])) [] ≡ []) (sym passes) refl)
 
--- the parser of an option, which takes its value
-parser_there : (names : ClassNames) (o : Text × Text) → AreClassNames names → IsOption o → (takes : ValueParser) × (arg_by_id (rules names) o.0 ≡ Some (value_rule o.0 takes)) × (accepts false takes o.1 ≡ true)
-parser_there names o are (inl c) = (parser.Names names, subst (λ (n : Text). arg_by_id (rules names) n ≡ Some (value_rule n (parser.Names names))) (sym c.0) refl, class_accepted names o.1 are c.1)
-parser_there names o are (inr (inl f)) = (number_of_32_bits, subst (λ (n : Text). arg_by_id (rules names) n ≡ Some (value_rule n number_of_32_bits)) (sym f.0) refl, number_accepted o.1 f.1.0 f.1.1)
-parser_there names o are (inr (inr l)) = (number_of_32_bits, subst (λ (n : Text). arg_by_id (rules names) n ≡ Some (value_rule n number_of_32_bits)) (sym l.0) refl, number_accepted o.1 l.1.0 l.1.1)
+kind_accepted : (names : ClassNames) (kind : OptionKind) (value : Text) → AreClassNames names → IsValueOf kind value → accepts false (parser_of names kind) value ≡ true
+kind_accepted names a_class value are is = class_accepted names value are is
+kind_accepted names a_number value are is = number_accepted value is.0 is.1
 
-pub are_taken : (names : ClassNames) (seen given : List (Text × Text)) → AreClassNames names → AreOptions (map (λ (o : Text × Text). o.0) seen) given → Taken names (map (option_row names) seen) given
-are_taken names seen [] are options = tt
-are_taken names seen (o ∷ given) are options =
-    let there = parser_there names o are options.0 in
-    let rows = map (option_row names) seen in
-    let rest = are_taken names (seen ++ o ∷ []) given are (subst (λ (ns : List Text). AreOptions ns given) (sym (map-append (λ (p : Text × Text). p.0) seen (o ∷ []))) options.2) in
-    (there.0, there.1, used_well o.0 there.0 o.1 rows (seen_rows names o.0 seen ∙ options.1) there.2, subst (λ (rs : List Row). Taken names rs given) (map-append (option_row names) seen (o ∷ [])) rest)
+-- the parser of an option, which takes its value
+parser_there : (names : ClassNames) (table : List (Text × OptionKind)) (o : Text × Text) → AreClassNames names → IsOption table o
+    → (takes : ValueParser) × (arg_by_id (rules names table) o.0 ≡ Some (value_rule o.0 takes)) × (accepts false takes o.1 ≡ true)
+parser_there names table o are option =
+    (parser_of names option.0, rule_there names table o.0 option.0 option.1, kind_accepted names option.0 o.1 are option.2)
+
+pub are_taken : (names : ClassNames) (table : List (Text × OptionKind)) (seen given : List (Text × Text)) → AreClassNames names → AreOptions table (map (λ (o : Text × Text). o.0) seen) given → Taken names table (map (option_row names table) seen) given
+are_taken names table seen [] are options = tt
+are_taken names table seen (o ∷ given) are options =
+    let there = parser_there names table o are options.0 in
+    let rows = map (option_row names table) seen in
+    let rest = are_taken names table (seen ++ o ∷ []) given are (subst (λ (ns : List Text). AreOptions table ns given) (sym (map-append (λ (p : Text × Text). p.0) seen (o ∷ []))) options.2) in
+    (there.0, there.1, used_well o.0 there.0 o.1 rows (seen_rows names table o.0 seen ∙ options.1) there.2, subst (λ (rs : List Row). Taken names table rs given) (map-append (option_row names table) seen (o ∷ [])) rest)

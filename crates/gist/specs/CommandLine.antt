@@ -9,7 +9,7 @@ use Rattle.clap.specs.declared.builder.ValueParser.{ValueParser}
 use Rattle.clap.specs.declared.builder.ValueParser.TheVariants as parser
 use Rattle.clap.specs.declared.error.ErrorKind.{ErrorKind}
 use Rattle.clap.specs.declared.error.ErrorKind.TheVariants as kind
-use Rattle.gist.specs.Spelling.{AreOptions, IsStoreCommand, SpellsNumber, SpellsOptions, SpellsPlainly, value_of}
+use Rattle.gist.specs.Spelling.{AreOptions, OptionKind, a_class, a_number, store_table, IsStoreCommand, SpellsNumber, SpellsOptions, SpellsPlainly, value_of}
 use Rattle.gist.specs.declared.options.Class.{Class}
 use Rattle.gist.specs.declared.options.Class.TheVariants as classes
 use Rattle.gist.specs.declared.options.StoreOptions.{StoreOptions}
@@ -30,11 +30,19 @@ number_of_32_bits = parser.Signed (pos 0) (pos 4294967295)
 abbrev pub ClassNames : Type 0
 ClassNames = Bor (List (Bor Text))
 
+-- what takes the value of an option
+abbrev pub parser_of : ClassNames → OptionKind → ValueParser
+parser_of names a_class = parser.Names names
+parser_of names a_number = number_of_32_bits
+
+-- a command with the options of a table
+abbrev pub command_with : ClassNames → List (Text × OptionKind) → App → App
+command_with names [] command = command
+command_with names (o ∷ table) command = command_with names table (with_rule command (option_rule o.0 (parser_of names o.1)))
+
 -- a command with the options that say how rows are kept
 abbrev pub store_command : ClassNames → Text → App
-store_command names name =
-    with_rule (with_rule (with_rule (new_app name) (option_rule (codes "class") (parser.Names names)))
-    (option_rule (codes "fan") number_of_32_bits)) (option_rule (codes "least") number_of_32_bits)
+store_command names name = command_with names store_table (new_app name)
 
 abbrev pub AreClassNames : ClassNames → Type 0
 AreClassNames names = texts_of names.now ≡ codes "interval" ∷ codes "box" ∷ codes "set" ∷ []
@@ -79,7 +87,7 @@ pub record OptionsGiven (given : List (Text × Text)) (options : StoreOptions) :
 -- behind the program's name the words are this command and its options, each once at most, which give these values
 abbrev pub GivesStore : Text → List Text → StoreOptions → Type 0
 GivesStore command words options =
-    (rest : List Text) × (given : List (Text × Text)) × (drop 1 words ≡ command ∷ rest) × SpellsOptions rest given × AreOptions [] given × OptionsGiven given options
+    (rest : List Text) × (given : List (Text × Text)) × (drop 1 words ≡ command ∷ rest) × SpellsOptions rest given × AreOptions store_table [] given × OptionsGiven given options
 
 -- the first word behind the program's name is the command, and those behind it give its options their values
 abbrev pub GivesSettings : List Text → Settings → Type 0
@@ -96,7 +104,7 @@ pub record AreWellFormed (words : List Text) : Type 0 where
   pub words_are : words ≡ name ∷ command ∷ rest
   pub is_command : IsStoreCommand command
   pub spelled : SpellsPlainly rest given
-  pub are_options : AreOptions [] given
+  pub are_options : AreOptions store_table [] given
 
 -- the words are refused, or ask for help, with an error of this kind
 abbrev pub Refuses : List Text → ErrorKind → Type 0

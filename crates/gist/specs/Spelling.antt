@@ -34,14 +34,31 @@ pub record SpellsNumber (text : Text) (number : ℕ) : Type 0 where
 abbrev pub IsNumber : Text → Type 0
 IsNumber text = (number : ℕ) × SpellsNumber text number
 
--- an option of how rows are kept, with a value of its kind
-abbrev pub IsOption : Text × Text → Type 0
-IsOption o = ((o.0 ≡ codes "class") × IsClassName o.1) ⊎ ((o.0 ≡ codes "fan") × IsNumber o.1) ⊎ ((o.0 ≡ codes "least") × IsNumber o.1)
+-- what the value of an option is
+pub data OptionKind : Type 0 where
+  a_class a_number : OptionKind
+
+abbrev pub IsValueOf : OptionKind → Text → Type 0
+IsValueOf a_class text = IsClassName text
+IsValueOf a_number text = IsNumber text
+
+-- the options of how rows are kept, and what their values are
+abbrev pub store_table : List (Text × OptionKind)
+store_table = (codes "class", a_class) ∷ (codes "fan", a_number) ∷ (codes "least", a_number) ∷ []
+
+-- what the value of the option with a name is, if a table has one
+abbrev pub kind_named : List (Text × OptionKind) → Text → Option OptionKind
+kind_named [] name = None
+kind_named (o ∷ table) name = if bytes_eq o.0 name then Some o.1 else kind_named table name
+
+-- an option of the table, with a value of its kind
+abbrev pub IsOption : List (Text × OptionKind) → Text × Text → Type 0
+IsOption table o = (kind : OptionKind) × (kind_named table o.0 ≡ Some kind) × IsValueOf kind o.1
 
 -- each is such an option, and none has a name that was seen before it
-abbrev pub AreOptions : List Text → List (Text × Text) → Type 0
-AreOptions seen [] = ⊤
-AreOptions seen (o ∷ given) = IsOption o × (list_any (λ name. bytes_eq name o.0) seen ≡ false) × AreOptions (seen ++ o.0 ∷ []) given
+abbrev pub AreOptions : List (Text × OptionKind) → List Text → List (Text × Text) → Type 0
+AreOptions table seen [] = ⊤
+AreOptions table seen (o ∷ given) = IsOption table o × (list_any (λ name. bytes_eq name o.0) seen ≡ false) × AreOptions table (seen ++ o.0 ∷ []) given
 
 abbrev pub is_hyphened : Text → Bool
 is_hyphened [] = false
