@@ -6,6 +6,8 @@ mod example;
 #[cfg(test)]
 mod following;
 #[cfg(test)]
+mod judged;
+#[cfg(test)]
 mod likeness;
 #[cfg(test)]
 mod limits;

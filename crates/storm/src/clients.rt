@@ -187,7 +187,12 @@ where
     R: Threads + Wait + Sync,
 {
     let threads = writers.len().max(1);
-    thread::for_each_mut(rt, writers, threads, &|_, writer| desk.write(rt, limits, writer))
+    thread::for_each_mut(
+        rt,
+        writers,
+        threads,
+        &|_, writer| desk.write(rt, limits, writer),
+    )
 }
 
 /// Lets all readers read, each in a thread of its own.
@@ -198,7 +203,12 @@ where
     R: Threads + Wait + Clock + Sync,
 {
     let threads = readers.len().max(1);
-    thread::for_each_mut(rt, readers, threads, &|_, reader| desk.read(rt, alloc, told, reader))
+    thread::for_each_mut(
+        rt,
+        readers,
+        threads,
+        &|_, reader| desk.read(rt, alloc, told, reader),
+    )
 }
 
 /// Lets all writers write while another thread sweeps, and then tells readers how many commits were made.
@@ -210,7 +220,11 @@ where
 {
     let limits = told.limits;
     let sweep = || desk.sweep_pages(rt, limits.sweeps);
-    thread::join(rt, sweep, || write_all::<D, W, V, R>(rt, desk, limits, writers));
+    thread::join(
+        rt,
+        sweep,
+        || write_all::<D, W, V, R>(rt, desk, limits, writers),
+    );
     let mut commits: u64 = 0;
     for writer in writers {
         commits = commits.saturating_add(desk.share(writer));
@@ -226,14 +240,19 @@ fn work_at_once<D, W, V, R>(
     told: &Told<'_>,
     writers: &mut [W],
     readers: &mut [V],
-) where
+)
+where
     D: Clients<W, V> + Sync,
     W: Send,
     V: Send,
     R: Threads + Wait + Clock + Sync,
 {
     let read = || read_all::<D, W, V, R>(rt, alloc, desk, told, readers);
-    thread::join(rt, read, || write_and_sweep::<D, W, V, R>(rt, desk, told, writers));
+    thread::join(
+        rt,
+        read,
+        || write_and_sweep::<D, W, V, R>(rt, desk, told, writers),
+    );
 }
 
 /// Lets all clients work beside what pumps, whose orders end with the last client.
@@ -246,7 +265,8 @@ pub fn work_beside<D, W, V, R, P>(
     readers: &mut [V],
     orders: Sender<Order>,
     pump: P,
-) where
+)
+where
     D: Clients<W, V> + Sync,
     W: Send,
     V: Send,

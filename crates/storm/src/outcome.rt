@@ -142,7 +142,12 @@ fn outcome_of<L: Ledger>(
 ///
 /// # Errors
 /// `BadConfig` where a number lies out of its range, or want of memory.
-pub fn run_storm<L, R>(rt: &R, alloc: Global, blank: Blank, limits: Limits) -> Result<Outcome, Refusal>
+pub fn run_storm<L, R>(
+    rt: &R,
+    alloc: Global,
+    blank: Blank,
+    limits: Limits,
+) -> Result<Outcome, Refusal>
 where
     L: Ledger + Send + Sync,
     R: Threads + Wait + Clock + Sync,
@@ -163,7 +168,15 @@ where
         return Err(Refusal::OutOfMemory);
     };
     let pumps = Pumps::new(limits.pumps as usize, Open)?;
-    run_all(rt, alloc, &desk, &pumps, limits, writers.as_mut_slice(), readers.as_mut_slice())?;
+    run_all(
+        rt,
+        alloc,
+        &desk,
+        &pumps,
+        limits,
+        writers.as_mut_slice(),
+        readers.as_mut_slice(),
+    )?;
     let Ok(readings) = take_back(alloc, &mut writers, readers) else {
         return Err(Refusal::OutOfMemory);
     };
