@@ -8,7 +8,7 @@ use std::sync::Wait;
 use std::sync::ledger::{Blank, Ledger};
 use std::test::*;
 use std::thread::Threads;
-use storm::{Limits, Outcome, Verdict, run_storm};
+use storm::{Limits, run_storm};
 
 const USUAL: Limits = Limits {
     writers: 4,
@@ -43,17 +43,7 @@ const STILL: Limits = Limits {
     seed: 1,
 };
 
-/// Whether a storm made so many commits, and each of so many readers is whole.
-fn is_whole(outcome: &Outcome, commits: u64, readers: usize) -> bool {
-    outcome.is_written
-        && outcome.commits == commits
-        && outcome.verdicts.len() == readers
-        && outcome
-            .verdicts
-            .iter()
-            .all(|verdict| *verdict == Verdict::Whole)
-}
-
+/// Whether a storm made so many commits, and each of all readers is whole.
 fn passes<L: Ledger + Send + Sync, R: Threads + Wait + Clock + Sync>(
     rt: &R,
     alloc: Global,
@@ -66,7 +56,7 @@ fn passes<L: Ledger + Send + Sync, R: Threads + Wait + Clock + Sync>(
     requires one_each { blank.parts ≡ limits.writers + limits.readers }
 {
     let outcome = run_storm::<L, R>(rt, alloc, blank, limits)?;
-    Ok(is_whole(&outcome, commits, limits.readers as usize))
+    Ok(outcome.is_whole(limits) && outcome.commits == commits)
 }
 
 #[test]

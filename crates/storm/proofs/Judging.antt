@@ -1,12 +1,19 @@
 -- Items without marks, and one mark behind them.
-use Rattle.std.proofs.Common.{◌≡◌, ◌↔◌, ℕ, Bool, false, List, [], ◌∷◌, ◌++◌, length, append-nil, Result, Ok, Err, IfOk, IsTrue, refl, sym, ap, ◌∙◌, subst}
+use Rattle.std.proofs.Common.{append_assoc, drop, get_or, ◌<◌, ◌≤◌, Option, ◌+◌, ◌≡◌, ◌↔◌, ℕ, Bool, false, List, [], ◌∷◌, ◌++◌, length, append-nil, Result, Ok, Err, IfOk, IsTrue, refl, sym, ap, ◌∙◌, subst}
 use Rattle.key_class.specs.declared.refusal.Refusal.{Refusal}
 use Rattle.change_list.specs.declared.write.Write.{Write}
 use Rattle.change_list.specs.declared.item.Item.{Item}
 use Rattle.change_list.specs.declared.item.Item.TheVariants as item
 use Rattle.change_list.specs.Listings.{IsListing, is_mark, without_marks}
 use Rattle.listing.specs.Deliveries.{IsDelivered}
+use Rattle.std.proofs.lemmas.List.{drop_more}
+use Rattle.listing.proofs.Cuts.{drop_past}
 use Rattle.listing.proofs.Parts.{append_marks}
+use Rattle.key_class.specs.Queries.{Query}
+use Rattle.key_class.specs.Rules.{Rules}
+use Rattle.storm.specs.Judging.{TellsFate, TellsFates}
+use Rattle.storm.specs.declared.judge.Reading.{Reading}
+use Rattle.storm.specs.declared.judge.Verdict.{Verdict}
 
 module _ {K : Type 0} where
   no_marks_twice : (items : List (Item K)) → without_marks (without_marks items) ≡ without_marks items
@@ -73,3 +80,21 @@ module _ {K : Type 0} (wanted : K → Bool) (s : ℕ) (commits : List (Write K))
 pub told_alike : (told : Result Bool Refusal) (P Q : Type 0) → IfOk told (λ b. IsTrue b ↔ P) → P ↔ Q → IfOk told (λ b. IsTrue b ↔ Q)
 told_alike (Ok b) P Q told same = (λ yes. same.0 (told.0 yes), λ q. told.1 (same.1 q))
 told_alike (Err why) P Q told same = tt
+
+-- one more reader is told of
+pub one_told : {K A : Type 0} (rules : Rules K A) (query : Query A) (commits : List (Write K)) (readings : List (Option (Reading K))) (place : ℕ) (told : List Verdict)
+    (reading : Option (Reading K)) (verdict : Verdict) → place < length readings → reading ≡ get_or readings place reading → TellsFate rules query commits reading verdict
+    → ((rest : List Verdict) → TellsFates rules query commits (drop place readings) rest → TellsFates rules query commits readings (told ++ rest))
+    → (rest : List Verdict) → TellsFates rules query commits (drop (place + 1) readings) rest → TellsFates rules query commits readings ((told ++ verdict ∷ []) ++ rest)
+one_told rules query commits readings place told reading verdict there is fate before rest left =
+    let left_with : reading ∷ drop (place + 1) readings ≡ drop place readings = ap (λ r. r ∷ drop (place + 1) readings) is ∙ sym (drop_more readings place reading there) in
+    subst (λ l. TellsFates rules query commits readings l) (sym (append_assoc told (verdict ∷ []) rest))
+    (before (verdict ∷ rest) (subst (λ l. TellsFates rules query commits l (verdict ∷ rest)) left_with (fate, left)))
+
+-- no reader is left
+pub all_told : {K A : Type 0} (rules : Rules K A) (query : Query A) (commits : List (Write K)) (readings : List (Option (Reading K))) (place : ℕ) (told : List Verdict) → length readings ≤ place
+    → ((rest : List Verdict) → TellsFates rules query commits (drop place readings) rest → TellsFates rules query commits readings (told ++ rest))
+    → TellsFates rules query commits readings told
+all_told rules query commits readings place told over before =
+    subst (λ l. TellsFates rules query commits readings l) (append-nil told)
+    (before [] (subst (λ l. TellsFates rules query commits l []) (sym (drop_past readings place over)) tt))

@@ -1,5 +1,5 @@
 -- How a reader of a storm fared.
-use Rattle.std.specs.Prelude.{◌≡◌, ◌↔◌, IsTrue, ℕ, Bool, List, [], ◌∷◌, ◌++◌, ◌+◌, ◌<◌, length}
+use Rattle.std.specs.Prelude.{◌≡◌, ◌↔◌, IsTrue, ℕ, Bool, List, [], ◌∷◌, ◌++◌, ◌+◌, ◌<◌, length, Option, Some, None, ⊤, true, false}
 use Rattle.key_class.specs.Queries.{Query, query_of}
 use Rattle.key_class.specs.declared.pred.Pred.{Pred}
 use Rattle.key_class.specs.Rules.{Rules, satisfies}
@@ -50,3 +50,21 @@ TellsListing rules query opened commits items told = IsTrue told ↔ IsWholeList
 -- it tells whether a reader of a query was whole
 abbrev pub TellsWhole : {K A : Type 0} → Rules K A → Pred A → List (Write K) → Reading K → Verdict → Type 0
 TellsWhole rules query commits reading told = (told ≡ verdict.Whole) ↔ IsWholeReading rules (query_of query) commits reading
+
+-- it tells how a reader of a query fared: one that took nothing has no receipt
+abbrev pub TellsFate : {K A : Type 0} → Rules K A → Query A → List (Write K) → Option (Reading K) → Verdict → Type 0
+TellsFate rules query commits None told = told ≡ verdict.NoReceipt
+TellsFate rules query commits (Some reading) told =
+    ((told ≡ verdict.Whole) ↔ IsWholeReading rules query commits reading) × ((told ≡ verdict.NoReceipt) ↔ HasNoReceipt reading)
+
+-- each tells how the reader in its place fared
+abbrev pub TellsFates : {K A : Type 0} → Rules K A → Query A → List (Write K) → List (Option (Reading K)) → List Verdict → Type 0
+TellsFates rules query commits [] [] = ⊤
+TellsFates rules query commits [] (v ∷ told) = ⊥
+TellsFates rules query commits (r ∷ readings) [] = ⊥
+TellsFates rules query commits (r ∷ readings) (v ∷ told) = TellsFate rules query commits r v × TellsFates rules query commits readings told
+
+abbrev pub is_whole_reader : Verdict → Bool
+is_whole_reader verdict.Whole = true
+is_whole_reader verdict.NotWhole = false
+is_whole_reader verdict.NoReceipt = false

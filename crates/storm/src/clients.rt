@@ -1,4 +1,7 @@
 //! What the clients of a storm do, each in a thread of its own.
+ghost use Rattle.key_class.specs.Queries.{query_of};
+ghost use Rattle.storm.specs.Outcomes.{AsksFirst500};
+
 use crate::judge::Reading;
 use crate::limits::Limits;
 use change_list::Item;
@@ -31,7 +34,9 @@ const PAUSE: u64 = 200;
 const PAUSES: u32 = 300_000;
 
 /// The query of all readers.
-pub fn asked() -> Pred<Atom> {
+pub fn asked() -> Pred<Atom>
+    ensures { AsksFirst500 (query_of result) }
+{
     match Interval::new(0, 499) {
         Ok(operand) => Pred::Atom(Atom {
             rel: Rel::Overlaps,

@@ -1,7 +1,8 @@
 //! Whether a reader got what it should.
 ghost use Rattle.std.specs.Prelude.{◌≡◌, ◌↔◌, IsTrue, IfOk, IfErr};
+ghost use Rattle.std.specs.List.{list_all};
 ghost use Rattle.change_list.specs.Listings.{is_mark, without_marks};
-ghost use Rattle.storm.specs.Judging.{Begins, HasNoReceipt, TellsListing, TellsWhole};
+ghost use Rattle.storm.specs.Judging.{Begins, HasNoReceipt, TellsListing, TellsWhole, is_whole_reader};
 
 use change_list::{Item, View, Write};
 use desk::Ended;
@@ -18,6 +19,15 @@ pub enum Verdict {
     NotWhole,
     /// Its cursor was closed without a receipt.
     NoReceipt,
+}
+
+/// Whether each reader is whole.
+pub(crate) fn are_whole(verdicts: &[Verdict]) -> bool
+    ensures { result ≡ list_all is_whole_reader verdicts.now }
+{
+    verdicts
+        .iter()
+        .all(|verdict| matches!(verdict, Verdict::Whole))
 }
 
 /// What a reader took, and what closing its cursor gave.

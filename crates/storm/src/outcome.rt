@@ -1,16 +1,17 @@
 //! A whole storm.
-ghost use Rattle.std.specs.Prelude.{◌≡◌, ◌↔◌, ◌+◌, Err, IfErr};
+ghost use Rattle.std.specs.Prelude.{◌≡◌, ◌↔◌, ◌+◌, Err, IfErr, IfOk, IsTrue, OnOk};
 ghost use Rattle.key_class.specs.Refusals.{IsEither};
+ghost use Rattle.storm.specs.Outcomes.{IsTrueOutcome, IsWholeStorm, TellsReaders};
 ghost use Rattle.storm.specs.Sizes.{IsStorm};
 
 use crate::clients::{Reader, asked, work_beside};
-use crate::judge::{Reading, Verdict, judged};
+use crate::judge::{Reading, Verdict, are_whole, judged};
 use crate::limits::Limits;
 use change_list::{ChangeList, Config};
 use crossbeam_channel::bounded;
 use desk::{Desk, Finished, Seat};
-use interval_class::{Interval, Intervals};
-use key_class::Refusal;
+use interval_class::{Atom, Interval, Intervals};
+use key_class::{Pred, Refusal};
 use pumps::{Gate, Pumps};
 use std::alloc::{AllocError, Global};
 use std::rt::Clock;
@@ -43,10 +44,25 @@ impl Gate for Open {
 pub struct Outcome {
     /// How many commits were made.
     pub commits: u64,
-    /// How each reader fared, in the order of their seats.
+    /// What each reader took, in the order of their seats; none where its cursor wasn't opened.
+    pub readings: Vec<Option<Reading<Interval>>>,
+    /// How each reader fared, in the same order.
     pub verdicts: Vec<Verdict>,
-    /// Whether all rows were written, and the stamps of all seats are the commits.
-    pub is_written: bool,
+    /// Whether the stamps of all seats are the commits.
+    pub is_woven: bool,
+}
+
+impl Outcome {
+    /// Whether all rows of a storm were written and deleted, and each of its readers is whole.
+    pub fn is_whole(&self, limits: Limits) -> bool
+        requires { IsStorm limits }
+        ensures { IsTrue result ↔ IsWholeStorm limits self.now }
+    {
+        self.is_woven
+            && self.commits == limits.commits()
+            && self.verdicts.len() == limits.readers as usize
+            && are_whole(self.verdicts.as_slice())
+    }
 }
 
 /// Lets all clients and the pumps work, until the last client has ended.
@@ -89,20 +105,21 @@ fn readers_of<L: Ledger>(
     Ok(readers)
 }
 
-/// How readers fared, told by the commits.
+/// How readers of a query fared, told by the commits.
 fn verdicts_of(
     alloc: Global,
     commits: &ChangeList<Interval>,
+    query: &Pred<Atom>,
     readings: &[Option<Reading<Interval>>],
 ) -> Result<Vec<Verdict>, Refusal>
+    ensures told { IfOk result (TellsReaders query.now commits.now readings.now) }
     ensures refusals { IfErr result (λ why. why ≡ Refusal.OutOfMemory) }
 {
-    let query = asked();
     let mut verdicts = Vec::new(alloc);
     for reading in readings {
         let verdict = match reading {
             None => Verdict::NoReceipt,
-            Some(reading) => judged::<Intervals>(alloc, commits.as_view(), &query, reading)?,
+            Some(reading) => judged::<Intervals>(alloc, commits.as_view(), query, reading)?,
         };
         if verdicts.push(verdict).is_err() {
             return Err(Refusal::OutOfMemory);
@@ -114,26 +131,32 @@ fn verdicts_of(
 /// What came of it, once all seats came back.
 fn outcome_of<L: Ledger>(
     alloc: Global,
-    limits: Limits,
     finished: Finished<Intervals, L>,
-    readings: &[Option<Reading<Interval>>],
+    readings: Vec<Option<Reading<Interval>>>,
 ) -> Result<Outcome, Refusal>
-    requires { IsStorm limits }
+    ensures told { IfOk result IsTrueOutcome }
     ensures refusals { IfErr result (λ why. why ≡ Refusal.OutOfMemory) }
 {
-    match finished {
-        Finished::Closing(closing) => Ok(Outcome {
-            commits: closing.commits().len() as u64,
-            verdicts: verdicts_of(alloc, closing.commits(), readings)?,
-            is_written: closing.sum() == limits.commits(),
-        }),
-        Finished::Torn(torn) => Ok(Outcome {
-            commits: torn.commits.len() as u64,
-            verdicts: verdicts_of(alloc, &torn.commits, readings)?,
-            is_written: false,
-        }),
-        Finished::SeatsOut(_, _) => Err(Refusal::OutOfMemory),
-    }
+    let query = asked();
+    let (commits, verdicts, is_woven) = match finished {
+        Finished::Closing(closing) => {
+            let commits = closing.commits();
+            let verdicts = verdicts_of(alloc, commits, &query, readings.as_slice())?;
+            (commits.len() as u64, verdicts, true)
+        }
+        Finished::Torn(torn) => {
+            let commits = &torn.commits;
+            let verdicts = verdicts_of(alloc, commits, &query, readings.as_slice())?;
+            (commits.len() as u64, verdicts, false)
+        }
+        Finished::SeatsOut(_, _) => return Err(Refusal::OutOfMemory),
+    };
+    Ok(Outcome {
+        commits,
+        readings,
+        verdicts,
+        is_woven,
+    })
 }
 
 /// Writers, readers, pumps and a sweeper at one desk of intervals, each in a thread of its own. Each writer inserts rows with
@@ -154,6 +177,8 @@ where
     requires name { blank.name ≡ L.name }
     requires parts { blank.parts ≡ L.parts }
     requires one_each { blank.parts ≡ limits.writers + limits.readers }
+    ensures told { IfOk result IsTrueOutcome }
+    ensures within { OnOk result (IsStorm limits) }
     ensures bad { (result ≡ Err Refusal.BadConfig) ↔ (¬ IsStorm limits) }
     ensures refusals { IfErr result (IsEither Refusal.BadConfig Refusal.OutOfMemory) }
 {
@@ -180,7 +205,7 @@ where
     let Ok(readings) = take_back(alloc, &mut writers, readers) else {
         return Err(Refusal::OutOfMemory);
     };
-    outcome_of(alloc, limits, desk.finish(writers), readings.as_slice())
+    outcome_of(alloc, desk.finish(writers), readings)
 }
 
 /// Puts the seats of readers behind those of writers, and gives what the readers read.

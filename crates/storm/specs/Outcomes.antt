@@ -1,0 +1,41 @@
+-- What came of a storm.
+use Rattle.std.specs.Prelude.{◌≡◌, IsTrue, List, Option, ◌+◌, ◌*◌, length, pos, Vec}
+use Rattle.std.specs.List.{list_all}
+use Rattle.key_class.specs.Queries.{Query, query_of, atom, both, either, never}
+use Rattle.key_class.specs.declared.pred.Pred.{Pred}
+use Rattle.key_class.specs.declared.sides.Rel.TheVariants as rel
+use Rattle.interval_class.specs.Intervals.{interval_rules}
+use Rattle.interval_class.specs.declared.interval.Interval.{Interval}
+use Rattle.interval_class.specs.declared.atom.Atom.{Atom}
+use Rattle.change_list.specs.declared.write.Write.{Write}
+use Rattle.storm.specs.Judging.{TellsFates, is_whole_reader}
+use Rattle.storm.specs.declared.judge.Reading.{Reading}
+use Rattle.storm.specs.declared.judge.Verdict.{Verdict}
+use Rattle.storm.specs.declared.limits.Limits.{Limits}
+use Rattle.storm.specs.declared.outcome.Outcome.{Outcome}
+
+-- the query is whether a key has a number from 0 to 499
+abbrev pub AsksFirst500 : Query Atom → Type 0
+AsksFirst500 (atom a) = (a.rel ≡ rel.Overlaps) × (a.operand.lo ≡ pos 0) × (a.operand.hi ≡ pos 499)
+AsksFirst500 (both left right) = ⊥
+AsksFirst500 (either left right) = ⊥
+AsksFirst500 (never part) = ⊥
+
+-- each verdict tells how the reader in its place fared, by these commits
+abbrev pub TellsReaders : {Z : Type 0} → Pred Atom → List (Write Interval) → List (Option (Reading Interval)) → Vec Verdict Z → Type 0
+TellsReaders query commits readings told = TellsFates interval_rules (query_of query) commits readings told.items
+
+-- There is a list of so many commits, and each verdict tells how the reader in its place fared by them.
+pub record IsTrueOutcome (o : Outcome) : Type 0 where
+  pub query : Query Atom
+  pub commits : List (Write Interval)
+  pub asks : AsksFirst500 query
+  pub count : o.commits ≡ length commits
+  pub verdicts : TellsFates interval_rules query commits o.readings.items o.verdicts.items
+
+-- all rows were written and deleted, and each of all readers is whole
+pub record IsWholeStorm (limits : Limits) (o : Outcome) : Type 0 where
+  pub woven : IsTrue o.is_woven
+  pub commits : o.commits ≡ limits.writers * (limits.inserts + limits.deletes)
+  pub readers : length o.verdicts.items ≡ limits.readers
+  pub whole : IsTrue (list_all is_whole_reader o.verdicts.items)
