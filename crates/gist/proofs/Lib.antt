@@ -4,4 +4,5 @@ mod Numbers
 mod Reading
 mod Serving
 mod Taking
+mod Telling
 mod Values

@@ -14,7 +14,7 @@ use Rattle.clap.specs.Simple.{built, entered, label_of, names_of, rows_at}
 use Rattle.clap.specs.Walk.{Held, Names, Outcome, Walk, after_flag, after_step, answers_to, arg_by_long, finished, idle, long_or_other, nothing_held, short_or_plain, short_word, subcommand_met, subcommand_or_other, trailing, walk, walk_from, walked, has_row, with_default}
 use Rattle.clap.specs.declared.error.ErrorKind.TheVariants as kind
 use Rattle.gist.specs.CommandLine.{ClassNames, gist_line}
-use Rattle.gist.specs.Spelling.{IsStoreCommand, OptionKind, SpellsOptions, store_table}
+use Rattle.gist.specs.Spelling.{IsCommand, OptionKind, SpellsOptions, table_of}
 use Rattle.gist.proofs.Serving.{checked, last_checks, shape_with}
 use Rattle.gist.proofs.Reading.{H, Taken, at, behind_mark, bundled, dashes, earlier, faulty, help, help_is_asked, help_or_none, later, option_row, reads, rows_at_end, rules}
 
@@ -79,25 +79,26 @@ module _ (names : ClassNames) where
 
   -- the word names no command, or is the name of one
   abbrev IsMet : Text → Option Text → Type 0
-  IsMet word met = (met ≡ None) ⊎ ((met ≡ Some word) × IsStoreCommand word)
+  IsMet word met = (met ≡ None) ⊎ ((met ≡ Some word) × IsCommand word)
 
   is_met : (word : Text) → IsMet word (subcommand_met commands idle word)
-  is_met word = go (bytes_eq (codes "serve") word) refl (bytes_eq (codes "replay") word) refl
+  is_met word = go (bytes_eq (codes "serve") word) refl (bytes_eq (codes "replay") word) refl (bytes_eq (codes "storm") word) refl
     where
-      here : (name : Text) → bytes_eq name word ≡ true → IsStoreCommand name → IsMet word (Some name)
+      here : (name : Text) → bytes_eq name word ≡ true → IsCommand name → IsMet word (Some name)
       here name is command = subst (λ (w : Text). IsMet w (Some name)) ((bytes_eq-Decides name word).0 is) (inr (refl, command))
 
-      go : (serves : Bool) → bytes_eq (codes "serve") word ≡ serves → (replays : Bool) → bytes_eq (codes "replay") word ≡ replays
-          → IsMet word (option_map (λ (x : Text × List Text). x.0) (cond (serves || false) (Some (codes "serve", [])) (cond (replays || false) (Some (codes "replay", [])) None)))
-      go true is b f = here (codes "serve") is (inl refl)
-      go false e true is = here (codes "replay") is (inr refl)
-      go false e false f = inl refl
+      go : (serves : Bool) → bytes_eq (codes "serve") word ≡ serves → (replays : Bool) → bytes_eq (codes "replay") word ≡ replays → (storms : Bool) → bytes_eq (codes "storm") word ≡ storms
+          → IsMet word (option_map (λ (x : Text × List Text). x.0) (cond (serves || false) (Some (codes "serve", [])) (cond (replays || false) (Some (codes "replay", [])) (cond (storms || false) (Some (codes "storm", [])) None))))
+      go true is b f c g = here (codes "serve") is (inl refl)
+      go false e true is c g = here (codes "replay") is (inr (inl refl))
+      go false e false f true is = here (codes "storm") is (inr (inr refl))
+      go false e false f false g = inl refl
 
   -- the words stop at a command
   pub record Stops (words : List Text) (stop : Option (Text × List Text)) : Type 0 where
     command : Text
     rest : List Text
-    is_command : IsStoreCommand command
+    is_command : IsCommand command
     words_are : words ≡ command ∷ rest
     stop_is : stop ≡ Some (command, rest)
 
@@ -140,7 +141,7 @@ module _ (names : ClassNames) where
   pub record Enters (command : Text) : Type 0 where
     pub turn : turn_fault top commands (walk_from nothing_held) command ≡ []
     pub walk : walked top.rules commands (walk_from nothing_held) command ≡ stopped_at command []
-    pub shape : find (λ (s : Shape). answers_to command (label_of s)) line.subs ≡ Some (shape_with (rules names store_table) command)
+    pub shape : find (λ (s : Shape). answers_to command (label_of s)) line.subs ≡ Some (shape_with (rules names (table_of command)) command)
 
   enters_serve : Enters (codes "serve")
   unfolding walked
@@ -150,27 +151,32 @@ module _ (names : ClassNames) where
   unfolding walked
   enters_replay = record { turn = refl; walk = refl; shape = refl }
 
-  pub enters : (command : Text) → IsStoreCommand command → Enters command
+  enters_storm : Enters (codes "storm")
+  unfolding walked
+  enters_storm = record { turn = refl; walk = refl; shape = refl }
+
+  pub enters : (command : Text) → IsCommand command → Enters command
   enters command (inl is) = subst Enters (sym is) enters_serve
-  enters command (inr is) = subst Enters (sym is) enters_replay
+  enters command (inr (inl is)) = subst Enters (sym is) enters_replay
+  enters command (inr (inr is)) = subst Enters (sym is) enters_storm
 
   -- the words are a command and options; what was found behind the command are those options
   pub record Spelled (words : List Text) : Type 0 where
     pub command : Text
     pub rest : List Text
     pub given : List (Text × Text)
-    pub is_command : IsStoreCommand command
+    pub is_command : IsCommand command
     pub words_are : drop 1 words ≡ command ∷ rest
     pub options : SpellsOptions rest given
-    pub found : subcommand_of (gist_line names) words ≡ Some (command, map (option_row names store_table) given)
-    pub taken : Taken names store_table [] given
+    pub found : subcommand_of (gist_line names) words ≡ Some (command, map (option_row names (table_of command)) given)
+    pub taken : Taken names (table_of command) [] given
 
   spelled_behind : (words : List Text) (stop : Option (Text × List Text)) → Stops words stop → entered_fault line stop ≡ []
-      → (command : Text) × (rest : List Text) × (given : List (Text × Text)) × IsStoreCommand command × (words ≡ command ∷ rest) × SpellsOptions rest given × (entered line stop ≡ Some (command, map (option_row names store_table) given)) × Taken names store_table [] given
+      → (command : Text) × (rest : List Text) × (given : List (Text × Text)) × IsCommand command × (words ≡ command ∷ rest) × SpellsOptions rest given × (entered line stop ≡ Some (command, map (option_row names (table_of command)) given)) × Taken names (table_of command) [] given
   spelled_behind words stop at_command none =
       let command = at_command.command in
       let rest = at_command.rest in
-      let shape = shape_with (rules names store_table) command in
+      let shape = shape_with (rules names (table_of command)) command in
       let enters_it = (enters command at_command.is_command).shape in
       let walking = walk_fault shape [] (walk_from nothing_held) rest in
       let level : level_fault shape [] nothing_held rest false [] ≡ [] =
@@ -178,8 +184,8 @@ module _ (names : ClassNames) where
       (subst (λ (o : Option (Text × List Text)). entered_fault line o ≡ []) at_command.stop_is none) in
       let end = (walk shape.rules [] nothing_held rest).held in
       let settling = settle_fault shape.rules shape.args_override_self end in
-      let found = (reads names store_table command rest).0 [] None (earlier walking _ level) (earlier settling _ (later walking _ level)) in
-      let rows = no_default store_table (rows_at_end names store_table (at no_rows idle) rest) ∙ found.3 in (
+      let found = (reads names (table_of command) command rest).0 [] None (earlier walking _ level) (earlier settling _ (later walking _ level)) in
+      let rows = no_default (table_of command) (rows_at_end names (table_of command) (at no_rows idle) rest) ∙ found.3 in (
         command,
         rest,
         found.0,

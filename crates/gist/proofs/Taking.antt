@@ -15,7 +15,7 @@ use Rattle.clap.specs.Walk.{Held, Waiting, Walk, after_step, arg_by_id, arg_by_l
 use Rattle.clap.specs.declared.builder.ValueParser.{ValueParser}
 use Rattle.clap.specs.Simple.{entered, rows_at}
 use Rattle.gist.specs.CommandLine.{AreWellFormed, ClassNames, IsGistLine, gist_line, parser_of}
-use Rattle.gist.specs.Spelling.{IsStoreCommand, OptionKind, SpellsPlainly, store_table, is_hyphened, no_more, behind_equals, as_next_word}
+use Rattle.gist.specs.Spelling.{IsCommand, OptionKind, SpellsPlainly, table_of, is_hyphened, no_more, behind_equals, as_next_word}
 use Rattle.gist.proofs.Reading.{Ends, H, Taken, at, dashes, flag_step, help, rules, s, settles, used_row, value_rule, word_step}
 use Rattle.gist.proofs.Naming.{Enters, commands, enters, line, no_rows, stopped_at, stops, top}
 use Rattle.gist.proofs.Serving.{is_free, shape_with}
@@ -170,21 +170,27 @@ module _ (names : ClassNames) (command : Text) where
   stopped_holds [] name passed = refl
   stopped_holds (w ∷ words) name passed = stopped_holds words name (passed ++ w ∷ [])
 
-  pub takes_words : (name : Text) (rest : List Text) (given : List (Text × Text)) → IsStoreCommand command → SpellsPlainly rest given → Taken names store_table [] given → fault_of (gist_line names) (name ∷ command ∷ rest) ≡ []
+  -- no command has an option that must be given
+  none_required : (rows : List Row) → IsCommand command → check_fault (shape_with (rules names (table_of command)) command) rows false ≡ []
+  none_required rows (inl is) = subst (λ (c : Text). check_fault (shape_with (rules names (table_of c)) c) rows false ≡ []) (sym is) refl
+  none_required rows (inr (inl is)) = subst (λ (c : Text). check_fault (shape_with (rules names (table_of c)) c) rows false ≡ []) (sym is) refl
+  none_required rows (inr (inr is)) = subst (λ (c : Text). check_fault (shape_with (rules names (table_of c)) c) rows false ≡ []) (sym is) refl
+
+  pub takes_words : (name : Text) (rest : List Text) (given : List (Text × Text)) → IsCommand command → SpellsPlainly rest given → Taken names (table_of command) [] given → fault_of (gist_line names) (name ∷ command ∷ rest) ≡ []
   unfolding walked walk_fault defaults_fault
   takes_words name rest given is_command plainly taken =
-      let shape = shape_with (rules names store_table) command in
+      let shape = shape_with (rules names (table_of command)) command in
       let enter : Enters names command = enters names command is_command in
       let end_at_top = fold (walked (top names).rules (commands names)) (walked (top names).rules (commands names) (walk_from nothing_held) command) rest in
       let end_is : end_at_top ≡ fold (walked (top names).rules (commands names)) (stopped_at command []) rest = ap (λ (w : Walk). fold (walked (top names).rules (commands names)) w rest) enter.walk in
       let stop_is : end_at_top.stopped ≡ Some (command, rest) = ap (λ (w : Walk). w.stopped) end_is ∙ stops (top names).rules (commands names) rest command [] in
       let held_is : end_at_top.held ≡ no_rows = ap (λ (w : Walk). w.held) end_is ∙ stopped_holds rest command [] in
-      let leaf = passes names store_table command rest given [] None plainly refl taken in
+      let leaf = passes names (table_of command) command rest given [] None plainly refl taken in
       let end = (walk shape.rules [] nothing_held rest).held in
       let defaults = defaults_fault (settled shape.rules end).rows shape.rules in
       let level : level_fault shape [] nothing_held rest false [] ≡ [] =
       both (walk_fault shape [] (walk_from nothing_held) rest) _ leaf.0
-      (both (settle_fault shape.rules shape.args_override_self end) _ leaf.1 (both defaults _ (defaults_pass names store_table (settled shape.rules end).rows) refl)) in
+      (both (settle_fault shape.rules shape.args_override_self end) _ leaf.1 (both defaults _ (defaults_pass names (table_of command) (settled shape.rules end).rows) (none_required (finished shape.rules end) is_command))) in
       let below : entered_fault (line names) end_at_top.stopped ≡ [] =
       ap (entered_fault (line names)) stop_is ∙ ap (λ (o : Option Shape). option_map_or (λ (s : Shape). level_fault s [] nothing_held rest false []) o []) enter.shape ∙ level in
       let met : is_some (entered (line names) end_at_top.stopped) ≡ true =
@@ -206,7 +212,7 @@ only_memory program words why gist fails well =
     let names = gist.0 in
     let free : is_simple_and_free program ≡ true = ap is_simple_and_free gist.2 ∙ is_free names in
     let none : fault_of program words ≡ [] = ap (λ (l : App). fault_of l words) gist.2 ∙ ap (fault_of (gist_line names)) well.words_are
-    ∙ takes_words names well.command well.name well.rest well.given well.is_command well.spelled (are_taken names store_table [] well.given gist.1 well.are_options) in
+    ∙ takes_words names well.command well.name well.rest well.given well.is_command well.spelled (are_taken names (table_of well.command) [] well.given gist.1 well.are_options) in
     elim (fails free) [
       | inl memory ↦ memory
       | inr among ↦ absurd (subst (λ (kinds : Kinds). IsAmong why kinds) none among)

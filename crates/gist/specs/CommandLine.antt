@@ -9,12 +9,13 @@ use Rattle.clap.specs.declared.builder.ValueParser.{ValueParser}
 use Rattle.clap.specs.declared.builder.ValueParser.TheVariants as parser
 use Rattle.clap.specs.declared.error.ErrorKind.{ErrorKind}
 use Rattle.clap.specs.declared.error.ErrorKind.TheVariants as kind
-use Rattle.gist.specs.Spelling.{AreOptions, OptionKind, a_class, a_number, store_table, IsStoreCommand, SpellsNumber, SpellsOptions, SpellsPlainly, value_of}
+use Rattle.gist.specs.Spelling.{AreOptions, OptionKind, a_class, a_number, store_table, storm_table, table_of, IsCommand, SpellsNumber, SpellsOptions, SpellsPlainly, value_of}
 use Rattle.gist.specs.declared.options.Class.{Class}
 use Rattle.gist.specs.declared.options.Class.TheVariants as classes
 use Rattle.gist.specs.declared.options.StoreOptions.{StoreOptions}
 use Rattle.gist.specs.declared.options.Settings.{Settings}
 use Rattle.gist.specs.declared.options.Settings.TheVariants as settings
+use Rattle.storm.specs.declared.limits.Limits.{Limits}
 
 -- the words of a command line, where they stand in memory, as texts
 abbrev pub texts_of : List (Bor Text) → List Text
@@ -44,15 +45,27 @@ command_with names (o ∷ table) command = command_with names table (with_rule c
 abbrev pub store_command : ClassNames → Text → App
 store_command names name = command_with names store_table (new_app name)
 
+-- the command with the options of how large a storm is
+abbrev pub storm_command : ClassNames → App
+storm_command names = command_with names storm_table (new_app (codes "storm"))
+
+-- a command that takes the options of a storm, none of which is a class
+abbrev pub IsStormCommand : App → Type 0
+IsStormCommand command = (names : ClassNames) → command ≡ storm_command names
+
 abbrev pub AreClassNames : ClassNames → Type 0
 AreClassNames names = texts_of names.now ≡ codes "interval" ∷ codes "box" ∷ codes "set" ∷ []
 
 abbrev pub program : App
 program = record (new_app (codes "gist")) { top = record (new_app (codes "gist")).top { subcommand_required = true; disable_help_subcommand = true } }
 
--- `gist`, which wants the command `serve` or `replay`, each of which takes each option of a store once at most
+-- the program with the commands that keep rows
+abbrev pub with_store_commands : ClassNames → App
+with_store_commands names = with_subcommand (with_subcommand program (store_command names (codes "serve")).top) (store_command names (codes "replay")).top
+
+-- `gist`, which wants the command `serve`, `replay` or `storm`, each of which takes each of its options once at most
 abbrev pub gist_line : ClassNames → App
-gist_line names = with_subcommand (with_subcommand program (store_command names (codes "serve")).top) (store_command names (codes "replay")).top
+gist_line names = with_subcommand (with_store_commands names) (storm_command names).top
 
 abbrev pub IsGistLine : App → Type 0
 IsGistLine line = (names : ClassNames) × AreClassNames names × (line ≡ gist_line names)
@@ -73,6 +86,23 @@ pub record OptionsRead (rows : List Row) (options : StoreOptions) : Type 0 where
   pub fan : NumberRead (one_of (codes "fan") rows) 8 options.fan
   pub least : NumberRead (one_of (codes "least") rows) 3 options.least
 
+-- the same of how large a storm is
+pub record LimitsRead (rows : List Row) (limits : Limits) : Type 0 where
+  pub writers : NumberRead (one_of (codes "writers") rows) 4 limits.writers
+  pub inserts : NumberRead (one_of (codes "inserts") rows) 250 limits.inserts
+  pub deletes : NumberRead (one_of (codes "deletes") rows) 0 limits.deletes
+  pub readers : NumberRead (one_of (codes "readers") rows) 2 limits.readers
+  pub room : NumberRead (one_of (codes "room") rows) 2 limits.room
+  pub pumps : NumberRead (one_of (codes "pumps") rows) 2 limits.pumps
+  pub sweeps : NumberRead (one_of (codes "sweeps") rows) 0 limits.sweeps
+  pub seed : NumberRead (one_of (codes "seed") rows) 1 limits.seed
+
+-- what a command asks, by what clap found for its options
+abbrev pub SettingsRead : Text → List Row → Settings → Type 0
+SettingsRead command rows (settings.Serve options) = (command ≡ codes "serve") × OptionsRead rows options
+SettingsRead command rows (settings.Replay options) = (command ≡ codes "replay") × OptionsRead rows options
+SettingsRead command rows (settings.Storm limits) = (command ≡ codes "storm") × LimitsRead rows limits
+
 -- the number that a text spells; the usual one where there is no text
 abbrev pub NumberGiven : Option Text → ℕ → ℕ → Type 0
 NumberGiven None usual number = number ≡ usual
@@ -84,15 +114,27 @@ pub record OptionsGiven (given : List (Text × Text)) (options : StoreOptions) :
   pub fan : NumberGiven (value_of (codes "fan") given) 8 options.fan
   pub least : NumberGiven (value_of (codes "least") given) 3 options.least
 
--- behind the program's name the words are this command and its options, each once at most, which give these values
-abbrev pub GivesStore : Text → List Text → StoreOptions → Type 0
-GivesStore command words options =
-    (rest : List Text) × (given : List (Text × Text)) × (drop 1 words ≡ command ∷ rest) × SpellsOptions rest given × AreOptions store_table [] given × OptionsGiven given options
+-- the same of how large a storm is
+pub record LimitsGiven (given : List (Text × Text)) (limits : Limits) : Type 0 where
+  pub writers : NumberGiven (value_of (codes "writers") given) 4 limits.writers
+  pub inserts : NumberGiven (value_of (codes "inserts") given) 250 limits.inserts
+  pub deletes : NumberGiven (value_of (codes "deletes") given) 0 limits.deletes
+  pub readers : NumberGiven (value_of (codes "readers") given) 2 limits.readers
+  pub room : NumberGiven (value_of (codes "room") given) 2 limits.room
+  pub pumps : NumberGiven (value_of (codes "pumps") given) 2 limits.pumps
+  pub sweeps : NumberGiven (value_of (codes "sweeps") given) 0 limits.sweeps
+  pub seed : NumberGiven (value_of (codes "seed") given) 1 limits.seed
+
+-- behind the program's name the words are this command and its options, each once at most, of which this holds
+abbrev pub GivesOptions : Text → List Text → (List (Text × Text) → Type 0) → Type 0
+GivesOptions command words P =
+    (rest : List Text) × (given : List (Text × Text)) × (drop 1 words ≡ command ∷ rest) × SpellsOptions rest given × AreOptions (table_of command) [] given × P given
 
 -- the first word behind the program's name is the command, and those behind it give its options their values
 abbrev pub GivesSettings : List Text → Settings → Type 0
-GivesSettings words (settings.Serve options) = GivesStore (codes "serve") words options
-GivesSettings words (settings.Replay options) = GivesStore (codes "replay") words options
+GivesSettings words (settings.Serve options) = GivesOptions (codes "serve") words (λ given. OptionsGiven given options)
+GivesSettings words (settings.Replay options) = GivesOptions (codes "replay") words (λ given. OptionsGiven given options)
+GivesSettings words (settings.Storm limits) = GivesOptions (codes "storm") words (λ given. LimitsGiven given limits)
 
 -- behind the program's name the words are a command and its options, each once at most, and a value that is a word of its
 -- own begins with no hyphen
@@ -102,9 +144,9 @@ pub record AreWellFormed (words : List Text) : Type 0 where
   pub rest : List Text
   pub given : List (Text × Text)
   pub words_are : words ≡ name ∷ command ∷ rest
-  pub is_command : IsStoreCommand command
+  pub is_command : IsCommand command
   pub spelled : SpellsPlainly rest given
-  pub are_options : AreOptions store_table [] given
+  pub are_options : AreOptions (table_of command) [] given
 
 -- the words are refused, or ask for help, with an error of this kind
 abbrev pub Refuses : List Text → ErrorKind → Type 0

@@ -1,3 +1,4 @@
 pub mod CommandLine
 pub mod Served
 pub mod Spelling
+pub mod Storms

@@ -1,5 +1,5 @@
 -- What a program that ended well did.
-use Rattle.std.specs.Prelude.{◌≡◌, ℕ, List, Option, Result, Err, ◌⊎◌}
+use Rattle.std.specs.Prelude.{◌≡◌, ℕ, List, Option, Result, Ok, Err, ◌⊎◌}
 use Rattle.std.specs.Borrow.{Bor}
 use Rattle.std.specs.Io.KnownBytes.{IsAtEnd}
 use Rattle.change_list.specs.Configs.{IsWithinLimits}
@@ -24,10 +24,15 @@ use Rattle.front.specs.Sessions.{AnswersTold, FromNothing}
 use Rattle.front.specs.Conversations.{AnsweredAll}
 use Rattle.front.specs.Replays.{AnswersEventTokens}
 use Rattle.clap.specs.Words.{Text}
+use Rattle.storm.specs.Sizes.{IsStorm}
+use Rattle.storm.specs.declared.limits.Limits.{Limits}
+use Rattle.gist.specs.Storms.{TellsStorm}
 use Rattle.gist.specs.CommandLine.{texts_of, AreWellFormed, GivesSettings, NameNothing}
 use Rattle.gist.specs.declared.options.Class.{Class}
 use Rattle.gist.specs.declared.options.Class.TheVariants as classes
 use Rattle.gist.specs.declared.options.StoreOptions.{StoreOptions}
+use Rattle.gist.specs.declared.options.Ending.{Ending}
+use Rattle.gist.specs.declared.options.Ending.TheVariants as ending
 use Rattle.gist.specs.declared.options.Settings.{Settings}
 use Rattle.gist.specs.declared.options.Settings.TheVariants as settings
 
@@ -67,10 +72,19 @@ module _ (before after held written : Option (List ℕ)) where
   abbrev pub Replays : StoreOptions → Type 0
   Replays options = IsWithinLimits (limits_of options) × IsAtEnd after × AnswersEvents options.class (limits_of options)
 
+  -- nothing was read, and a storm passed
+  abbrev pub PassesStorm : Limits → Type 0
+  PassesStorm limits = (after ≡ before) × TellsStorm held written limits
+
   -- what the settings say was done
   abbrev pub Does : Settings → Type 0
   Does (settings.Serve options) = ServesOptions options
   Does (settings.Replay options) = Replays options
+  Does (settings.Storm limits) = PassesStorm limits
+
+-- what holds where a command ended well
+abbrev pub IfWell : Result Ending Fault → Type 0 → Type 0
+IfWell returned P = returned ≡ Ok ending.Well → P
 
 -- a number of the options is outside its range
 abbrev pub HaveBadLimits : StoreOptions → Type 0
@@ -80,6 +94,7 @@ HaveBadLimits options = ¬ IsWithinLimits (limits_of options)
 abbrev pub AreOutOfLimits : Settings → Type 0
 AreOutOfLimits (settings.Serve options) = HaveBadLimits options
 AreOutOfLimits (settings.Replay options) = HaveBadLimits options
+AreOutOfLimits (settings.Storm limits) = ¬ IsStorm limits
 
 -- the limits are refused
 abbrev pub RefusesLimits : {T : Type 0} → Result T Fault → Type 0

@@ -18,9 +18,8 @@ abbrev pub value_of : Text → List (Text × Text) → Option Text
 value_of name [] = None
 value_of name (option ∷ given) = if bytes_eq option.0 name then Some option.1 else value_of name given
 
--- a command that takes the options of how rows are kept
-abbrev pub IsStoreCommand : Text → Type 0
-IsStoreCommand word = (word ≡ codes "serve") ⊎ (word ≡ codes "replay")
+abbrev pub IsCommand : Text → Type 0
+IsCommand word = (word ≡ codes "serve") ⊎ (word ≡ codes "replay") ⊎ (word ≡ codes "storm")
 
 abbrev pub IsClassName : Text → Type 0
 IsClassName text = (text ≡ codes "interval") ⊎ (text ≡ codes "box") ⊎ (text ≡ codes "set")
@@ -45,6 +44,16 @@ IsValueOf a_number text = IsNumber text
 -- the options of how rows are kept, and what their values are
 abbrev pub store_table : List (Text × OptionKind)
 store_table = (codes "class", a_class) ∷ (codes "fan", a_number) ∷ (codes "least", a_number) ∷ []
+
+-- the options of how large a storm is
+abbrev pub storm_table : List (Text × OptionKind)
+storm_table =
+    (codes "writers", a_number) ∷ (codes "inserts", a_number) ∷ (codes "deletes", a_number) ∷ (codes "readers", a_number)
+    ∷ (codes "room", a_number) ∷ (codes "pumps", a_number) ∷ (codes "sweeps", a_number) ∷ (codes "seed", a_number) ∷ []
+
+-- the options of a command
+abbrev pub table_of : Text → List (Text × OptionKind)
+table_of command = if bytes_eq command (codes "storm") then storm_table else store_table
 
 -- what the value of the option with a name is, if a table has one
 abbrev pub kind_named : List (Text × OptionKind) → Text → Option OptionKind

@@ -9,93 +9,136 @@ A first session (the answers stand behind =>):
   find overlaps(0 9)        => found 1
                                row 1 (5 5) 0
 
-`gist serve --help` tells the commands of a session, the forms of keys, and which fan to choose.
-`gist replay --help` tells the events that drive the tree of pages step by step.";
+gist serve --help    the commands of a session, keys and queries
+gist replay --help   the events that drive the tree of pages step by step
+gist storm --help    many clients let loose on one tree at once";
 
 /// What `serve` does.
 pub const SERVE_ABOUT: &str = "Answers the lines of standard input on standard output";
 
 /// The commands of a session.
 pub const SERVE_GUIDE: &str = "\
-A row has a key, a tag (0 to 18446744073709551615), and the number of the commit that inserted it.
+Commands, one a line, with what answers them:
+  insert KEY TAG   adds a row             committed ROW
+  delete ROW       deletes a row          committed COMMIT
+  find QUERY       rows that match now    found COUNT, and a line for each
+                                          row ROW KEY TAG
+  open ROOM QUERY  opens a cursor         opened CURSOR (ROOM is 1 to 4096)
+  next CURSOR      a cursor's next item   row ROW KEY TAG   there at its opening
+                                          inserted ROW KEY TAG    a later insert
+                                          deleted COMMIT ROW      a later delete
+                                          mark COMMIT  all up to it was given
+                                          empty        nothing is left for now
+  mark CURSOR      asks for a mark        asked
+  sweep            removes dead rows      swept COUNT
+  close CURSOR     closes a cursor        closed
+A line that can't be carried out changes nothing and is answered by refused,
+the cause's number and name, and the place of a fault of the line.
+ROW is the number of the commit that inserted the row, TAG below 2 to the 64th.
 
-Commands, one a line:
-  insert KEY TAG    adds a row                           => committed ROW
-  delete ROW        deletes a row                        => committed COMMIT
-  find QUERY        the rows that match now              => found COUNT, and a line `row ROW KEY TAG` for each
-  open ROOM QUERY   opens a cursor (ROOM is 1 to 4096)   => opened CURSOR
-  next CURSOR       the cursor's next item               => row ROW KEY TAG      a row of when it was opened
-                                                            inserted ROW KEY TAG a later insert that matches
-                                                            deleted COMMIT ROW   a later delete of such a row
-                                                            mark COMMIT          all up to this commit was given
-                                                            empty                nothing is left for now
-  mark CURSOR       asks for a mark behind what is left  => asked
-  sweep             removes dead rows no cursor needs    => swept COUNT
-  close CURSOR      closes a cursor                      => closed
-A line that can't be carried out changes nothing:        => refused NUMBER NAME, and the place of a fault of the line
+Keys, of the class interval where none is named:
+  interval  (LO HI)        numbers of 64 bits, LO not above HI, both inside
+  box       (X1 Y1 X2 Y2)  two corners, numbers of 32 bits, the sides inside
+  set       {1 5 127}      some of the numbers 0 to 127
+Queries, joined by and, or, not and round brackets:
+  overlaps KEY     the row's key and KEY share a point (sets: a number)
+  within KEY       the row's key lies inside KEY
+  holds KEY        KEY lies inside the row's key
+  same KEY         the row's key is KEY
 
-Keys:
-  interval   (LO HI)          two numbers of 64 bits, LO not above HI; both ends belong to it
-  box        (X1 Y1 X2 Y2)    its lower and its upper corner, in numbers of 32 bits; the sides belong to it
-  set        {1 5 127}        some of the numbers 0 to 127
-
-Queries, joined by `and`, `or`, `not` and round brackets:
-  overlaps KEY      the row's key has a point (a set: a number) that KEY has
-  within KEY        the row's key lies inside KEY
-  holds KEY         KEY lies inside the row's key
-  same KEY          the row's key is KEY
+A row costs some 90 bytes. A larger fan makes fewer pages, and each takes
+longer: 8 suits some thousand rows, --fan 32 --least 12 many.
 
 A session:
-  insert (5 5) 0             => committed 1
-  open 4 overlaps(0 9)       => opened 1
-  insert (6 6) 7             => committed 2
-  next 1                     => row 1 (5 5) 0
-  next 1                     => inserted 2 (6 6) 7
-  next 1                     => empty
-  delete 1                   => committed 3
-  next 1                     => deleted 3 1
-  find not within(0 5)       => found 1
-                                row 2 (6 6) 7
-
-Fan: the default suits a few thousand rows; for many rows choose --fan 32 --least 12.";
+  insert (5 5) 0         => committed 1
+  open 4 overlaps(0 9)   => opened 1
+  insert (6 6) 7         => committed 2
+  next 1                 => row 1 (5 5) 0
+  next 1                 => inserted 2 (6 6) 7";
 
 /// What `replay` does.
 pub const REPLAY_ABOUT: &str = "Carries out the events on standard input, step by step";
 
 /// The events of a replay.
 pub const REPLAY_GUIDE: &str = "\
-Each line is one event on a tree of pages: one step, which is carried out whole or refused with nothing changed. Pages are
-numbered from 0, the root. The entries of a leaf are rows, those of an inner page its children.
+Each line is one event on a tree of pages, one step: it is carried out whole, or
+refused and nothing changes. Pages are numbered from 0, the root. The entries of
+a leaf are rows, those of an inner page its children.
 
-Events, one a line:
-  place PAGE KEY TAG      adds a row to a leaf                       => committed ROW
-  split PAGE SIDES        moves a full page's r entries to a new one => split NEW
-  post PAGE CHILD         has PAGE name what CHILD's split made      => posted
-  grow SIDES              moves a full root's entries to two pages   => grown LEFT RIGHT
-  enlarge PAGE CHILD KEY  widens CHILD's bound, so that it has KEY   => enlarged
-  sweep PAGE              removes dead rows that no scan needs       => swept COUNT
-  find ROW                opens a finder, which looks for a row      => finder FINDER
-  seek FINDER             visits a page, and deletes the row there   => committed COMMIT, or seeking
-  unfind FINDER           closes a finder                            => unfound
-  open ROOM QUERY         opens a cursor, with room for ROOM items   => opened CURSOR
-  turn CURSOR             does the next piece of a cursor's work     => visited PAGE     a page was read
-                                                                        offered          an item went to the mailbox
-                                                                        passed COMMIT    a commit that doesn't match
-  askmark CURSOR          asks for a mark behind what is left        => asked
-  take CURSOR             takes the mailbox's first item             => the item, or nothing
-  close CURSOR            closes a cursor                            => closed
-SIDES has a letter l or r for each entry, such as llrr. ROOM is 1 to 4096. Keys, queries, items and refusals are those of a
-session, which `gist serve --help` tells.
+Events, one a line, with what answers them:
+  place PAGE KEY TAG     adds a row to a leaf                 committed ROW
+  split PAGE SIDES       moves a full page's r entries away   split NEW
+  post PAGE CHILD        has PAGE name CHILD's sibling         posted
+  grow SIDES             moves a full root's entries down     grown LEFT RIGHT
+  enlarge PAGE CHILD KEY widens CHILD's bound by KEY          enlarged
+  sweep PAGE             removes dead rows no scan needs      swept COUNT
+  find ROW               opens a finder, to look for a row    finder FINDER
+  seek FINDER            visits a page, deletes the row there committed COMMIT
+                                                              or seeking
+  unfind FINDER          closes a finder                      unfound
+  open ROOM QUERY        opens a cursor with room for ROOM    opened CURSOR
+  turn CURSOR            the next piece of a cursor's work    visited PAGE
+                         an item went to the mailbox          offered
+                         a commit that doesn't match          passed COMMIT
+  askmark CURSOR         asks for a mark behind what is left  asked
+  take CURSOR            takes the mailbox's first item       item, or nothing
+  close CURSOR           closes a cursor                      closed
+SIDES has a letter l or r for each entry, such as llrr. ROOM is 1 to 4096. Keys,
+queries, items and refusals are those of a session: gist serve --help.
 
 A replay:
-  place 0 (1 1) 0            => committed 1
-  open 1 overlaps(0 9)       => opened 1
-  turn 1                     => visited 0
-  turn 1                     => offered
-  take 1                     => row 1 (1 1) 0
-  take 1                     => nothing";
+  place 0 (1 1) 0         => committed 1
+  open 1 overlaps(0 9)    => opened 1
+  turn 1                  => visited 0
+  turn 1                  => offered
+  take 1                  => row 1 (1 1) 0
+  take 1                  => nothing";
 
-pub const FAN_HELP: &str = "The most entries of a page, 4 to 64 [default: 8]";
+pub const FAN_HELP: &str = "Most entries of a page, 4 to 64, 32 for many [default: 8]";
 
-pub const LEAST_HELP: &str =
-    "The fewest entries on each side of a split, 2 to half of M [default: 3]";
+pub const LEAST_HELP: &str = "Fewest on a side of a split, 2 to half M [default: 3]";
+
+/// What `storm` does.
+pub const STORM_ABOUT: &str = "Lets many clients work at one tree, and checks what each reader got";
+
+/// What a storm is, and what it shows.
+pub const STORM_GUIDE: &str = "\
+Writers insert small intervals and delete the first of them. Each reader follows
+a cursor on overlaps(0 499). Pumps do the cursors' work, and one thread more
+sweeps leaves. Each is a thread of its own, and all work at one tree. At the end
+what each reader took is compared with the commits.
+
+  commits N            how many changes were made: W times I and D together
+  reader K whole at N  reader K took each row of its opening once, then each
+                       later change once, in order, and a mark of all N commits
+  reader K not whole   it took something else
+  reader K no receipt  its cursor was closed without a receipt
+Where a row was refused or a reader isn't whole, the status is 1.
+
+What is proved of each call holds for every order of the threads. A storm shows
+the whole program at work in some of these orders. It doesn't try all of them,
+and what it trusts (the machine's threads, its memory) it can't show.
+
+Each writer, reader and pump costs a thread, and each row some 100 bytes.
+
+A storm:
+  $ gist storm --writers 4 --inserts 250 --readers 2 --room 2
+  commits 1000
+  reader 1 whole at 1000
+  reader 2 whole at 1000";
+
+pub const WRITERS_HELP: &str = "How many threads write, 1 to 32 [default: 4]";
+
+pub const INSERTS_HELP: &str = "How many rows each writer inserts, 0 to 1000 [default: 250]";
+
+pub const DELETES_HELP: &str = "How many of them it deletes, 0 to I [default: 0]";
+
+pub const READERS_HELP: &str = "How many threads follow a cursor, 0 to 32 [default: 2]";
+
+pub const ROOM_HELP: &str = "How many items a mailbox holds, 1 to 4096 [default: 2]";
+
+pub const PUMPS_HELP: &str = "How many threads turn cursors, 1 to 8 [default: 2]";
+
+pub const SWEEPS_HELP: &str = "How many leaves are swept, 0 to 1000 [default: 0]";
+
+pub const SEED_HELP: &str = "What keys are drawn from, below 4294967296 [default: 1]";

@@ -1,5 +1,5 @@
-//! The program: `gist serve` answers the lines of standard input on standard output, and `gist replay` carries out its
-//! lines as events.
+//! The program: `gist serve` answers the lines of standard input on standard output, `gist replay` carries out its lines as
+//! events, and `gist storm` lets many clients work at one desk at once.
 #![tactic(auto)]
 
 mod help;
@@ -24,6 +24,7 @@ fn main(rt: HostRuntime) -> io::Result<ExitCode> {
     let mut writer = io::writer(&rt);
     let mut errors = rt.stderr();
     let status = command(
+        &rt,
         alloc,
         words.as_slice(),
         &mut reader,

@@ -1,3 +1,5 @@
+use storm::Limits;
+
 /// The class of a store's keys.
 #[derive(Clone, Copy, Debug, PartialEq, Eq)]
 pub enum Class {
@@ -23,4 +25,14 @@ pub enum Settings {
     Serve(StoreOptions),
     /// Carry out the events of lines.
     Replay(StoreOptions),
+    /// Let many clients work at one desk at once.
+    Storm(Limits),
+}
+
+/// How a command ended.
+#[derive(Clone, Copy, Debug, PartialEq, Eq)]
+pub enum Ending {
+    Well,
+    /// Rows of a storm were refused, or a reader isn't whole.
+    StormFailed,
 }

@@ -6,12 +6,15 @@ ghost use Rattle.world.specs.States.{new_state as new_world};
 ghost use Rattle.front.specs.Conversations.{Kept};
 ghost use Rattle.clap.specs.Words.{kind_of};
 ghost use Rattle.clap.specs.declared.error.ErrorKind.{ErrorKind};
+ghost use Rattle.storm.specs.Sizes.{IsStorm};
 ghost use Rattle.gist.specs.declared.options.Settings.{Settings};
+ghost use Rattle.gist.specs.Storms.{TellsStorm, WritesText, count_line, reader_line, storm_text};
 ghost use Rattle.gist.specs.CommandLine.{texts_of, AreWellFormed, NameNothing, GivesSettings, Refuses, AreRefused, AsksForHelp, IsOfWords};
-ghost use Rattle.gist.specs.Served.{limits_of, AnsweredOver, EventsAnsweredOver, ServesOptions, Replays, Does, HaveBadLimits, AreOutOfLimits, RefusesLimits, NameBadLimits, AreUnfit};
+ghost use Rattle.gist.specs.Served.{limits_of, AnsweredOver, EventsAnsweredOver, ServesOptions, Replays, Does, IfWell, HaveBadLimits, AreOutOfLimits, RefusesLimits, NameBadLimits, AreUnfit};
 
-use crate::options::{Class, Settings, StoreOptions};
+use crate::options::{Class, Ending, Settings, StoreOptions};
 use crate::words::settings;
+use arrayvec::ArrayVec;
 use box_class::Boxes;
 use change_list::Config;
 use clap::Error;
@@ -20,11 +23,17 @@ use front::session;
 use interval_class::Intervals;
 use key_class::{Fault, Refusal};
 use mailbox::Tray;
-use query_text::ClassText;
+use query_text::{ClassText, append, append_number};
 use set_class::Sets;
 use std::alloc::Global;
-use std::io::{Read, Write};
+use std::io::{self, Read, Write};
+use std::marker::Brand;
+use std::rt::Clock;
+use std::sync::Wait;
+use std::sync::ledger::Blank;
+use std::thread::Threads;
 use store::Store;
+use storm::{Limits, Outcome, Verdict, run_storm};
 use world::World;
 
 /// The limits that the options set: as many pages and commits as there may be.
@@ -124,21 +133,102 @@ fn replay<R: Read, W: Write>(
     }
 }
 
+/// Writes the line of a reader.
+fn tell_reader<W: Write>(
+    writer: &mut W,
+    commits: u64,
+    number: u64,
+    verdict: Verdict,
+) -> io::Result<()>
+    ensures { WritesText W.contents writer.old writer.new (reader_line commits number verdict) result }
+{
+    let mut line = ArrayVec::<u8, 64>::new();
+    append(&mut line, b"reader ");
+    append_number(&mut line, number);
+    match verdict {
+        Verdict::Whole => {
+            append(&mut line, b" whole at ");
+            append_number(&mut line, commits);
+        }
+        Verdict::NotWhole => append(&mut line, b" not whole"),
+        Verdict::NoReceipt => append(&mut line, b" no receipt"),
+    }
+    append(&mut line, b"\n");
+    writer.write_all(line.as_slice())
+}
+
+/// Writes the line with the number of commits.
+fn tell_count<W: Write>(writer: &mut W, commits: u64) -> io::Result<()>
+    ensures { WritesText W.contents writer.old writer.new (count_line commits) result }
+{
+    let mut line = ArrayVec::<u8, 64>::new();
+    append(&mut line, b"commits ");
+    append_number(&mut line, commits);
+    append(&mut line, b"\n");
+    writer.write_all(line.as_slice())
+}
+
+/// Writes the number of commits, and how each reader fared.
+fn tell_storm<W: Write>(writer: &mut W, outcome: &Outcome) -> io::Result<()>
+    ensures { WritesText W.contents writer.old writer.new (storm_text outcome.now) result }
+{
+    tell_count(writer, outcome.commits)?;
+    let verdicts = outcome.verdicts.as_slice();
+    for place in 0..verdicts.len() {
+        tell_reader(writer, outcome.commits, place as u64 + 1, verdicts[place])?;
+    }
+    Ok(())
+}
+
+/// Lets the clients of a storm work at once, and tells how each reader fared.
+///
+/// # Errors
+/// `Refused` with `BadConfig` where a number is out of its range, and else want of memory, or `Write`.
+fn storm<W: Write, T: Threads + Wait + Clock + Sync>(
+    rt: &T,
+    alloc: Global,
+    limits: Limits,
+    writer: &mut W,
+) -> Result<Ending, Fault>
+    ensures ok { IfWell result (TellsStorm (W.contents writer.old) (W.contents writer.new) limits) }
+    ensures bad { RefusesLimits result ↔ (¬ IsStorm limits) }
+    ensures unwritten { ¬ IsStorm limits → writer.new ≡ writer.old }
+{
+    if !limits.is_within() {
+        return Err(Fault::Refused(Refusal::BadConfig));
+    }
+    let blank = Blank::new(limits.seats() as u64);
+    let Ok(outcome) = run_storm::<Brand, T>(rt, alloc, blank, limits) else {
+        return Err(Fault::OutOfMemory);
+    };
+    let Ok(()) = tell_storm(writer, &outcome) else {
+        return Err(Fault::Write);
+    };
+    if outcome.is_whole(limits) {
+        Ok(Ending::Well)
+    } else {
+        Ok(Ending::StormFailed)
+    }
+}
+
 /// Does what the settings say.
-fn run<R: Read, W: Write>(
+fn run<T: Threads + Wait + Clock + Sync, R: Read, W: Write>(
+    rt: &T,
     alloc: Global,
     settings: Settings,
     reader: &mut R,
     writer: &mut W,
-) -> Result<(), Fault>
-    ensures ok { result ≡ Ok tt → Does (R.remaining reader.old) (R.remaining reader.new) (W.contents writer.old) (W.contents writer.new) settings }
+) -> Result<Ending, Fault>
+    ensures ok { IfWell result (Does (R.remaining reader.old) (R.remaining reader.new) (W.contents writer.old) (W.contents writer.new) settings) }
     ensures bad { RefusesLimits result ↔ AreOutOfLimits settings }
     ensures unread { AreOutOfLimits settings → Kept reader.old reader.new writer.old writer.new }
 {
     match settings {
-        Settings::Serve(options) => serve(alloc, options, reader, writer),
-        Settings::Replay(options) => replay(alloc, options, reader, writer),
+        Settings::Serve(options) => serve(alloc, options, reader, writer)?,
+        Settings::Replay(options) => replay(alloc, options, reader, writer)?,
+        Settings::Storm(limits) => return storm(rt, alloc, limits, writer),
     }
+    Ok(Ending::Well)
 }
 
 /// Shows why there are no settings, and gives the status.
@@ -172,7 +262,8 @@ fn fail<E: Write>(fault: Fault, errors: &mut E) -> u8
 
 /// Does what the words ask and gives the program's status: 0 where all went well, 1 for a fault, which is told on a line
 /// of `errors`, and 2 where the words are refused.
-pub fn command<R: Read, W: Write, E: Write>(
+pub fn command<T: Threads + Wait + Clock + Sync, R: Read, W: Write, E: Write>(
+    rt: &T,
     alloc: Global,
     words: &[&str],
     reader: &mut R,
@@ -193,8 +284,12 @@ pub fn command<R: Read, W: Write, E: Write>(
         Ok(settings) => settings,
         Err(error) => return show(&error, writer, errors),
     };
-    match run(alloc, settings, reader, writer) {
-        Ok(()) => 0,
+    match run(rt, alloc, settings, reader, writer) {
+        Ok(Ending::Well) => 0,
+        Ok(Ending::StormFailed) => {
+            let _ = writeln!(errors, "gist: storm failed");
+            1
+        }
         Err(fault) => fail(fault, errors),
     }
 }

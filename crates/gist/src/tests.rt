@@ -1,17 +1,19 @@
+use crate::help::{REPLAY_GUIDE, SERVE_GUIDE};
 use crate::options::{Class, Settings, StoreOptions};
 use crate::program::command;
 use crate::words::settings;
 use clap::error::ErrorKind;
+use std::alloc::Global;
 use std::io::{self, ErrorKind as Failure, Read, Write};
+use std::rt::Clock;
+use std::sync::Wait;
 use std::test::Fail;
+use std::thread::Threads;
+use storm::Limits;
 
 /// The program's words with these behind the name of a command.
-fn behind<'a>(
-    rt: HostRuntime,
-    command: &'a str,
-    options: &[&'a str],
-) -> Result<Vec<&'a str>, Fail> {
-    let mut words = vec![in rt.alloc(); "gist", command]?;
+fn behind<'a>(alloc: Global, command: &'a str, options: &[&'a str]) -> Result<Vec<&'a str>, Fail> {
+    let mut words = vec![in alloc; "gist", command]?;
     for option in options {
         words.push(*option)?;
     }
@@ -40,13 +42,13 @@ static OPTIONS: [(&[&str], Class, u32, u32); 7] = [
 ];
 
 fn is_read(
-    rt: HostRuntime,
+    alloc: Global,
     command: &str,
     options: &[&'static str],
     wanted: Settings,
 ) -> Result<bool, Fail> {
-    let words = behind(rt, command, options)?;
-    Ok(settings(rt.alloc(), words.as_slice())? == wanted)
+    let words = behind(alloc, command, options)?;
+    Ok(settings(alloc, words.as_slice())? == wanted)
 }
 
 #[test]
@@ -58,11 +60,74 @@ fn options_are_read(rt: HostRuntime) -> Result<(), Fail> {
             least: *least,
         };
         assert!(rt;
-            is_read(rt, "serve", words, Settings::Serve(options))?,
+            is_read(rt.alloc(), "serve", words, Settings::Serve(options))?,
             "{words:?}"
         );
         assert!(rt;
-            is_read(rt, "replay", words, Settings::Replay(options))?,
+            is_read(rt.alloc(), "replay", words, Settings::Replay(options))?,
+            "{words:?}"
+        );
+    }
+    Ok(())
+}
+
+/// A storm where the words say nothing.
+const USUAL: Limits = Limits {
+    writers: 4,
+    inserts: 250,
+    deletes: 0,
+    readers: 2,
+    room: 2,
+    pumps: 2,
+    sweeps: 0,
+    seed: 1,
+};
+
+/// Options of a storm by words, with what they are.
+static STORMS: [(&[&str], Limits); 4] = [
+    (&[], USUAL),
+    (
+        &[
+            "--writers",
+            "8",
+            "--inserts=100",
+            "--deletes",
+            "40",
+            "--readers=8",
+        ],
+        Limits {
+            writers: 8,
+            inserts: 100,
+            deletes: 40,
+            readers: 8,
+            ..USUAL
+        },
+    ),
+    (
+        &["--room", "1", "--pumps", "4", "--sweeps", "500", "--seed=7"],
+        Limits {
+            room: 1,
+            pumps: 4,
+            sweeps: 500,
+            seed: 7,
+            ..USUAL
+        },
+    ),
+    (
+        &["--seed", "4294967295", "--readers", "0"],
+        Limits {
+            seed: 4_294_967_295,
+            readers: 0,
+            ..USUAL
+        },
+    ),
+];
+
+#[test]
+fn storms_are_read(rt: HostRuntime) -> Result<(), Fail> {
+    for (words, limits) in &STORMS {
+        assert!(rt;
+            is_read(rt.alloc(), "storm", words, Settings::Storm(*limits))?,
             "{words:?}"
         );
     }
@@ -70,7 +135,7 @@ fn options_are_read(rt: HostRuntime) -> Result<(), Fail> {
 }
 
 /// Words, and the kind of error that they are.
-static REFUSED: [(&[&str], ErrorKind); 20] = [
+static REFUSED: [(&[&str], ErrorKind); 26] = [
     (&["gist"], ErrorKind::MissingSubcommand),
     (&["gist", "sit"], ErrorKind::InvalidSubcommand),
     (&["gist", "--fan", "9"], ErrorKind::UnknownArgument),
@@ -118,10 +183,22 @@ static REFUSED: [(&[&str], ErrorKind); 20] = [
         ErrorKind::ArgumentConflict,
     ),
     (&["gist", "replay", "--help"], ErrorKind::DisplayHelp),
+    (&["gist", "storm", "--fan", "8"], ErrorKind::UnknownArgument),
+    (&["gist", "storm", "now"], ErrorKind::UnknownArgument),
+    (&["gist", "storm", "--writers"], ErrorKind::InvalidValue),
+    (
+        &["gist", "storm", "--seed", "4294967296"],
+        ErrorKind::ValueValidation,
+    ),
+    (
+        &["gist", "storm", "--pumps=2", "--pumps=2"],
+        ErrorKind::ArgumentConflict,
+    ),
+    (&["gist", "storm", "--help"], ErrorKind::DisplayHelp),
 ];
 
-fn error_of(rt: HostRuntime, words: &[&str]) -> Option<ErrorKind> {
-    match settings(rt.alloc(), words) {
+fn error_of(alloc: Global, words: &[&str]) -> Option<ErrorKind> {
+    match settings(alloc, words) {
         Ok(_) => None,
         Err(error) => Some(error.kind()),
     }
@@ -130,7 +207,7 @@ fn error_of(rt: HostRuntime, words: &[&str]) -> Option<ErrorKind> {
 #[test]
 fn words_are_refused(rt: HostRuntime) {
     for (words, kind) in &REFUSED {
-        assert!(rt; error_of(rt, words) == Some(*kind), "{words:?}");
+        assert!(rt; error_of(rt.alloc(), words) == Some(*kind), "{words:?}");
     }
 }
 
@@ -143,11 +220,16 @@ struct Run {
     told: Vec<u8>,
 }
 
-fn run_of(rt: HostRuntime, words: &[&str], input: &str) -> Run {
+fn run_of<T: Threads + Wait + Clock + Sync>(
+    rt: &T,
+    alloc: Global,
+    words: &[&str],
+    input: &str,
+) -> Run {
     let mut reader = input.as_bytes();
-    let mut written = Vec::new(rt.alloc());
-    let mut told = Vec::new(rt.alloc());
-    let status = command(rt.alloc(), words, &mut reader, &mut written, &mut told);
+    let mut written = Vec::new(alloc);
+    let mut told = Vec::new(alloc);
+    let status = command(rt, alloc, words, &mut reader, &mut written, &mut told);
     Run {
         status,
         unread: reader.len(),
@@ -157,8 +239,14 @@ fn run_of(rt: HostRuntime, words: &[&str], input: &str) -> Run {
 }
 
 /// Whether a run reads its whole input, writes that output and ends well.
-fn is_served(rt: HostRuntime, words: &[&str], input: &str, output: &str) -> bool {
-    let run = run_of(rt, words, input);
+fn is_served<T: Threads + Wait + Clock + Sync>(
+    rt: &T,
+    alloc: Global,
+    words: &[&str],
+    input: &str,
+    output: &str,
+) -> bool {
+    let run = run_of(rt, alloc, words, input);
     run.status == 0
         && run.written.as_slice() == output.as_bytes()
         && run.unread == 0
@@ -187,13 +275,16 @@ static SERVED: [(&[&str], &str, &str); 3] = [
 #[test]
 fn sessions_are_served(rt: HostRuntime) {
     for (words, input, output) in &SERVED {
-        assert!(rt; is_served(rt, words, input, output), "{words:?}");
+        assert!(rt;
+            is_served(&rt, rt.alloc(), words, input, output),
+            "{words:?}"
+        );
     }
 }
 
 /// 400 insertions and a search for the last.
-fn many_rows(rt: HostRuntime) -> Result<String, Fail> {
-    let mut input = String::new(rt.alloc());
+fn many_rows(alloc: Global) -> Result<String, Fail> {
+    let mut input = String::new(alloc);
     for number in 1..=400 {
         writeln!(input, "insert ({number} {number}) 0")?;
     }
@@ -201,8 +292,8 @@ fn many_rows(rt: HostRuntime) -> Result<String, Fail> {
     Ok(input)
 }
 
-fn many_answers(rt: HostRuntime) -> Result<String, Fail> {
-    let mut output = String::new(rt.alloc());
+fn many_answers(alloc: Global) -> Result<String, Fail> {
+    let mut output = String::new(alloc);
     for number in 1..=400 {
         writeln!(output, "committed {number}")?;
     }
@@ -210,17 +301,79 @@ fn many_answers(rt: HostRuntime) -> Result<String, Fail> {
     Ok(output)
 }
 
-fn are_kept(rt: HostRuntime, words: &[&str]) -> Result<bool, Fail> {
-    let input = many_rows(rt)?;
-    let output = many_answers(rt)?;
-    Ok(is_served(rt, words, input.as_str(), output.as_str()))
+fn are_kept<T: Threads + Wait + Clock + Sync>(
+    rt: &T,
+    alloc: Global,
+    words: &[&str],
+) -> Result<bool, Fail> {
+    let input = many_rows(alloc)?;
+    let output = many_answers(alloc)?;
+    Ok(is_served(rt, alloc, words, input.as_str(), output.as_str()))
 }
 
 #[test]
 fn many_rows_are_kept(rt: HostRuntime) -> Result<(), Fail> {
-    assert!(rt; are_kept(rt, &["gist", "serve"])?);
-    assert!(rt; are_kept(rt, &["gist", "serve", "--fan=4", "--least=2"])?);
+    assert!(rt; are_kept(&rt, rt.alloc(), &["gist", "serve"])?);
+    assert!(rt; are_kept(&rt, rt.alloc(), &["gist", "serve", "--fan=4", "--least=2"])?);
     Ok(())
+}
+
+/// Words of storms, with their output.
+static STORMED: [(&[&str], &str); 4] = [
+    (
+        &[
+            "gist",
+            "storm",
+            "--writers",
+            "4",
+            "--inserts",
+            "250",
+            "--readers",
+            "2",
+            "--room",
+            "2",
+        ],
+        "commits 1000\nreader 1 whole at 1000\nreader 2 whole at 1000\n",
+    ),
+    (&["gist", "storm", "--readers", "0"], "commits 1000\n"),
+    (
+        &["gist", "storm", "--readers", "0", "--deletes", "100"],
+        "commits 1400\n",
+    ),
+    (
+        &[
+            "gist",
+            "storm",
+            "--writers",
+            "1",
+            "--inserts",
+            "0",
+            "--readers",
+            "1",
+        ],
+        "commits 0\nreader 1 whole at 0\n",
+    ),
+];
+
+/// Whether a storm ends well with that output, and reads nothing.
+fn is_stormed<T: Threads + Wait + Clock + Sync>(
+    rt: &T,
+    alloc: Global,
+    words: &[&str],
+    output: &str,
+) -> bool {
+    let run = run_of(rt, alloc, words, "insert (5 5) 0\n");
+    run.status == 0
+        && run.written.as_slice() == output.as_bytes()
+        && run.unread == 15
+        && run.told.is_empty()
+}
+
+#[test]
+fn storms_pass(rt: HostRuntime) {
+    for (words, output) in &STORMED {
+        assert!(rt; is_stormed(&rt, rt.alloc(), words, output), "{words:?}");
+    }
 }
 
 /// Words, and lines with their answers.
@@ -275,38 +428,83 @@ static REPLAYED: [(&[&str], &[(&str, &str)]); 3] = [
     ),
 ];
 
-fn input_of(rt: HostRuntime, lines: &[(&str, &str)]) -> Result<String, Fail> {
-    let mut input = String::new(rt.alloc());
+fn input_of(alloc: Global, lines: &[(&str, &str)]) -> Result<String, Fail> {
+    let mut input = String::new(alloc);
     for (line, _) in lines {
         writeln!(input, "{line}")?;
     }
     Ok(input)
 }
 
-fn output_of(rt: HostRuntime, lines: &[(&str, &str)]) -> Result<String, Fail> {
-    let mut output = String::new(rt.alloc());
+fn output_of(alloc: Global, lines: &[(&str, &str)]) -> Result<String, Fail> {
+    let mut output = String::new(alloc);
     for (_, answer) in lines {
         writeln!(output, "{answer}")?;
     }
     Ok(output)
 }
 
-fn are_replayed(rt: HostRuntime, words: &[&str], lines: &[(&str, &str)]) -> Result<bool, Fail> {
-    let input = input_of(rt, lines)?;
-    let output = output_of(rt, lines)?;
-    Ok(is_served(rt, words, input.as_str(), output.as_str()))
+fn are_replayed<T: Threads + Wait + Clock + Sync>(
+    rt: &T,
+    alloc: Global,
+    words: &[&str],
+    lines: &[(&str, &str)],
+) -> Result<bool, Fail> {
+    let input = input_of(alloc, lines)?;
+    let output = output_of(alloc, lines)?;
+    Ok(is_served(rt, alloc, words, input.as_str(), output.as_str()))
+}
+
+/// The sessions of the documents.
+static DOCUMENTED: [(&[&str], &[(&str, &str)]); 2] = [
+    (
+        &["gist", "serve"],
+        &[
+            ("insert (5 5) 0", "committed 1"),
+            ("find overlaps(5 5)", "found 1\nrow 1 (5 5) 0"),
+            ("open 4 overlaps(0 9)", "opened 1"),
+            ("insert (6 6) 7", "committed 2"),
+            ("next 1", "row 1 (5 5) 0"),
+            ("next 1", "inserted 2 (6 6) 7"),
+            ("next 1", "empty"),
+        ],
+    ),
+    (
+        &["gist", "replay", "--fan", "4", "--least", "2"],
+        &[
+            ("place 0 (1 1) 0", "committed 1"),
+            ("open 1 overlaps(0 9)", "opened 1"),
+            ("turn 1", "visited 0"),
+            ("find 1", "finder 1"),
+            ("seek 1", "committed 2"),
+            ("turn 1", "offered"),
+            ("turn 1", "refused 18 NoRoom"),
+            ("take 1", "row 1 (1 1) 0"),
+            ("turn 1", "offered"),
+            ("take 1", "deleted 2 1"),
+            ("sweep 0", "swept 1"),
+        ],
+    ),
+];
+
+#[test]
+fn sessions_of_the_documents_hold(rt: HostRuntime) -> Result<(), Fail> {
+    for (words, lines) in &DOCUMENTED {
+        assert!(rt; are_replayed(&rt, rt.alloc(), words, lines)?, "{words:?}");
+    }
+    Ok(())
 }
 
 #[test]
 fn events_are_replayed(rt: HostRuntime) -> Result<(), Fail> {
     for (words, lines) in &REPLAYED {
-        assert!(rt; are_replayed(rt, words, lines)?, "{words:?}");
+        assert!(rt; are_replayed(&rt, rt.alloc(), words, lines)?, "{words:?}");
     }
     Ok(())
 }
 
-/// Words of stores that can't be.
-static FAULTY: [&[&str]; 7] = [
+/// Words of stores and storms that can't be.
+static FAULTY: [&[&str]; 16] = [
     &["gist", "serve", "--fan", "4"],
     &["gist", "serve", "--fan", "65"],
     &["gist", "serve", "--fan", "4294967295"],
@@ -314,11 +512,24 @@ static FAULTY: [&[&str]; 7] = [
     &["gist", "serve", "--least", "5"],
     &["gist", "replay", "--fan", "65"],
     &["gist", "replay", "--least", "5", "--class", "set"],
+    &["gist", "storm", "--writers", "0"],
+    &["gist", "storm", "--writers", "33"],
+    &["gist", "storm", "--inserts", "1001"],
+    &["gist", "storm", "--deletes", "251"],
+    &["gist", "storm", "--readers", "33"],
+    &["gist", "storm", "--room", "0"],
+    &["gist", "storm", "--room", "4097"],
+    &["gist", "storm", "--pumps", "9"],
+    &["gist", "storm", "--sweeps", "1001"],
 ];
 
 /// Whether a run reads and writes nothing and tells that the configuration is refused.
-fn tells_bad_config(rt: HostRuntime, words: &[&str]) -> bool {
-    let run = run_of(rt, words, "find overlaps(0 9)\n");
+fn tells_bad_config<T: Threads + Wait + Clock + Sync>(
+    rt: &T,
+    alloc: Global,
+    words: &[&str],
+) -> bool {
+    let run = run_of(rt, alloc, words, "find overlaps(0 9)\n");
     run.status == 1
         && run.unread == 19
         && run.written.is_empty()
@@ -328,7 +539,7 @@ fn tells_bad_config(rt: HostRuntime, words: &[&str]) -> bool {
 #[test]
 fn faults_are_told(rt: HostRuntime) {
     for words in &FAULTY {
-        assert!(rt; tells_bad_config(rt, words), "{words:?}");
+        assert!(rt; tells_bad_config(&rt, rt.alloc(), words), "{words:?}");
     }
 }
 
@@ -339,31 +550,80 @@ static WRONG: [&[&str]; 3] = [
 ];
 
 /// Whether a run reads and writes nothing and tells an error.
-fn tells_error(rt: HostRuntime, words: &[&str]) -> bool {
-    let run = run_of(rt, words, "sweep\n");
+fn tells_error<T: Threads + Wait + Clock + Sync>(rt: &T, alloc: Global, words: &[&str]) -> bool {
+    let run = run_of(rt, alloc, words, "sweep\n");
     run.status == 2 && run.unread == 6 && run.written.is_empty() && run.told.starts_with(b"error: ")
 }
 
-static HELP: [&[&str]; 3] = [
+static HELP: [&[&str]; 4] = [
     &["gist", "--help"],
     &["gist", "serve", "--help"],
     &["gist", "replay", "-h"],
+    &["gist", "storm", "--help"],
 ];
 
 /// Whether a run reads nothing and writes a help.
-fn helps(rt: HostRuntime, words: &[&str]) -> bool {
-    let run = run_of(rt, words, "sweep\n");
+fn helps<T: Threads + Wait + Clock + Sync>(rt: &T, alloc: Global, words: &[&str]) -> bool {
+    let run = run_of(rt, alloc, words, "sweep\n");
     run.status == 0 && run.unread == 6 && run.told.is_empty() && run.written.len() > 200
 }
 
 #[test]
 fn refused_words_and_help_are_shown(rt: HostRuntime) {
     for words in &WRONG {
-        assert!(rt; tells_error(rt, words), "{words:?}");
+        assert!(rt; tells_error(&rt, rt.alloc(), words), "{words:?}");
     }
     for words in &HELP {
-        assert!(rt; helps(rt, words), "{words:?}");
+        assert!(rt; helps(&rt, rt.alloc(), words), "{words:?}");
     }
+}
+
+/// Whether a help fits a screen of 50 lines and 80 columns.
+fn fits_a_screen<T: Threads + Wait + Clock + Sync>(rt: &T, alloc: Global, words: &[&str]) -> bool {
+    let run = run_of(rt, alloc, words, "");
+    match str::from_utf8(run.written.as_slice()) {
+        Ok(text) => text.lines().count() <= 50 && text.lines().all(|line| line.len() <= 80),
+        Err(_) => false,
+    }
+}
+
+#[test]
+fn helps_fit_a_screen(rt: HostRuntime) {
+    for words in &HELP {
+        assert!(rt; fits_a_screen(&rt, rt.alloc(), words), "{words:?}");
+    }
+}
+
+/// The lines of a guide that stand before `=>`, and the answers behind it.
+fn example_of(alloc: Global, guide: &str) -> Result<(String, String), Fail> {
+    let mut input = String::new(alloc);
+    let mut output = String::new(alloc);
+    for line in guide.lines() {
+        if let Some((asked, answer)) = line.split_once("=>") {
+            writeln!(input, "{}", asked.trim())?;
+            writeln!(output, "{}", answer.trim())?;
+        }
+    }
+    Ok((input, output))
+}
+
+#[test]
+fn examples_of_the_help_hold(rt: HostRuntime) -> Result<(), Fail> {
+    for (name, guide) in [("serve", SERVE_GUIDE), ("replay", REPLAY_GUIDE)] {
+        let (input, output) = example_of(rt.alloc(), guide)?;
+        assert!(rt; !input.is_empty());
+        assert!(rt;
+            is_served(
+                &rt,
+                rt.alloc(),
+                &["gist", name],
+                input.as_str(),
+                output.as_str()
+            ),
+            "{name}"
+        );
+    }
+    Ok(())
 }
 
 /// A reader and a writer that fail at once.
@@ -387,32 +647,44 @@ impl Write for Broken {
 }
 
 /// Whether a run over a reader that fails ends in a fault, and tells it.
-fn tells_of_reader(rt: HostRuntime, words: &[&str]) -> bool {
-    let mut written = Vec::new(rt.alloc());
-    let mut told = Vec::new(rt.alloc());
-    let status = command(rt.alloc(), words, &mut Broken, &mut written, &mut told);
+fn tells_of_reader<T: Threads + Wait + Clock + Sync>(
+    rt: &T,
+    alloc: Global,
+    words: &[&str],
+) -> bool {
+    let mut written = Vec::new(alloc);
+    let mut told = Vec::new(alloc);
+    let status = command(rt, alloc, words, &mut Broken, &mut written, &mut told);
     status == 1 && told.as_slice() == b"gist: read failed\n".as_slice()
 }
 
 /// How a run over a writer that fails ends, and what it tells.
-fn end_by_writer(rt: HostRuntime, words: &[&str]) -> (u8, Vec<u8>) {
-    let mut told = Vec::new(rt.alloc());
+fn end_by_writer<T: Threads + Wait + Clock + Sync>(
+    rt: &T,
+    alloc: Global,
+    words: &[&str],
+) -> (u8, Vec<u8>) {
+    let mut told = Vec::new(alloc);
     let mut reader: &[u8] = b"sweep\n";
-    let status = command(rt.alloc(), words, &mut reader, &mut Broken, &mut told);
+    let status = command(rt, alloc, words, &mut reader, &mut Broken, &mut told);
     (status, told)
 }
 
-fn tells_of_writer(rt: HostRuntime, words: &[&str]) -> bool {
-    let (status, told) = end_by_writer(rt, words);
+fn tells_of_writer<T: Threads + Wait + Clock + Sync>(
+    rt: &T,
+    alloc: Global,
+    words: &[&str],
+) -> bool {
+    let (status, told) = end_by_writer(rt, alloc, words);
     status == 1 && told.as_slice() == b"gist: write failed\n".as_slice()
 }
 
 #[test]
 fn broken_ends_are_told(rt: HostRuntime) {
     for name in ["serve", "replay"] {
-        assert!(rt; tells_of_reader(rt, &["gist", name]), "{name}");
-        assert!(rt; tells_of_writer(rt, &["gist", name]), "{name}");
+        assert!(rt; tells_of_reader(&rt, rt.alloc(), &["gist", name]), "{name}");
+        assert!(rt; tells_of_writer(&rt, rt.alloc(), &["gist", name]), "{name}");
     }
-    let (status, _) = end_by_writer(rt, &["gist", "--help"]);
+    let (status, _) = end_by_writer(&rt, rt.alloc(), &["gist", "--help"]);
     assert!(rt; status == 1);
 }

@@ -1,23 +1,43 @@
 ghost use Rattle.std.specs.Prelude.{◌≡◌, Some, None, codes, IfOk, IfErr, false};
 ghost use Rattle.clap.specs.Words.{app_of, found_of, first_value, rule_of, rows_of};
 ghost use Rattle.clap.specs.declared.builder.ValueParser.TheVariants.{Names};
-ghost use Rattle.gist.specs.Spelling.{IsStoreCommand};
-ghost use Rattle.gist.specs.CommandLine.{IsGistLine, OptionsRead, option_rule, number_of_32_bits, store_command, class_named, texts_of, AreWellFormed, GivesSettings, LacksMemory, RefusesUnlessMemory};
+ghost use Rattle.gist.specs.Spelling.{IsCommand};
+ghost use Rattle.gist.specs.CommandLine.{AreClassNames, IsGistLine, IsStormCommand, LimitsRead, OptionsRead, SettingsRead, option_rule, number_of_32_bits, store_command, class_named, texts_of, AreWellFormed, GivesSettings, LacksMemory, RefusesUnlessMemory};
 
 use crate::help::{
-    ABOUT, FAN_HELP, FIRST_SESSION, LEAST_HELP, REPLAY_ABOUT, REPLAY_GUIDE, SERVE_ABOUT,
-    SERVE_GUIDE,
+    ABOUT, DELETES_HELP, FAN_HELP, FIRST_SESSION, INSERTS_HELP, LEAST_HELP, PUMPS_HELP,
+    READERS_HELP, REPLAY_ABOUT, REPLAY_GUIDE, ROOM_HELP, SEED_HELP, SERVE_ABOUT, SERVE_GUIDE,
+    STORM_ABOUT, STORM_GUIDE, SWEEPS_HELP, WRITERS_HELP,
 };
 use crate::options::{Class, Settings, StoreOptions};
 use clap::{Arg, ArgMatches, Command, Error, value_parser};
 use std::alloc::{AllocError, Global};
+use storm::Limits;
 
 /// The words that name the classes.
 static CLASSES: [&str; 3] = ["interval", "box", "set"];
 
+fn class_names<'a>() -> &'a [&'a str]
+    ensures { AreClassNames result }
+{
+    CLASSES.as_slice()
+}
+
 const DEFAULT_FAN: u32 = 8;
 
 const DEFAULT_LEAST: u32 = 3;
+
+/// A storm where the words say nothing else.
+const DEFAULT_STORM: Limits = Limits {
+    writers: 4,
+    inserts: 250,
+    deletes: 0,
+    readers: 2,
+    room: 2,
+    pumps: 2,
+    sweeps: 0,
+    seed: 1,
+};
 
 /// An option that takes a number of 32 bits.
 fn number_arg<'a>(alloc: Global, name: &'a str, value: &'a str, help: &'a str) -> Arg<'a>
@@ -40,7 +60,7 @@ fn class_arg<'a>(alloc: Global, classes: &'a [&'a str]) -> Arg<'a>
         .long("class")
         .value_name("CLASS")
         .value_parser(classes)
-        .help("What keys are [default: interval]")
+        .help("What keys are")
 }
 
 /// A command with the options that say how rows are kept.
@@ -57,24 +77,43 @@ fn store_command<'a>(
         .arg(number_arg(alloc, "least", "m", LEAST_HELP))
 }
 
+/// The command that lets many clients work at once.
+fn storm_command<'a>(alloc: Global) -> Result<Command<'a>, AllocError>
+    ensures { IfOk result (λ c. IsStormCommand (app_of c)) }
+{
+    Command::new(alloc, "storm")
+        .arg(number_arg(alloc, "writers", "W", WRITERS_HELP))?
+        .arg(number_arg(alloc, "inserts", "I", INSERTS_HELP))?
+        .arg(number_arg(alloc, "deletes", "D", DELETES_HELP))?
+        .arg(number_arg(alloc, "readers", "R", READERS_HELP))?
+        .arg(number_arg(alloc, "room", "S", ROOM_HELP))?
+        .arg(number_arg(alloc, "pumps", "P", PUMPS_HELP))?
+        .arg(number_arg(alloc, "sweeps", "K", SWEEPS_HELP))?
+        .arg(number_arg(alloc, "seed", "X", SEED_HELP))
+}
+
 /// The program's command line.
 fn command_line<'a>(alloc: Global) -> Result<Command<'a>, AllocError>
     ensures { IfOk result (λ c. IsGistLine (app_of c)) }
 {
-    let classes = CLASSES.as_slice();
+    let classes = class_names();
     let serve = store_command(alloc, "serve", classes)?
         .about(SERVE_ABOUT)
         .after_help(SERVE_GUIDE);
     let replay = store_command(alloc, "replay", classes)?
         .about(REPLAY_ABOUT)
         .after_help(REPLAY_GUIDE);
+    let storm = storm_command(alloc)?
+        .about(STORM_ABOUT)
+        .after_help(STORM_GUIDE);
     Command::new(alloc, "gist")
         .about(ABOUT)
         .after_help(FIRST_SESSION)
         .subcommand_required(true)
         .disable_help_subcommand(true)
         .subcommand(serve)?
-        .subcommand(replay)
+        .subcommand(replay)?
+        .subcommand(storm)
 }
 
 /// The class that the words give, else intervals.
@@ -99,15 +138,32 @@ fn store_options(options: &ArgMatches<'_>) -> StoreOptions
     }
 }
 
-/// What a command asks with these options.
-fn store_settings(command: &str, options: StoreOptions) -> Settings
-    requires { IsStoreCommand command.now }
-    ensures serve { command.now ≡ codes "serve" → result ≡ Settings.Serve options }
-    ensures replay { command.now ≡ codes "replay" → result ≡ Settings.Replay options }
+/// What the words give of a storm, and else its defaults.
+fn storm_limits(options: &ArgMatches<'_>) -> Limits
+    ensures { LimitsRead (rows_of (found_of options.now)) result }
+{
+    let usual = DEFAULT_STORM;
+    Limits {
+        writers: options.get_one::<u32>("writers").unwrap_or(usual.writers),
+        inserts: options.get_one::<u32>("inserts").unwrap_or(usual.inserts),
+        deletes: options.get_one::<u32>("deletes").unwrap_or(usual.deletes),
+        readers: options.get_one::<u32>("readers").unwrap_or(usual.readers),
+        room: options.get_one::<u32>("room").unwrap_or(usual.room),
+        pumps: options.get_one::<u32>("pumps").unwrap_or(usual.pumps),
+        sweeps: options.get_one::<u32>("sweeps").unwrap_or(usual.sweeps),
+        seed: options.get_one::<u32>("seed").unwrap_or(usual.seed),
+    }
+}
+
+/// What a command asks with what the words give it.
+fn settings_of(command: &str, options: &ArgMatches<'_>) -> Settings
+    requires { IsCommand command.now }
+    ensures { SettingsRead command.now (rows_of (found_of options.now)) result }
 {
     match command {
-        "serve" => Settings::Serve(options),
-        "replay" => Settings::Replay(options),
+        "serve" => Settings::Serve(store_options(options)),
+        "replay" => Settings::Replay(store_options(options)),
+        "storm" => Settings::Storm(storm_limits(options)),
         _ => unreachable!(),
     }
 }
@@ -124,7 +180,7 @@ pub fn settings<'a>(alloc: Global, words: &'a [&'a str]) -> Result<Settings, Err
 {
     let matches = command_line(alloc)?.try_get_matches_from(words)?;
     match matches.subcommand() {
-        Some((command, options)) => Ok(store_settings(command, store_options(options))),
+        Some((command, options)) => Ok(settings_of(command, options)),
         None => unreachable!(),
     }
 }

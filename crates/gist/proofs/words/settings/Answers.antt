@@ -1,9 +1,8 @@
-use Rattle.std.proofs.Common.{◌≡◌, ◌∙◌, Option, Some, None, refl, subst, sym, inl, inr}
+use Rattle.std.proofs.Common.{◌≡◌, ◌∙◌, Option, Some, None, refl}
 use Rattle.std.specs.Option.{option_map}
 use Rattle.std.proofs.lemmas.Result.{err_from_is_err_and}
-use Rattle.clap.specs.Words.{Text, app_of, found_of, kind_of, rows_of, subcommand_rows_of}
-use Rattle.gist.specs.CommandLine.{texts_of, GivesSettings, GivesStore}
-use Rattle.gist.specs.declared.options.Settings.{Settings}
+use Rattle.clap.specs.Words.{app_of, found_of, kind_of, rows_of, subcommand_rows_of}
+use Rattle.gist.specs.CommandLine.{texts_of}
 use Rattle.gist.proofs.Giving.{Meets, gives, meets, names_command}
 use Rattle.gist.proofs.Serving.{refuses}
 use Rattle.gist.proofs.Taking.{only_memory}
@@ -23,8 +22,8 @@ returns-in_err-matches-clause-taken c well =
     let p = err_from_is_err_and c.from_residual-in_err-matches.result c.from_residual-in_err-matches.ensures.1 in
     rw (p.1, p.2) (only_memory (app_of c.in_ok-command_line.field-0) (texts_of c.args.words.now) (kind_of c.in_err-matches.field-0.0) c.in_ok-command_line.ensures c.in_err-matches.ensures.kinds well)
 
-pub store_settings-requires : goal.store_settings-requires
-store_settings-requires c =
+pub settings_of-requires : goal.settings_of-requires
+settings_of-requires c =
     let words = texts_of c.args.words.now in
     let met = subcommand_rows_of c.in_ok-matches.matches in
     let m : Meets words met = meets (app_of c.in_ok-command_line.field-0) words met c.in_ok-command_line.ensures c.in_ok-matches.ensures.kinds (λ simple. (c.in_ok-matches.ensures.matches simple).1) in
@@ -35,10 +34,4 @@ returns-clause-given c =
     let words = texts_of c.args.words.now in
     let met = subcommand_rows_of c.in_ok-matches.matches in
     let m : Meets words met = meets (app_of c.in_ok-command_line.field-0) words met c.in_ok-command_line.ensures c.in_ok-matches.ensures.kinds (λ simple. (c.in_ok-matches.ensures.matches simple).1) in
-    let named : Some c.in-Some.command.now ≡ option_map (λ p. p.0) met = c.in-Some.ensures.name ∙ fused _ _ _ in
-    let options = c.store_options.result in
-    let given : GivesStore c.in-Some.command.now words options = gives words met c.in-Some.command.now (rows_of (found_of c.in-Some.options.now)) options m named c.in-Some.ensures.rows c.store_options.ensures in
-    elim (names_command words met c.in-Some.command.now m named) [
-      | inl is ↦ subst (λ (s : Settings). GivesSettings words s) (sym (c.store_settings.ensures.serve is)) (subst (λ (command : Text). GivesStore command words options) is given)
-      | inr is ↦ subst (λ (s : Settings). GivesSettings words s) (sym (c.store_settings.ensures.replay is)) (subst (λ (command : Text). GivesStore command words options) is given)
-    ]
+    gives words met c.in-Some.command.now (rows_of (found_of c.in-Some.options.now)) m (c.in-Some.ensures.name ∙ fused _ _ _) c.in-Some.ensures.rows c.settings_of.result c.settings_of.ensures
