@@ -185,10 +185,7 @@ impl<C: KeyClass, L: Ledger> DeskOver<World<C, Ring<C::Key>>, L> {
                 .insert_on(alloc, number, share, page, key, tag)?;
             match way {
                 Way::On(next) => page = next,
-                Way::Split(full) => {
-                    self.split_for(rt, number, full)?;
-                    page = 0;
-                }
+                Way::Split(full) => self.split_for(rt, number, full)?,
                 Way::Placed(stamped) => return Ok(stamped),
             }
         }

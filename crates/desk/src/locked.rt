@@ -62,7 +62,7 @@ impl<C: KeyClass, L: Ledger> Locked<World<C, Ring<C::Key>>, L> {
         requires no_cursors { world.cursors ≡ [] }
         ensures { result ≡ world }
     {
-        world.is_sound();
+        world.recall_soundness();
         Locked { world, book }
     }
 

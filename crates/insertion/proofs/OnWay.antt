@@ -45,6 +45,11 @@ module _ {K A : Type 0} (rules : Rules K A) (rule : Rule) (key : K) where
         room = λ other. subst (λ (s : State K A). HasRoom s.search c) (sym is) further.1;
       }
 
+  -- after a step, at the page where the way goes on
+  pub on_resumed : (old now new : State K A) (p q : ℕ) → IsOnWay old now p → MovesPages rules rule now new → q < length new.search.tree.pages → is_within rules.is_cover (page_at new.search.tree q).cover key ≡ true → (q ≢ 0 → HasRoom new.search q)
+      → IsOnWay old new q
+  on_resumed old now new p q on moved exists covers room = record { moved = moves_more rules rule old now new on.moved moved; exists = exists; covers = covers; room = room }
+
   -- after a step at which the way begins anew
   pub on_root_again : (old now new : State K A) (p : ℕ) → IsOnWay old now p → IsSoundWorld rules.is_cover new → MovesPages rules rule now new → IsOnWay old new 0
   on_root_again old now new p on sound moved = on_root old new sound (moves_more rules rule old now new on.moved moved)
@@ -60,13 +65,13 @@ module _ {K : Type 0} where
   pub left_below : (s : SearchTree K) (p c : ℕ) → IsOpenBelow s p c → way_left s c < way_left s p
   left_below s p c below = omega (arith, below.level)
 
-  left_made : (is_cover : K → K → Bool) (s t : SearchTree K) (p : ℕ) → IsSearchTree is_cover t.tree t.fan t.least t.limit → t.limit ≡ s.limit → made s.tree < made t.tree → way_left t 0 < way_left s p
-  left_made is_cover s t p tree limit more =
+  left_made : (is_cover : K → K → Bool) (s t : SearchTree K) (p q : ℕ) → IsSearchTree is_cover t.tree t.fan t.least t.limit → q < length t.tree.pages → t.limit ≡ s.limit → made s.tree < made t.tree → way_left t q < way_left s p
+  left_made is_cover s t p q tree exists limit more =
       let few : made t.tree < t.limit + t.limit = few_made is_cover t.fan t.tree tree.sound t.limit tree.within in
-      let low : (page_at t.tree 0).level < length t.tree.pages = (tree.sound.shape 0 tree.sound.root_exists).low in
-      let at : way_left t 0 < (t.limit + t.limit - made s.tree) * 65537 + (page_at s.tree p).level
-      = lower (t.limit + t.limit) (made s.tree) (made t.tree) (page_at s.tree p).level (page_at t.tree 0).level more few (omega (arith, low, tree.within, tree.page_limit)) in
-      subst (λ l. way_left t 0 < (l + l - made s.tree) * 65537 + (page_at s.tree p).level) limit at
+      let low : (page_at t.tree q).level < length t.tree.pages = (tree.sound.shape q exists).low in
+      let at : way_left t q < (t.limit + t.limit - made s.tree) * 65537 + (page_at s.tree p).level
+      = lower (t.limit + t.limit) (made s.tree) (made t.tree) (page_at s.tree p).level (page_at t.tree q).level more few (omega (arith, low, tree.within, tree.page_limit)) in
+      subst (λ l. way_left t q < (l + l - made s.tree) * 65537 + (page_at s.tree p).level) limit at
 
   enlarged_counter : (union : K → K → K) (t : Tree K) (p c : ℕ) (key : K) → (after_enlarge union t p c key).counter ≡ t.counter
   unfolding after_enlarge
@@ -82,10 +87,10 @@ module _ {K : Type 0} where
       apart e = omega (arith, e, below.level)
 
 module _ {K A : Type 0} (now new : State K A) where
-  -- where the way begins anew, more was made
-  pub anew_left : (is_cover : K → K → Bool) (tree : Tree K) (p : ℕ) → IsSoundWorld is_cover new → new ≡ with_pages now tree → made now.search.tree < made tree → way_left new.search 0 < way_left now.search p
-  anew_left is_cover tree p sound is more =
-      left_made is_cover now.search new.search p sound.tree (ap (λ (s : State K A). s.search.limit) is) (subst (λ (s : State K A). made now.search.tree < made s.search.tree) (sym is) more)
+  -- where a page was made or posted, less is left wherever the way goes on
+  pub made_left : (is_cover : K → K → Bool) (tree : Tree K) (p q : ℕ) → IsSoundWorld is_cover new → q < length new.search.tree.pages → new ≡ with_pages now tree → made now.search.tree < made tree → way_left new.search q < way_left now.search p
+  made_left is_cover tree p q sound exists is more =
+      left_made is_cover now.search new.search p q sound.tree exists (ap (λ (s : State K A). s.search.limit) is) (subst (λ (s : State K A). made now.search.tree < made s.search.tree) (sym is) more)
 
   -- where a child was enlarged, nothing was made, and the level falls
   pub enlarged_left : (union : K → K → K) (p c : ℕ) (key : K) → IsOpenBelow now.search p c → new ≡ with_pages now (after_enlarge union now.search.tree p c key) → way_left new.search c < way_left now.search p

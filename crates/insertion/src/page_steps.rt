@@ -50,7 +50,7 @@ pub(crate) fn place<C: KeyClass, O: Outlet<C::Key>>(
     ensures last_finder { world.new.last_finder ≡ world.old.last_finder }
     ensures refusals { IfErr result (λ why. why ≡ Refusal.OutOfMemory) }
 {
-    world.is_sound();
+    world.recall_soundness();
     match world.step(Event::Place(u64::from(leaf), key, tag)) {
         Reply::Committed(stamp) => Ok(stamp.number()),
         Reply::Refused(why) => Err(why),

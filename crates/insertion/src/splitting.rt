@@ -27,7 +27,7 @@ pub fn split_prepared<C: KeyClass, O: Outlet<C::Key>>(
     ensures unchanged { OnErr result (world.new ≡ world.old) }
     ensures refusals { IfErr result (IsWanting world.old.search) }
 {
-    world.is_sound();
+    world.recall_soundness();
     match world.split_of(task) {
         None => Ok(false),
         Some(split) => {
@@ -63,7 +63,7 @@ pub fn split_at_once<C: KeyClass, O: Outlet<C::Key>>(
     ensures unchanged { OnErr result (world.new ≡ world.old) }
     ensures refusals { IfErr result (IsWanting world.old.search) }
 {
-    world.is_sound();
+    world.recall_soundness();
     let mut task = match world.prepare_split(u64::from(page)) {
         Ok(task) => task,
         Err(why) => return give_up(why),

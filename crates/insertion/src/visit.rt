@@ -1,5 +1,5 @@
 //! An insertion by visits, between which others may change the world.
-ghost use Rattle.std.specs.Prelude.{◌≡◌, ◌↔◌, ◌<◌, length, Err, IfOk, IfErr, OnErr, IsTrue};
+ghost use Rattle.std.specs.Prelude.{◌≡◌, ◌≢◌, ◌⊎◌, ◌↔◌, ◌<◌, length, Err, IfOk, IfErr, OnErr, IsTrue};
 ghost use Rattle.key_class.specs.Refusals.{IsEither};
 ghost use Rattle.descent.specs.NextSteps.{HasRoom};
 ghost use Rattle.world.specs.Promises.{KeepsMailboxes};
@@ -20,7 +20,7 @@ use world::{Event, Reply, Stamped, World};
 pub enum Way<K> {
     /// Its way goes on at this page.
     On(u32),
-    /// This page is full: once it is split, the way begins anew at the root.
+    /// This page is full: once it is split, the way goes on where it was.
     Split(u32),
     /// The row was placed.
     Placed(Stamped<K>),
@@ -54,6 +54,25 @@ fn may_go_on<C: KeyClass>(search: &SearchTree<C>, page: u32, key: C::Key) -> boo
     search.fan() > here.entry_count()
 }
 
+/// Where a way for the key goes on that has come to the page: there, or at the root where it may not any more.
+pub(crate) fn resumed<C: KeyClass, O: Outlet<C::Key>>(
+    world: &World<C, O>,
+    page: u32,
+    key: C::Key,
+) -> u32
+    ensures exists { result < length world.now.search.tree.pages }
+    ensures covers { CoversKey C.rules.is_cover world.now.search result key }
+    ensures room { result ≢ 0 → HasRoom world.now.search result }
+    ensures page { (result ≡ page) ⊎ (result ≡ 0) }
+{
+    world.recall_soundness();
+    if may_go_on(world.search(), page, key) {
+        page
+    } else {
+        0
+    }
+}
+
 /// What an insertion does next that has come to the page. Where its way may not go on there any more, it begins anew at
 /// the root.
 fn next_event<C: KeyClass, O: Outlet<C::Key>>(
@@ -66,13 +85,9 @@ fn next_event<C: KeyClass, O: Outlet<C::Key>>(
     ensures next { IfOk result (IsNextInsertion world.now.search key tag) }
     ensures refusals { IfErr result (λ why. why ≡ Refusal.OutOfMemory) }
 {
-    world.is_sound();
+    world.recall_soundness();
     let search = world.search();
-    let from = if may_go_on(search, page, key) {
-        page
-    } else {
-        0
-    };
+    let from = resumed(world, page, key);
     match plan_at(search, from, key) {
         Plan::Grow => {
             let sides = sides_of(alloc, search, 0)?;
@@ -80,7 +95,7 @@ fn next_event<C: KeyClass, O: Outlet<C::Key>>(
         }
         Plan::Post(parent, child) => {
             let posted = Event::Post(u64::from(parent), u64::from(child));
-            return Ok(Next::Make(posted, 0));
+            return Ok(Next::Make(posted, from));
         }
         Plan::Split(child) => return Ok(Next::Split(child)),
         Plan::Enlarge(parent, child) => {
@@ -152,7 +167,7 @@ pub fn insert_step<C: KeyClass, O: Outlet<C::Key>>(
     ensures full { (result ≡ Err Refusal.CommitsFull) ↔ IsFullOfCommits world.old }
     ensures refusals { IfErr result (IsFullOrWanting world.old.search) }
 {
-    world.is_sound();
+    world.recall_soundness();
     if world.limit() <= world.commits() {
         return Err(Refusal::CommitsFull);
     }

@@ -5,6 +5,7 @@ ghost use Rattle.world.specs.States.{AddsCommit, IsFullOfCommits};
 ghost use Rattle.insertion.specs.PageSteps.{IsFullOrWanting, IsWanting, MayPlace, MovesPages};
 
 use crate::page_steps::{move_pages, place};
+use crate::visit::resumed;
 use descent::{Step, next_step};
 use key_class::{KeyClass, Refusal};
 use mailbox::Outlet;
@@ -13,9 +14,10 @@ use world::{Event, World};
 
 /// Adds a row to a world, and gives the number of its commit. The way goes down from the root, at each page by the branch
 /// whose bound gains least by the key, to a leaf that takes the row (Guttman 1984). On the way a full root grows, a full
-/// child is split and a sibling that is owed is posted, after each of which the way begins anew at the root; a child whose
-/// bound doesn't cover the key is enlarged (Kornacker, Mohan and Hellerstein 1997). Each of these is one step of the world,
-/// and leaves to open cursors and finders what they have still to find.
+/// child is split and a sibling that is owed is posted, after which the way goes on at the page where it was, or begins anew
+/// at the root where that page is full now; a child whose bound doesn't cover the key is enlarged (Kornacker, Mohan and
+/// Hellerstein 1997). Each of these is one step of the world, and leaves to open cursors and finders what they have still to
+/// find.
 ///
 /// # Errors
 /// `CommitsFull` where there are as many commits as may be, `PagesFull` where fewer than two pages are left when it
@@ -56,7 +58,7 @@ fn make_way<C: KeyClass, O: Outlet<C::Key>>(
     ensures moved { MovesPages C.rules O.rule world.old world.new }
     ensures refusals { IfErr result (IsWanting world.new.search) }
 {
-    world.is_sound();
+    world.recall_soundness();
     let mut page = 0;
     'descending: loop {
         match next_step(alloc, world.search(), page, key)? {
@@ -66,11 +68,11 @@ fn make_way<C: KeyClass, O: Outlet<C::Key>>(
             }
             Step::Post(parent, child) => {
                 move_pages(world, Event::Post(u64::from(parent), u64::from(child)))?;
-                page = 0;
+                page = resumed(world, page, key);
             }
             Step::Split(child, sides) => {
                 move_pages(world, Event::Split(u64::from(child), sides))?;
-                page = 0;
+                page = resumed(world, page, key);
             }
             Step::Enlarge(parent, child) => {
                 let wider = Event::Enlarge(u64::from(parent), u64::from(child), key);

@@ -44,7 +44,7 @@ pub fn find_row<C: KeyClass, O: Outlet<C::Key>>(
     ensures finders_full { (result ≡ Err FindersFull) ↔ LacksFinder world.old row }
     ensures refusals { IfErr result (RefusesDelete world.old row) }
 {
-    world.is_sound();
+    world.recall_soundness();
     match world.status(row) {
         Status::NeverIssued => return Err(Refusal::NoSuchRow),
         Status::Dead => return Err(Refusal::AlreadyDeleted),
@@ -94,7 +94,7 @@ pub fn seek_row<C: KeyClass, O: Outlet<C::Key>>(
     ensures already_deleted { (result ≡ Err AlreadyDeleted) ↔ NamesDead world.old.commits row }
     ensures refusals { IfErr result (RefusesDelete world.old row) }
 {
-    world.is_sound();
+    world.recall_soundness();
     match world.status(row) {
         Status::NeverIssued => return Err(Refusal::NoSuchRow),
         Status::Dead => return Err(Refusal::AlreadyDeleted),
@@ -117,7 +117,7 @@ fn seek_live<C: KeyClass, O: Outlet<C::Key>>(
     ensures unchanged { OnErr result (world.new ≡ world.old) }
     ensures refusals { IfErr result (RefusesCommit world.old) }
 {
-    world.is_sound();
+    world.recall_soundness();
     match world.finder_row(finder) {
         None => return Ok(Search::Lost),
         Some(other) => {

@@ -10,7 +10,7 @@ use crate::steps;
 use key_class::{KeyClass, Refusal, Side, Sides};
 use page_table::PageTable;
 use row_version::Entry;
-use std::alloc::Global;
+use std::alloc::{AllocError, Global};
 use std::marker::Model;
 
 /// A sound tree of pages with its limits.
@@ -214,11 +214,28 @@ impl<C: KeyClass> SearchTree<C> {
         Ok(())
     }
 
+    /// Adds a row to a leaf that takes it, at the end.
+    ///
+    /// # Errors
+    /// Memory was wanting; nothing is changed then.
+    pub fn add(&mut self, leaf: u64, entry: Entry<C::Key>) -> Result<(), AllocError>
+        requires passes { PlacePasses C.rules.is_cover self.old leaf entry.key }
+        ensures placed { OnOk result (self.new ≡ with_entry self.old leaf entry) }
+        ensures unchanged { OnErr result (self.new ≡ self.old) }
+
+        // Below the root the entry stands once more, and nothing else has changed.
+        ensures once { OnOk result (GainsEntry self.old.tree entry self.new.tree) }
+        ensures sound { IsSound C.rules.is_cover self.new.fan self.new.tree }
+    {
+        self.table.place(leaf as u32, entry)?;
+        Ok(())
+    }
+
     /// Marks a row of a leaf as deleted by that commit. Commits count from 1.
     ///
     /// # Errors
     /// Memory was wanting; nothing is changed then.
-    pub fn bury(&mut self, leaf: u32, row: u32, commit: u32) -> Result<(), Refusal>
+    pub fn bury(&mut self, leaf: u64, row: u32, commit: u32) -> Result<(), Refusal>
         requires leaf { is_leaf self.old.tree leaf ≡ true }
         requires counted { 0 < commit }
         ensures buried { OnOk result (self.new ≡ with_death self.old leaf row commit) }
@@ -226,7 +243,7 @@ impl<C: KeyClass> SearchTree<C> {
         ensures unchanged { OnErr result (self.new ≡ self.old) }
         ensures sound { IsSound C.rules.is_cover self.new.fan self.new.tree }
     {
-        self.table.bury(leaf, row, commit)?;
+        self.table.bury(leaf as u32, row, commit)?;
         Ok(())
     }
 

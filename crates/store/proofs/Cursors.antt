@@ -5,6 +5,7 @@ use Rattle.change_list.specs.declared.item.Item.{Item}
 use Rattle.change_list.specs.Cursors.{CursorState, work}
 use Rattle.key_class.specs.declared.refusal.Refusal.TheVariants as refusal
 use Rattle.store.specs.States.{StoreState, cursor_of, open_or_closed, find_cursor, put_cursor, with_open_cursor, work_of, work_at, Nexts, Gave}
+use Rattle.store.specs.Worlds.{HasCursor}
 
 module _ {K A : Type 0} where
   pub found_serial : (c : ℕ) (ks : List (CursorState K A)) (k : CursorState K A) → find_cursor c ks ≡ Some k → nat_eq k.serial c ≡ true
@@ -95,6 +96,10 @@ module _ {K A : Type 0} where
         let a : work_at new c ≡ work old.commits n.after = ap (λ s. work_at s c) n.is ∙ ap (work_of old.commits) w in
         let b : work_at old c ≡ work old.commits n.before = ap (work_of old.commits) n.is_open in
         rw (a, b) n.gives.less_work
+
+    -- and its cursor open
+    pub nexts_open : (old new : StoreState K A) (c : ℕ) (item : Item K) → Nexts matching old c (Some item) new → HasCursor new c
+    nexts_open old new c item n = (n.after, ap (λ s. cursor_of s c) n.is ∙ cursor_with old c n.before n.after n.is_open n.gives.serial)
 
     pub gave_push : (old mid new : StoreState K A) (c : ℕ) (items : List (Item K)) (item : Item K) → Gave matching old c items mid → Nexts matching mid c (Some item) new → Gave matching old c (items ++ item ∷ []) new
     gave_push old mid new c [] item g n = (new, subst (λ s. Nexts matching s c (Some item) new) g n, refl)

@@ -27,7 +27,7 @@ use Rattle.world.specs.States as world
 use Rattle.world.specs.Steps.{TurnsAt, RefusesTurn, TakesItem, cursor_tests}
 use Rattle.store.specs.States.{Strives, GivesNext, Answers, Nexts, RefusesNext, with_open_cursor}
 use Rattle.store.specs.Worlds.{IsEmptied, IsQuiet, IsFilled, store_state}
-use Rattle.store.proofs.Worlds.{open_as, with_as}
+use Rattle.store.proofs.Worlds.{open_as, with_as, refuses_next}
 
 -- a member that was put takes no note of one that was put before it
 pub put_put : {X : Type 0} (serial : X → ℕ) (x y : X) (xs : List X) → serial y ≡ serial x → put serial y (put serial x xs) ≡ put serial y xs
@@ -339,3 +339,57 @@ module _ {K A : Type 0} (rules : Rules K A) (rule : Rule) where
     pub refused_turn : (why : Refusal) → (first_failing (cursor_tests now c) ≡ Some why) ⊎ ((first_failing (cursor_tests now c) ≡ None) × RefusesTurn rules rule now c why) → RefusesTurn rules rule now c why
     refused_turn why (inl e) = absurd (let s : None ≡ Some why = sym now_passes ∙ e in cc)
     refused_turn why (inr r) = r.1
+
+  -- a cursor that is open has got on, and gave nothing; where none is open nothing has changed
+  pub record IsOnWay (old now : world.State K A) (c : ℕ) : Type 0 where
+    pub got_on : first_failing (cursor_tests old c) ≡ None → GotOn old now c
+    pub unchanged : (why : Refusal) → first_failing (cursor_tests old c) ≡ Some why → now ≡ old
+
+  pub first_on_way : (old : world.State K A) (c : ℕ) → IsQuiet old → IsOnWay old old c
+  first_on_way old c quiet = record { got_on = at_first old c quiet; unchanged = λ why e. refl }
+
+  pub still_on_way : (old now : world.State K A) (c : ℕ) → GotOn old now c → IsOnWay old now c
+  still_on_way old now c g = record { got_on = λ e. g; unchanged = λ why e. absurd (let s : None ≡ Some why = sym g.passed ∙ e in cc) }
+
+  module _ (old now : world.State K A) (c : ℕ) (o : IsOnWay old now c) where
+    pub open_on_way : first_failing (cursor_tests now c) ≡ None → GotOn old now c
+    open_on_way passed = go (first_failing (cursor_tests old c)) refl
+      where
+        go : (first : Option Refusal) → first_failing (cursor_tests old c) ≡ first → GotOn old now c
+        go None e = o.got_on e
+        go (Some why) e = absurd (let s : Some why ≡ None = sym e ∙ sym (ap (λ s. first_failing (cursor_tests s c)) (o.unchanged why e)) ∙ passed in cc)
+
+    -- by its serial a cursor is refused at the first turn alone
+    pub refused_on_way : (why : Refusal) → first_failing (cursor_tests now c) ≡ Some why → (now ≡ old) × (first_failing (cursor_tests old c) ≡ Some why)
+    refused_on_way why refused = go (first_failing (cursor_tests old c)) refl
+      where
+        go : (first : Option Refusal) → first_failing (cursor_tests old c) ≡ first → (now ≡ old) × (first_failing (cursor_tests old c) ≡ Some why)
+        go None e = absurd (let s : None ≡ Some why = sym (now_passes old now c (o.got_on e)) ∙ refused in cc)
+        go (Some other) e = let same = o.unchanged other e in (same, ap (λ s. first_failing (cursor_tests s c)) (sym same) ∙ refused)
+
+    never_idle : (b d : Bool) → first_failing ((b, refusal.NoSuchCursor) ∷ (d, refusal.CursorClosed) ∷ []) ≡ Some refusal.Idle → ⊥
+    never_idle true d e = let s : refusal.NoSuchCursor ≡ refusal.Idle = cc in cc
+    never_idle false true e = let s : refusal.CursorClosed ≡ refusal.Idle = cc in cc
+    never_idle false false e = cc
+
+    -- the cursor of an idle turn is open
+    pub idle_on_way : (first_failing (cursor_tests now c) ≡ Some refusal.Idle) ⊎ ((first_failing (cursor_tests now c) ≡ None) × RefusesTurn rules rule now c refusal.Idle) → GotOn old now c
+    idle_on_way (inl e) = absurd (never_idle _ _ e)
+    idle_on_way (inr r) = open_on_way r.0
+
+    -- what a turn is refused by otherwise
+    pub record RefusedOnWay (why : Refusal) : Type 0 where
+      pub quiet : IsQuiet now
+      pub refuses : RefusesNext rules.is_match (store_state rules rule old) c why (store_state rules rule now)
+
+    pub other_on_way : IsQuiet old → ((room count : ℕ) → rule.may_refuse room count ≡ true → room ≤ count) → (why : Refusal) → (why ≡ refusal.Idle → ⊥)
+        → (first_failing (cursor_tests now c) ≡ Some why) ⊎ ((first_failing (cursor_tests now c) ≡ None) × RefusesTurn rules rule now c why) → RefusedOnWay why
+    other_on_way quiet full why busy (inl e) =
+        let r = refused_on_way why e in
+        record {
+          quiet = subst IsQuiet (sym r.0) quiet;
+          refuses = subst (λ s. RefusesNext rules.is_match (store_state rules rule old) c why (store_state rules rule s)) (sym r.0) (refuses_next rules rule old c why r.1);
+        }
+    other_on_way quiet full why busy (inr r) =
+        let g = open_on_way r.0 in
+        record { quiet = now_quiet old now c g; refuses = wants_memory old now c g full why busy r.1 }

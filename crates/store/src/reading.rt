@@ -19,10 +19,7 @@ pub fn next_item<C: KeyClass>(
     ensures ok { IfOk result (λ item. NextsIn C.rules world.old c item world.new) }
     ensures err { IfErr result (λ why. RefusesNextIn C.rules world.old c why world.new) }
 {
-    world.is_sound();
-    if let Err(refusal) = world.check_cursor(c) {
-        return Err(refusal);
-    }
+    world.recall_soundness();
     'turning: loop {
         match world.step(Event::Turn(c)) {
             Reply::Offered => return Ok(Some(take_item(world, c))),

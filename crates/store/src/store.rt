@@ -61,12 +61,12 @@ impl<C: KeyClass> Store<C> {
         // At most one page more was made than there are commits.
         ensures few_pages { HasFewPages self.now }
     {
-        self.world.is_sound();
+        self.world.recall_soundness();
         self.world.commits()
     }
 
     /// Nothing is done. The clauses state what holds of every store.
-    fn is_sound(&self)
+    fn recall_soundness(&self)
         ensures legal { IsLegal self.now.commits }
         ensures few_pages { HasFewPages self.now }
     {
@@ -93,7 +93,7 @@ impl<C: KeyClass> Store<C> {
         ensures few_pages { HasFewPages self.new }
     {
         let inserted = insertion::insert(self.alloc, &mut self.world, key, tag);
-        self.is_sound();
+        self.recall_soundness();
         inserted
     }
 
@@ -120,7 +120,7 @@ impl<C: KeyClass> Store<C> {
         ensures few_pages { HasFewPages self.new }
     {
         let deleted = removal::delete(&mut self.world, row);
-        self.is_sound();
+        self.recall_soundness();
         deleted
     }
 
@@ -169,8 +169,8 @@ impl<C: KeyClass> Store<C> {
     pub fn drain(&mut self, c: u64, into: &mut Vec<Item<C::Key>>) -> Result<(), Refusal>
         ensures { DrainsInto C.rules self.old c into.old.items into.new.items result self.new }
     {
+        self.check(c)?;
         'draining: loop {
-            self.check(c)?;
             let Ok(()) = into.try_reserve(1) else {
                 return Err(Refusal::OutOfMemory);
             };
@@ -190,7 +190,7 @@ impl<C: KeyClass> Store<C> {
         ensures err { OnErr result (SweepsStorePart C.rules.is_match self.old self.new) }
         ensures refusals { IfErr result (λ e. e ≡ OutOfMemory) }
     {
-        self.world.is_sound();
+        self.world.recall_soundness();
         removal::sweep_all(&mut self.world)
     }
 
@@ -214,7 +214,7 @@ impl<C: KeyClass> Store<C> {
         ensures ok { OnOk result (Closes self.old c self.new) }
         ensures err { IfErr result (λ why. LacksCursor self.old c why self.new) }
     {
-        self.world.is_sound();
+        self.world.recall_soundness();
         match self.world.step(Event::Close(c)) {
             Reply::Closed => return Ok(()),
             Reply::Refused(refusal) => return Err(refusal),
@@ -231,7 +231,7 @@ impl<C: KeyClass> Store<C> {
         if !query.is_within_depth(32) {
             return Err(Refusal::BadConfig);
         }
-        self.world.is_sound();
+        self.world.recall_soundness();
         let table = self.world.search().pages();
         let commits = self.world.commits() as u32;
         let rows = survey::live_rows::<C>(self.alloc, table, commits, query)?;

@@ -5,15 +5,15 @@ ghost use Rattle.world.specs.declared.event.Event.TheVariants as event;
 ghost use Rattle.world.specs.States.{Meets};
 ghost use Rattle.world.specs.Steps.{Acts, FirstFails, HasKey, Step, find_tests};
 
+use crate::commit::commit;
 use crate::places::place_of;
 use crate::reply::{Reply, Stamped};
 use crate::world::World;
-use change_list::{ChangeList, Status, Write};
+use change_list::{Status, Write};
 use descent::Finder;
 use key_class::{KeyClass, Refusal};
 use mailbox::Outlet;
 use scan::Sought;
-use std::mem;
 
 impl<C: KeyClass, O: Outlet<C::Key>> World<C, O> {
     /// The key of a row that a further finder may look for, or why none may.
@@ -72,31 +72,18 @@ impl<C: KeyClass, O: Outlet<C::Key>> World<C, O> {
         requires { Meets self.old f at page }
         ensures { Step C.rules O.rule seat self.old (event.Seek f) result self.new }
     {
-        let count = self.changes.len() as u64;
-        if count >= self.limit {
+        if self.changes.len() as u64 >= self.limit {
             return Reply::Refused(Refusal::CommitsFull);
         }
-        let row = self.finders[at].row();
-        let number = count + 1;
-        let write = Write::Delete(u64::from(row));
-        let empty = ChangeList::new(self.allocator());
-        let changes = mem::replace(&mut self.changes, empty);
-        match changes.reserve(write) {
-            Err(changes) => {
-                self.changes = changes;
-                return Reply::Refused(Refusal::OutOfMemory);
+        let alloc = self.allocator();
+        let write = Write::Delete(u64::from(self.finders[at].row()));
+        let leaf = u64::from(page);
+        match commit(alloc, &mut self.search, &mut self.changes, leaf, write) {
+            Ok(number) => {
+                self.finders.remove(at);
+                return Reply::Committed(Stamped::new(number, seat, write));
             }
-            Ok(changes) => match self.search.bury(page, row, number as u32) {
-                Err(refusal) => {
-                    self.changes = changes.into_list();
-                    return Reply::Refused(refusal);
-                }
-                Ok(()) => {
-                    self.finders.remove(at);
-                    self.changes = changes.push();
-                    return Reply::Committed(Stamped::new(number, seat, write));
-                }
-            },
+            Err(refusal) => return Reply::Refused(refusal),
         }
     }
 

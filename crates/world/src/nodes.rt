@@ -2,14 +2,13 @@
 ghost use Rattle.world.specs.declared.event.Event.TheVariants as event;
 ghost use Rattle.world.specs.Steps.{Acts, Step};
 
+use crate::commit::commit;
 use crate::reply::{Reply, Stamped};
 use crate::world::World;
-use change_list::{ChangeList, Write};
+use change_list::Write;
 use collector::horizon;
 use key_class::{KeyClass, Refusal, Sides};
 use mailbox::Outlet;
-use row_version::Entry;
-use std::mem;
 
 impl<C: KeyClass, O: Outlet<C::Key>> World<C, O> {
     pub(crate) fn enlarge(&mut self, page: u64, child: u64, key: C::Key) -> Reply<C, O>
@@ -54,29 +53,14 @@ impl<C: KeyClass, O: Outlet<C::Key>> World<C, O> {
         if let Some(refusal) = self.search.place_refusal(page, key) {
             return Reply::Refused(refusal);
         }
-        let count = self.changes.len() as u64;
-        if count >= self.limit {
+        if self.changes.len() as u64 >= self.limit {
             return Reply::Refused(Refusal::CommitsFull);
         }
-        let number = count + 1;
+        let alloc = self.allocator();
         let write = Write::Insert(key, tag);
-        let empty = ChangeList::new(self.allocator());
-        let changes = mem::replace(&mut self.changes, empty);
-        match changes.reserve(write) {
-            Err(changes) => {
-                self.changes = changes;
-                return Reply::Refused(Refusal::OutOfMemory);
-            }
-            Ok(changes) => match self.search.place(page, Entry::new(key, number as u32, tag)) {
-                Err(refusal) => {
-                    self.changes = changes.into_list();
-                    return Reply::Refused(refusal);
-                }
-                Ok(()) => {
-                    self.changes = changes.push();
-                    return Reply::Committed(Stamped::new(number, seat, write));
-                }
-            },
+        match commit(alloc, &mut self.search, &mut self.changes, page, write) {
+            Ok(number) => return Reply::Committed(Stamped::new(number, seat, write)),
+            Err(refusal) => return Reply::Refused(refusal),
         }
     }
 

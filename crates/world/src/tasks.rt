@@ -185,7 +185,7 @@ impl<C: KeyClass, O: Outlet<C::Key>> World<C, O> {
         ensures sound { IsSoundWorld C.rules.is_cover self.new }
         ensures mailboxes { KeepsMailboxes C.rules O.rule self.old self.new }
     {
-        self.is_sound();
+        self.recall_soundness();
         let VisitTask { cursor, visit } = task;
         let at = match self.place_of(cursor) {
             Ok(at) => at,
@@ -195,7 +195,7 @@ impl<C: KeyClass, O: Outlet<C::Key>> World<C, O> {
             return Reply::Refused(Refusal::NotHere);
         }
         let reply = self.publish_due(cursor, at, visit);
-        self.is_sound();
+        self.recall_soundness();
         reply
     }
 

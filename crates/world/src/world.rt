@@ -189,7 +189,7 @@ impl<C: KeyClass, O: Outlet<C::Key>> World<C, O> {
         ensures open { OnOk result (first_failing (cursor_tests self.now c) ≡ None) }
         ensures refused { IfErr result (FirstFails (cursor_tests self.now c)) }
     {
-        self.is_sound();
+        self.recall_soundness();
         self.place_of(c)?;
         Ok(())
     }
@@ -221,12 +221,12 @@ impl<C: KeyClass, O: Outlet<C::Key>> World<C, O> {
         ensures fresh { HandsOut O.fresh result }
         ensures commits { AddsWritten self.old event result self.new }
     {
-        self.is_sound();
+        self.recall_soundness();
         self.answer(seat, event)
     }
 
     /// Nothing is done. The clause states what holds of every world.
-    pub fn is_sound(&self)
+    pub fn recall_soundness(&self)
         ensures { IsSoundWorld C.rules.is_cover self.now }
     {
         let _limit = self.limit;

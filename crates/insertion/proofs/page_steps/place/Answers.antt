@@ -9,5 +9,5 @@ returns-in-Committed-clause-rests g c =
 
 pub returns-in-Committed-clause-dead : goal.returns-in-Committed-clause-dead
 returns-in-Committed-clause-dead g c =
-    place_deaths g.C.KeyClass.rules g.O.Outlet.rule c.args.world.now c.step.new.self 0 c.from.result c.args.key c.args.tag c.in-Committed.stamp c.is_sound.ensures
+    place_deaths g.C.KeyClass.rules g.O.Outlet.rule c.args.world.now c.step.new.self 0 c.from.result c.args.key c.args.tag c.in-Committed.stamp c.recall_soundness.ensures
     (subst (λ p. first_failing (place_tests g.C.KeyClass.rules.is_cover c.args.world.now.search p c.args.key) ≡ None) (sym c.from.ensures) c.requires.passes) c.in-Committed.ensures.step.change

@@ -4,7 +4,7 @@ use Rattle.descent.specs.NextSteps.{IsOpenBelow}
 use Rattle.world.specs.declared.event.Event.TheVariants as event
 use Rattle.insertion.specs.PageSteps.{Moves}
 use Rattle.insertion.proofs.Moving.{moves_more}
-use Rattle.insertion.proofs.OnWay.{anew_left, enlarged_left, on_enlarged, on_root_again}
+use Rattle.insertion.proofs.OnWay.{made_left, enlarged_left, on_enlarged, on_resumed, on_root_again}
 use Rattle.insertion.proofs.way_down.make_way.Given as given
 use Rattle.insertion.proofs.way_down.make_way.Goals as goal
 
@@ -13,7 +13,7 @@ returns-in_err-move_pages-in-Grow-clause-moved g c = moves_more g.C.KeyClass.rul
 
 pub descending-smaller-in-Grow : goal.descending-smaller-in-Grow
 descending-smaller-in-Grow g c =
-    anew_left c.descending.world c.move_pages.new.world g.C.KeyClass.rules.is_cover _ c.descending.page c.move_pages.ensures.sound c.in_ok-move_pages-in-Grow.ensures.moved (grow_makes g.C.KeyClass.rules.union_of c.descending.world.search.tree c.in-Grow.sides)
+    made_left c.descending.world c.move_pages.new.world g.C.KeyClass.rules.is_cover _ c.descending.page 0 c.move_pages.ensures.sound c.move_pages.ensures.sound.tree.sound.root_exists c.in_ok-move_pages-in-Grow.ensures.moved (grow_makes g.C.KeyClass.rules.union_of c.descending.world.search.tree c.in-Grow.sides)
 
 pub descending-preserved-in-Grow : goal.descending-preserved-in-Grow
 descending-preserved-in-Grow g c =
@@ -24,22 +24,24 @@ returns-in_err-move_pages-in-Post-clause-moved g c = moves_more g.C.KeyClass.rul
 
 pub descending-smaller-in-Post : goal.descending-smaller-in-Post
 descending-smaller-in-Post g c =
-    anew_left c.descending.world c.move_pages-in-Post.new.world g.C.KeyClass.rules.is_cover _ c.descending.page c.move_pages-in-Post.ensures.sound c.in_ok-move_pages-in-Post.ensures.moved.after (post_makes c.descending.world.search.tree _ _ c.in_ok-move_pages-in-Post.ensures.moved.sibling)
+    made_left c.descending.world c.move_pages-in-Post.new.world g.C.KeyClass.rules.is_cover _ c.descending.page c.resumed-page.result c.move_pages-in-Post.ensures.sound c.resumed-page.ensures.exists c.in_ok-move_pages-in-Post.ensures.moved.after (post_makes c.descending.world.search.tree _ _ c.in_ok-move_pages-in-Post.ensures.moved.sibling)
 
 pub descending-preserved-in-Post : goal.descending-preserved-in-Post
 descending-preserved-in-Post g c =
-    on_root_again g.C.KeyClass.rules g.O.Outlet.rule c.args.key c.args.world.now c.descending.world c.move_pages-in-Post.new.world c.descending.page c.descending.invariant c.move_pages-in-Post.ensures.sound c.move_pages-in-Post.ensures.kept
+    on_resumed g.C.KeyClass.rules g.O.Outlet.rule c.args.key c.args.world.now c.descending.world c.move_pages-in-Post.new.world c.descending.page c.resumed-page.result c.descending.invariant c.move_pages-in-Post.ensures.kept
+    c.resumed-page.ensures.exists c.resumed-page.ensures.covers c.resumed-page.ensures.room
 
 pub returns-in_err-move_pages-in-Split-clause-moved : goal.returns-in_err-move_pages-in-Split-clause-moved
 returns-in_err-move_pages-in-Split-clause-moved g c = moves_more g.C.KeyClass.rules g.O.Outlet.rule c.args.world.now c.descending.world c.move_pages-in-Split.new.world c.descending.invariant.moved c.move_pages-in-Split.ensures.kept
 
 pub descending-smaller-in-Split : goal.descending-smaller-in-Split
 descending-smaller-in-Split g c =
-    anew_left c.descending.world c.move_pages-in-Split.new.world g.C.KeyClass.rules.is_cover _ c.descending.page c.move_pages-in-Split.ensures.sound c.in_ok-move_pages-in-Split.ensures.moved (split_makes g.C.KeyClass.rules.union_of c.descending.world.search.tree _ c.in-Split.sides)
+    made_left c.descending.world c.move_pages-in-Split.new.world g.C.KeyClass.rules.is_cover _ c.descending.page c.resumed-page-in-Split.result c.move_pages-in-Split.ensures.sound c.resumed-page-in-Split.ensures.exists c.in_ok-move_pages-in-Split.ensures.moved (split_makes g.C.KeyClass.rules.union_of c.descending.world.search.tree _ c.in-Split.sides)
 
 pub descending-preserved-in-Split : goal.descending-preserved-in-Split
 descending-preserved-in-Split g c =
-    on_root_again g.C.KeyClass.rules g.O.Outlet.rule c.args.key c.args.world.now c.descending.world c.move_pages-in-Split.new.world c.descending.page c.descending.invariant c.move_pages-in-Split.ensures.sound c.move_pages-in-Split.ensures.kept
+    on_resumed g.C.KeyClass.rules g.O.Outlet.rule c.args.key c.args.world.now c.descending.world c.move_pages-in-Split.new.world c.descending.page c.resumed-page-in-Split.result c.descending.invariant c.move_pages-in-Split.ensures.kept
+    c.resumed-page-in-Split.ensures.exists c.resumed-page-in-Split.ensures.covers c.resumed-page-in-Split.ensures.room
 
 pub returns-in_err-move_pages-in-Enlarge-clause-moved : goal.returns-in_err-move_pages-in-Enlarge-clause-moved
 returns-in_err-move_pages-in-Enlarge-clause-moved g c = moves_more g.C.KeyClass.rules g.O.Outlet.rule c.args.world.now c.descending.world c.move_pages-in-Enlarge.new.world c.descending.invariant.moved c.move_pages-in-Enlarge.ensures.kept

@@ -1,6 +1,13 @@
-use Rattle.std.proofs.Common.{◌++◌, ◌∷◌, [], refl, ap, ◌∙◌, inr, append_assoc}
-use Rattle.store.proofs.Cursors.{nexts_less, gave_push, with_same}
+use Rattle.std.proofs.Common.{◌++◌, ◌∷◌, [], refl, sym, ap, ◌∙◌, inl, inr, append_assoc}
+use Rattle.std.proofs.lemmas.List.{append-nil}
+use Rattle.std.proofs.lemmas.Result.{err_from_is_err_and}
+use Rattle.store.proofs.Cursors.{nexts_less, nexts_open, gave_push, with_same}
 use Rattle.store.proofs.store.Store.drain.Goals as goal
+
+pub returns-in_err-check : goal.returns-in_err-check
+returns-in_err-check g c =
+    let p = err_from_is_err_and c.from_residual.result c.from_residual.ensures.1 in
+    ([], sym (append-nil c.args.into.now.items), record { last_given = c.args.self.now; gave = refl; ended = rw (p.1, p.2) (inl (c.in_err-check.ensures.refused, refl)) })
 
 pub draining-smaller : goal.draining-smaller
 draining-smaller g c =
@@ -14,12 +21,13 @@ draining-preserved g c =
       i.0 ++ c.in-Some.item ∷ [],
       c.push_reserved.ensures.items ∙ ap (λ l. l ++ c.in-Some.item ∷ []) (c.try_reserve.ensures.items ∙ i.1) ∙ append_assoc c.args.into.now.items i.0 (c.in-Some.item ∷ []),
       gave_push g.C.KeyClass.rules.is_match c.args.self.now c.draining.self c.next.new.self c.args.c i.0 c.in-Some.item i.2 n,
+      nexts_open g.C.KeyClass.rules.is_match c.draining.self c.next.new.self c.args.c c.in-Some.item n,
     )
 
 pub returns-in_default : goal.returns-in_default
 returns-in_default g c =
     let i = c.draining.invariant in
-    let p = c.in_ok-check.ensures.open in (
+    let p = i.3 in (
       i.0,
       c.try_reserve.ensures.items ∙ i.1,
       record {

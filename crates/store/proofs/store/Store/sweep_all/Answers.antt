@@ -6,9 +6,9 @@ use Rattle.store.proofs.store.Store.sweep_all.Goals as goal
 pub returns-clause-ok : goal.returns-clause-ok
 returns-clause-ok g c =
     let e = c.sweep_all.ensures in
-    rw (← c.self.view_is) (if_ok c.sweep_all.result (λ number s. sweeps g.C.KeyClass.rules tray_rule c.self.inside.world c.sweep_all.new.world c.is_sound.ensures e.rests e.commits e.pages e.last_finder number s) e.swept)
+    rw (← c.self.view_is) (if_ok c.sweep_all.result (λ number s. sweeps g.C.KeyClass.rules tray_rule c.self.inside.world c.sweep_all.new.world c.recall_soundness.ensures e.rests e.commits e.pages e.last_finder number s) e.swept)
 
 pub returns-clause-err : goal.returns-clause-err
 returns-clause-err g c =
     let e = c.sweep_all.ensures in
-    rw (← c.self.view_is) (on_err c.sweep_all.result (λ s. sweeps_some g.C.KeyClass.rules tray_rule c.self.inside.world c.sweep_all.new.world c.is_sound.ensures e.rests e.commits e.pages e.last_finder s) e.partly)
+    rw (← c.self.view_is) (on_err c.sweep_all.result (λ s. sweeps_some g.C.KeyClass.rules tray_rule c.self.inside.world c.sweep_all.new.world c.recall_soundness.ensures e.rests e.commits e.pages e.last_finder s) e.partly)

@@ -10,12 +10,12 @@ pub returns-in-Err-clause-step : goal.returns-in-Err-clause-step
 returns-in-Err-clause-step g c = λ h worked.
     let refused : first_failing (cursor_tests c.args.self.now c.task.inside.cursor) ≡ Some c.in-Err.field-0 = c.in-Err.ensures.refused in
     let same = subst (λ n. first_failing (cursor_tests c.args.self.now n) ≡ Some c.in-Err.field-0) (ap (λ t. t.cursor) c.task.view_is) refused in
-    absurd (none_is_not_some c.in-Err.field-0 (sym (visited_is_open g.C.KeyClass.rules.is_cover c.args.self.now c.is_sound.ensures c.args.task.cursor c.args.task.visit h) ∙ same))
+    absurd (none_is_not_some c.in-Err.field-0 (sym (visited_is_open g.C.KeyClass.rules.is_cover c.args.self.now c.recall_soundness.ensures c.args.task.cursor c.args.task.visit h) ∙ same))
 
 pub returns-clause-mailboxes : goal.returns-clause-mailboxes
 returns-clause-mailboxes g c =
-    λ there. step_fits_mailboxes g.C.KeyClass.rules g.O.Outlet.rule g.met.C.KeyClass.lawful 0 c.args.self.now c.is_sound.ensures there _ c.publish_due-reply.result c.publish_due-reply.new.self (c.publish_due-reply.ensures 0)
+    λ there. step_fits_mailboxes g.C.KeyClass.rules g.O.Outlet.rule g.met.C.KeyClass.lawful 0 c.args.self.now c.recall_soundness.ensures there _ c.publish_due-reply.result c.publish_due-reply.new.self (c.publish_due-reply.ensures 0)
 
 pub returns-clause-commits : goal.returns-clause-commits
 returns-clause-commits g c =
-    turn_commits g.C.KeyClass.rules g.O.Outlet.rule g.met.C.KeyClass.lawful 0 c.args.self.now c.is_sound.ensures _ c.publish_due-reply.result c.publish_due-reply.new.self (c.publish_due-reply.ensures 0)
+    turn_commits g.C.KeyClass.rules g.O.Outlet.rule g.met.C.KeyClass.lawful 0 c.args.self.now c.recall_soundness.ensures _ c.publish_due-reply.result c.publish_due-reply.new.self (c.publish_due-reply.ensures 0)
