@@ -21,3 +21,5 @@ mod receipts;
 mod seats;
 #[cfg(test)]
 mod storms;
+#[cfg(test)]
+mod two_threads;

@@ -1,0 +1,98 @@
+ghost use Rattle.std.specs.Prelude.{◌≡◌};
+
+use change_list::{Config, Item};
+use desk::{Desk, Ended, Seat, Taker};
+use interval_class::{Atom, Interval, Intervals};
+use key_class::{Pred, Rel};
+use std::alloc::Global;
+use std::marker::Brand;
+use std::process::Abort;
+use std::sync::Wait;
+use std::sync::ledger::{Blank, Ledger};
+use std::test::*;
+use std::thread;
+use std::thread::Threads;
+
+const KEY: Interval = Interval { lo: 5, hi: 8 };
+
+/// A client that follows a query: its cursor, and what it took.
+#[derive(Drop)]
+struct Client<'d, L: Ledger> {
+    taker: Taker<'d, Intervals, L>,
+    taken: Vec<Item<Interval>>,
+}
+
+/// A desk at which one client writes while another follows.
+trait WriteAndFollow<W, F> {
+    /// Inserts ten rows.
+    fn write<R: Wait>(&self, rt: &R, seat: &mut W);
+
+    /// Turns its cursor a thousand times, and takes what comes.
+    fn follow<R: Wait>(&self, rt: &R, client: &mut F);
+}
+
+impl<'d, L: Ledger> WriteAndFollow<Seat<Intervals, L>, Client<'d, L>> for Desk<Intervals, L> {
+    fn write<R: Wait>(&self, rt: &R, seat: &mut Seat<Intervals, L>) {
+        for tag in 0..10 {
+            let _stamped = self.insert(rt, seat, KEY, tag);
+        }
+    }
+
+    fn follow<R: Wait>(&self, rt: &R, client: &mut Client<'d, L>) {
+        for _ in 0..1_000 {
+            let _reply = self.turn(rt, client.taker.cursor());
+            if let Some(item) = client.taker.take() {
+                let _kept = client.taken.push(item);
+            }
+        }
+    }
+}
+
+/// Lets a thread write while this one follows.
+fn at_once<D, W, F, R>(rt: &R, desk: &D, seat: &mut W, client: &mut F)
+where
+    D: WriteAndFollow<W, F> + Sync,
+    W: Send,
+    F: Send,
+    R: Threads + Wait + Sync,
+{
+    thread::join(rt, || desk.write(rt, seat), || desk.follow(rt, client));
+}
+
+fn two_seats<L: Ledger + Send + Sync, R: Threads + Wait + Abort + Sync>(
+    rt: &R,
+    alloc: Global,
+    blank: Blank,
+) -> Result<(), Fail>
+    requires name { blank.name ≡ L.name }
+    requires parts { blank.parts ≡ L.parts }
+    requires two { blank.parts ≡ 2 }
+{
+    let config = Config {
+        fan: 8,
+        least: 3,
+        pages: 1_000,
+        commits: 1_000,
+    };
+    let (desk, mut seats) = Desk::<Intervals, L>::new(alloc, blank, config, 2)?;
+    let query = Pred::Atom(Atom {
+        rel: Rel::Overlaps,
+        operand: KEY,
+    });
+    let mut client = Client {
+        taker: desk.open_cursor(rt, &mut seats[1], query, 16)?,
+        taken: Vec::new(alloc),
+    };
+    at_once(rt, &desk, &mut seats[0], &mut client);
+    desk.follow(rt, &mut client);
+    let Client { taker, taken } = client;
+    assert!(rt; taken.len() == 10);
+    let ended = taker.close(rt, &mut seats[1], taken.as_slice());
+    assert!(rt; matches!(ended, Ended::Receipt(_)));
+    Ok(())
+}
+
+#[test]
+fn a_cursor_follows_another_thread(rt: HostRuntime) -> Result<(), Fail> {
+    two_seats::<Brand, _>(&rt, rt.alloc(), Blank::new(2))
+}
