@@ -3,7 +3,7 @@ ghost use Rattle.std.specs.Prelude.{◌≡◌};
 use change_list::{Config, Item};
 use desk::{Desk, Ended, Seat, Taker};
 use interval_class::{Atom, Interval, Intervals};
-use key_class::{Pred, Rel};
+use key_class::{Pred, Refusal, Rel};
 use std::alloc::Global;
 use std::marker::Brand;
 use std::process::Abort;
@@ -59,6 +59,40 @@ where
     thread::join(rt, || desk.write(rt, seat), || desk.follow(rt, client));
 }
 
+/// A client whose cursor asks for what overlaps the key.
+fn client_at<'d, L: Ledger, R: Wait>(
+    rt: &R,
+    alloc: Global,
+    desk: &'d Desk<Intervals, L>,
+    seat: &mut Seat<Intervals, L>,
+) -> Result<Client<'d, L>, Refusal> {
+    let query = Pred::Atom(Atom {
+        rel: Rel::Overlaps,
+        operand: KEY,
+    });
+    let taker = desk.open_cursor(rt, seat, query, 16)?;
+    let taken = Vec::new(alloc);
+    Ok(Client { taker, taken })
+}
+
+/// How many items a client takes of what another writes meanwhile, where a receipt shows that none is amiss.
+fn take_all<L: Ledger + Send + Sync, R: Threads + Wait + Sync>(
+    rt: &R,
+    alloc: Global,
+    desk: &Desk<Intervals, L>,
+    writer: &mut Seat<Intervals, L>,
+    reader: &mut Seat<Intervals, L>,
+) -> Result<Option<usize>, Refusal> {
+    let mut client = client_at(rt, alloc, desk, reader)?;
+    at_once(rt, desk, writer, &mut client);
+    desk.follow(rt, &mut client);
+    let Client { taker, taken } = client;
+    match taker.close(rt, reader, taken.as_slice()) {
+        Ended::Receipt(_) => Ok(Some(taken.len())),
+        Ended::NoReceipt => Ok(None),
+    }
+}
+
 fn two_seats<L: Ledger + Send + Sync, R: Threads + Wait + Abort + Sync>(
     rt: &R,
     alloc: Global,
@@ -75,20 +109,9 @@ fn two_seats<L: Ledger + Send + Sync, R: Threads + Wait + Abort + Sync>(
         commits: 1_000,
     };
     let (desk, mut seats) = Desk::<Intervals, L>::new(alloc, blank, config, 2)?;
-    let query = Pred::Atom(Atom {
-        rel: Rel::Overlaps,
-        operand: KEY,
-    });
-    let mut client = Client {
-        taker: desk.open_cursor(rt, &mut seats[1], query, 16)?,
-        taken: Vec::new(alloc),
-    };
-    at_once(rt, &desk, &mut seats[0], &mut client);
-    desk.follow(rt, &mut client);
-    let Client { taker, taken } = client;
-    assert!(rt; taken.len() == 10);
-    let ended = taker.close(rt, &mut seats[1], taken.as_slice());
-    assert!(rt; matches!(ended, Ended::Receipt(_)));
+    let (writers, readers) = seats.split_at_mut(1);
+    let taken = take_all(rt, alloc, &desk, &mut writers[0], &mut readers[0])?;
+    assert!(rt; taken == Some(10));
     Ok(())
 }
 

@@ -2,14 +2,14 @@
 use Rattle.std.proofs.Common.{◌≡◌, ◌≢◌, ◌<◌, ℕ, Bool, true, false, List, [], ◌∷◌, ◌++◌, length, Option, Some, None, arith, refl, sym, ap, ◌∙◌, subst, append_assoc, length-append}
 use Rattle.std.specs.List.{flat_map, AllByRecursion}
 use Rattle.std.specs.Prelude.{nat_eq}
-use Rattle.std.specs.Io.KnownBytes.{Consumes, Keeps}
+use Rattle.std.specs.Io.KnownBytes.{Consumes, Keeps, IsAtEnd}
 use Rattle.std.proofs.KnownBytes.{Consumes-trans, Consumes-kept}
 use Rattle.std.proofs.lemmas.List.{append-nil}
 use Rattle.query_text.specs.Tokens.{Placed}
 use Rattle.front.specs.Lines.{HasNoFeed, ended, AreLines}
 use Rattle.front.specs.Held.{Held, with_room, FillsHeld, IsRestOf}
 use Rattle.front.specs.Written.{Writes, WritesBeginning}
-use Rattle.front.specs.Conversations.{AnswersLine, AnswersLines, AnsweredAll, AnsweredWhole, AnsweredFirst}
+use Rattle.front.specs.Conversations.{Exchange, AnswersLine, AnswersLines, AnsweredAll, AnsweredWhole, AnsweredFirst}
 use Rattle.front.proofs.Bytes.{no_feed_append}
 use Rattle.front.proofs.Writing.{gathers, writes_both, writes_then_nothing, all_written, fails_behind, fails_in}
 
@@ -130,6 +130,10 @@ no_feed_at_end r r' held held' n f =
     go true e = rw e tt
     go false e = rw e n
 
+-- what went in and out, of what a reader had left and has left, and what a writer had and has
+abbrev pub went : Option (List ℕ) → Option (List ℕ) → Option (List ℕ) → Option (List ℕ) → Exchange
+went r r' w w' = record { had_left = r; has_left = r'; had = w; has = w' }
+
 module _ {S : Type 0} (answers : ℕ → S → List Placed → List ℕ → S → Type 0) where
   lines_next : (old : S) (lines : List (List ℕ)) (text : List ℕ) (mid : S) (line said : List ℕ) (new : S) → AnswersLines answers old lines text mid → AnswersLine answers mid line said new
       → AnswersLines answers old (lines ++ line ∷ []) (text ++ said) new
@@ -168,7 +172,7 @@ module _ {S : Type 0} (answers : ℕ → S → List Placed → List ℕ → S �
 
     module _ (r w : Option (List ℕ)) (gathered : List ℕ) (s : S) (held : Held) (p : Progress r w gathered s held) where
       -- every line that was answered stands
-      pub stands_now : (w' : Option (List ℕ)) → WritesBeginning w w' (gathered ++ []) → AnsweredFirst answers r0 r w0 w' s0 s
+      pub stands_now : (w' : Option (List ℕ)) → WritesBeginning w w' (gathered ++ []) → AnsweredFirst answers s0 s (went r0 r w0 w')
       stands_now w' h =
           let l = split_lines p.part in
           record {
@@ -210,7 +214,7 @@ module _ {S : Type 0} (answers : ℕ → S → List Placed → List ℕ → S �
       })
 
       -- the reader failed
-      pub cut_short : (r' : Option (List ℕ)) → HasNoFeed held.rest → Keeps r r' → gathered ≡ [] → AnsweredWhole answers r0 r' w0 w s0 s
+      pub cut_short : (r' : Option (List ℕ)) → HasNoFeed held.rest → Keeps r r' → gathered ≡ [] → AnsweredWhole answers s0 s (went r0 r' w0 w)
       cut_short r' n k e = record {
         bytes = flat_map ended p.lines ++ p.part;
         lines = p.lines;
@@ -250,7 +254,7 @@ module _ {S : Type 0} (answers : ℕ → S → List Placed → List ℕ → S �
             }
 
         -- the line was carried out, though not all of the answer was written
-        pub stands_after : (w' : Option (List ℕ)) → IsAnswered s s' held.overlong line (λ text. WritesBeginning w w' (gathered ++ text)) → AnsweredFirst answers r0 r w0 w' s0 s'
+        pub stands_after : (w' : Option (List ℕ)) → IsAnswered s s' held.overlong line (λ text. WritesBeginning w w' (gathered ++ text)) → AnsweredFirst answers s0 s' (went r0 r w0 w')
         stands_after w' f =
             let h = next_whole in
             let a = f h.whole h.is_rest in
@@ -277,9 +281,9 @@ module _ {S : Type 0} (answers : ℕ → S → List Placed → List ℕ → S �
         last_are = record { joined = refl; lines_have_none = p.lines_have_none; rest_has_none = last_whole.no_feed }
 
         -- the last line was answered, and all was written
-        pub ended_all : (w' w'' : Option (List ℕ)) (gathered' gathered'' : List ℕ) → IsAnswered s s' held.overlong held.rest (λ text. Writes w gathered w' gathered' text) → Writes w' gathered' w'' gathered'' [] → gathered'' ≡ []
-            → AnsweredAll answers r0 r w0 w'' s0 s'
-        ended_all w' w'' gathered' gathered'' f h e =
+        pub ended_all : (w' w'' : Option (List ℕ)) (gathered' gathered'' : List ℕ) → IsAnswered s s' held.overlong held.rest (λ text. Writes w gathered w' gathered' text) → Writes w' gathered' w'' gathered'' [] → gathered'' ≡ [] → IsAtEnd r
+            → AnsweredAll answers s0 s' (went r0 r w0 w'')
+        ended_all w' w'' gathered' gathered'' f h e end =
             let a = f p.part last_whole.is_rest in
             let text = p.text ++ a.0 in
             let one = writes_both w0 w w' [] gathered gathered' p.text a.0 p.wrote a.2 in
@@ -289,13 +293,14 @@ module _ {S : Type 0} (answers : ℕ → S → List Placed → List ℕ → S �
               lines = p.lines;
               rest = p.part;
               text = text;
+              at_end = end;
               read = p.read;
               are_lines = last_are;
               answers_lines = lines_next s0 p.lines p.text s p.part a.0 s' p.answers_lines a.1;
               wrote = all_written w0 w'' text (subst (λ g. Writes w0 [] w'' g text) e two);
             }
 
-        pub stands_last : (w' : Option (List ℕ)) → IsAnswered s s' held.overlong held.rest (λ text. WritesBeginning w w' (gathered ++ text)) → AnsweredFirst answers r0 r w0 w' s0 s'
+        pub stands_last : (w' : Option (List ℕ)) → IsAnswered s s' held.overlong held.rest (λ text. WritesBeginning w w' (gathered ++ text)) → AnsweredFirst answers s0 s' (went r0 r w0 w')
         stands_last w' f =
             let a = f p.part last_whole.is_rest in
             record {

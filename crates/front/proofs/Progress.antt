@@ -1,5 +1,5 @@
 -- What a store's answers to lines tell its client.
-use Rattle.std.proofs.Common.{◌≡◌, ℕ, length, suc, zero, Bool, true, false, List, [], ◌∷◌, ◌++◌, Option, Result, Ok, Err, inl, inr, arith, refl, sym, subst}
+use Rattle.std.proofs.Common.{◌≡◌, ℕ, length, suc, zero, Bool, true, false, List, [], ◌∷◌, ◌++◌, Result, Ok, Err, inl, inr, arith, refl, sym, subst}
 use Rattle.std.specs.Result.{OnOk}
 use Rattle.std.specs.Prelude.{nat_eq, nat_lt, ◌||◌}
 use Rattle.std.proofs.lemmas.List.Sorted.{IsPermutation-refl}
@@ -10,8 +10,8 @@ use Rattle.query_text.specs.Tokens.{Placed}
 use Rattle.query_text.specs.ClassTexts.{Texts}
 use Rattle.front.specs.Told.{Told, nothing_told}
 use Rattle.front.specs.AsTold.{IsAsTold}
-use Rattle.front.specs.Conversations.{AnswersLine, AnswersLines, AnsweredAll, AnsweredWhole, AnsweredFirst}
-use Rattle.front.specs.Sessions.{AnswersTokens, AnswersTold, FromNothing}
+use Rattle.front.specs.Conversations.{Exchange, AnswersLine, AnswersLines, AnsweredAll, AnsweredWhole, AnsweredFirst}
+use Rattle.front.specs.Sessions.{AnswersTokens, AnswersTold, ToldAll, ToldWhole, ToldFirst}
 
 -- what follows where all went well
 pub if_well : {A E : Type 0} (r : Result A E) {P Q : Type 0} → (P → Q) → OnOk r P → OnOk r Q
@@ -56,16 +56,16 @@ module _ {S T : Type 0} (answers : ℕ → S → List Placed → List ℕ → S 
       let r = tells_lines h.1 new lines h.2 l.0 h.4 l.2 in
       (r.0, (h.0, l.0, h.2, l.1, r.1, h.5), r.2)
 
-  module _ (old new : S) (r0 r w0 w : Option (List ℕ)) (told : T) (t : Alike old told) where
-    tells_all : AnsweredAll answers r0 r w0 w old new → (after : T) × AnsweredAll tells r0 r w0 w told after × Alike new after
+  module _ (old new : S) (io : Exchange) (told : T) (t : Alike old told) where
+    tells_all : AnsweredAll answers old new io → (after : T) × AnsweredAll tells told after io × Alike new after
     tells_all a =
         let x = tells_lines old new (a.lines ++ a.rest ∷ []) a.text told a.answers_lines t in (
           x.0,
-          record { bytes = a.bytes; lines = a.lines; rest = a.rest; text = a.text; read = a.read; are_lines = a.are_lines; answers_lines = x.1; wrote = a.wrote },
+          record { bytes = a.bytes; lines = a.lines; rest = a.rest; text = a.text; at_end = a.at_end; read = a.read; are_lines = a.are_lines; answers_lines = x.1; wrote = a.wrote },
           x.2,
         )
 
-    tells_whole : AnsweredWhole answers r0 r w0 w old new → (after : T) × AnsweredWhole tells r0 r w0 w told after × Alike new after
+    tells_whole : AnsweredWhole answers old new io → (after : T) × AnsweredWhole tells told after io × Alike new after
     tells_whole a =
         let x = tells_lines old new a.lines a.text told a.answers_lines t in (
           x.0,
@@ -73,7 +73,7 @@ module _ {S T : Type 0} (answers : ℕ → S → List Placed → List ℕ → S 
           x.2,
         )
 
-    tells_first : AnsweredFirst answers r0 r w0 w old new → (after : T) × AnsweredFirst tells r0 r w0 w told after × Alike new after
+    tells_first : AnsweredFirst answers old new io → (after : T) × AnsweredFirst tells told after io × Alike new after
     tells_first a =
         let x = tells_lines old new a.first a.text told a.answers_lines t in (
           x.0,
@@ -85,12 +85,12 @@ module _ {K A : Type 0} (texts : Texts K A) (rules : Rules K A) where
   tells_tokens : (len : ℕ) (old new : StoreState K A) (ts : List Placed) (text : List ℕ) (told : Told K A) → AnswersTokens texts rules len old ts text new → IsAsTold rules old told → (after : Told K A) × AnswersTold texts rules len told ts text after × IsAsTold rules new after
   tells_tokens len old new ts text told a t = let r = a.replies told t in (r.0, (a.said, a.is_text, r.1), r.2)
 
-  module _ (old new : StoreState K A) (r0 r w0 w : Option (List ℕ)) (is_new : (config : Config) × (old ≡ new_store config)) where
-    pub told_all : AnsweredAll (AnswersTokens texts rules) r0 r w0 w old new → FromNothing rules (AnsweredAll (AnswersTold texts rules) r0 r w0 w) old new
-    told_all a = tells_all (AnswersTokens texts rules) (AnswersTold texts rules) (IsAsTold rules) tells_tokens old new r0 r w0 w (nothing_told old.limit old.page_limit) (new_as_told rules old is_new) a
+  module _ (old new : StoreState K A) (io : Exchange) (is_new : (config : Config) × (old ≡ new_store config)) where
+    pub told_all : AnsweredAll (AnswersTokens texts rules) old new io → ToldAll texts rules old new io
+    told_all a = tells_all (AnswersTokens texts rules) (AnswersTold texts rules) (IsAsTold rules) tells_tokens old new io (nothing_told old.limit old.page_limit) (new_as_told rules old is_new) a
 
-    pub told_whole : AnsweredWhole (AnswersTokens texts rules) r0 r w0 w old new → FromNothing rules (AnsweredWhole (AnswersTold texts rules) r0 r w0 w) old new
-    told_whole a = tells_whole (AnswersTokens texts rules) (AnswersTold texts rules) (IsAsTold rules) tells_tokens old new r0 r w0 w (nothing_told old.limit old.page_limit) (new_as_told rules old is_new) a
+    pub told_whole : AnsweredWhole (AnswersTokens texts rules) old new io → ToldWhole texts rules old new io
+    told_whole a = tells_whole (AnswersTokens texts rules) (AnswersTold texts rules) (IsAsTold rules) tells_tokens old new io (nothing_told old.limit old.page_limit) (new_as_told rules old is_new) a
 
-    pub told_first : AnsweredFirst (AnswersTokens texts rules) r0 r w0 w old new → FromNothing rules (AnsweredFirst (AnswersTold texts rules) r0 r w0 w) old new
-    told_first a = tells_first (AnswersTokens texts rules) (AnswersTold texts rules) (IsAsTold rules) tells_tokens old new r0 r w0 w (nothing_told old.limit old.page_limit) (new_as_told rules old is_new) a
+    pub told_first : AnsweredFirst (AnswersTokens texts rules) old new io → ToldFirst texts rules old new io
+    told_first a = tells_first (AnswersTokens texts rules) (AnswersTold texts rules) (IsAsTold rules) tells_tokens old new io (nothing_told old.limit old.page_limit) (new_as_told rules old is_new) a

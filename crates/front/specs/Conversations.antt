@@ -1,6 +1,6 @@
 -- Lines that are answered one after the other, and what a whole conversation reads and writes.
 use Rattle.std.specs.Prelude.{◌≡◌, ℕ, ◌<◌, ◌≤◌, false, List, [], ◌∷◌, ◌++◌, length, Option, Result, Err, ◌⊎◌}
-use Rattle.std.specs.Io.KnownBytes.{Consumes, Appends}
+use Rattle.std.specs.Io.KnownBytes.{Consumes, Appends, IsAtEnd}
 use Rattle.key_class.specs.declared.refusal.Fault.{Fault}
 use Rattle.key_class.specs.declared.refusal.Fault.TheVariants as fault
 use Rattle.key_class.specs.declared.refusal.Refusal.TheVariants as refusal
@@ -17,9 +17,30 @@ IsConversationFault why = (why ≡ fault.OutOfMemory) ⊎ (why ≡ fault.Read) �
 abbrev pub IfOutOfMemory : {T : Type 0} → Result T Fault → Type 0 → Type 0
 IfOutOfMemory returned P = returned ≡ Err fault.OutOfMemory → P
 
+-- where the reader failed
+abbrev pub IfReadFails : {T : Type 0} → Result T Fault → Type 0 → Type 0
+IfReadFails returned P = returned ≡ Err fault.Read → P
+
+-- where the writer failed
+abbrev pub IfWriteFails : {T : Type 0} → Result T Fault → Type 0 → Type 0
+IfWriteFails returned P = returned ≡ Err fault.Write → P
+
 -- a reader and a writer are as they were
 abbrev pub Kept : {R W : Type 0} → R → R → W → W → Type 0
 Kept reader reader' writer writer' = (reader' ≡ reader) × (writer' ≡ writer)
+
+-- What went in and out: what a reader had left and has left, what a writer had and has.
+pub record Exchange : Type 0 where
+  pub had_left : Option (List ℕ)
+  pub has_left : Option (List ℕ)
+  pub had : Option (List ℕ)
+  pub has : Option (List ℕ)
+
+-- The same of a reader and a writer, before and after. remaining tells of a reader what it has left, contents of a
+-- writer what it has.
+abbrev pub exchange : {R W : Type 0} → (R → Option (List ℕ)) → R → R → (W → Option (List ℕ)) → W → W → Exchange
+exchange remaining reader reader' contents writer writer' =
+    record { had_left = remaining reader; has_left = remaining reader'; had = contents writer; has = contents writer' }
 
 -- answers: which text may answer the tokens of a line with so many bytes, in one state, and which state comes of it
 module _ {S : Type 0} (answers : ℕ → S → List Placed → List ℕ → S → Type 0) where
@@ -35,38 +56,40 @@ module _ {S : Type 0} (answers : ℕ → S → List Placed → List ℕ → S �
   AnswersLines old (line ∷ lines) text new =
       (first : List ℕ) × (mid : S) × (rest : List ℕ) × AnswersLine old line first mid × AnswersLines mid lines rest new × (text ≡ first ++ rest)
 
-  -- The bytes that were read are lines and a last one without a line feed; what was written answers them all.
-  pub record AnsweredAll (before after : Option (List ℕ)) (held written : Option (List ℕ)) (old new : S) : Type 0 where
+  -- The reader is at its end. The bytes that were read are lines and a last one without a line feed; what was written
+  -- answers them all.
+  pub record AnsweredAll (old new : S) (io : Exchange) : Type 0 where
     pub bytes : List ℕ
     pub lines : List (List ℕ)
     pub rest : List ℕ
     pub text : List ℕ
-    pub read : Consumes before after bytes
+    pub at_end : IsAtEnd io.has_left
+    pub read : Consumes io.had_left io.has_left bytes
     pub are_lines : AreLines bytes lines rest
     pub answers_lines : AnswersLines old (lines ++ rest ∷ []) text new
-    pub wrote : Appends held written text
+    pub wrote : Appends io.had io.has text
 
   -- The bytes that were read are lines and the beginning of another; what was written answers the lines.
-  pub record AnsweredWhole (before after : Option (List ℕ)) (held written : Option (List ℕ)) (old new : S) : Type 0 where
+  pub record AnsweredWhole (old new : S) (io : Exchange) : Type 0 where
     pub bytes : List ℕ
     pub lines : List (List ℕ)
     pub rest : List ℕ
     pub text : List ℕ
-    pub read : Consumes before after bytes
+    pub read : Consumes io.had_left io.has_left bytes
     pub are_lines : AreLines bytes lines rest
     pub answers_lines : AnswersLines old lines text new
-    pub wrote : Appends held written text
+    pub wrote : Appends io.had io.has text
 
   -- Some first lines of what was read are answered, and a beginning of their answers was written.
-  pub record AnsweredFirst (before after : Option (List ℕ)) (held written : Option (List ℕ)) (old new : S) : Type 0 where
+  pub record AnsweredFirst (old new : S) (io : Exchange) : Type 0 where
     pub bytes : List ℕ
     pub lines : List (List ℕ)
     pub rest : List ℕ
     pub first : List (List ℕ)
     pub others : List (List ℕ)
     pub text : List ℕ
-    pub read : Consumes before after bytes
+    pub read : Consumes io.had_left io.has_left bytes
     pub are_lines : AreLines bytes lines rest
     pub parted : lines ++ rest ∷ [] ≡ first ++ others
     pub answers_lines : AnswersLines old first text new
-    pub wrote : WritesBeginning held written text
+    pub wrote : WritesBeginning io.had io.has text

@@ -12,6 +12,7 @@ use Rattle.world.specs.declared.event.Event.{Event}
 use Rattle.world.specs.declared.reply.Reply.{Reply}
 use Rattle.world.specs.declared.reply.Reply.TheVariants as reply
 use Rattle.front.specs.declared.event_request.EventRequest.{EventRequest}
+use Rattle.front.specs.Conversations.{Exchange, AnsweredAll, AnsweredWhole, AnsweredFirst}
 use Rattle.front.specs.EventLines.{Asked, IsEvent, IsNoEvent, event_asked_by, asked_of, event_verb_of}
 use Rattle.front.specs.EventReplies.{reply_line}
 use Rattle.front.specs.Replies.{refusal_line}
@@ -42,3 +43,15 @@ module _ (C : Type 0) {K A : Type 0} (texts : Texts K A) (rules : Rules K A) whe
   abbrev pub AnswersEventTokens : ℕ → State K A → List Placed → List ℕ → State K A → Type 0
   AnswersEventTokens len old [] text new = (text ≡ []) × (new ≡ old)
   AnswersEventTokens len old (t ∷ ts) text new = AnswersAsked len old (event_asked_by texts.key_at len t.place (event_verb_of t.token) ts) text new
+
+  -- A world was given the events of all lines up to the reader's end; of the whole lines before a fault of the reader; of
+  -- some first lines, of whose answers the writer took a beginning.
+
+  abbrev pub ReplayedAll : State K A → State K A → Exchange → Type 0
+  ReplayedAll old new io = AnsweredAll AnswersEventTokens old new io
+
+  abbrev pub ReplayedWhole : State K A → State K A → Exchange → Type 0
+  ReplayedWhole old new io = AnsweredWhole AnswersEventTokens old new io
+
+  abbrev pub ReplayedFirst : State K A → State K A → Exchange → Type 0
+  ReplayedFirst old new io = AnsweredFirst AnswersEventTokens old new io

@@ -15,6 +15,7 @@ use Rattle.front.specs.Requests.{Command, insert_row, delete_row, next_item, ask
 use Rattle.front.specs.Replies.{reply_text}
 use Rattle.front.specs.Told.{Told, nothing_told, RepliesInsert, RepliesDelete, RepliesOpen, RepliesNext, RepliesMark, RepliesFind, RepliesSweep, RepliesClose}
 use Rattle.front.specs.AsTold.{IsAsTold, Tells}
+use Rattle.front.specs.Conversations.{Exchange, AnsweredAll, AnsweredWhole, AnsweredFirst}
 
 -- what is written of a reply, if there is one
 abbrev pub text_of_answer : {K : Type 0} → (K → List ℕ) → Option (Reply K) → List ℕ
@@ -76,6 +77,18 @@ FromNothing {K} {A} rules conversation old new =
     (told : Told K A) × conversation (nothing_told old.limit old.page_limit) told × IsAsTold rules new told
 
 module _ {K A : Type 0} (texts : Texts K A) (rules : Rules K A) where
+  -- The client of a new store was told what answers all lines up to the reader's end; the whole lines before a fault of
+  -- the reader; some first lines, of whose answers the writer took a beginning. The store is as was told.
+
+  abbrev pub ToldAll : StoreState K A → StoreState K A → Exchange → Type 0
+  ToldAll old new io = FromNothing rules (λ before after. AnsweredAll (AnswersTold texts rules) before after io) old new
+
+  abbrev pub ToldWhole : StoreState K A → StoreState K A → Exchange → Type 0
+  ToldWhole old new io = FromNothing rules (λ before after. AnsweredWhole (AnswersTold texts rules) before after io) old new
+
+  abbrev pub ToldFirst : StoreState K A → StoreState K A → Exchange → Type 0
+  ToldFirst old new io = FromNothing rules (λ before after. AnsweredFirst (AnswersTold texts rules) before after io) old new
+
   -- The text answers the tokens of a line with so many bytes: it is one that may, whatever was told that the store is
   -- as, and then the store is as is told.
   pub record AnswersTokens (len : ℕ) (old : StoreState K A) (ts : List Placed) (text : List ℕ) (new : StoreState K A) : Type 0 where

@@ -29,5 +29,5 @@ abbrev pub TakesBeginning : {W : Type 0} → (W → Option (List ℕ)) → W →
 TakesBeginning contents old new bytes = WritesBeginning (contents old) (contents new) bytes
 
 -- The text is said by a writer and what is gathered for it, unless there is a fault: as above, of both before and after.
-abbrev pub Says : {W E : Type 0} → (W → Option (List ℕ)) → W → W → ArrayVec ℕ → ArrayVec ℕ → List ℕ → Result (Unit {0}) E → Type 0
-Says contents old new gathered gathered' text returned = WritesOrFails returned (contents old) gathered.items (contents new) gathered'.items text
+abbrev pub Says : {W E : Type 0} → List ℕ → Result (Unit {0}) E → (W → Option (List ℕ)) → W → W → ArrayVec ℕ → ArrayVec ℕ → Type 0
+Says text returned contents old new gathered gathered' = WritesOrFails returned (contents old) gathered.items (contents new) gathered'.items text

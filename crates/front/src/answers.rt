@@ -52,7 +52,7 @@ fn write_out<W: Write>(writer: &mut W, bytes: &[u8]) -> Result<(), Fault>
 /// # Errors
 /// `Write` where the writer failed. It took a beginning, and is given no more.
 pub fn send<W: Write>(writer: &mut W, gathered: &mut Gathered) -> Result<(), Fault>
-    ensures written { Says W.contents writer.old writer.new gathered.old gathered.new [] result }
+    ensures written { Says [] result W.contents writer.old writer.new gathered.old gathered.new }
     ensures empty { OnOk result (gathered.new.items ≡ []) }
     ensures err { IfErr result (λ e. e ≡ Fault.Write) }
 {
@@ -66,7 +66,7 @@ pub fn send<W: Write>(writer: &mut W, gathered: &mut Gathered) -> Result<(), Fau
 /// # Errors
 /// `Write` where the writer failed. It took a beginning, and is given no more.
 pub fn send_enough<W: Write>(writer: &mut W, gathered: &mut Gathered) -> Result<(), Fault>
-    ensures written { Says W.contents writer.old writer.new gathered.old gathered.new [] result }
+    ensures written { Says [] result W.contents writer.old writer.new gathered.old gathered.new }
     ensures room { OnOk result (HasRoomForLine gathered.new.items) }
     ensures err { IfErr result (λ e. e ≡ Fault.Write) }
 {
@@ -161,7 +161,8 @@ pub fn gather_refusal<W: Write>(
     gathered: &mut Gathered,
 ) -> Result<(), Fault>
     requires room { HasRoomForLine gathered.old.items }
-    ensures written { Says W.contents writer.old writer.new gathered.old gathered.new (refusal_line why) result }
+    ensures written { Says (refusal_line why) result
+        W.contents writer.old writer.new gathered.old gathered.new }
     ensures room { OnOk result (HasRoomForLine gathered.new.items) }
     ensures err { IfErr result (λ e. e ≡ Fault.Write) }
 {
@@ -207,7 +208,8 @@ fn write_rows<C: ClassText, W: Write>(
     rows: &[Row<C::Key>],
 ) -> Result<(), Fault>
     requires room { HasRoomForLine gathered.old.items }
-    ensures written { Says W.contents writer.old writer.new gathered.old gathered.new (flat_map (row_line C.texts.key_text) rows.now) result }
+    ensures written { Says (flat_map (row_line C.texts.key_text) rows.now) result
+        W.contents writer.old writer.new gathered.old gathered.new }
     ensures room { OnOk result (HasRoomForLine gathered.new.items) }
     ensures err { IfErr result (λ e. e ≡ Fault.Write) }
 {
@@ -228,7 +230,8 @@ pub fn write_reply<C: ClassText, W: Write>(
     reply: &Reply<C::Key>,
 ) -> Result<(), Fault>
     requires room { HasRoomForLine gathered.old.items }
-    ensures written { Says W.contents writer.old writer.new gathered.old gathered.new (reply_text C.texts.key_text reply.now) result }
+    ensures written { Says (reply_text C.texts.key_text reply.now) result
+        W.contents writer.old writer.new gathered.old gathered.new }
     ensures room { OnOk result (HasRoomForLine gathered.new.items) }
     ensures err { IfErr result (λ e. e ≡ Fault.Write) }
 {

@@ -1,8 +1,7 @@
 //! Lines in, answers out, over what answers them.
 ghost use Rattle.std.specs.Prelude.{◌≡◌, ℕ, ◌≤◌, List, length, OnOk, IfErr, vec_capacity, Err};
-ghost use Rattle.std.specs.Io.KnownBytes.{IsAtEnd};
 ghost use Rattle.query_text.specs.Tokens.{Placed, placed};
-ghost use Rattle.front.specs.Conversations.{AnswersLine, AnsweredAll, AnsweredWhole, AnsweredFirst, IfOutOfMemory, IsConversationFault, Kept};
+ghost use Rattle.front.specs.Conversations.{AnswersLine, AnsweredAll, AnsweredWhole, AnsweredFirst, IfOutOfMemory, IfReadFails, IfWriteFails, IsConversationFault, Kept, exchange};
 ghost use Rattle.front.specs.Held.{IsRestOf};
 ghost use Rattle.front.specs.Written.{HasRoomForLine, Says};
 
@@ -31,7 +30,9 @@ pub trait Responder {
         gathered: &mut Gathered,
     ) -> Result<(), Fault>
         requires room { HasRoomForLine gathered.old.items }
-        ensures answers { (said : List ℕ) × answers (length text.now) self.old (placed text.now lexemes.now) said self.new × Says W.contents writer.old writer.new gathered.old gathered.new said result }
+        ensures answers { (said : List ℕ)
+            × answers (length text.now) self.old (placed text.now lexemes.now) said self.new
+            × Says said result W.contents writer.old writer.new gathered.old gathered.new }
         ensures room { OnOk result (HasRoomForLine gathered.new.items) }
         ensures err { IfErr result (λ e. e ≡ Fault.Write) };
 }
@@ -48,8 +49,9 @@ fn answer_line<S: Responder, W: Write>(
 ) -> Result<(), Fault>
     requires capacity { 4096 ≤ vec_capacity lexemes.old }
     requires room { HasRoomForLine gathered.old.items }
-    ensures answers { (whole : List ℕ) → IsRestOf overlong whole line.now
-        → (said : List ℕ) × AnswersLine S.answers responder.old whole said responder.new × Says W.contents writer.old writer.new gathered.old gathered.new said result }
+    ensures answers { (whole : List ℕ) → IsRestOf overlong whole line.now → (said : List ℕ)
+        × AnswersLine S.answers responder.old whole said responder.new
+        × Says said result W.contents writer.old writer.new gathered.old gathered.new }
     ensures capacity { 4096 ≤ vec_capacity lexemes.new }
     ensures room { OnOk result (HasRoomForLine gathered.new.items) }
     ensures err { IfErr result (λ e. e ≡ Fault.Write) }
@@ -77,9 +79,12 @@ pub fn converse<S: Responder, R: Read, W: Write>(
     writer: &mut W,
     responder: &mut S,
 ) -> Result<(), Fault>
-    ensures ok { OnOk result (IsAtEnd (R.remaining reader.new) × AnsweredAll S.answers (R.remaining reader.old) (R.remaining reader.new) (W.contents writer.old) (W.contents writer.new) responder.old responder.new) }
-    ensures read { result ≡ Err Fault.Read → AnsweredWhole S.answers (R.remaining reader.old) (R.remaining reader.new) (W.contents writer.old) (W.contents writer.new) responder.old responder.new }
-    ensures write { result ≡ Err Fault.Write → AnsweredFirst S.answers (R.remaining reader.old) (R.remaining reader.new) (W.contents writer.old) (W.contents writer.new) responder.old responder.new }
+    ensures ok { OnOk result (AnsweredAll S.answers responder.old responder.new
+        (exchange R.remaining reader.old reader.new W.contents writer.old writer.new)) }
+    ensures read { IfReadFails result (AnsweredWhole S.answers responder.old responder.new
+        (exchange R.remaining reader.old reader.new W.contents writer.old writer.new)) }
+    ensures write { IfWriteFails result (AnsweredFirst S.answers responder.old responder.new
+        (exchange R.remaining reader.old reader.new W.contents writer.old writer.new)) }
     ensures memory { IfOutOfMemory result (Kept reader.old reader.new writer.old writer.new) }
     ensures unchanged { IfOutOfMemory result (responder.new ≡ responder.old) }
     ensures faults { IfErr result IsConversationFault }

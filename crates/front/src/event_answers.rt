@@ -54,7 +54,8 @@ pub fn write_event_reply<C: ClassText, O: Outlet<C::Key>, W: Write>(
     reply: &Reply<C, O>,
 ) -> Result<(), Fault>
     requires room { HasRoomForLine gathered.old.items }
-    ensures written { Says W.contents writer.old writer.new gathered.old gathered.new (reply_line C.texts.key_text reply.now) result }
+    ensures written { Says (reply_line C.texts.key_text reply.now) result
+        W.contents writer.old writer.new gathered.old gathered.new }
     ensures room { OnOk result (HasRoomForLine gathered.new.items) }
     ensures err { IfErr result (λ e. e ≡ Fault.Write) }
 {

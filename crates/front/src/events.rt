@@ -1,9 +1,8 @@
 //! Events of a world from lines.
 ghost use Rattle.std.specs.Prelude.{◌≡◌, map, IfOk, IfErr, OnOk, Err};
-ghost use Rattle.std.specs.Io.KnownBytes.{IsAtEnd};
 ghost use Rattle.front.specs.EventLines.{side_of, AsksEvent, AsksNoEvent};
-ghost use Rattle.front.specs.Replays.{AnswersEventTokens, CarriesOut};
-ghost use Rattle.front.specs.Conversations.{AnsweredAll, AnsweredWhole, AnsweredFirst, IfOutOfMemory, IsConversationFault, Kept};
+ghost use Rattle.front.specs.Replays.{AnswersEventTokens, CarriesOut, ReplayedAll, ReplayedFirst, ReplayedWhole};
+ghost use Rattle.front.specs.Conversations.{IfOutOfMemory, IfReadFails, IfWriteFails, IsConversationFault, Kept, exchange};
 
 use crate::answers::{Gathered, gather_refusal};
 use crate::conversation::{Responder, converse};
@@ -130,9 +129,12 @@ pub fn replay<C: ClassText, R: Read, W: Write>(
     writer: &mut W,
     world: &mut World<C, Tray<C::Key>>,
 ) -> Result<(), Fault>
-    ensures ok { OnOk result (IsAtEnd (R.remaining reader.new) × AnsweredAll (AnswersEventTokens C C.texts C.rules) (R.remaining reader.old) (R.remaining reader.new) (W.contents writer.old) (W.contents writer.new) world.old world.new) }
-    ensures read { result ≡ Err Fault.Read → AnsweredWhole (AnswersEventTokens C C.texts C.rules) (R.remaining reader.old) (R.remaining reader.new) (W.contents writer.old) (W.contents writer.new) world.old world.new }
-    ensures write { result ≡ Err Fault.Write → AnsweredFirst (AnswersEventTokens C C.texts C.rules) (R.remaining reader.old) (R.remaining reader.new) (W.contents writer.old) (W.contents writer.new) world.old world.new }
+    ensures ok { OnOk result (ReplayedAll C C.texts C.rules world.old world.new
+        (exchange R.remaining reader.old reader.new W.contents writer.old writer.new)) }
+    ensures read { IfReadFails result (ReplayedWhole C C.texts C.rules world.old world.new
+        (exchange R.remaining reader.old reader.new W.contents writer.old writer.new)) }
+    ensures write { IfWriteFails result (ReplayedFirst C C.texts C.rules world.old world.new
+        (exchange R.remaining reader.old reader.new W.contents writer.old writer.new)) }
     ensures memory { IfOutOfMemory result (Kept reader.old reader.new writer.old writer.new) }
     ensures unchanged { IfOutOfMemory result (world.new ≡ world.old) }
     ensures faults { IfErr result IsConversationFault }

@@ -1,9 +1,8 @@
 ghost use Rattle.std.specs.Prelude.{◌≡◌, Err, OnOk, IfErr};
-ghost use Rattle.std.specs.Io.KnownBytes.{IsAtEnd};
-ghost use Rattle.front.specs.Sessions.{AnswersTokens, AnswersTold, FromNothing, TellsFinding, TellsOpening, TellsRequest, TellsTokens};
+ghost use Rattle.front.specs.Sessions.{AnswersTokens, TellsFinding, TellsOpening, TellsRequest, TellsTokens, ToldAll, ToldFirst, ToldWhole};
 ghost use Rattle.store.specs.States.{new_store};
 ghost use Rattle.change_list.specs.declared.config.Config.{Config};
-ghost use Rattle.front.specs.Conversations.{AnsweredAll, AnsweredWhole, AnsweredFirst, IfOutOfMemory, IsConversationFault, Kept};
+ghost use Rattle.front.specs.Conversations.{IfOutOfMemory, IfReadFails, IfWriteFails, IsConversationFault, Kept, exchange};
 
 use crate::answers::{Gathered, write_reply};
 use crate::commands::{close, delete, find, insert, mark, next, open, sweep};
@@ -118,9 +117,12 @@ pub fn session<C: ClassText, R: Read, W: Write>(
     store: &mut Store<C>,
 ) -> Result<(), Fault>
     requires { (config : Config) × (store.old ≡ new_store config) }
-    ensures ok { OnOk result (IsAtEnd (R.remaining reader.new) × FromNothing C.rules (AnsweredAll (AnswersTold C.texts C.rules) (R.remaining reader.old) (R.remaining reader.new) (W.contents writer.old) (W.contents writer.new)) store.old store.new) }
-    ensures read { result ≡ Err Fault.Read → FromNothing C.rules (AnsweredWhole (AnswersTold C.texts C.rules) (R.remaining reader.old) (R.remaining reader.new) (W.contents writer.old) (W.contents writer.new)) store.old store.new }
-    ensures write { result ≡ Err Fault.Write → FromNothing C.rules (AnsweredFirst (AnswersTold C.texts C.rules) (R.remaining reader.old) (R.remaining reader.new) (W.contents writer.old) (W.contents writer.new)) store.old store.new }
+    ensures ok { OnOk result (ToldAll C.texts C.rules store.old store.new
+        (exchange R.remaining reader.old reader.new W.contents writer.old writer.new)) }
+    ensures read { IfReadFails result (ToldWhole C.texts C.rules store.old store.new
+        (exchange R.remaining reader.old reader.new W.contents writer.old writer.new)) }
+    ensures write { IfWriteFails result (ToldFirst C.texts C.rules store.old store.new
+        (exchange R.remaining reader.old reader.new W.contents writer.old writer.new)) }
     ensures memory { IfOutOfMemory result (Kept reader.old reader.new writer.old writer.new) }
     ensures unchanged { IfOutOfMemory result (store.new ≡ store.old) }
     ensures faults { IfErr result IsConversationFault }

@@ -152,6 +152,10 @@ pub record AreWellFormed (words : List Text) : Type 0 where
 abbrev pub Refuses : List Text → ErrorKind → Type 0
 Refuses words kind = (line : App) × IsGistLine line × IsAmong kind (fault_of line words)
 
+-- the words of a command line ask for help
+abbrev pub WantHelp : List (Bor Text) → Type 0
+WantHelp words = Refuses (texts_of words) kind.DisplayHelp
+
 -- the words are refused, and not because they ask for help
 abbrev pub AreRefused : List Text → Type 0
 AreRefused words = (why : ErrorKind) × Refuses words why × (why ≢ kind.DisplayHelp)

@@ -1,7 +1,6 @@
 -- What a program that ended well did.
-use Rattle.std.specs.Prelude.{◌≡◌, ℕ, List, Option, Result, Ok, Err, ◌⊎◌}
+use Rattle.std.specs.Prelude.{◌≡◌, List, Result, Ok, Err, ◌⊎◌}
 use Rattle.std.specs.Borrow.{Bor}
-use Rattle.std.specs.Io.KnownBytes.{IsAtEnd}
 use Rattle.change_list.specs.Configs.{IsWithinLimits}
 use Rattle.change_list.specs.declared.config.Config.{Config}
 use Rattle.key_class.specs.Rules.{Rules}
@@ -20,9 +19,9 @@ use Rattle.query_text.specs.ClassTexts.{Texts}
 use Rattle.query_text.specs.IntervalTexts.{interval_texts}
 use Rattle.query_text.specs.BoxTexts.{box_texts}
 use Rattle.query_text.specs.SetTexts.{set_texts}
-use Rattle.front.specs.Sessions.{AnswersTold, FromNothing}
-use Rattle.front.specs.Conversations.{AnsweredAll}
-use Rattle.front.specs.Replays.{AnswersEventTokens}
+use Rattle.front.specs.Conversations.{Exchange}
+use Rattle.front.specs.Sessions.{ToldAll}
+use Rattle.front.specs.Replays.{ReplayedAll}
 use Rattle.clap.specs.Words.{Text}
 use Rattle.storm.specs.Sizes.{IsStorm}
 use Rattle.storm.specs.declared.limits.Limits.{Limits}
@@ -40,47 +39,49 @@ use Rattle.gist.specs.declared.options.Settings.TheVariants as settings
 abbrev pub limits_of : StoreOptions → Config
 limits_of options = record { fan = options.fan; least = options.least; pages = 65536; commits = 16777216 }
 
--- `before` and `after` are what the reader had and has, `held` and `written` what the writer had and has.
-module _ (before after held written : Option (List ℕ)) where
-  -- All bytes of the reader were lines of a session over this store, and what was written answers them. At the end the
-  -- store is as the answers tell.
-  abbrev pub AnsweredOver : {K A : Type 0} → Texts K A → Rules K A → StoreState K A → Type 0
-  AnsweredOver {K} {A} texts rules store = (last : StoreState K A) × FromNothing rules (AnsweredAll (AnswersTold texts rules) before after held written) store last
+-- All bytes of the reader were lines of a session over this store, and what was written answers them. At the end the
+-- store is as the answers tell.
+abbrev pub AnsweredOver : {K A : Type 0} → Texts K A → Rules K A → StoreState K A → Exchange → Type 0
+AnsweredOver {K} {A} texts rules store io = (last : StoreState K A) × ToldAll texts rules store last io
 
-  -- the same of a store of the class that is new with these limits
-  abbrev pub AnswersSession : Class → Config → Type 0
-  AnswersSession classes.Interval config = AnsweredOver interval_texts interval_rules (new_store config)
-  AnswersSession classes.Box config = AnsweredOver box_texts box_rules (new_store config)
-  AnswersSession classes.Set config = AnsweredOver set_texts set_rules (new_store config)
+-- the same of a store of the class that is new with these limits
+abbrev pub AnswersSession : Class → Config → Exchange → Type 0
+AnswersSession classes.Interval config io = AnsweredOver interval_texts interval_rules (new_store config) io
+AnswersSession classes.Box config io = AnsweredOver box_texts box_rules (new_store config) io
+AnswersSession classes.Set config io = AnsweredOver set_texts set_rules (new_store config) io
 
-  -- the limits are in their ranges, and a whole session was answered
-  abbrev pub ServesOptions : StoreOptions → Type 0
-  ServesOptions options = IsWithinLimits (limits_of options) × IsAtEnd after × AnswersSession options.class (limits_of options)
+-- the limits are in their ranges, and a whole session was answered
+abbrev pub ServesOptions : StoreOptions → Exchange → Type 0
+ServesOptions options io = IsWithinLimits (limits_of options) × AnswersSession options.class (limits_of options) io
 
-  -- All bytes of the reader were lines of events, which were steps of this world, and what was written answers them.
-  -- C is the class.
-  abbrev pub EventsAnsweredOver : (C : Type 0) {K A : Type 0} → Texts K A → Rules K A → World K A → Type 0
-  EventsAnsweredOver C {K} {A} texts rules world = (last : World K A) × AnsweredAll (AnswersEventTokens C texts rules) before after held written world last
+-- All bytes of the reader were lines of events, which were steps of this world, and what was written answers them.
+-- C is the class.
+abbrev pub EventsAnsweredOver : (C : Type 0) {K A : Type 0} → Texts K A → Rules K A → World K A → Exchange → Type 0
+EventsAnsweredOver C {K} {A} texts rules world io = (last : World K A) × ReplayedAll C texts rules world last io
 
-  -- the same of a world of the class that is new with these limits
-  abbrev pub AnswersEvents : Class → Config → Type 0
-  AnswersEvents classes.Interval config = EventsAnsweredOver Intervals interval_texts interval_rules (new_world config)
-  AnswersEvents classes.Box config = EventsAnsweredOver Boxes box_texts box_rules (new_world config)
-  AnswersEvents classes.Set config = EventsAnsweredOver Sets set_texts set_rules (new_world config)
+-- the same of a world of the class that is new with these limits
+abbrev pub AnswersEvents : Class → Config → Exchange → Type 0
+AnswersEvents classes.Interval config io = EventsAnsweredOver Intervals interval_texts interval_rules (new_world config) io
+AnswersEvents classes.Box config io = EventsAnsweredOver Boxes box_texts box_rules (new_world config) io
+AnswersEvents classes.Set config io = EventsAnsweredOver Sets set_texts set_rules (new_world config) io
 
-  -- the limits are in their ranges, and every line of events was answered
-  abbrev pub Replays : StoreOptions → Type 0
-  Replays options = IsWithinLimits (limits_of options) × IsAtEnd after × AnswersEvents options.class (limits_of options)
+-- the limits are in their ranges, and every line of events was answered
+abbrev pub Replays : StoreOptions → Exchange → Type 0
+Replays options io = IsWithinLimits (limits_of options) × AnswersEvents options.class (limits_of options) io
 
-  -- nothing was read, and a storm passed
-  abbrev pub PassesStorm : Limits → Type 0
-  PassesStorm limits = (after ≡ before) × TellsStorm held written limits
+-- nothing was read, and a storm passed
+abbrev pub PassesStorm : Limits → Exchange → Type 0
+PassesStorm limits io = (io.has_left ≡ io.had_left) × TellsStorm io.had io.has limits
 
-  -- what the settings say was done
-  abbrev pub Does : Settings → Type 0
-  Does (settings.Serve options) = ServesOptions options
-  Does (settings.Replay options) = Replays options
-  Does (settings.Storm limits) = PassesStorm limits
+-- what the settings say was done
+abbrev pub Does : Settings → Exchange → Type 0
+Does (settings.Serve options) io = ServesOptions options io
+Does (settings.Replay options) io = Replays options io
+Does (settings.Storm limits) io = PassesStorm limits io
+
+-- the words of a command line give settings, and what these say was done
+abbrev pub DoesAsked : List (Bor Text) → Exchange → Type 0
+DoesAsked words io = (settings : Settings) × GivesSettings (texts_of words) settings × Does settings io
 
 -- what holds where a command ended well
 abbrev pub IfWell : Result Ending Fault → Type 0 → Type 0

@@ -10,8 +10,8 @@ use Rattle.storm.specs.declared.limits.Limits.{Limits}
 use Rattle.storm.specs.declared.outcome.Outcome.{Outcome}
 
 -- where it ends well, the writer has this text more. contents tells of a writer what it has.
-abbrev pub WritesText : {W E : Type 0} → (W → Option (List ℕ)) → W → W → List ℕ → Result (Unit {0}) E → Type 0
-WritesText contents old new text returned = OnOk returned (Appends (contents old) (contents new) text)
+abbrev pub Outputs : {W E : Type 0} → (W → Option (List ℕ)) → W → W → List ℕ → Result (Unit {0}) E → Type 0
+Outputs contents old new text returned = OnOk returned (Appends (contents old) (contents new) text)
 
 -- how a reader fared, of a storm of so many commits
 abbrev pub verdict_text : ℕ → Verdict → List ℕ

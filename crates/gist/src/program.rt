@@ -1,16 +1,14 @@
 ghost use Rattle.std.specs.Prelude.{◌≡◌, ◌≢◌, ◌↔◌, ◌⊎◌, ◌<◌, Ok};
-ghost use Rattle.std.specs.Io.KnownBytes.{IsAtEnd};
 ghost use Rattle.store.specs.States.{new_store};
 ghost use Rattle.change_list.specs.Configs.{IsWithinLimits};
 ghost use Rattle.world.specs.States.{new_state as new_world};
-ghost use Rattle.front.specs.Conversations.{Kept};
+ghost use Rattle.front.specs.Conversations.{Kept, exchange};
 ghost use Rattle.clap.specs.Words.{kind_of};
 ghost use Rattle.clap.specs.declared.error.ErrorKind.{ErrorKind};
 ghost use Rattle.storm.specs.Sizes.{IsStorm};
-ghost use Rattle.gist.specs.declared.options.Settings.{Settings};
-ghost use Rattle.gist.specs.Storms.{TellsStorm, WritesText, count_line, reader_line, storm_text};
-ghost use Rattle.gist.specs.CommandLine.{texts_of, AreWellFormed, NameNothing, GivesSettings, Refuses, AreRefused, AsksForHelp, IsOfWords};
-ghost use Rattle.gist.specs.Served.{limits_of, AnsweredOver, EventsAnsweredOver, ServesOptions, Replays, Does, IfWell, HaveBadLimits, AreOutOfLimits, RefusesLimits, NameBadLimits, AreUnfit};
+ghost use Rattle.gist.specs.Storms.{TellsStorm, Outputs, count_line, reader_line, storm_text};
+ghost use Rattle.gist.specs.CommandLine.{texts_of, AreWellFormed, NameNothing, AreRefused, AsksForHelp, IsOfWords, WantHelp};
+ghost use Rattle.gist.specs.Served.{limits_of, AnsweredOver, EventsAnsweredOver, ServesOptions, Replays, Does, DoesAsked, IfWell, HaveBadLimits, AreOutOfLimits, RefusesLimits, NameBadLimits, AreUnfit};
 
 use crate::options::{Class, Ending, Settings, StoreOptions};
 use crate::words::settings;
@@ -58,8 +56,8 @@ fn serve_store<C: ClassText, R: Read, W: Write>(
     reader: &mut R,
     writer: &mut W,
 ) -> Result<(), Fault>
-    ensures at_end { result ≡ Ok tt → IsAtEnd (R.remaining reader.new) }
-    ensures answered { result ≡ Ok tt → AnsweredOver (R.remaining reader.old) (R.remaining reader.new) (W.contents writer.old) (W.contents writer.new) C.texts C.rules (new_store config) }
+    ensures answered { result ≡ Ok tt → AnsweredOver C.texts C.rules (new_store config)
+        (exchange R.remaining reader.old reader.new W.contents writer.old writer.new) }
     ensures within { result ≡ Ok tt → IsWithinLimits config }
     ensures bad { RefusesLimits result ↔ (¬ IsWithinLimits config) }
     ensures unread { ¬ IsWithinLimits config → Kept reader.old reader.new writer.old writer.new }
@@ -79,7 +77,8 @@ fn serve<R: Read, W: Write>(
     reader: &mut R,
     writer: &mut W,
 ) -> Result<(), Fault>
-    ensures ok { result ≡ Ok tt → ServesOptions (R.remaining reader.old) (R.remaining reader.new) (W.contents writer.old) (W.contents writer.new) options }
+    ensures ok { result ≡ Ok tt → ServesOptions options
+        (exchange R.remaining reader.old reader.new W.contents writer.old writer.new) }
     ensures bad { RefusesLimits result ↔ HaveBadLimits options }
     ensures unread { HaveBadLimits options → Kept reader.old reader.new writer.old writer.new }
 {
@@ -101,7 +100,8 @@ fn replay_world<C: ClassText, R: Read, W: Write>(
     reader: &mut R,
     writer: &mut W,
 ) -> Result<(), Fault>
-    ensures ok { result ≡ Ok tt → IsAtEnd (R.remaining reader.new) × EventsAnsweredOver (R.remaining reader.old) (R.remaining reader.new) (W.contents writer.old) (W.contents writer.new) C C.texts C.rules (new_world config) }
+    ensures ok { result ≡ Ok tt → EventsAnsweredOver C C.texts C.rules (new_world config)
+        (exchange R.remaining reader.old reader.new W.contents writer.old writer.new) }
     ensures within { result ≡ Ok tt → IsWithinLimits config }
     ensures bad { RefusesLimits result ↔ (¬ IsWithinLimits config) }
     ensures unread { ¬ IsWithinLimits config → Kept reader.old reader.new writer.old writer.new }
@@ -121,7 +121,8 @@ fn replay<R: Read, W: Write>(
     reader: &mut R,
     writer: &mut W,
 ) -> Result<(), Fault>
-    ensures ok { result ≡ Ok tt → Replays (R.remaining reader.old) (R.remaining reader.new) (W.contents writer.old) (W.contents writer.new) options }
+    ensures ok { result ≡ Ok tt → Replays options
+        (exchange R.remaining reader.old reader.new W.contents writer.old writer.new) }
     ensures bad { RefusesLimits result ↔ HaveBadLimits options }
     ensures unread { HaveBadLimits options → Kept reader.old reader.new writer.old writer.new }
 {
@@ -140,7 +141,7 @@ fn tell_reader<W: Write>(
     number: u64,
     verdict: Verdict,
 ) -> io::Result<()>
-    ensures { WritesText W.contents writer.old writer.new (reader_line commits number verdict) result }
+    ensures { Outputs W.contents writer.old writer.new (reader_line commits number verdict) result }
 {
     let mut line = ArrayVec::<u8, 64>::new();
     append(&mut line, b"reader ");
@@ -159,7 +160,7 @@ fn tell_reader<W: Write>(
 
 /// Writes the line with the number of commits.
 fn tell_count<W: Write>(writer: &mut W, commits: u64) -> io::Result<()>
-    ensures { WritesText W.contents writer.old writer.new (count_line commits) result }
+    ensures { Outputs W.contents writer.old writer.new (count_line commits) result }
 {
     let mut line = ArrayVec::<u8, 64>::new();
     append(&mut line, b"commits ");
@@ -170,7 +171,7 @@ fn tell_count<W: Write>(writer: &mut W, commits: u64) -> io::Result<()>
 
 /// Writes the number of commits, and how each reader fared.
 fn tell_storm<W: Write>(writer: &mut W, outcome: &Outcome) -> io::Result<()>
-    ensures { WritesText W.contents writer.old writer.new (storm_text outcome.now) result }
+    ensures { Outputs W.contents writer.old writer.new (storm_text outcome.now) result }
 {
     tell_count(writer, outcome.commits)?;
     let verdicts = outcome.verdicts.as_slice();
@@ -219,7 +220,8 @@ fn run<T: Threads + Wait + Clock + Sync, R: Read, W: Write>(
     reader: &mut R,
     writer: &mut W,
 ) -> Result<Ending, Fault>
-    ensures ok { IfWell result (Does (R.remaining reader.old) (R.remaining reader.new) (W.contents writer.old) (W.contents writer.new) settings) }
+    ensures ok { IfWell result (Does settings
+        (exchange R.remaining reader.old reader.new W.contents writer.old writer.new)) }
     ensures bad { RefusesLimits result ↔ AreOutOfLimits settings }
     ensures unread { AreOutOfLimits settings → Kept reader.old reader.new writer.old writer.new }
 {
@@ -270,7 +272,9 @@ pub fn command<T: Threads + Wait + Clock + Sync, R: Read, W: Write, E: Write>(
     writer: &mut W,
     errors: &mut E,
 ) -> u8
-    ensures served { result ≡ 0 → (Refuses (texts_of words.now) ErrorKind.DisplayHelp × (reader.new ≡ reader.old)) ⊎ ((settings : Settings) × GivesSettings (texts_of words.now) settings × Does (R.remaining reader.old) (R.remaining reader.new) (W.contents writer.old) (W.contents writer.new) settings) }
+    ensures served { result ≡ 0 → (WantHelp words.now × (reader.new ≡ reader.old))
+        ⊎ DoesAsked words.now
+        (exchange R.remaining reader.old reader.new W.contents writer.old writer.new) }
     ensures taken { AreWellFormed (texts_of words.now) → result ≢ 2 }
     ensures quiet { result ≡ 0 → errors.new ≡ errors.old }
     ensures wrong_words { result ≡ 2 → AreRefused (texts_of words.now) }

@@ -39,7 +39,7 @@ fn delete(
     if commit == 0 || !tree.is_leaf(u64::from(page)) {
         return Ok(false);
     }
-    tree.bury(page, row, commit)?;
+    tree.bury(u64::from(page), row, commit)?;
     Ok(true)
 }
 

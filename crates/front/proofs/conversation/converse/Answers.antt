@@ -32,10 +32,8 @@ returns-then-not-branch-clause-ok g c =
     let p = filled g.S.Responder.answers (g.R.Read.remaining c.args.reader.now) (g.W.Write.contents c.args.writer.now) c.args.responder.now (g.R.Read.remaining c.reading.reader) (g.W.Write.contents c.send.new.writer) c.send.new.gathered.items c.reading.responder c.reading.lines (sent g.S.Responder.answers (g.R.Read.remaining c.args.reader.now) (g.W.Write.contents c.args.writer.now) c.args.responder.now (g.R.Read.remaining c.reading.reader) (g.W.Write.contents c.reading.writer) c.reading.gathered.items c.reading.responder c.reading.lines c.reading.invariant.progress (g.W.Write.contents c.send.new.writer) c.send.new.gathered.items c.in_ok-send.ensures.written) (g.R.Read.remaining c.fill.new.reader) c.in_ok-fill.field-0 c.fill.new.self c.reading.invariant.no_feed c.in_ok-fill.ensures.ok in
     let n = no_feed_at_end (g.R.Read.remaining c.reading.reader) (g.R.Read.remaining c.fill.new.reader) c.reading.lines c.fill.new.self c.reading.invariant.no_feed (subst (λ (b : Bool). FillsHeld (g.R.Read.remaining c.reading.reader) (g.R.Read.remaining c.fill.new.reader) c.reading.lines b c.fill.new.self) c.if-not-branch.true c.in_ok-fill.ensures.ok) in
     let f = rw (c.rest.ensures, c.is_overlong.ensures) at c.in_ok-answer_line.ensures.answers in
-    let s = c.in_ok-send-2.ensures in (
-      (c.in_ok-fill.ensures.ok.none_at_end c.if-not-branch.true).1,
-      ended_all g.S.Responder.answers (g.R.Read.remaining c.args.reader.now) (g.W.Write.contents c.args.writer.now) c.args.responder.now (g.R.Read.remaining c.fill.new.reader) (g.W.Write.contents c.send.new.writer) c.send.new.gathered.items c.reading.responder c.fill.new.self p n c.answer_line.new.responder (g.W.Write.contents c.answer_line.new.writer) (g.W.Write.contents c.send-then-not-branch.new.writer) c.answer_line.new.gathered.items c.send-then-not-branch.new.gathered.items f s.written s.empty,
-    )
+    let s = c.in_ok-send-2.ensures in
+    ended_all g.S.Responder.answers (g.R.Read.remaining c.args.reader.now) (g.W.Write.contents c.args.writer.now) c.args.responder.now (g.R.Read.remaining c.fill.new.reader) (g.W.Write.contents c.send.new.writer) c.send.new.gathered.items c.reading.responder c.fill.new.self p n c.answer_line.new.responder (g.W.Write.contents c.answer_line.new.writer) (g.W.Write.contents c.send-then-not-branch.new.writer) c.answer_line.new.gathered.items c.send-then-not-branch.new.gathered.items f s.written s.empty (c.in_ok-fill.ensures.ok.none_at_end c.if-not-branch.true).1
 
 pub returns-in_err-send-2-clause-write : goal.returns-in_err-send-2-clause-write
 returns-in_err-send-2-clause-write g c =

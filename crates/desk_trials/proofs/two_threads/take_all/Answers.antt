@@ -2,7 +2,10 @@ use denote.Param.Send.{sendable}
 use Rattle.interval_class.proofs.interval.Interval.TheSendSync as key
 use Rattle.interval_class.proofs.atom.Atom.TheSendSync as atom
 use Rattle.desk.proofs.Crossing.{crosses}
-use Rattle.desk_trials.proofs.two_threads.two_seats.Goals as goal
+use Rattle.desk_trials.proofs.two_threads.take_all.Goals as goal
 
 pub at_once-requires-sync-D : goal.at_once-requires-sync-D
 at_once-requires-sync-D g c κs within = search (crosses, key.the_send, key.the_sync, atom.the_send, atom.the_sync, sendable) depth 40
+
+pub at_once-requires-send-F : goal.at_once-requires-send-F
+at_once-requires-send-F g c κs within = search (crosses, key.the_send, key.the_sync, atom.the_send, atom.the_sync, sendable) depth 40
