@@ -15,64 +15,52 @@ use std::thread::Threads;
 
 const KEY: Interval = Interval { lo: 5, hi: 8 };
 
-/// A client that follows a query: its cursor, and what it took.
-#[derive(Drop)]
-struct Client<'d, L: Ledger> {
-    taker: Taker<'d, Intervals, L>,
-    taken: Vec<Item<Interval>>,
-}
-
 /// A desk at which one client writes while another follows.
-trait WriteAndFollow<W, F> {
+trait WriteAndFollow<W, T, I> {
     /// Inserts ten rows.
     fn write<R: Wait>(&self, rt: &R, seat: &mut W);
 
-    /// Turns its cursor a thousand times, and takes what comes.
-    fn follow<R: Wait>(&self, rt: &R, client: &mut F);
+    /// Turns a cursor a thousand times, and takes what comes.
+    fn follow<R: Wait>(&self, rt: &R, taker: &mut T, taken: &mut I);
 }
 
-impl<'d, L: Ledger> WriteAndFollow<Seat<Intervals, L>, Client<'d, L>> for Desk<Intervals, L> {
+impl<'d, L: Ledger> WriteAndFollow<Seat<Intervals, L>, Taker<'d, Intervals, L>, Vec<Item<Interval>>>
+    for Desk<Intervals, L> {
     fn write<R: Wait>(&self, rt: &R, seat: &mut Seat<Intervals, L>) {
         for tag in 0..10 {
             let _stamped = self.insert(rt, seat, KEY, tag);
         }
     }
 
-    fn follow<R: Wait>(&self, rt: &R, client: &mut Client<'d, L>) {
+    fn follow<R: Wait>(
+        &self,
+        rt: &R,
+        taker: &mut Taker<'d, Intervals, L>,
+        taken: &mut Vec<Item<Interval>>,
+    ) {
         for _ in 0..1_000 {
-            let _reply = self.turn(rt, client.taker.cursor());
-            if let Some(item) = client.taker.take() {
-                let _kept = client.taken.push(item);
+            let _reply = self.turn(rt, taker.cursor());
+            if let Some(item) = taker.take() {
+                let _kept = taken.push(item);
             }
         }
     }
 }
 
-/// Lets a thread write while this one follows.
-fn at_once<D, W, F, R>(rt: &R, desk: &D, seat: &mut W, client: &mut F)
+/// Lets one thread write while another follows.
+fn at_once<D, W, T, I, R>(rt: &R, desk: &D, seat: &mut W, taker: &mut T, taken: &mut I)
 where
-    D: WriteAndFollow<W, F> + Sync,
+    D: WriteAndFollow<W, T, I> + Sync,
     W: Send,
-    F: Send,
+    T: Send,
+    I: Send,
     R: Threads + Wait + Sync,
 {
-    thread::join(rt, || desk.write(rt, seat), || desk.follow(rt, client));
-}
-
-/// A client whose cursor asks for what overlaps the key.
-fn client_at<'d, L: Ledger, R: Wait>(
-    rt: &R,
-    alloc: Global,
-    desk: &'d Desk<Intervals, L>,
-    seat: &mut Seat<Intervals, L>,
-) -> Result<Client<'d, L>, Refusal> {
-    let query = Pred::Atom(Atom {
-        rel: Rel::Overlaps,
-        operand: KEY,
-    });
-    let taker = desk.open_cursor(rt, seat, query, 16)?;
-    let taken = Vec::new(alloc);
-    Ok(Client { taker, taken })
+    thread::join(
+        rt,
+        || desk.write(rt, seat),
+        || desk.follow(rt, taker, taken),
+    );
 }
 
 /// How many items a client takes of what another writes meanwhile, where a receipt shows that none is amiss.
@@ -83,10 +71,14 @@ fn take_all<L: Ledger + Send + Sync, R: Threads + Wait + Sync>(
     writer: &mut Seat<Intervals, L>,
     reader: &mut Seat<Intervals, L>,
 ) -> Result<Option<usize>, Refusal> {
-    let mut client = client_at(rt, alloc, desk, reader)?;
-    at_once(rt, desk, writer, &mut client);
-    desk.follow(rt, &mut client);
-    let Client { taker, taken } = client;
+    let query = Pred::Atom(Atom {
+        rel: Rel::Overlaps,
+        operand: KEY,
+    });
+    let mut taker = desk.open_cursor(rt, reader, query, 16)?;
+    let mut taken = Vec::new(alloc);
+    at_once(rt, desk, writer, &mut taker, &mut taken);
+    desk.follow(rt, &mut taker, &mut taken);
     match taker.close(rt, reader, taken.as_slice()) {
         Ended::Receipt(_) => Ok(Some(taken.len())),
         Ended::NoReceipt => Ok(None),

@@ -7,5 +7,5 @@ use Rattle.desk_trials.proofs.two_threads.take_all.Goals as goal
 pub at_once-requires-sync-D : goal.at_once-requires-sync-D
 at_once-requires-sync-D g c κs within = search (crosses, key.the_send, key.the_sync, atom.the_send, atom.the_sync, sendable) depth 40
 
-pub at_once-requires-send-F : goal.at_once-requires-send-F
-at_once-requires-send-F g c κs within = search (crosses, key.the_send, key.the_sync, atom.the_send, atom.the_sync, sendable) depth 40
+pub at_once-requires-send-T : goal.at_once-requires-send-T
+at_once-requires-send-T g c κs within = search (crosses, key.the_send, key.the_sync, atom.the_send, atom.the_sync, sendable) depth 40
