@@ -4,11 +4,15 @@
 #[cfg(test)]
 mod alike;
 #[cfg(test)]
+mod ample_memory;
+#[cfg(test)]
 mod calls;
 #[cfg(test)]
 mod clients;
 #[cfg(test)]
 mod deletions;
+#[cfg(test)]
+mod event_rows;
 #[cfg(test)]
 mod faults;
 #[cfg(test)]

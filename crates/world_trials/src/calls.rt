@@ -1,4 +1,4 @@
-use super::steps::{Answer, Trial};
+use super::steps::{Ask, Trial, new_world, trace_of};
 use change_list::{Config, Write};
 use interval_class::{Atom, Interval, Intervals};
 use key_class::{Pred, Refusal, Rel};
@@ -39,8 +39,8 @@ fn places(alloc: Global, world: &mut Trial) -> Result<bool, Fail> {
     Ok(commits(world.step_as(7, event), 1, 7, Write::Insert(key()?, 5)))
 }
 
-fn find(world: &mut Trial) {
-    world.step_as(7, Event::Find(1));
+fn finds(world: &mut Trial) -> bool {
+    matches!(world.step_as(7, Event::Find(1)), Reply::Finder(1))
 }
 
 /// Whether the delete of row 1 by seat 8 is commit 2.
@@ -52,7 +52,8 @@ fn buries(world: &mut Trial) -> bool {
 fn tells_commits(world: &Trial) -> Result<bool, Refusal> {
     let insert = Write::Insert(key()?, 5);
     Ok(
-        world.commit(0).is_none()
+        world.commits() == 2
+            && world.commit(0).is_none()
             && world.commit(1) == Some(insert)
             && world.commit(2) == Some(Write::Delete(1))
             && world.commit(3).is_none(),
@@ -64,23 +65,89 @@ fn rows(world: &Trial, page: u64) -> Option<usize> {
     Some(world.page(page)?.rows().len())
 }
 
-#[test]
-fn tells_its_commits_and_pages(rt: HostRuntime) -> Result<(), Fail> {
-    let mut world = world_of(rt.alloc(), CONFIG)?;
-    assert!(rt; places(rt.alloc(), &mut world)?);
-    find(&mut world);
-    assert!(rt; buries(&mut world));
-    assert!(rt; world.commits() == 2 && world.pages() == 1);
-    assert!(rt; tells_commits(&world)?);
-    for (number, wanted) in [(0, Some(1)), (1, None), (4_294_967_296, None)] {
-        assert!(rt; rows(&world, number) == wanted, "{number}");
+/// A query with `count` times `not` before an atom.
+fn nested(alloc: Global, count: u32) -> Result<Pred<Atom>, Fail> {
+    let mut query = Pred::Atom(Atom {
+        rel: Rel::Overlaps,
+        operand: Interval::new(0, 9)?,
+    });
+    for _ in 0..count {
+        query = Pred::Not(Box::new(alloc, query)?);
     }
+    Ok(query)
+}
+
+/// The serial of the cursor that is opened, or why none is, of a query with so many times `not`.
+fn opened(alloc: Global, world: &mut Trial, nots: u32) -> Result<Result<u64, Refusal>, Fail> {
+    match world.step(Event::Open(nested(alloc, nots)?, 1)) {
+        Reply::Opened(serial, ()) => Ok(Ok(serial)),
+        Reply::Refused(refusal) => Ok(Err(refusal)),
+        _ => Err(Refusal::NotHere.into()),
+    }
+}
+
+/// What a world does or tells.
+#[derive(Clone, Copy, Debug)]
+enum Deed {
+    Place,
+    Find,
+    Bury,
+    TellCommits,
+    /// There are so many pages.
+    CountPages(u64),
+    /// A page that holds so many rows, or that isn't there.
+    CountRows(u64, Option<usize>),
+    /// A cursor of a query with so many times `not` is opened, or refused.
+    Open(u32, Result<u64, Refusal>),
+}
+
+fn is_done(alloc: Global, world: &mut Trial, deed: Deed) -> Result<bool, Fail> {
+    match deed {
+        Deed::Place => places(alloc, world),
+        Deed::Find => Ok(finds(world)),
+        Deed::Bury => Ok(buries(world)),
+        Deed::TellCommits => Ok(tells_commits(world)?),
+        Deed::CountPages(count) => Ok(world.pages() == count),
+        Deed::CountRows(page, count) => Ok(rows(world, page) == count),
+        Deed::Open(nots, wanted) => Ok(opened(alloc, world, nots)? == wanted),
+    }
+}
+
+/// The first of some deeds that a world doesn't do.
+fn first_wrong(alloc: Global, world: &mut Trial, deeds: &[Deed]) -> Result<Option<Deed>, Fail> {
+    for deed in deeds {
+        if !is_done(alloc, world, *deed)? {
+            return Ok(Some(*deed));
+        }
+    }
+    Ok(None)
+}
+
+static DEEDS: [Deed; 10] = [
+    Deed::Place,
+    Deed::Find,
+    Deed::Bury,
+    Deed::TellCommits,
+    Deed::CountPages(1),
+    Deed::CountRows(0, Some(1)),
+    Deed::CountRows(1, None),
+    Deed::CountRows(4_294_967_296, None),
+    // A query is 32 deep at most.
+    Deed::Open(32, Err(Refusal::BadConfig)),
+    Deed::Open(31, Ok(1)),
+];
+
+#[test]
+fn tells_commits_and_pages_and_opens_deep_queries(rt: HostRuntime) -> Result<(), Fail> {
+    let mut world = new_world(rt.alloc(), CONFIG)?;
+    let wrong = first_wrong(rt.alloc(), &mut world, &DEEDS)?;
+    assert!(rt; wrong.is_none(), "{wrong:?}");
     Ok(())
 }
 
 /// How a world is refused, if it is.
 fn config_refusal(alloc: Global, config: Config) -> Option<Refusal> {
-    world_of(alloc, config).err()
+    new_world(alloc, config).err()
 }
 
 #[test]
@@ -105,39 +172,15 @@ fn configurations_out_of_range(rt: HostRuntime) -> Result<(), Fail> {
     Ok(())
 }
 
-/// A query with `count` times `not` before an atom.
-fn nested(alloc: Global, count: u32) -> Result<Pred<Atom>, Fail> {
-    let mut query = Pred::Atom(Atom {
-        rel: Rel::Overlaps,
-        operand: Interval::new(0, 9)?,
-    });
-    for _ in 0..count {
-        query = Pred::Not(Box::new(alloc, query)?);
-    }
-    Ok(query)
+fn length_of_trace(alloc: Global, asks: &[Ask]) -> Result<usize, Fail> {
+    Ok(trace_of(alloc, CONFIG, asks)?.len())
 }
 
-/// Whether the opening of a cursor of a query with so many times `not` is answered as wanted.
-fn answers_opening(
-    alloc: Global,
-    world: &mut Trial,
-    nots: u32,
-    wanted: Answer,
-) -> Result<bool, Fail> {
-    let event = Event::Open(nested(alloc, nots)?, 1);
-    Ok(Answer::of(world.step(event)) == wanted)
-}
-
-/// A world, of which nothing is known.
-fn world_of(alloc: Global, config: Config) -> Result<Trial, Refusal> {
-    Trial::new(alloc, config)
-}
+static SWEEPS: [Ask; 100] = [Ask::Sweep(0); 100];
 
 #[test]
-fn queries_are_32_deep_at_most(rt: HostRuntime) -> Result<(), Fail> {
-    let mut world = world_of(rt.alloc(), CONFIG)?;
-    let refused = Answer::Refused(Refusal::BadConfig);
-    assert!(rt; answers_opening(rt.alloc(), &mut world, 32, refused)?);
-    assert!(rt; answers_opening(rt.alloc(), &mut world, 31, Answer::Opened(1))?);
+fn runs_have_any_number_of_events(rt: HostRuntime) -> Result<(), Fail> {
+    assert!(rt; length_of_trace(rt.alloc(), &[])? == 0);
+    assert!(rt; length_of_trace(rt.alloc(), &SWEEPS)? == 100);
     Ok(())
 }

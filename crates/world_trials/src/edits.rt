@@ -64,8 +64,90 @@ static DELETES: [Ask; 22] = [
     Ask::Find(3),
 ];
 
+/// Events of each kind, most of which are answered, and some refused.
+static EACH_KIND: [Ask; 71] = [
+    Ask::Place(0, (1, 1), 0),
+    Ask::Place(0, (2, 2), 0),
+    Ask::Place(0, (3, 3), 0),
+    Ask::Place(0, (4, 4), 0),
+    Ask::Place(0, (5, 5), 0),
+    Ask::Place(0, (6, 6), 0),
+    Ask::Place(0, (7, 7), 0),
+    Ask::Place(0, (8, 8), 0),
+    // The page is full.
+    Ask::Place(0, (9, 9), 0),
+    Ask::Grow("llllrrrr"),
+    Ask::Enlarge(0, 2, (9, 12)),
+    Ask::Place(2, (9, 9), 0),
+    Ask::Place(2, (10, 10), 0),
+    Ask::Place(2, (11, 11), 0),
+    Ask::Place(2, (12, 12), 0),
+    Ask::Open(Query::Overlaps(5, 99), 4),
+    Ask::Open(Query::Misses(0, 9), 1),
+    // The root, and then page 2, whose right sibling is posted in between.
+    Ask::Turn(1),
+    Ask::Split(2, "llllrrrr"),
+    Ask::Post(0, 2),
+    Ask::Turn(1),
+    Ask::Turn(1),
+    Ask::Turn(1),
+    Ask::Turn(1),
+    Ask::Turn(1),
+    // The sibling, and no room.
+    Ask::Turn(1),
+    Ask::Turn(1),
+    Ask::Take(1),
+    Ask::Take(1),
+    Ask::Take(1),
+    Ask::Take(1),
+    // Two finders of a row, and none of a row that isn't there.
+    Ask::Find(5),
+    Ask::Find(5),
+    Ask::Find(99),
+    Ask::Seek(1),
+    Ask::Seek(1),
+    Ask::Seek(2),
+    Ask::Unfind(2),
+    Ask::Unfind(2),
+    Ask::Find(5),
+    Ask::AskMark(1),
+    Ask::Turn(1),
+    Ask::Turn(1),
+    Ask::Turn(1),
+    Ask::Turn(1),
+    Ask::Turn(1),
+    Ask::Take(1),
+    Ask::Take(1),
+    Ask::Take(1),
+    Ask::Take(1),
+    // The delete, the mark, and nothing more.
+    Ask::Turn(1),
+    Ask::Turn(1),
+    Ask::Turn(1),
+    Ask::Take(1),
+    Ask::Take(1),
+    Ask::Take(1),
+    // The second cursor still needs the dead row.
+    Ask::Sweep(2),
+    // An insert for the second cursor alone to give, and one that neither asks for.
+    Ask::Place(1, (1, 1), 3),
+    Ask::Turn(1),
+    Ask::Turn(2),
+    Ask::Turn(2),
+    Ask::Turn(2),
+    Ask::Turn(2),
+    Ask::Take(2),
+    Ask::Turn(2),
+    Ask::Close(2),
+    Ask::Take(2),
+    Ask::Turn(2),
+    Ask::Turn(9),
+    Ask::Sweep(2),
+    Ask::Sweep(0),
+];
+
 /// An answer, told by plain values. A row is told by its number, its point and its tag.
-#[derive(Clone, Copy, Debug)]
+#[derive(Clone, Copy)]
 enum Told {
     Row(u64, i64, u64),
     Inserted(u64, i64, u64),
@@ -154,8 +236,8 @@ static FLAWLESS_INSERTS: [Edits; 3] = [
 
 #[test]
 fn a_trace_with_inserts_has_no_flaw(rt: HostRuntime) -> Result<(), Fail> {
-    for edits in &FLAWLESS_INSERTS {
-        assert!(rt; flaw(rt.alloc(), &INSERTS, edits)?.is_none(), "{edits:?}");
+    for (number, edits) in FLAWLESS_INSERTS.iter().enumerate() {
+        assert!(rt; flaw(rt.alloc(), &INSERTS, edits)?.is_none(), "{number}");
     }
     Ok(())
 }
@@ -194,9 +276,9 @@ static EDITED_INSERTS: [Flawed; 15] = [
 
 #[test]
 fn edited_answers_to_inserts_are_refused(rt: HostRuntime) -> Result<(), Fail> {
-    for (edits, place, wanted) in &EDITED_INSERTS {
+    for (number, (edits, place, wanted)) in EDITED_INSERTS.iter().enumerate() {
         let found = flaw(rt.alloc(), &INSERTS, edits)?;
-        assert!(rt; found == Some((*place, *wanted)), "{edits:?}");
+        assert!(rt; found == Some((*place, *wanted)), "{number}: {found:?}");
     }
     Ok(())
 }
@@ -222,9 +304,16 @@ static FLAWLESS_DELETES: [Edits; 2] = [
 
 #[test]
 fn a_trace_with_deletes_has_no_flaw(rt: HostRuntime) -> Result<(), Fail> {
-    for edits in &FLAWLESS_DELETES {
-        assert!(rt; flaw(rt.alloc(), &DELETES, edits)?.is_none(), "{edits:?}");
+    for (number, edits) in FLAWLESS_DELETES.iter().enumerate() {
+        assert!(rt; flaw(rt.alloc(), &DELETES, edits)?.is_none(), "{number}");
     }
+    Ok(())
+}
+
+#[test]
+fn a_trace_with_events_of_each_kind_has_no_flaw(rt: HostRuntime) -> Result<(), Fail> {
+    let found = flaw(rt.alloc(), &EACH_KIND, &[])?;
+    assert!(rt; found.is_none(), "{found:?}");
     Ok(())
 }
 
@@ -283,9 +372,9 @@ static EDITED_DELETES: [Flawed; 25] = [
 
 #[test]
 fn edited_answers_to_deletes_are_refused(rt: HostRuntime) -> Result<(), Fail> {
-    for (edits, place, wanted) in &EDITED_DELETES {
+    for (number, (edits, place, wanted)) in EDITED_DELETES.iter().enumerate() {
         let found = flaw(rt.alloc(), &DELETES, edits)?;
-        assert!(rt; found == Some((*place, *wanted)), "{edits:?}");
+        assert!(rt; found == Some((*place, *wanted)), "{number}: {found:?}");
     }
     Ok(())
 }

@@ -1,15 +1,11 @@
-//! Trials of worlds over memory: lists of events with their answers, and random lists against a slow checker that knows
-//! events and answers alone.
+//! Trials of worlds over memory: random lists of events against a slow checker that knows events and answers alone, and
+//! tasks. Lists of events with their answers worked out by hand are replays, and stand in `trials`.
 #![tactic(auto)]
 
-#[cfg(test)]
-mod ample_memory;
 #[cfg(test)]
 mod calls;
 #[cfg(test)]
 mod checker;
-#[cfg(test)]
-mod deletes;
 #[cfg(test)]
 mod edits;
 #[cfg(test)]
@@ -18,8 +14,6 @@ mod listings;
 mod random_lists;
 #[cfg(test)]
 mod random_tasks;
-#[cfg(test)]
-mod rows;
 #[cfg(test)]
 mod steps;
 #[cfg(test)]

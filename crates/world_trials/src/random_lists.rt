@@ -1,8 +1,9 @@
 use super::checker::first_flaw;
 use super::listings::{Extent, extent_of};
-use super::steps::{Answer, Ask, Ends, Query, Step, Trial, answer_of};
+use super::steps::{Answer, Ask, Ends, Query, Step, Trial, answer_of, new_world};
 use change_list::{Config, Item, Row, Write};
 use interval_class::Interval;
+use key_class::Refusal;
 use node::Page;
 use rand_core::Rng;
 use rand_pcg::Pcg32;
@@ -297,22 +298,20 @@ struct Tried {
 }
 
 impl Tried {
-    fn new(alloc: Global, seed: u64) -> Result<Tried, Fail> {
-        let mut tried = Tried {
-            world: Trial::new(alloc, CONFIG)?,
+    fn new(alloc: Global, seed: u64) -> Result<Tried, Refusal> {
+        Ok(Tried {
+            world: new_world(alloc, CONFIG)?,
             source: Source::new(alloc, seed),
             steps: Vec::new(alloc),
-        };
-        for _ in 0..EVENTS {
-            tried.go_on(alloc)?;
-        }
-        Ok(tried)
+        })
     }
 
-    /// One random event more.
     fn go_on(&mut self, alloc: Global) -> Result<(), Fail> {
-        let ask = self.source.ask(&self.world);
-        self.answer(alloc, ask)
+        for _ in 0..EVENTS {
+            let ask = self.source.ask(&self.world);
+            self.answer(alloc, ask)?;
+        }
+        Ok(())
     }
 
     fn answer(&mut self, alloc: Global, ask: Ask) -> Result<(), Fail> {
@@ -387,13 +386,6 @@ fn rows_of(rt: &impl Abort, alloc: Global, world: &Trial) -> Result<Vec<Item<Int
     Ok(items)
 }
 
-/// Settles a world, and tells how many rows the sweeps took then.
-fn newly_swept(alloc: Global, tried: &mut Tried) -> Result<u64, Fail> {
-    let before = count_swept(&tried.steps);
-    tried.settle(alloc)?;
-    Ok(count_swept(&tried.steps).saturating_sub(before))
-}
-
 /// How far the rows on the pages of a world, each of which is to be live, are in a listing of all rows.
 fn extent_held(rt: &impl Abort, alloc: Global, world: &Trial) -> Result<Extent, Fail> {
     let commits = commits_of(alloc, world)?;
@@ -403,29 +395,56 @@ fn extent_held(rt: &impl Abort, alloc: Global, world: &Trial) -> Result<Extent, 
     Ok(extent_of(alloc, &commits, everything, now, &rows)?)
 }
 
+/// How a random list ended whose world was then settled.
+#[derive(Clone, Copy, Debug)]
+struct Settled {
+    /// How many rows the last sweeps took.
+    swept: u64,
+    is_flawless: bool,
+    held: Extent,
+}
+
+fn settled_of(rt: &impl Abort, alloc: Global, tried: &mut Tried) -> Result<Settled, Fail> {
+    tried.go_on(alloc)?;
+    let before = count_swept(&tried.steps);
+    tried.settle(alloc)?;
+    Ok(Settled {
+        swept: count_swept(&tried.steps).saturating_sub(before),
+        is_flawless: first_flaw(alloc, &tried.steps)?.is_none(),
+        held: extent_held(rt, alloc, &tried.world)?,
+    })
+}
+
+fn settled_of_new(rt: &impl Abort, alloc: Global, seed: u64) -> Result<Settled, Fail> {
+    let mut tried = Tried::new(alloc, seed)?;
+    settled_of(rt, alloc, &mut tried)
+}
+
 #[test]
 fn settled_worlds_hold_the_live_rows(rt: HostRuntime) -> Result<(), Fail> {
     let mut last_swept = 0;
     for seed in 1..=8 {
-        let mut tried = Tried::new(rt.alloc(), seed)?;
-        let swept = newly_swept(rt.alloc(), &mut tried)?;
-        last_swept = u64::saturating_add(last_swept, swept);
+        let settled = settled_of_new(&rt, rt.alloc(), seed)?;
         assert!(rt;
-            first_flaw(rt.alloc(), &tried.steps)?.is_none(),
-            "seed {seed}"
+            settled.is_flawless && settled.held == Extent::Whole,
+            "seed {seed} {settled:?}"
         );
-        let extent = extent_held(&rt, rt.alloc(), &tried.world)?;
-        assert!(rt; extent == Extent::Whole, "seed {seed}");
+        last_swept = u64::saturating_add(last_swept, settled.swept);
     }
     assert!(rt; last_swept > 0);
     Ok(())
 }
 
-/// Adds the steps of a random list, and tells whether they have no flaw.
-fn add_flawless(alloc: Global, seed: u64, all: &mut Vec<Step>) -> Result<bool, Fail> {
-    let tried = Tried::new(alloc, seed)?;
+/// Goes on for a random list, adds its steps to others, and tells whether they have no flaw.
+fn add_steps(alloc: Global, tried: &mut Tried, all: &mut Vec<Step>) -> Result<bool, Fail> {
+    tried.go_on(alloc)?;
     all.extend_from_slice(&tried.steps)?;
     Ok(first_flaw(alloc, &tried.steps)?.is_none())
+}
+
+fn add_flawless(alloc: Global, seed: u64, all: &mut Vec<Step>) -> Result<bool, Fail> {
+    let mut tried = Tried::new(alloc, seed)?;
+    add_steps(alloc, &mut tried, all)
 }
 
 /// The words that begin answers, each of which comes.

@@ -2,7 +2,7 @@
 //! given events alone.
 use super::checker::first_flaw;
 use super::random_lists::{Source, Use};
-use super::steps::{Answer, Ask, Step, Trial, answer_of};
+use super::steps::{Answer, Ask, Step, Trial, answer_of, new_world};
 use change_list::Config;
 use interval_class::{Interval, Intervals};
 use key_class::{KeyClass, Refusal};
@@ -60,10 +60,10 @@ struct Pair {
 }
 
 impl Pair {
-    fn new(alloc: Global, seed: u64) -> Result<Pair, Fail> {
+    fn new(alloc: Global, seed: u64) -> Result<Pair, Refusal> {
         Ok(Pair {
-            world: Trial::new(alloc, CONFIG)?,
-            twin: Trial::new(alloc, CONFIG)?,
+            world: new_world(alloc, CONFIG)?,
+            twin: new_world(alloc, CONFIG)?,
             source: Source::new(alloc, seed),
             steps: Vec::new(alloc),
             partings: Vec::new(alloc),
@@ -83,7 +83,7 @@ impl Pair {
                 let ask = self.source.ask(&self.world);
                 let answer = answer_of(alloc, &mut self.world, ask)?;
                 let other = answer_of(alloc, &mut self.twin, ask)?;
-                assert!(rt; answer == other, "{ask:?} {answer:?} {other:?}");
+                assert!(rt; answer == other, "{} {}", answer.word(), other.word());
                 self.note((ask, answer))
             }
         }
@@ -159,7 +159,7 @@ impl Pair {
             return self.compare(rt);
         }
         let other = self.split_twin(alloc, number, &page)?;
-        assert!(rt; answer == other, "{answer:?} {other:?}");
+        assert!(rt; answer == other, "{} {}", answer.word(), other.word());
         self.published = self.published.saturating_add(1);
         self.note((Ask::Split(number, ""), answer))
     }
@@ -194,7 +194,7 @@ impl Pair {
         }
         let other = Answer::of(self.twin.step(Event::Turn(cursor)));
         assert!(rt; is_worked);
-        assert!(rt; answer == other, "{answer:?} {other:?}");
+        assert!(rt; answer == other, "{} {}", answer.word(), other.word());
         self.published = self.published.saturating_add(1);
         self.note((Ask::Turn(cursor), answer))
     }
@@ -229,26 +229,40 @@ fn keys_of(alloc: Global, page: &Page<Interval>) -> Result<Vec<Interval>, Fail> 
     Ok(keys)
 }
 
-/// A pair that did a random list.
-fn tried(rt: &impl Abort, alloc: Global, seed: u64) -> Result<Pair, Fail> {
-    let mut pair = Pair::new(alloc, seed)?;
+/// What came of a random list that was given to a pair.
+#[derive(Clone, Copy, Debug)]
+struct Outcome {
+    is_flawless: bool,
+    published: u64,
+    stale: u64,
+}
+
+fn outcome_of(rt: &impl Abort, alloc: Global, pair: &mut Pair) -> Result<Outcome, Fail> {
     for _ in 0..EVENTS {
         pair.go_on(rt, alloc)?;
     }
     pair.compare(rt)?;
-    Ok(pair)
+    Ok(Outcome {
+        is_flawless: first_flaw(alloc, &pair.steps)?.is_none(),
+        published: pair.published,
+        stale: pair.stale,
+    })
+}
+
+fn outcome_of_new(rt: &impl Abort, alloc: Global, seed: u64) -> Result<Outcome, Fail> {
+    let mut pair = Pair::new(alloc, seed)?;
+    outcome_of(rt, alloc, &mut pair)
 }
 
 #[test]
 fn tasks_do_what_their_events_do(rt: HostRuntime) -> Result<(), Fail> {
-    let alloc = rt.alloc();
     let mut published = 0;
     let mut stale = 0;
     for seed in 1..=SEEDS {
-        let pair = tried(&rt, alloc, seed)?;
-        assert!(rt; first_flaw(alloc, &pair.steps)?.is_none(), "seed {seed}");
-        published = u64::saturating_add(published, pair.published);
-        stale = u64::saturating_add(stale, pair.stale);
+        let outcome = outcome_of_new(&rt, rt.alloc(), seed)?;
+        assert!(rt; outcome.is_flawless, "seed {seed}");
+        published = u64::saturating_add(published, outcome.published);
+        stale = u64::saturating_add(stale, outcome.stale);
     }
     assert!(rt; published > 100 && stale > 100, "{published} {stale}");
     Ok(())

@@ -8,11 +8,16 @@ use world::{Event, Reply, World, run};
 
 pub type Trial = World<Intervals, Tray<Interval>>;
 
+/// A world, of which nothing is known.
+pub fn new_world(alloc: Global, config: Config) -> Result<Trial, Refusal> {
+    Trial::new(alloc, config)
+}
+
 /// The two ends of an interval.
 pub type Ends = (i64, i64);
 
 /// A query, with the ends of its operand.
-#[derive(Clone, Copy, Debug)]
+#[derive(Clone, Copy)]
 pub enum Query {
     Overlaps(i64, i64),
     Within(i64, i64),
@@ -47,7 +52,7 @@ fn atom(rel: Rel, lo: i64, hi: i64) -> Result<Pred<Atom>, Fail> {
 }
 
 /// An event, told by plain values. A key is told by its ends, and sides by their letters.
-#[derive(Clone, Copy, Debug)]
+#[derive(Clone, Copy)]
 pub enum Ask {
     Enlarge(u64, u64, Ends),
     Place(u64, Ends, u64),
@@ -125,7 +130,7 @@ pub fn sides(alloc: Global, letters: &str) -> Result<Sides, Fail> {
 }
 
 /// A reply, told by plain values.
-#[derive(Clone, Copy, Debug, PartialEq, Eq)]
+#[derive(Clone, Copy, PartialEq, Eq)]
 pub enum Answer {
     Enlarged,
     Committed(u64, Write<Interval>),
@@ -198,41 +203,6 @@ impl Answer {
             Answer::Refused(refusal) => refusal.name(),
         }
     }
-
-    /// Its text, as `row 1 (5 5) 0`. A delete's commit is told with its row, as `buried 3 1`.
-    pub fn text(self, alloc: Global) -> Result<String, Fail> {
-        let word = self.word();
-        let text = match self {
-            Answer::Committed(number, Write::Insert(_, _)) => {
-                format!(in alloc; "{word} {number}")?
-            }
-            Answer::Committed(number, Write::Delete(row)) => {
-                format!(in alloc; "{word} {number} {row}")?
-            }
-            Answer::Split(page) | Answer::Visited(page) => format!(in alloc; "{word} {page}")?,
-            Answer::Grown(first, second) => format!(in alloc; "{word} {first} {second}")?,
-            Answer::Finder(number)
-            | Answer::Swept(number)
-            | Answer::Opened(number)
-            | Answer::Passed(number) => format!(in alloc; "{word} {number}")?,
-            Answer::Taken(item) => item_text(alloc, word, item)?,
-            Answer::Refused(refusal) => format!(in alloc; "refused {refusal}")?,
-            _ => format!(in alloc; "{word}")?,
-        };
-        Ok(text)
-    }
-}
-
-fn item_text(alloc: Global, word: &str, item: Item<Interval>) -> Result<String, Fail> {
-    let text = match item {
-        Item::Row(row) | Item::Inserted(row) => {
-            let Interval { lo, hi } = row.key;
-            format!(in alloc; "{word} {} ({lo} {hi}) {}", row.row, row.tag)?
-        }
-        Item::Deleted(commit, row) => format!(in alloc; "{word} {commit} {row}")?,
-        Item::Mark(commit) => format!(in alloc; "{word} {commit}")?,
-    };
-    Ok(text)
 }
 
 /// What was asked, and what was answered.
@@ -243,16 +213,38 @@ pub fn answer_of(alloc: Global, world: &mut Trial, ask: Ask) -> Result<Answer, F
     Ok(Answer::of(world.step(ask.event(alloc)?)))
 }
 
-/// What a new world answers to a list of events.
-pub fn trace_of(alloc: Global, config: Config, asks: &[Ask]) -> Result<Vec<Step>, Fail> {
+fn events_of(alloc: Global, asks: &[Ask]) -> Result<Vec<Event<Intervals>>, Fail> {
     let mut events = Vec::new(alloc);
     for ask in asks {
         events.push(ask.event(alloc)?)?;
     }
-    let replies = run::<Intervals>(alloc, config, &events)?;
+    Ok(events)
+}
+
+/// The replies of a new world, of which nothing is known.
+fn replies_to(
+    alloc: Global,
+    config: Config,
+    events: &[Event<Intervals>],
+) -> Result<Vec<Reply<Intervals, Tray<Interval>>>, Refusal> {
+    run::<Intervals>(alloc, config, events)
+}
+
+fn steps_of(
+    alloc: Global,
+    asks: &[Ask],
+    replies: Vec<Reply<Intervals, Tray<Interval>>>,
+) -> Result<Vec<Step>, Fail> {
     let mut steps = Vec::new(alloc);
     for (ask, reply) in asks.iter().zip(replies) {
         steps.push((*ask, Answer::of(reply)))?;
     }
     Ok(steps)
+}
+
+/// What a new world answers to a list of events.
+pub fn trace_of(alloc: Global, config: Config, asks: &[Ask]) -> Result<Vec<Step>, Fail> {
+    let events = events_of(alloc, asks)?;
+    let replies = replies_to(alloc, config, &events)?;
+    steps_of(alloc, asks, replies)
 }

@@ -1,4 +1,4 @@
-use super::steps::{Answer, Ask, Query, Trial, sides};
+use super::steps::{Answer, Ask, Query, Trial, new_world, sides};
 use change_list::Config;
 use interval_class::{Interval, Intervals};
 use key_class::Refusal;
@@ -41,12 +41,8 @@ fn grow(alloc: Global, world: &mut Trial) -> Result<(), Fail> {
     Ok(())
 }
 
-fn new_world(alloc: Global) -> Result<Trial, Refusal> {
-    Trial::new(alloc, EIGHT)
-}
-
 fn grown(alloc: Global) -> Result<Trial, Fail> {
-    let mut world = new_world(alloc)?;
+    let mut world = new_world(alloc, EIGHT)?;
     grow(alloc, &mut world)?;
     Ok(world)
 }
@@ -68,7 +64,7 @@ struct Scene {
 }
 
 /// What is done to it, with what comes of it.
-#[derive(Clone, Copy, Debug)]
+#[derive(Clone, Copy)]
 enum Deed {
     /// An event is carried out.
     Give(Ask),
@@ -155,117 +151,129 @@ fn grown_scene(alloc: Global) -> Result<Scene, Fail> {
     })
 }
 
-/// The first of some deeds that isn't done.
-fn first_wrong(alloc: Global, deeds: &[Deed]) -> Result<Option<Deed>, Fail> {
-    let mut scene = grown_scene(alloc)?;
-    for deed in deeds {
-        if !is_done(alloc, &mut scene, *deed)? {
-            return Ok(Some(*deed));
+/// The place of the first of some deeds that isn't done.
+fn first_wrong(alloc: Global, scene: &mut Scene, deeds: &[Deed]) -> Result<Option<usize>, Fail> {
+    for (place, deed) in deeds.iter().enumerate() {
+        if !is_done(alloc, scene, *deed)? {
+            return Ok(Some(place));
         }
     }
     Ok(None)
 }
 
-#[test]
-fn a_split_is_published_where_the_page_is_as_it_was(rt: HostRuntime) -> Result<(), Fail> {
-    let deeds = [
-        Deed::PrepareSplit(1, true),
-        Deed::Fill,
-        // The page got further entries.
-        Deed::PublishSplit(None),
-        Deed::Count(3),
-        Deed::PrepareSplit(1, false),
-        Deed::PublishSplit(None),
-        Deed::PrepareSplit(1, true),
-        Deed::PublishSplit(Some(3)),
-        // The root and what is no page are never split so.
-        Deed::RefuseSplit(0),
-        Deed::RefuseSplit(9),
-    ];
-    let wrong = first_wrong(rt.alloc(), &deeds)?;
-    assert!(rt; wrong.is_none(), "{wrong:?}");
-    Ok(())
-}
-
-#[test]
-fn a_task_of_a_page_that_was_split_is_stale(rt: HostRuntime) -> Result<(), Fail> {
-    let deeds = [
-        Deed::Fill,
-        Deed::PrepareSplit(1, true),
-        Deed::PrepareSplit(1, true),
-        Deed::PublishSplit(Some(3)),
-        Deed::PublishSplit(None),
-        Deed::Count(4),
-    ];
-    let wrong = first_wrong(rt.alloc(), &deeds)?;
-    assert!(rt; wrong.is_none(), "{wrong:?}");
-    Ok(())
+/// The place of the first of some deeds that isn't done in a new scene.
+fn first_wrong_of_new(alloc: Global, deeds: &[Deed]) -> Result<Option<usize>, Fail> {
+    let mut scene = grown_scene(alloc)?;
+    first_wrong(alloc, &mut scene, deeds)
 }
 
 /// Opens a cursor of all rows.
 const OPEN: Deed = Deed::Give(Ask::Open(Query::Overlaps(0, 9), 16));
 
+/// What each list shows, and its deeds.
+static LISTS: [(&str, &[Deed]); 4] = [
+    (
+        "a split is published where the page is as it was",
+        &[
+            Deed::PrepareSplit(1, true),
+            Deed::Fill,
+            // The page got further entries.
+            Deed::PublishSplit(None),
+            Deed::Count(3),
+            Deed::PrepareSplit(1, false),
+            Deed::PublishSplit(None),
+            Deed::PrepareSplit(1, true),
+            Deed::PublishSplit(Some(3)),
+            // The root and what is no page are never split so.
+            Deed::RefuseSplit(0),
+            Deed::RefuseSplit(9),
+        ],
+    ),
+    (
+        "a task of a page that was split is stale",
+        &[
+            Deed::Fill,
+            Deed::PrepareSplit(1, true),
+            Deed::PrepareSplit(1, true),
+            Deed::PublishSplit(Some(3)),
+            Deed::PublishSplit(None),
+            Deed::Count(4),
+        ],
+    ),
+    (
+        "a visit is published beside other turns",
+        &[
+            OPEN,
+            OPEN,
+            Deed::PrepareVisit(1, true),
+            // Another cursor's turn falls between.
+            Deed::Give(Ask::Turn(2)),
+            Deed::PublishVisit(Some(0)),
+            Deed::PrepareVisit(1, true),
+            Deed::Give(Ask::Turn(1)),
+            Deed::PublishVisit(None),
+            // Rows are pending.
+            Deed::RefuseVisit(1),
+        ],
+    ),
+    (
+        "a task of a closed cursor is stale",
+        &[
+            OPEN,
+            Deed::PrepareVisit(1, false),
+            Deed::PublishVisit(None),
+            Deed::PrepareVisit(1, true),
+            Deed::Give(Ask::Close(1)),
+            Deed::PublishVisit(None),
+            Deed::IsClosed(1),
+            Deed::RefuseVisit(1),
+            Deed::RefuseVisit(2),
+        ],
+    ),
+];
+
 #[test]
-fn a_visit_is_published_beside_other_turns(rt: HostRuntime) -> Result<(), Fail> {
-    let deeds = [
-        OPEN,
-        OPEN,
-        Deed::PrepareVisit(1, true),
-        // Another cursor's turn falls between.
-        Deed::Give(Ask::Turn(2)),
-        Deed::PublishVisit(Some(0)),
-        Deed::PrepareVisit(1, true),
-        Deed::Give(Ask::Turn(1)),
-        Deed::PublishVisit(None),
-        // Rows are pending.
-        Deed::RefuseVisit(1),
-    ];
-    let wrong = first_wrong(rt.alloc(), &deeds)?;
-    assert!(rt; wrong.is_none(), "{wrong:?}");
+fn tasks_are_published_or_stale(rt: HostRuntime) -> Result<(), Fail> {
+    for (name, deeds) in &LISTS {
+        let wrong = first_wrong_of_new(rt.alloc(), deeds)?;
+        assert!(rt; wrong.is_none(), "{name}, {wrong:?}");
+    }
     Ok(())
 }
 
-#[test]
-fn a_task_of_a_closed_cursor_is_stale(rt: HostRuntime) -> Result<(), Fail> {
-    let deeds = [
-        OPEN,
-        Deed::PrepareVisit(1, false),
-        Deed::PublishVisit(None),
-        Deed::PrepareVisit(1, true),
-        Deed::Give(Ask::Close(1)),
-        Deed::PublishVisit(None),
-        Deed::IsClosed(1),
-        Deed::RefuseVisit(1),
-        Deed::RefuseVisit(2),
-    ];
-    let wrong = first_wrong(rt.alloc(), &deeds)?;
-    assert!(rt; wrong.is_none(), "{wrong:?}");
+static DELETE: [Ask; 3] = [Ask::Find(1), Ask::Seek(1), Ask::Seek(1)];
+
+/// Deletes the first row of two leaves.
+fn delete(alloc: Global, world: &mut Trial) -> Result<(), Fail> {
+    for ask in &DELETE {
+        give(alloc, world, *ask)?;
+    }
     Ok(())
 }
 
-/// A world of two leaves, whose first row is deleted.
 fn with_a_dead_row(alloc: Global) -> Result<Trial, Fail> {
     let mut world = grown(alloc)?;
-    for ask in [Ask::Find(1), Ask::Seek(1), Ask::Seek(1)] {
-        give(alloc, &mut world, ask)?;
-    }
+    delete(alloc, &mut world)?;
     Ok(world)
 }
 
-fn enlarged(world: &mut Trial) -> Result<Answer, Refusal> {
-    Ok(answer(world, Event::Enlarge(0, 1, Interval::new(0, 9)?)))
+fn is_enlarged(world: &mut Trial) -> Result<bool, Refusal> {
+    let key = Interval::new(0, 9)?;
+    Ok(answer(world, Event::Enlarge(0, 1, key)) == Answer::Enlarged)
 }
 
 fn sweeps(world: &mut Trial, page: u64, count: u64) -> bool {
     answer(world, Event::Sweep(page)) == Answer::Swept(count)
 }
 
+fn changes_unshared(world: &mut Trial) -> Result<bool, Refusal> {
+    Ok(is_enlarged(world)? && sweeps(world, 2, 0) && sweeps(world, 1, 1))
+}
+
 /// Whichever allocation is refused: an enlargement and a sweep of pages that nobody shares want no memory.
 #[test]
 fn refused_memory_changes_unshared_pages(rt: HostRuntime) -> Result<(), Fail> {
     let mut world = with_a_dead_row(rt.alloc())?;
-    assert!(rt; enlarged(&mut world)? == Answer::Enlarged);
-    assert!(rt; sweeps(&mut world, 2, 0));
-    assert!(rt; sweeps(&mut world, 1, 1));
+    assert!(rt; changes_unshared(&mut world)?);
     Ok(())
 }
