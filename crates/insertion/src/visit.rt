@@ -95,7 +95,7 @@ fn next_event<C: KeyClass, O: Outlet<C::Key>>(
         }
         Plan::Post(parent, child) => {
             let posted = Event::Post(u64::from(parent), u64::from(child));
-            return Ok(Next::Make(posted, from));
+            return Ok(Next::Make(posted, 0));
         }
         Plan::Split(child) => return Ok(Next::Split(child)),
         Plan::Enlarge(parent, child) => {
