@@ -100,6 +100,8 @@ def write_lines(path, kind, rows, finds, cursors, items):
         phase("insert, followed", (f"insert {keys.key()} 7" for _ in range(rows // 10)))
         phase("next, following", (f"next {c + 1}" for _ in range(4) for c in range(cursors)))
         phase("close", (f"close {c + 1}" for c in range(cursors)))
+        kept = sorted(set(range(1, rows + 1)) - set(deleted))
+        phase("move", (f"move {row} {keys.key()}" for row in generator.sample(kept, rows // 4)))
     return phases
 
 

@@ -26,6 +26,7 @@ module _ {K : Type 0} where
   is_mark (item.Row row) = false
   is_mark (item.Inserted row) = false
   is_mark (item.Deleted n row) = false
+  is_mark (item.Moved row other) = false
 
   -- the items that are no marks
   abbrev pub without_marks : List (Item K) → List (Item K)

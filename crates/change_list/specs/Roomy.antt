@@ -1,7 +1,7 @@
 -- A list of commits with memory for one more.
 use Rattle.std.specs.Prelude.{ℕ, ◌<◌, ◌≤◌, ◌-◌, Bool, true, false, List, ◌++◌, ◌∷◌, [], slice_set}
 use Rattle.change_list.specs.declared.write.Write.{Write}
-use Rattle.change_list.specs.declared.write.Write.TheVariants.{Insert, Delete}
+use Rattle.change_list.specs.declared.write.Write.TheVariants.{Insert, Delete, Move}
 
 pub record Roomy (K : Type 0) : Type 0 where
   pub list : List (Write K)
@@ -13,12 +13,14 @@ module _ {K : Type 0} where
   abbrev pub with_write : Roomy K → List (Write K)
   with_write roomy = roomy.list ++ roomy.write ∷ []
 
-  -- a delete names one of the first n rows
+  -- a delete or a move names one of the first n rows
   abbrev pub NamesEarlier : ℕ → Write K → Type 0
   NamesEarlier n (Insert key tag) = Unit {0}
   NamesEarlier n (Delete row) = (0 < row) × (row ≤ n)
+  NamesEarlier n (Move row key) = (0 < row) × (row ≤ n)
 
-  -- with the letter of a further commit, which no commit deletes; a delete changes the letter of its row
+  -- with the letter of a further commit, which no commit ends; a delete or a move changes the letter of its row
   abbrev pub letters_with : List Bool → Write K → List Bool
   letters_with letters (Insert key tag) = letters ++ false ∷ []
   letters_with letters (Delete row) = slice_set (letters ++ false ∷ []) (row - 1) true
+  letters_with letters (Move row key) = slice_set (letters ++ false ∷ []) (row - 1) true

@@ -2,7 +2,16 @@
 use Rattle.std.specs.Prelude.{◌≡◌, ◌<◌, List, ◌++◌, ◌∷◌, [], length, Option, Some, None}
 use Rattle.std.specs.List.{flat_map, AllByRecursion}
 
+-- a list, and an element for which there is memory
+pub record Growing (X : Type 0) : Type 0 where
+  pub list : List X
+  pub next : X
+
 module _ {X : Type 0} where
+  -- the list with that element
+  abbrev pub with_next : Growing X → List X
+  with_next g = g.list ++ g.next ∷ []
+
   -- the segments one after the other, then the tail
   abbrev pub joined : List (List X) → List X → List X
   joined segments tail = flat_map (λ segment. segment) segments ++ tail

@@ -1,8 +1,9 @@
-ghost use Rattle.std.specs.Prelude.{◌≡◌, ◌++◌, ◌∷◌, ◌/◌, ◌%◌, [], length, OnOk, OnErr, IfOk, IfErr};
-ghost use Rattle.change_list.specs.Changes.{status_of, commit_at, MayFollow, IsLegal};
+ghost use Rattle.std.specs.Prelude.{◌≡◌, ◌++◌, ◌∷◌, ◌/◌, ◌%◌, ◌<◌, [], length, OnOk, OnErr, IfOk, IfErr};
+ghost use Rattle.change_list.specs.Changes.{commit_at, row_at, status_of, MayFollow, IsLegal};
 
+use crate::item::Row;
 use crate::roomy_list::RoomyList;
-use crate::view::{View, filled};
+use crate::view::View;
 use crate::write::{Status, Write};
 use key_class::Refusal;
 use std::alloc::{AllocError, Global};
@@ -13,8 +14,8 @@ use std::mem;
 #[derive(Drop)]
 pub struct ChangeList<K> {
     pub(crate) commits: View<K>,
-    /// At place n - 1, whether a commit deletes row n.
-    pub(crate) deleted: Vec<bool>,
+    /// At place n - 1, whether a commit ends row n.
+    pub(crate) ended: Vec<bool>,
 }
 
 impl<K> Model for ChangeList<K> {
@@ -26,7 +27,7 @@ impl<K> Model for ChangeList<K> {
 
     ghost view = { λ list. list.commits };
 
-    ghost invariant = { λ list. IsTracked list.commits list.deleted.items };
+    ghost invariant = { λ list. IsTracked list.commits list.ended.items };
 }
 
 impl<K: Copy> ChangeList<K> {
@@ -35,7 +36,7 @@ impl<K: Copy> ChangeList<K> {
     {
         ChangeList {
             commits: View::new(alloc),
-            deleted: Vec::new(alloc),
+            ended: Vec::new(alloc),
         }
     }
 
@@ -51,6 +52,13 @@ impl<K: Copy> ChangeList<K> {
         ensures { result ≡ commit_at self.now number }
     {
         self.commits.get(number)
+    }
+
+    /// The row with a number, as its commit made it, whether it lives or not, without a search.
+    pub fn row(&self, number: u64) -> Option<Row<K>>
+        ensures { result ≡ row_at self.now number }
+    {
+        self.commits.row(number)
     }
 
     /// How many full segments of 256 commits there are.
@@ -93,8 +101,8 @@ impl<K: Copy> ChangeList<K> {
         ensures { result ≡ status_of self.now row }
     {
         match self.commit(row) {
-            Some(Write::Insert(_, _)) => {
-                if self.deleted[(row - 1) as usize] {
+            Some(Write::Insert(_, _) | Write::Move(_, _)) => {
+                if self.ended[(row - 1) as usize] {
                     Status::Dead
                 } else {
                     Status::Live
@@ -104,16 +112,17 @@ impl<K: Copy> ChangeList<K> {
         }
     }
 
-    /// Adds a commit: an insert, or the delete of a live row.
+    /// Adds a commit: an insert, or the delete or the move of a live row.
     ///
     /// # Errors
     /// Memory was wanting; the list is as it was.
     pub fn push(&mut self, write: Write<K>) -> Result<(), AllocError>
-        requires { MayFollow self.old write }
+        requires follows { MayFollow self.old write }
+        requires few { length self.old < 4294967295 }
         ensures ok { OnOk result (self.new ≡ self.old ++ write ∷ []) }
         ensures err { OnErr result (self.new ≡ self.old) }
     {
-        let empty = ChangeList::new(*self.deleted.allocator());
+        let empty = ChangeList::new(*self.ended.allocator());
         match mem::replace(self, empty).reserve(write) {
             Ok(roomy) => {
                 *self = roomy.push();
@@ -126,43 +135,28 @@ impl<K: Copy> ChangeList<K> {
         }
     }
 
-    /// The list with memory for a further commit: an insert, or the delete of a live row.
+    /// The list with memory for a further commit: an insert, or the delete or the move of a live row.
     ///
     /// # Errors
     /// Memory was wanting; gives the list back.
     pub fn reserve(self, write: Write<K>) -> Result<RoomyList<K>, ChangeList<K>>
-        requires { MayFollow self write }
+        requires follows { MayFollow self write }
+        requires few { length self < 4294967295 }
         ensures list { IfOk result (λ roomy. roomy.list ≡ self) }
         ensures write { IfOk result (λ roomy. roomy.write ≡ write) }
         ensures err { IfErr result (λ list. list ≡ self) }
     {
-        let ChangeList {
-            commits,
-            mut deleted,
-        } = self;
-        let View {
-            mut full,
-            mut tail,
-            count,
-        } = commits;
-        if full.try_reserve(1).is_err()
-            || tail.try_reserve(1).is_err()
-            || deleted.try_reserve(1).is_err()
-        {
-            let commits = View { full, tail, count };
-            return Err(ChangeList { commits, deleted });
+        let ChangeList { commits, mut ended } = self;
+        if ended.try_reserve(1).is_err() {
+            return Err(ChangeList { commits, ended });
         }
-        match filled(*full.allocator(), tail.as_slice(), write) {
-            Ok(filled) => Ok(RoomyList {
-                full,
-                tail,
-                write,
-                filled,
-                deleted,
-            }),
-            Err(_) => {
-                let commits = View { full, tail, count };
-                Err(ChangeList { commits, deleted })
+        let next = commits.record(write);
+        let View { kept } = commits;
+        match kept.reserve(next) {
+            Ok(kept) => Ok(RoomyList { kept, write, ended }),
+            Err(kept) => {
+                let commits = View { kept };
+                Err(ChangeList { commits, ended })
             }
         }
     }

@@ -1,7 +1,7 @@
 ghost use Rattle.std.specs.Prelude.{◌≡◌};
 ghost use Rattle.key_class.specs.Queries.{query_of};
 ghost use Rattle.change_list.specs.Changes.{item_at};
-ghost use Rattle.change_list.specs.Asked.{deletion_for};
+ghost use Rattle.change_list.specs.Asked.{deletion_for, move_between, move_for};
 ghost use Rattle.key_class.specs.Rules.{satisfies};
 
 use crate::item::{Item, Row};
@@ -9,7 +9,7 @@ use crate::view::View;
 use crate::write::Write;
 use key_class::{KeyClass, Pred};
 
-/// The item of commit `place + 1`, where the query asks for the key that it is about.
+/// The item of commit `place + 1`, where the query asks for a key that it is about.
 pub fn change_item<C: KeyClass>(
     commits: &View<C::Key>,
     query: &Pred<C::Atom>,
@@ -28,6 +28,7 @@ pub fn change_item<C: KeyClass>(
             tag,
         })),
         Some(Write::Delete(row)) => delete_item::<C>(commits, query, number, row),
+        Some(Write::Move(row, key)) => move_item::<C>(commits, query, number, row, key),
         None => None,
     }
 }
@@ -41,10 +42,46 @@ fn delete_item<C: KeyClass>(
 ) -> Option<Item<C::Key>>
     ensures { result ≡ deletion_for C.rules query.now commits.now number row }
 {
-    match commits.get(row) {
-        Some(Write::Insert(key, _)) => query
-            .matches::<C>(key)
-            .then_some(Item::Deleted(number, row)),
-        _ => None,
+    let dead = commits.row(row)?;
+    query
+        .matches::<C>(dead.key)
+        .then_some(Item::Deleted(number, dead.row))
+}
+
+/// The item of a move, where the query asks for the old or the new key of its row.
+fn move_item<C: KeyClass>(
+    commits: &View<C::Key>,
+    query: &Pred<C::Atom>,
+    number: u64,
+    row: u64,
+    key: C::Key,
+) -> Option<Item<C::Key>>
+    ensures { result ≡ move_for C.rules query.now commits.now number row key }
+{
+    let old = commits.row(row)?;
+    let new = Row {
+        row: number,
+        key,
+        tag: old.tag,
+    };
+    item_between::<C>(query, old.key, new, old.row)
+}
+
+/// The item of a move from a key to a new row's, which ended the row with a number.
+fn item_between<C: KeyClass>(
+    query: &Pred<C::Atom>,
+    old: C::Key,
+    new: Row<C::Key>,
+    row: u64,
+) -> Option<Item<C::Key>>
+    ensures { result ≡ move_between C.rules query.now old new row }
+{
+    let was_asked = query.matches::<C>(old);
+    let is_asked = query.matches::<C>(new.key);
+    match (was_asked, is_asked) {
+        (true, true) => Some(Item::Moved(new, row)),
+        (true, false) => Some(Item::Deleted(new.row, row)),
+        (false, true) => Some(Item::Inserted(new)),
+        (false, false) => None,
     }
 }

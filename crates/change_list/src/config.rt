@@ -1,6 +1,8 @@
 ghost use Rattle.std.specs.Prelude.{◌↔◌, IsTrue};
 ghost use Rattle.change_list.specs.Configs.{IsWithinLimits};
 
+use key_class::limits::{MAX_COMMITS, MAX_FAN, MAX_PAGES, MIN_FAN, MIN_LEAST};
+
 /// The limits of a store.
 #[derive(Clone, Copy, Debug, PartialEq, Eq)]
 pub struct Config {
@@ -19,10 +21,10 @@ impl Config {
     pub fn is_within_limits(&self) -> bool
         ensures { IsTrue result ↔ IsWithinLimits self.now }
     {
-        (4..=64).contains(&self.fan)
-            && 2 <= self.least
+        (MIN_FAN..=MAX_FAN).contains(&self.fan)
+            && MIN_LEAST <= self.least
             && self.least <= self.fan / 2
-            && (1..=65_536).contains(&self.pages)
-            && (1..=16_777_216).contains(&self.commits)
+            && (1..=MAX_PAGES).contains(&self.pages)
+            && (1..=MAX_COMMITS).contains(&self.commits)
     }
 }

@@ -6,8 +6,10 @@ mod change_list;
 mod changes;
 mod config;
 mod item;
+mod recorded;
 mod roomy_list;
 mod segment;
+mod shared_list;
 mod view;
 mod write;
 

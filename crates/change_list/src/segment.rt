@@ -1,69 +1,63 @@
 ghost use Rattle.std.specs.Prelude.{◌≡◌, ◌++◌, ◌∷◌, [], slice_get, IfOk};
 
-use crate::write::Write;
 use std::alloc::{AllocError, Global};
 use std::marker::Model;
 use std::sync::Arc;
 
-/// How many commits a segment has.
+/// How many elements a segment has.
 pub(crate) const SEGMENT: usize = 256;
 
-/// Commits that lists may share.
+/// Elements that lists may share.
 #[derive(Drop)]
-pub(crate) struct Segment<K> {
-    writes: Arc<Vec<Write<K>>>,
+pub(crate) struct Segment<T> {
+    elements: Arc<Vec<T>>,
 }
 
-impl<K> Model for Segment<K> {
+impl<T> Model for Segment<T> {
     ghost use Rattle.std.specs.Prelude.{List, vec_items};
     ghost use Rattle.std.specs.Arc.{arc_value};
-    ghost use Rattle.change_list.specs.declared.write.Write.{Write};
 
-    ghost Value = { List (Write K) };
+    ghost Value = { List T };
 
-    ghost view = { λ segment. vec_items (arc_value segment.writes) };
+    ghost view = { λ segment. vec_items (arc_value segment.elements) };
 }
 
-impl<K: Copy> Segment<K> {
-    /// Some commits and one more.
+impl<T: Copy> Segment<T> {
+    /// Some elements and one more.
     ///
     /// # Errors
     /// Memory was wanting.
-    pub(crate) fn new(
-        alloc: Global,
-        before: &[Write<K>],
-        last: Write<K>,
-    ) -> Result<Segment<K>, AllocError>
+    pub(crate) fn new(alloc: Global, before: &[T], last: T) -> Result<Segment<T>, AllocError>
         ensures { IfOk result (λ segment. segment ≡ before.now ++ last ∷ []) }
     {
-        let mut writes = Vec::with_capacity(alloc, SEGMENT)?;
-        writes.extend_from_slice(before)?;
-        writes.push(last)?;
-        let writes = Arc::new(alloc, writes)?;
-        Ok(Segment { writes })
+        let mut elements = Vec::with_capacity(alloc, SEGMENT)?;
+        elements.extend_from_slice(before)?;
+        elements.push(last)?;
+        let elements = Arc::new(alloc, elements)?;
+        Ok(Segment { elements })
     }
 
-    pub(crate) fn get(&self, place: usize) -> Option<Write<K>>
+    pub(crate) fn get(&self, place: usize) -> Option<T>
         ensures { result ≡ slice_get self.now place }
     {
-        at(&self.writes, place)
+        at(&self.elements, place)
     }
 
-    /// One more owner of the same commits.
+    /// One more owner of the same elements.
     ///
     /// # Errors
     /// There are too many.
-    pub(crate) fn share(&self) -> Result<Segment<K>, AllocError>
+    pub(crate) fn share(&self) -> Result<Segment<T>, AllocError>
         ensures { IfOk result (λ shared. shared ≡ self.now) }
     {
-        let writes = Arc::try_clone(&self.writes)?;
-        Ok(Segment { writes })
+        let elements = Arc::try_clone(&self.elements)?;
+        Ok(Segment { elements })
     }
 }
 
-/// The commit at a place, counted from 0.
-pub(crate) fn at<K: Copy>(writes: &[Write<K>], place: usize) -> Option<Write<K>>
-    ensures { result ≡ slice_get writes.now place }
+/// The element at a place, counted from 0.
+pub(crate) fn at<T: Copy>(elements: &[T], place: usize) -> Option<T>
+    ensures { result ≡ slice_get elements.now place }
 {
-    writes.get(place).copied()
+    elements.get(place).copied()
 }

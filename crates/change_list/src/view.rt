@@ -1,8 +1,11 @@
-ghost use Rattle.std.specs.Prelude.{◌≡◌, ◌<◌, ◌/◌, ◌%◌, [], length, slice_get, IfOk};
-ghost use Rattle.change_list.specs.Changes.{commit_at, IsLegal};
-ghost use Rattle.change_list.specs.Segments.{IsReady};
+ghost use Rattle.std.specs.Prelude.{◌≡◌, ◌/◌, ◌%◌, ◌<◌, [], length, IfOk};
+ghost use Rattle.change_list.specs.Changes.{commit_at, row_at, status_of, MayFollow, IsLegal};
+ghost use Rattle.change_list.specs.declared.write.Status.TheVariants.{Live};
+ghost use Rattle.change_list.specs.Records.{FindsKept, HasTagOf, KeepsWrite, inserted_tag};
 
-use crate::segment::{SEGMENT, Segment, at};
+use crate::item::Row;
+use crate::recorded::Recorded;
+use crate::shared_list::SharedList;
 use crate::write::Write;
 use std::alloc::{AllocError, Global};
 use std::marker::Model;
@@ -12,22 +15,19 @@ use std::marker::Model;
 /// Full segments are shared with the list from which the view was made, and with its other views.
 #[derive(Drop)]
 pub struct View<K> {
-    pub(crate) full: Vec<Segment<K>>,
-    pub(crate) tail: Vec<Write<K>>,
-    pub(crate) count: usize,
+    pub(crate) kept: SharedList<Recorded<K>>,
 }
 
 impl<K> Model for View<K> {
-    ghost use Rattle.std.specs.Prelude.{List, ◌≡◌, length};
+    ghost use Rattle.std.specs.Prelude.{List};
     ghost use Rattle.change_list.specs.declared.write.Write.{Write};
-    ghost use Rattle.change_list.specs.Changes.{IsLegal};
-    ghost use Rattle.change_list.specs.Segments.{joined, IsSegmented};
+    ghost use Rattle.change_list.specs.Records.{writes_of, IsKept};
 
     ghost Value = { List (Write K) };
 
-    ghost view = { λ view. joined view.full.items view.tail.items };
+    ghost view = { λ view. writes_of view.kept };
 
-    ghost invariant = { λ view. IsSegmented view.full.items view.tail.items × IsLegal (joined view.full.items view.tail.items) × (view.count ≡ length (joined view.full.items view.tail.items)) };
+    ghost invariant = { λ view. IsKept view.kept };
 }
 
 impl<K: Copy> View<K> {
@@ -36,9 +36,7 @@ impl<K: Copy> View<K> {
         ensures { result ≡ [] }
     {
         View {
-            full: Vec::new(alloc),
-            tail: Vec::new(alloc),
-            count: 0,
+            kept: SharedList::new(alloc),
         }
     }
 
@@ -47,45 +45,101 @@ impl<K: Copy> View<K> {
         ensures len { result ≡ length self.now }
         ensures legal { IsLegal self.now }
     {
-        self.count
+        self.kept.len()
     }
 
     /// The commit with a number.
     pub fn get(&self, number: u64) -> Option<Write<K>>
         ensures { result ≡ commit_at self.now number }
     {
+        match self.find(number) {
+            Some(kept) => Some(kept.write()),
+            None => None,
+        }
+    }
+
+    /// The row with a number, as its commit made it, whether it lives or not. That takes two reads at most, however often
+    /// the row was moved.
+    pub fn row(&self, number: u64) -> Option<Row<K>>
+        ensures { result ≡ row_at self.now number }
+    {
+        match self.find(number)? {
+            Recorded::Insert(key, tag) => Some(Row {
+                row: number,
+                key,
+                tag,
+            }),
+            Recorded::Delete(_) => None,
+            Recorded::Move(key, _, origin) => {
+                let tag = self.inserted_tag(origin)?;
+                Some(Row {
+                    row: number,
+                    key,
+                    tag,
+                })
+            }
+        }
+    }
+
+    /// The commit with a number, as it is kept.
+    fn find(&self, number: u64) -> Option<Recorded<K>>
+        ensures { FindsKept self.now number result }
+    {
         if number == 0 {
             return None;
         }
-        self.at((number - 1) as usize)
+        self.kept.get((number - 1) as usize)
     }
 
-    /// The commit at a place, counted from 0.
-    #[tactic(auto, using(crate::proofs::Joining::at_segment, crate::proofs::Joining::at_tail))]
-    fn at(&self, place: usize) -> Option<Write<K>>
-        ensures { result ≡ slice_get self.now place }
+    /// The tag that a commit gives to its row, where it inserts one.
+    fn inserted_tag(&self, number: u32) -> Option<u64>
+        ensures { result ≡ inserted_tag (commit_at self.now number) }
     {
-        let segment = place / SEGMENT;
-        if segment < self.full.len() {
-            return self.full[segment].get(place % SEGMENT);
+        match self.get(u64::from(number)) {
+            Some(Write::Insert(_, tag)) => Some(tag),
+            _ => None,
         }
-        at(self.tail.as_slice(), place - self.full.len() * SEGMENT)
+    }
+
+    /// The number of the insert whose tag a live row has.
+    fn origin(&self, row: u32) -> u32
+        requires { status_of self.now row ≡ Live }
+        ensures { HasTagOf self.now row result }
+    {
+        match self.find(u64::from(row)) {
+            Some(kept) => kept.origin(row),
+            None => row,
+        }
+    }
+
+    /// A commit that may follow, as it is kept.
+    pub(crate) fn record(&self, write: Write<K>) -> Recorded<K>
+        requires follows { MayFollow self.now write }
+        requires few { length self.now < 4294967295 }
+        ensures { KeepsWrite self.now write result }
+    {
+        match write {
+            Write::Insert(key, tag) => Recorded::Insert(key, tag),
+            Write::Delete(row) => Recorded::Delete(row),
+            Write::Move(row, key) => {
+                let row = row as u32;
+                Recorded::Move(key, row, self.origin(row))
+            }
+        }
     }
 
     /// How many full segments of 256 commits it shares.
-    #[tactic(auto, using(crate::proofs::Joining::full_segments))]
     pub fn segments(&self) -> usize
         ensures { result ≡ length self.now / 256 }
     {
-        self.full.len()
+        self.kept.segments()
     }
 
     /// How many commits it has beside those of its full segments.
-    #[tactic(auto, using(crate::proofs::Joining::rest_length))]
     pub fn tail_len(&self) -> usize
         ensures { result ≡ length self.now % 256 }
     {
-        self.tail.len()
+        self.kept.tail_len()
     }
 
     /// The same list, over the same segments.
@@ -95,39 +149,7 @@ impl<K: Copy> View<K> {
     pub(crate) fn copy(&self) -> Result<View<K>, AllocError>
         ensures { IfOk result (λ copy. copy ≡ self.now) }
     {
-        let alloc = *self.full.allocator();
-        let full = shared(alloc, self.full.as_slice())?;
-        let tail = Vec::from_slice(alloc, self.tail.as_slice())?;
-        let count = self.count;
-        Ok(View { full, tail, count })
+        let kept = self.kept.copy()?;
+        Ok(View { kept })
     }
-}
-
-/// The same segments, each with one more owner.
-fn shared<K: Copy>(alloc: Global, segments: &[Segment<K>]) -> Result<Vec<Segment<K>>, AllocError>
-    ensures { IfOk result (λ made. made.items ≡ segments.now) }
-{
-    let mut made = Vec::with_capacity(alloc, segments.len())?;
-    for segment in segments {
-        made.push(segment.share()?)?;
-    }
-    Ok(made)
-}
-
-/// The segment that a commit fills, where the tail lacks one commit to be full.
-///
-/// # Errors
-/// Memory was wanting.
-pub(crate) fn filled<K: Copy>(
-    alloc: Global,
-    tail: &[Write<K>],
-    write: Write<K>,
-) -> Result<Option<Segment<K>>, AllocError>
-    requires { length tail.now < 256 }
-    ensures { IfOk result (IsReady tail.now write) }
-{
-    if tail.len() + 1 < SEGMENT {
-        return Ok(None);
-    }
-    Ok(Some(Segment::new(alloc, tail, write)?))
 }

@@ -5,15 +5,18 @@ pub enum Write<K> {
     Insert(K, u64),
     /// The row with a number is there no more.
     Delete(u64),
+    /// The row with a number ends, and a new row with the key begins, which has its tag. The new row's number is that of
+    /// the commit.
+    Move(u64, K),
 }
 
 /// What became of a row number.
 #[derive(Clone, Copy, Debug, PartialEq, Eq)]
 pub enum Status {
-    /// No insert has the number.
+    /// No insert or move has the number.
     NeverIssued,
-    /// The row was inserted and not deleted.
+    /// The row was made, and it isn't ended.
     Live,
-    /// The row was inserted and deleted.
+    /// The row was made, and a delete or a move ended it.
     Dead,
 }

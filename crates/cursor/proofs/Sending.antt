@@ -51,6 +51,7 @@ module _ {K A : Type 0} (rules : Rules K A) (rule : Rule) (commits : List (Write
     asked_still (item.Row row) h = refl
     asked_still (item.Inserted row) h = refl
     asked_still (item.Deleted n row) h = refl
+    asked_still (item.Moved row other) h = refl
     asked_still (item.Mark n) h = absurd h
 
     sends_change : (x : Item K) → old.position < length commits → IsChange x → TurnsTo commits old (record old { position = old.position + 1; unread = old.unread ++ x ∷ [] })

@@ -109,6 +109,7 @@ module _ {K A : Type 0} (rules : Rules K A) (rule : Rule) (commits : List (Write
   sent_change (item.Row row) h = absurd h
   sent_change (item.Inserted row) h = refl
   sent_change (item.Deleted n row) h = refl
+  sent_change (item.Moved row other) h = refl
   sent_change (item.Mark n) h = absurd h
 
   pub offered : (x : Item K) → task rules rule commits k ≡ offer x → Offers x

@@ -37,6 +37,7 @@ no_mark : {K : Type 0} (x : Item K) → IsChange x → is_mark x ≡ false
 no_mark (item.Row row) h = refl
 no_mark (item.Inserted row) h = refl
 no_mark (item.Deleted n row) h = refl
+no_mark (item.Moved row other) h = refl
 no_mark (item.Mark n) h = absurd h
 
 module _ {K A : Type 0} (rules : Rules K A) (rule : Rule) where

@@ -80,6 +80,7 @@ module _ {K A : Type 0} where
   sent (item.Row row) k = record k { pending = drop 1 k.pending; unread = k.unread ++ item.Row row ∷ [] }
   sent (item.Inserted row) k = record k { position = k.position + 1; unread = k.unread ++ item.Inserted row ∷ [] }
   sent (item.Deleted n row) k = record k { position = k.position + 1; unread = k.unread ++ item.Deleted n row ∷ [] }
+  sent (item.Moved row other) k = record k { position = k.position + 1; unread = k.unread ++ item.Moved row other ∷ [] }
   sent (item.Mark n) k = record k { asked = false; unread = k.unread ++ item.Mark n ∷ [] }
 
 module _ {K A : Type 0} (rules : Rules K A) (rule : Rule) where

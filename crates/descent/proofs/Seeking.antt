@@ -4,10 +4,11 @@ use Rattle.std.proofs.Common.{Result, Ok, Err}
 use Rattle.std.specs.Prelude.{slice_get, OnErr}
 use Rattle.std.proofs.lemmas.List.{reverse-append, reverse-reverse}
 use mathlib.Core.List.{reverse-cons}
-use Rattle.change_list.proofs.Tracking.{commit_within}
-use Rattle.change_list.specs.Changes.{commit_at, status_of}
+use Rattle.change_list.proofs.Made.{row_found, row_push}
+use Rattle.change_list.specs.declared.item.Row.{Row}
+use Rattle.change_list.specs.Changes.{HasKey, row_at, status_of}
 use Rattle.change_list.specs.declared.write.Status.TheVariants.{Live}
-use Rattle.change_list.specs.declared.write.Write.TheVariants.{Insert, Delete}
+use Rattle.change_list.specs.declared.write.Write.TheVariants.{Insert, Delete, Move}
 use Rattle.change_list.specs.declared.write.Write.{Write}
 use Rattle.page_table.specs.Keeping.{KeepsRows}
 use Rattle.page_table.specs.Soundness.{IsSound}
@@ -15,7 +16,7 @@ use Rattle.page_table.specs.Stacks.{IsStack, StackItem}
 use Rattle.page_table.specs.Trees.{Tree, page_at}
 use Rattle.page_table.specs.Weights.{weigh}
 use Rattle.row_version.specs.Entries.{Entry, is_needed, marked}
-use Rattle.scan.proofs.Commits.{commit_push, live_pushed}
+use Rattle.scan.proofs.Commits.{live_pushed}
 use Rattle.scan.proofs.Finders.{begin_finder, bury_finder, finder_open, further_finder, keeps_finder, place_finder, sweep_finder}
 use Rattle.scan.proofs.Opening.{open_stack}
 use Rattle.scan.proofs.Scans.{keeps_stack, rows_stack}
@@ -43,8 +44,7 @@ module _ {K : Type 0} where
     pub seeking_moved : (t' : Tree K) → KeepsRows t t' → IsSeeking t commits k → IsSeeking t' commits k
     seeking_moved t' keeps seeking = record {
       stack = keeps_stack t t' k.stack keeps seeking.stack;
-      tag = seeking.tag;
-      inserted = seeking.inserted;
+      made = seeking.made;
       there = λ live. keeps_finder k.row t k.stack t' keeps (seeking.there live);
     }
 
@@ -61,12 +61,11 @@ module _ {K : Type 0} where
 
   module _ (is_cover : K → K → Bool) (fan : ℕ) (t : Tree K) (sound : IsSound is_cover fan t) (commits : List (Write K)) where
     -- the finder of a row begins at the root
-    pub seeking_begun : Agrees t commits → (serial row : ℕ) (key : K) (tag : ℕ) → commit_at commits row ≡ Some (Insert key tag)
+    pub seeking_begun : Agrees t commits → (serial row : ℕ) (key : K) → HasKey commits row key
         → IsSeeking t commits (record { serial = serial; row = row; key = key; stack = record { page = 0; memo = t.counter } ∷ [] })
-    seeking_begun agrees serial row key tag inserted = record {
+    seeking_begun agrees serial row key made = record {
       stack = open_stack is_cover t fan sound;
-      tag = tag;
-      inserted = inserted;
+      made = made;
       there = λ live. begin_finder is_cover t fan sound commits agrees row live;
     }
 
@@ -76,9 +75,8 @@ module _ {K : Type 0} where
           → (page : ℕ) (new : OpenFinder K) → GoesFurther is_cover t k page new → IsSeeking t commits new
       seeking_further through agrees page new on = subst (λ n. IsSeeking t commits n) (sym on.after) (record {
         stack = further_stack is_cover fan t sound k seeking.stack page on.stack on.further;
-        tag = seeking.tag;
-        inserted = seeking.inserted;
-        there = λ live. further_finder is_cover t fan sound commits agrees k.row through k.key seeking.tag seeking.inserted k.stack page on.stack on.further (seeking.there live);
+        made = seeking.made;
+        there = λ live. further_finder is_cover t fan sound commits agrees k.row through k.key seeking.made.0 seeking.made.1 k.stack page on.stack on.further (seeking.there live);
       })
 
       -- a visit, whatever it met
@@ -87,49 +85,51 @@ module _ {K : Type 0} where
       seeking_sought through agrees (Here page) new seeks = subst (λ n. IsSeeking t commits n) (sym seeks.1) seeking
       seeking_sought through agrees (Further page) new seeks = seeking_further through agrees page new seeks
 
+      -- behind a further commit its row is as it was made, and it lived before where it lives
+      made_push : (write : Write K) → HasKey (commits ++ write ∷ []) k.row k.key
+      made_push write = (seeking.made.0, row_push commits write k.row (record { row = k.row; key = k.key; tag = seeking.made.0 }) seeking.made.1)
+
+      known : k.row ≤ length commits
+      known = (row_found commits k.row (record { row = k.row; key = k.key; tag = seeking.made.0 }) seeking.made.1).2
+
+      lived : (write : Write K) → status_of (commits ++ write ∷ []) k.row ≡ Live → status_of commits k.row ≡ Live
+      lived write live = elim (live_pushed commits write k.row live) [
+        | inl old ↦ old
+        | inr new ↦ absurd (omega (arith, new.0, known))
+      ]
+
       module _ (p : ℕ) (l : p < length t.pages) where
         -- an insert, its entry placed on a page
         pub seeking_placed : (key : K) (tag : ℕ) → IsSeeking (after_place t p (record { key = key; row = length commits + 1; tag = tag; died = None })) (commits ++ Insert key tag ∷ []) k
-        seeking_placed key tag = record {
-          stack = rows_stack t p ((page_at t p).rows ++ placed ∷ []) k.stack seeking.stack;
-          tag = seeking.tag;
-          inserted = commit_push commits (Insert key tag) k.row (Insert k.key seeking.tag) seeking.inserted;
-          there = λ live. place_finder k.row t k.stack (seeking.there (before live)) is_cover fan sound p l placed (λ e. omega (arith, e, known));
-        }
-          where
-            placed : Entry K
-            placed = record { key = key; row = length commits + 1; tag = tag; died = None }
+        seeking_placed key tag =
+            let placed : Entry K = record { key = key; row = length commits + 1; tag = tag; died = None } in
+            record {
+              stack = rows_stack t p ((page_at t p).rows ++ placed ∷ []) k.stack seeking.stack;
+              made = made_push (Insert key tag);
+              there = λ live. place_finder k.row t k.stack (seeking.there (lived (Insert key tag) live)) is_cover fan sound p l placed (λ e. omega (arith, e, known));
+            }
 
-            known : k.row ≤ length commits
-            known = (commit_within commits k.row (Insert k.key seeking.tag) seeking.inserted).1
-
-            before : status_of (commits ++ Insert key tag ∷ []) k.row ≡ Live → status_of commits k.row ≡ Live
-            before live = elim (live_pushed commits (Insert key tag) k.row live) [
-              | inl old ↦ old
-              | inr new ↦ absurd (omega (arith, new.0, known))
-            ]
-
-        -- a delete of any row, its entry marked on a page
-        pub seeking_buried : (row : ℕ) → IsSeeking (after_bury t p row (length commits + 1)) (commits ++ Delete row ∷ []) k
-        seeking_buried row = record {
+        -- a commit that ends a row, its entry marked on a page
+        pub seeking_buried : (row : ℕ) (write : Write K) → IsSeeking (after_bury t p row (length commits + 1)) (commits ++ write ∷ []) k
+        seeking_buried row write = record {
           stack = rows_stack t p (map (marked row (length commits + 1)) (page_at t p).rows) k.stack seeking.stack;
-          tag = seeking.tag;
-          inserted = commit_push commits (Delete row) k.row (Insert k.key seeking.tag) seeking.inserted;
-          there = λ live. bury_finder k.row t k.stack (seeking.there (before live)) is_cover fan sound p l row (length commits + 1);
+          made = made_push write;
+          there = λ live. bury_finder k.row t k.stack (seeking.there (lived write live)) is_cover fan sound p l row (length commits + 1);
         }
-          where
-            before : status_of (commits ++ Delete row ∷ []) k.row ≡ Live → status_of commits k.row ≡ Live
-            before live = elim (live_pushed commits (Delete row) k.row live) [
-              | inl old ↦ old
-              | inr new ↦ absurd (let e = new.1.2 in cc)
-            ]
+
+        -- the entry of another row placed, and no commit
+        pub seeking_beside : (entry : Entry K) → ((entry.row ≡ k.row) → ⊥) → IsSeeking (after_place t p entry) commits k
+        seeking_beside entry other = record {
+          stack = rows_stack t p ((page_at t p).rows ++ entry ∷ []) k.stack seeking.stack;
+          made = seeking.made;
+          there = λ live. place_finder k.row t k.stack (seeking.there live) is_cover fan sound p l entry other;
+        }
 
         -- a sweep of a page up to any horizon
         pub seeking_swept : Agrees t commits → (horizon : ℕ) → IsSeeking (after_sweep t p horizon) commits k
         seeking_swept agrees horizon = record {
           stack = rows_stack t p (filter (is_needed horizon) (page_at t p).rows) k.stack seeking.stack;
-          tag = seeking.tag;
-          inserted = seeking.inserted;
+          made = seeking.made;
           there = λ live. sweep_finder k.row t k.stack (seeking.there live) is_cover fan sound p l commits agrees live horizon;
         }
 

@@ -1,9 +1,8 @@
 -- Finders: what each looks for, one visit of it, and what it keeps through every step.
 use Rattle.std.specs.Prelude.{◌≡◌, ℕ, Bool, false, true, List, Option, Some, None, Result, IfOk, slice_get, reverse}
-use Rattle.change_list.specs.Changes.{commit_at, status_of}
+use Rattle.change_list.specs.Changes.{HasKey, status_of}
 use Rattle.change_list.specs.declared.write.Status.TheVariants.{Live}
 use Rattle.change_list.specs.declared.write.Write.{Write}
-use Rattle.change_list.specs.declared.write.Write.TheVariants.{Insert}
 use Rattle.page_table.specs.Soundness.{IsSound}
 use Rattle.page_table.specs.Stacks.{StackItem, IsStack, root_stack}
 use Rattle.page_table.specs.Trees.{Tree, page_at}
@@ -54,12 +53,11 @@ module _ {K : Type 0} where
   SeeksRow is_cover t old (Here page) new = FindsRow t old page × (new ≡ old)
   SeeksRow is_cover t old (Further page) new = GoesFurther is_cover t old page new
 
-  -- What it has still to visit exists, its row was inserted with its key, and while the row lives, it stands once under what
-  -- is still to be visited.
+  -- What it has still to visit exists, its row was made with its key, and while the row lives, it stands once under what is
+  -- still to be visited.
   pub record IsSeeking (t : Tree K) (commits : List (Write K)) (k : OpenFinder K) : Type 0 where
     pub stack : IsStack t k.stack
-    pub tag : ℕ
-    pub inserted : commit_at commits k.row ≡ Some (Insert k.key tag)
+    pub made : HasKey commits k.row k.key
     pub there : status_of commits k.row ≡ Live → IsFinder k.row t k.stack
 
   -- one visit, by its result

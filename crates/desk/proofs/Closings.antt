@@ -1,5 +1,5 @@
 -- A visit that closes a cursor, and what it tells of a receipt.
-use Rattle.std.proofs.Common.{◌≡◌, ◌∙◌, List}
+use Rattle.std.proofs.Common.{◌≡◌, ◌∙◌, ◌≤◌, List, length, ℕ}
 use Rattle.key_class.specs.Rules.{Rules}
 use Rattle.change_list.specs.declared.write.Write.{Write}
 use Rattle.world.specs.States.{State}
@@ -17,3 +17,8 @@ module _ {K A : Type 0} (rules : Rules K A) where
 pub of_view : {K : Type 0} (e : Ended K) (commits list : List (Write K)) → IfReceipt e (λ r. r.commits ≡ commits) → commits ≡ list → IfReceipt e (λ r. r.commits ≡ list)
 of_view (ended.Receipt r) commits list is same = is ∙ same
 of_view ended.NoReceipt commits list is same = tt
+
+-- a receipt of the commits that a view has has no fewer than stand in the view
+pub no_fewer : {K : Type 0} (e : Ended K) (commits : List (Write K)) (n : ℕ) → IfReceipt e (λ r. r.commits ≡ commits) → n ≤ length commits → IfReceipt e (λ r. n ≤ length r.commits)
+no_fewer (ended.Receipt r) commits n is less = rw is less
+no_fewer ended.NoReceipt commits n is less = tt

@@ -1,11 +1,12 @@
 //! The desk: a world under a lock, and the calls of its clients. Each call visits the lock once or more; a visit makes one
 //! event or none.
+ghost use Rattle.key_class.specs.Limits.{most_seats};
 ghost use Rattle.std.specs.Prelude.{◌≡◌, ◌↔◌, ◌<◌, ◌≤◌, ◌+◌, ℕ, [], ◌∷◌, ◌++◌, length, Some, Err, IfSome, IfOk, IfErr, OnErr};
 ghost use Rattle.key_class.specs.Queries.{query_of};
-ghost use Rattle.change_list.specs.declared.write.Write.TheVariants.{Insert, Delete};
+ghost use Rattle.change_list.specs.declared.write.Write.TheVariants.{Insert, Delete, Move};
 ghost use Rattle.world.specs.declared.event.Event.TheVariants as event;
 ghost use Rattle.desk.specs.Seats.{AreFresh, IsStampOf};
-ghost use Rattle.desk.specs.Visits.{CountsSearch, IsDelete, IsVisit, IsCommitted, IsSearchCommitted, CountsOne, IsBadDesk, OutOfMemoryOr, OpensFor, IsReplied, ClosesWithView, IsInsertRefused, IsDeleteRefused, IsOpeningRefused};
+ghost use Rattle.desk.specs.Visits.{CountsMoving, CountsSearch, IsDelete, IsMove, IsVisit, IsCommitted, IsMovingCommitted, IsSearchCommitted, CountsOne, IsBadDesk, OutOfMemoryOr, OpensFor, IsReplied, ClosesWithView, IsInsertRefused, IsDeleteRefused, IsMoveRefused, IsOpeningRefused};
 ghost use Rattle.key_class.specs.Refusals.{IsEither};
 
 use crate::latches::Latches;
@@ -14,8 +15,10 @@ use crate::seat::Seat;
 use crate::taker::Taker;
 use change_list::{Config, View};
 use insertion::Way;
+use key_class::limits::MAX_SEATS;
 use key_class::{KeyClass, Pred, Refusal};
 use mailbox::Ring;
+use relocation::Moving;
 use removal::Search;
 use std::alloc::{AllocError, Global};
 use std::marker::Model;
@@ -77,7 +80,7 @@ fn seats_of<C: KeyClass, L: Ledger>(
     all: Share<L>,
     seats: usize,
 ) -> Result<Vec<Seat<C, L>>, AllocError>
-    requires { (all.parts ≡ seats) × (all.amount ≡ 0) × (seats ≤ 64) }
+    requires { (all.parts ≡ seats) × (all.amount ≡ 0) × (seats ≤ most_seats) }
     ensures seats { IfOk result (λ made. length made.items ≡ seats) }
     ensures fresh { IfOk result (λ made. AreFresh seats made.items) }
 {
@@ -111,7 +114,7 @@ impl<C: KeyClass, L: Ledger> DeskOver<World<C, Ring<C::Key>>, L> {
         ensures bad { (result ≡ Err Refusal.BadConfig) ↔ IsBadDesk seats config }
         ensures refusals { IfErr result (IsEither Refusal.BadConfig Refusal.OutOfMemory) }
     {
-        if seats == 0 || seats > 64 {
+        if seats == 0 || seats > MAX_SEATS {
             return Err(Refusal::BadConfig);
         }
         let world = World::<C, Ring<C::Key>>::new(alloc, config)?;
@@ -262,7 +265,7 @@ impl<C: KeyClass, L: Ledger> DeskOver<World<C, Ring<C::Key>>, L> {
             match search {
                 Search::On => {}
                 Search::Lost => finder = self.find_for(rt, row)?,
-                Search::Deleted(stamped) => return Ok(stamped),
+                Search::Ended(stamped) => return Ok(stamped),
             }
         }
         unreachable!()
@@ -297,6 +300,114 @@ impl<C: KeyClass, L: Ledger> DeskOver<World<C, Ring<C::Key>>, L> {
             let _unfound = self.locked.lock(rt).unfind(finder);
         }
         search
+    }
+
+    /// Moves a row for a seat: one commit ends it and begins another with its tag and this key.
+    ///
+    /// # Errors
+    /// `NoSuchRow`, `AlreadyDeleted`, `CommitsFull`, `PagesFull`, `FindersFull` once the serials of finders are used up, or
+    /// want of memory. No commit is made then.
+    pub fn move_row<R: Wait>(
+        &self,
+        rt: &R,
+        seat: &mut Seat<C, L>,
+        row: u64,
+        key: C::Key,
+    ) -> Result<Stamped<C::Key>, Refusal>
+        ensures stamp { IfOk result (IsStampOf seat.old.number (Move row key)) }
+        ensures stamps { IfOk result (λ s. seat.new.stamps ≡ seat.old.stamps ++ s ∷ []) }
+        ensures number { IfOk result (λ s. length seat.new.stamps ≤ s.number) }
+        ensures seat { seat.new.number ≡ seat.old.number }
+        ensures refused { OnErr result (seat.new ≡ seat.old) }
+        ensures committed { IfOk result (IsCommitted C.rules) }
+        ensures refusals { IfErr result (OutOfMemoryOr (IsMoveRefused C.rules row)) }
+    {
+        if seat.stamps.try_reserve(1).is_err() {
+            return Err(Refusal::OutOfMemory);
+        }
+        let number = seat.number;
+        let stamped = self.move_for(rt, number, &mut seat.share, row, key)?;
+        seat.stamps.push_reserved(stamped);
+        Ok(stamped)
+    }
+
+    /// Visits the lock until the row is moved or a visit is refused.
+    fn move_for<R: Wait>(
+        &self,
+        rt: &R,
+        number: u32,
+        share: &mut Share<L>,
+        row: u64,
+        key: C::Key,
+    ) -> Result<Stamped<C::Key>, Refusal>
+        requires { 0 < share.old.parts }
+        ensures stamp { IfOk result (IsStampOf number (Move row key)) }
+        ensures share { IfOk result (CountsOne share.old.amount share.new.amount) }
+        ensures parts { share.new.parts ≡ share.old.parts }
+        ensures refused { OnErr result (share.new.amount ≡ share.old.amount) }
+        ensures committed { IfOk result (IsCommitted C.rules) }
+        ensures refusals { IfErr result (OutOfMemoryOr (IsMoveRefused C.rules row)) }
+    {
+        let mut page = 0;
+        // no finder has this serial
+        let mut finder = 0;
+        for _ in rt.forever() {
+            let moving = self.move_on(rt, number, share, page, finder, row, key)?;
+            match moving {
+                Moving::On(next) => page = next,
+                Moving::Split(full) => self.split_moving(rt, number, full, finder)?,
+                Moving::Lost => finder = self.find_for(rt, row)?,
+                Moving::Moved(stamped) => return Ok(stamped),
+            }
+        }
+        unreachable!()
+    }
+
+    /// A step of a move, whose finder ends where it is refused.
+    fn move_on<R: Wait>(
+        &self,
+        rt: &R,
+        number: u32,
+        share: &mut Share<L>,
+        page: u32,
+        finder: u64,
+        row: u64,
+        key: C::Key,
+    ) -> Result<Moving<C::Key>, Refusal>
+        requires { 0 < share.old.parts }
+        ensures stamp { IfOk result (IsMove number row key) }
+        ensures share { IfOk result (CountsMoving share.old.amount share.new.amount) }
+        ensures parts { share.new.parts ≡ share.old.parts }
+        ensures refused { OnErr result (share.new.amount ≡ share.old.amount) }
+        ensures committed { IfOk result (IsMovingCommitted C.rules) }
+        ensures refusals { IfErr result (IsMoveRefused C.rules row) }
+    {
+        let alloc = self.alloc;
+        let moving = self
+            .locked
+            .lock(rt)
+            .move_step(alloc, number, share, page, finder, row, key);
+        if moving.is_err() {
+            let _unfound = self.locked.lock(rt).unfind(finder);
+        }
+        moving
+    }
+
+    /// Splits a page on a move's way. The move's finder ends where that is refused.
+    fn split_moving<R: Wait>(
+        &self,
+        rt: &R,
+        number: u32,
+        page: u32,
+        finder: u64,
+    ) -> Result<(), Refusal>
+        ensures refusals { IfErr result (OutOfMemoryOr (IsInsertRefused C.rules)) }
+    {
+        let split = self.split_for(rt, number, page);
+        if split.is_err() {
+            let _unfound = self.locked.lock(rt).unfind(finder);
+        }
+        split
     }
 
     /// Opens a cursor at the present commits, and gives the end from which its items are taken.

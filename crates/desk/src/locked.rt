@@ -5,14 +5,17 @@ ghost use Rattle.world.specs.declared.event.Event.TheVariants as event;
 ghost use Rattle.world.specs.States.{IsFullOfCommits};
 ghost use Rattle.world.specs.Steps.{Opens};
 ghost use Rattle.insertion.specs.Visits.{Goes};
-ghost use Rattle.removal.specs.Deleting.{Looks};
-ghost use Rattle.removal.specs.Visits.{SeeksForDelete};
-ghost use Rattle.desk.specs.Visits.{MakesClose, Counts, CountsSearch, IsHeld, IsSearchCommitted, IsSplitAtMost, IsSplitInTime, IsWayCommitted, MakesOneEvent, IsReplyTo, IsInsertRefused, IsDeleteRefused, IsOpeningRefused};
+ghost use Rattle.removal.specs.Ending.{Looks};
+ghost use Rattle.removal.specs.Visits.{Seeks};
+ghost use Rattle.removal.specs.declared.ending.Ending.TheVariants as Ending;
+ghost use Rattle.relocation.specs.Moves.{Relocates};
+ghost use Rattle.desk.specs.Visits.{MakesClose, Counts, CountsMoving, CountsSearch, IsHeld, IsMovingCommitted, IsSearchCommitted, IsSplitAtMost, IsSplitInTime, IsWayCommitted, MakesOneEvent, IsReplyTo, IsInsertRefused, IsDeleteRefused, IsMoveRefused, IsOpeningRefused};
 
 use change_list::{Item, View};
 use insertion::{Way, insert_step, split_at_once, split_prepared};
 use key_class::{KeyClass, Pred, Refusal};
 use mailbox::Ring;
+use relocation::{Moving, move_step};
 use removal::{Search, find_row, seek_row};
 use rtrb::Consumer;
 use std::alloc::Global;
@@ -169,7 +172,8 @@ impl<C: KeyClass, L: Ledger> Locked<World<C, Ring<C::Key>>, L> {
         row: u64,
     ) -> Result<Search<C::Key>, Refusal>
         requires { 0 < share.old.parts }
-        ensures seeks { IfOk result (λ search. SeeksForDelete self.old seat row search self.new) }
+        ensures seeks { IfOk result (λ search.
+            Seeks self.old seat row Ending.Delete search self.new) }
         ensures share { IfOk result (CountsSearch share.old.amount share.new.amount) }
         ensures parts { share.new.parts ≡ share.old.parts }
         ensures one_event { MakesOneEvent C.rules C seat self.old self.new }
@@ -183,10 +187,45 @@ impl<C: KeyClass, L: Ledger> Locked<World<C, Ring<C::Key>>, L> {
         match seek_row(world, seat, finder, row)? {
             Search::On => return Ok(Search::On),
             Search::Lost => return Ok(Search::Lost),
-            Search::Deleted(stamp) => {
+            Search::Ended(stamp) => {
                 book.add(share, 1);
                 book.audit(share);
-                return Ok(Search::Deleted(stamp));
+                return Ok(Search::Ended(stamp));
+            }
+        }
+    }
+
+    /// A step of a move, whose way has come to a page.
+    pub(crate) fn move_step(
+        &mut self,
+        alloc: Global,
+        seat: u32,
+        share: &mut Share<L>,
+        page: u32,
+        finder: u64,
+        row: u64,
+        key: C::Key,
+    ) -> Result<Moving<C::Key>, Refusal>
+        requires { 0 < share.old.parts }
+        ensures moves { IfOk result (λ moving. Relocates self.old seat row key moving self.new) }
+        ensures share { IfOk result (CountsMoving share.old.amount share.new.amount) }
+        ensures parts { share.new.parts ≡ share.old.parts }
+        ensures one_event { MakesOneEvent C.rules C seat self.old self.new }
+        ensures held { IsHeld C.rules self.old × IsHeld C.rules self.new }
+        ensures unchanged { OnErr result (self.new ≡ self.old) }
+        ensures uncounted { OnErr result (share.new.amount ≡ share.old.amount) }
+        ensures committed { IfOk result (IsMovingCommitted C.rules) }
+        ensures refusals { IfErr result (IsMoveRefused C.rules row) }
+    {
+        let Locked { world, book } = self;
+        match move_step(alloc, world, seat, page, finder, row, key)? {
+            Moving::On(next) => return Ok(Moving::On(next)),
+            Moving::Split(full) => return Ok(Moving::Split(full)),
+            Moving::Lost => return Ok(Moving::Lost),
+            Moving::Moved(stamp) => {
+                book.add(share, 1);
+                book.audit(share);
+                return Ok(Moving::Moved(stamp));
             }
         }
     }

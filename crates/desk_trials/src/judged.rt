@@ -10,11 +10,25 @@ fn point(at: i64) -> Result<Interval, Refusal> {
     Interval::new(at, at)
 }
 
-/// Adds a commit, if a row that it deletes lives.
+/// The greatest number of commits of a list.
+const MOST_COMMITS: usize = 4_294_967_295;
+
+/// Adds a commit, if a row that it ends lives.
 fn commit(changes: &mut ChangeList<Interval>, write: Write<Interval>) -> Result<(), Refusal> {
-    if let Write::Delete(row) = write {
-        if changes.status(row) != Status::Live {
-            return Err(Refusal::NoSuchRow);
+    if changes.len() >= MOST_COMMITS {
+        return Err(Refusal::CommitsFull);
+    }
+    match write {
+        Write::Insert(_, _) => {}
+        Write::Delete(row) => {
+            if changes.status(row) != Status::Live {
+                return Err(Refusal::NoSuchRow);
+            }
+        }
+        Write::Move(row, _) => {
+            if changes.status(row) != Status::Live {
+                return Err(Refusal::NoSuchRow);
+            }
         }
     }
     Ok(changes.push(write)?)

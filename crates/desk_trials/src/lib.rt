@@ -12,6 +12,8 @@ mod likeness;
 #[cfg(test)]
 mod limits;
 #[cfg(test)]
+mod moves;
+#[cfg(test)]
 mod pumped;
 #[cfg(test)]
 mod queries;

@@ -73,6 +73,18 @@ fn delete_alike<L: Ledger, R: Wait>(
     stamped.map(|stamp| stamp.number()) == store.delete(row)
 }
 
+fn move_alike<L: Ledger, R: Wait>(
+    rt: &R,
+    desk: &Desk<Intervals, L>,
+    seat: &mut Seat<Intervals, L>,
+    store: &mut Store<Intervals>,
+    row: u64,
+    key: Interval,
+) -> bool {
+    let stamped = desk.move_row(rt, seat, row, key);
+    stamped.map(|stamp| stamp.number()) == store.move_row(row, key)
+}
+
 /// Turns a cursor until it has an item or is idle.
 fn next_of_desk<L: Ledger, R: Wait>(
     rt: &R,
@@ -102,9 +114,14 @@ fn first_unlike<L: Ledger, R: Wait>(
     for call in 0..CALLS {
         let is_alike = match random(&mut generator, 10) {
             0..=3 => insert_alike(rt, desk, seat, store, random_key(&mut generator)?),
-            4..=6 => {
+            4 | 5 => {
                 let row = u64::from(random(&mut generator, 9_100));
                 delete_alike(rt, desk, seat, store, row)
+            }
+            6 => {
+                let row = u64::from(random(&mut generator, 9_100));
+                let key = random_key(&mut generator)?;
+                move_alike(rt, desk, seat, store, row, key)
             }
             7 | 8 => next_of_desk(rt, desk, taker) == store.next(1),
             _ => {

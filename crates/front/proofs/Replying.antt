@@ -11,16 +11,16 @@ use Rattle.change_list.specs.declared.item.Item.{Item}
 use Rattle.change_list.specs.declared.write.Status.{Status}
 use Rattle.change_list.specs.declared.write.Status.TheVariants.{NeverIssued, Live, Dead}
 use Rattle.change_list.specs.Changes.{status_of}
-use Rattle.store.specs.States.{StoreState, DeadRow, Commits, Keeps, IsOpened, IsBadOpening, IsFullOf, MayRefuseDelete, SweepsStore, SweepsStorePart, is_dead_needed, Nexts, RefusesNext, ChangesCursor, with_asking, Closes}
+use Rattle.store.specs.States.{StoreState, DeadRow, Commits, Keeps, IsOpened, IsBadOpening, IsFullOf, MayRefuseDelete, MayRefuseMove, SweepsStore, SweepsStorePart, is_dead_needed, Nexts, RefusesNext, ChangesCursor, with_asking, Closes}
 use Rattle.query_text.specs.Tokens.{Placed}
 use Rattle.query_text.specs.ClassTexts.{Texts}
 use Rattle.query_text.specs.Grammar.{RefusesTokens, IsParseRefusal}
 use Rattle.front.specs.declared.reply.Reply.{Reply}
 use Rattle.front.specs.declared.reply.Reply.TheVariants as reply
-use Rattle.front.specs.Told.{Told, with_client_cursor, IsFullAsTold, HasNoCursorLeft, MayLackPages, IsBadRoom, RepliesInsert, RepliesDelete, RepliesOpen, RepliesNext, RepliesMark, RepliesSweep, RepliesClose}
+use Rattle.front.specs.Told.{Told, with_client_cursor, IsFullAsTold, HasNoCursorLeft, MayLackPages, IsBadRoom, RefusesToEnd, RepliesInsert, RepliesDelete, RepliesMove, RepliesOpen, RepliesNext, RepliesMark, RepliesSweep, RepliesClose}
 use Rattle.front.specs.AsTold.{IsAsTold}
 use Rattle.front.specs.Sessions.{WithQuery}
-use Rattle.front.proofs.Telling.{told_insert, told_delete, told_kept, told_swept, told_given, told_empty, told_wanting, told_asked, told_refusal, each_needed}
+use Rattle.front.proofs.Telling.{told_insert, told_end, told_kept, told_swept, told_given, told_empty, told_wanting, told_asked, told_refusal, each_needed}
 use Rattle.front.proofs.Opening.{told_opened, told_closed}
 
 module _ {K A : Type 0} (rules : Rules K A) (old new : StoreState K A) (told : Told K A) (t : IsAsTold rules old told) where
@@ -52,14 +52,14 @@ module _ {K A : Type 0} (rules : Rules K A) (old new : StoreState K A) (told : T
       says x p (inr (inl a)) = subst (λ y. RepliesInsert key tag (reply.Refused y) told told) (sym a) (full_told.0 (f.0 (p ∙ ap Err a)), refl)
       says x p (inr (inr a)) = subst (λ y. RepliesInsert key tag (reply.Refused y) told told) (sym a.0) (not_full refusal.PagesFull (p ∙ ap Err a.0) (λ q. cc), lacking a.1, refl)
 
-  -- the clauses of a delete's refusals
-  pub record DeleteRefusals (row : ℕ) (r : Result ℕ Refusal) : Type 0 where
+  -- the clauses by which a row doesn't end
+  pub record EndRefusals (row : ℕ) (r : Result ℕ Refusal) : Type 0 where
     pub never : (r ≡ Err refusal.NoSuchRow) ↔ (status_of old.commits row ≡ NeverIssued)
     pub already : (r ≡ Err refusal.AlreadyDeleted) ↔ (status_of old.commits row ≡ Dead)
     pub full : (r ≡ Err refusal.CommitsFull) ↔ ((status_of old.commits row ≡ Live) × (old.limit ≤ length old.commits))
 
-  -- where a delete isn't refused by its row, the row is live
-  lives : (row : ℕ) (r : Result ℕ Refusal) → DeleteRefusals row r → (r ≡ Err refusal.NoSuchRow → ⊥) → (r ≡ Err refusal.AlreadyDeleted → ⊥) → status_of told.commits row ≡ Live
+  -- where it isn't by its row, the row is live
+  lives : (row : ℕ) (r : Result ℕ Refusal) → EndRefusals row r → (r ≡ Err refusal.NoSuchRow → ⊥) → (r ≡ Err refusal.AlreadyDeleted → ⊥) → status_of told.commits row ≡ Live
   lives row r d n a = ap (λ l. status_of l row) t.commits ∙ go (status_of old.commits row) refl
     where
       go : (s : Status) → status_of old.commits row ≡ s → status_of old.commits row ≡ Live
@@ -67,43 +67,74 @@ module _ {K A : Type 0} (rules : Rules K A) (old new : StoreState K A) (told : T
       go Dead e = absurd (a (d.already.1 e))
       go Live e = e
 
-  room_left : (row : ℕ) (r : Result ℕ Refusal) → DeleteRefusals row r → status_of told.commits row ≡ Live → (r ≡ Err refusal.CommitsFull → ⊥) → IsFullAsTold told → ⊥
+  room_left : (row : ℕ) (r : Result ℕ Refusal) → EndRefusals row r → status_of told.commits row ≡ Live → (r ≡ Err refusal.CommitsFull → ⊥) → IsFullAsTold told → ⊥
   room_left row r d l n h = n (d.full.1 (ap (λ c. status_of c row) (sym t.commits) ∙ l, full_told.1 h))
 
-  pub delete_committed : (row n : ℕ) (r : Result ℕ Refusal) → r ≡ Ok n → n ≡ length old.commits + 1 → DeleteRefusals row r → Commits rules.is_match old (write.Delete row) new
+  -- a row that ended was live, and there was a place for a commit
+  may_end : (row n : ℕ) (r : Result ℕ Refusal) → r ≡ Ok n → EndRefusals row r → (status_of told.commits row ≡ Live) × (IsFullAsTold told → ⊥)
+  may_end row n r e d =
+      let l = lives row r d (λ x. let y : Ok n ≡ Err refusal.NoSuchRow = sym e ∙ x in cc) (λ x. let y : Ok n ≡ Err refusal.AlreadyDeleted = sym e ∙ x in cc) in
+      (l, room_left row r d l (λ x. let y : Ok n ≡ Err refusal.CommitsFull = sym e ∙ x in cc))
+
+  pub delete_committed : (row n : ℕ) (r : Result ℕ Refusal) → r ≡ Ok n → n ≡ length old.commits + 1 → EndRefusals row r → Commits rules.is_match old (write.Delete row) new
       → IsPermutation ((record { row = row; died = length old.commits + 1 }) ∷ old.dead) new.dead → new.finders ≤ old.finders + 1
       → (after : Told K A) × RepliesDelete row (reply.Committed n) told after × IsAsTold rules new after
   delete_committed row n r e m d c p w =
-      let l = lives row r d (λ x. let y : Ok n ≡ Err refusal.NoSuchRow = sym e ∙ x in cc) (λ x. let y : Ok n ≡ Err refusal.AlreadyDeleted = sym e ∙ x in cc) in (
+      let may = may_end row n r e d in (
         record told { commits = told.commits ++ write.Delete row ∷ []; dead = (record { row = row; died = n }) ∷ told.dead; finders = told.finders + 1 },
-        (l, room_left row r d l (λ x. let y : Ok n ≡ Err refusal.CommitsFull = sym e ∙ x in cc), omega (arith, m, ap length t.commits), refl),
-        told_delete rules old told t row n new c m p w,
+        (may.0, may.1, omega (arith, m, ap length t.commits), refl),
+        told_end rules old told t (write.Delete row) row n new c m p w,
       )
 
-  pub delete_refused : (row : ℕ) (why : Refusal) (r : Result ℕ Refusal) → r ≡ Err why → DeleteRefusals row r → MayRefuseDelete old why → Keeps rules.is_match old new → (why ≢ refusal.OutOfMemory → new ≡ old) → new.finders ≤ old.finders + 1
-      → (after : Told K A) × RepliesDelete row (reply.Refused why) told after × IsAsTold rules new after
-  delete_refused row why r e d w k u n = says w
-    where
-      -- refused so, it leaves the store as it was
-      alike : (x : Refusal) → why ≡ x → (x ≡ refusal.OutOfMemory → ⊥) → RepliesDelete row (reply.Refused x) told told → (after : Told K A) × RepliesDelete row (reply.Refused why) told after × IsAsTold rules new after
-      alike x a q said = (told, subst (λ y. RepliesDelete row (reply.Refused y) told told) (sym a) said, subst (λ (s : StoreState K A). IsAsTold rules s told) (sym (u (λ z. q (sym a ∙ z)))) t)
+  pub move_committed : (row : ℕ) (key : K) (n : ℕ) (r : Result ℕ Refusal) → r ≡ Ok n → n ≡ length old.commits + 1 → EndRefusals row r → Commits rules.is_match old (write.Move row key) new
+      → IsPermutation ((record { row = row; died = length old.commits + 1 }) ∷ old.dead) new.dead → new.finders ≤ old.finders + 1
+      → (after : Told K A) × RepliesMove row key (reply.Committed n) told after × IsAsTold rules new after
+  move_committed row key n r e m d c p w =
+      let may = may_end row n r e d in (
+        record told { commits = told.commits ++ write.Move row key ∷ []; dead = (record { row = row; died = n }) ∷ told.dead; finders = told.finders + 1 },
+        (may.0, may.1, omega (arith, m, ap length t.commits), refl),
+        told_end rules old told t (write.Move row key) row n new c m p w,
+      )
 
-      other : (x y : Refusal) → why ≡ x → (x ≡ y → ⊥) → r ≡ Err y → ⊥
-      other x y a q s = let z : Err why ≡ Err y = sym e ∙ s in let f : why ≡ y = cc in q (sym a ∙ f)
+  module _ (row : ℕ) (why : Refusal) (r : Result ℕ Refusal) (e : r ≡ Err why) (d : EndRefusals row r) where
+    other : (x y : Refusal) → why ≡ x → (x ≡ y → ⊥) → r ≡ Err y → ⊥
+    other x y a q s = let z : Err why ≡ Err y = sym e ∙ s in let f : why ≡ y = cc in q (sym a ∙ f)
 
-      says : MayRefuseDelete old why → (after : Told K A) × RepliesDelete row (reply.Refused why) told after × IsAsTold rules new after
-      says (inl a) = alike refusal.NoSuchRow a (λ z. cc) (ap (λ l. status_of l row) t.commits ∙ d.never.0 (e ∙ ap Err a), refl)
-      says (inr (inl a)) = alike refusal.AlreadyDeleted a (λ z. cc) (ap (λ l. status_of l row) t.commits ∙ d.already.0 (e ∙ ap Err a), refl)
-      says (inr (inr (inl a))) = let h = d.full.0 (e ∙ ap Err a) in alike refusal.CommitsFull a (λ z. cc) (ap (λ l. status_of l row) t.commits ∙ h.0, full_told.0 h.1, refl)
-      says (inr (inr (inr (inl a)))) =
-          let l = lives row r d (other refusal.OutOfMemory refusal.NoSuchRow a (λ z. cc)) (other refusal.OutOfMemory refusal.AlreadyDeleted a (λ z. cc)) in (
-            record told { finders = told.finders + 1 },
-            subst (λ y. RepliesDelete row (reply.Refused y) told (record told { finders = told.finders + 1 })) (sym a) (l, room_left row r d l (other refusal.OutOfMemory refusal.CommitsFull a (λ z. cc)), refl),
-            told_kept rules old told t new (told.finders + 1) k (omega (arith, t.finders, n)),
-          )
-      says (inr (inr (inr (inr a)))) =
-          let l = lives row r d (other refusal.FindersFull refusal.NoSuchRow a.0 (λ z. cc)) (other refusal.FindersFull refusal.AlreadyDeleted a.0 (λ z. cc)) in
-          alike refusal.FindersFull a.0 (λ z. cc) (l, room_left row r d l (other refusal.FindersFull refusal.CommitsFull a.0 (λ z. cc)), omega (arith, t.finders, a.1), refl)
+    -- refused for another reason than its row, it is live, and there is a place for a commit
+    may_else : (x : Refusal) → why ≡ x → (x ≡ refusal.NoSuchRow → ⊥) → (x ≡ refusal.AlreadyDeleted → ⊥) → (x ≡ refusal.CommitsFull → ⊥) → (status_of told.commits row ≡ Live) × (IsFullAsTold told → ⊥)
+    may_else x a never already full = let l = lives row r d (other x refusal.NoSuchRow a never) (other x refusal.AlreadyDeleted a already) in (l, room_left row r d l (other x refusal.CommitsFull a full))
+
+    pub end_refused : MayRefuseDelete old why → Keeps rules.is_match old new → (why ≢ refusal.OutOfMemory → new.finders ≡ old.finders) → new.finders ≤ old.finders + 1
+        → (after : Told K A) × RefusesToEnd row why told after × IsAsTold rules new after
+    end_refused w k u n = says w
+      where
+        -- refused so, it uses up no finder
+        alike : (x : Refusal) → why ≡ x → (x ≡ refusal.OutOfMemory → ⊥) → RefusesToEnd row x told told → (after : Told K A) × RefusesToEnd row why told after × IsAsTold rules new after
+        alike x a q said = (told, subst (λ y. RefusesToEnd row y told told) (sym a) said, told_kept rules old told t new told.finders k (omega (arith, t.finders, u (λ z. q (sym a ∙ z)))))
+
+        says : MayRefuseDelete old why → (after : Told K A) × RefusesToEnd row why told after × IsAsTold rules new after
+        says (inl a) = alike refusal.NoSuchRow a (λ z. cc) (ap (λ l. status_of l row) t.commits ∙ d.never.0 (e ∙ ap Err a), refl)
+        says (inr (inl a)) = alike refusal.AlreadyDeleted a (λ z. cc) (ap (λ l. status_of l row) t.commits ∙ d.already.0 (e ∙ ap Err a), refl)
+        says (inr (inr (inl a))) = let h = d.full.0 (e ∙ ap Err a) in alike refusal.CommitsFull a (λ z. cc) (ap (λ l. status_of l row) t.commits ∙ h.0, full_told.0 h.1, refl)
+        says (inr (inr (inr (inl a)))) =
+            let may = may_else refusal.OutOfMemory a (λ z. cc) (λ z. cc) (λ z. cc) in (
+              record told { finders = told.finders + 1 },
+              subst (λ y. RefusesToEnd row y told (record told { finders = told.finders + 1 })) (sym a) (may.0, may.1, refl),
+              told_kept rules old told t new (told.finders + 1) k (omega (arith, t.finders, n)),
+            )
+        says (inr (inr (inr (inr a)))) =
+            let may = may_else refusal.FindersFull a.0 (λ z. cc) (λ z. cc) (λ z. cc) in
+            alike refusal.FindersFull a.0 (λ z. cc) (may.0, may.1, omega (arith, t.finders, a.1), refl)
+
+    pub move_refused : (key : K) → MayRefuseMove old new why → Keeps rules.is_match old new → (why ≢ refusal.OutOfMemory → new.finders ≡ old.finders) → new.finders ≤ old.finders + 1
+        → new.page_limit ≤ new.pages_left + length new.commits + 1 → (after : Told K A) × RepliesMove row key (reply.Refused why) told after × IsAsTold rules new after
+    move_refused key (inl w) k u n few = let said = end_refused w k u n in (said.0, inl said.1, said.2)
+    move_refused key (inr w) k u n few =
+        let may = may_else refusal.PagesFull w.0 (λ z. cc) (λ z. cc) (λ z. cc) in (
+          told,
+          inr (w.0, may.0, may.1, omega (arith, w.1, few, k.page_limit, t.page_limit, ap length k.commits, ap length t.commits), refl),
+          told_kept rules old told t new told.finders k (omega (arith, t.finders, u (λ z. let f : refusal.PagesFull ≡ refusal.OutOfMemory = sym w.0 ∙ z in cc))),
+        )
 
   -- the clauses of an opening's refusals, for a query that is not too deep
   bad_room : (query : Query A) (room : ℕ) → depth_of query ≤ 32 → IsBadOpening query room ↔ IsBadRoom room

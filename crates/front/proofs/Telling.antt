@@ -8,7 +8,7 @@ use Rattle.key_class.specs.Queries.{matches_query}
 use Rattle.key_class.specs.declared.refusal.Refusal.{Refusal}
 use Rattle.key_class.specs.Rules.{Rules}
 use Rattle.change_list.specs.declared.write.Write.{Write}
-use Rattle.change_list.specs.declared.write.Write.TheVariants.{Insert, Delete}
+use Rattle.change_list.specs.declared.write.Write.TheVariants.{Insert}
 use Rattle.change_list.specs.declared.item.Item.{Item}
 use Rattle.change_list.specs.declared.item.Item.TheVariants as item
 use Rattle.change_list.specs.Listings.{IsListing, BeginsListing, without_marks}
@@ -45,12 +45,13 @@ module _ {K A : Type 0} (rules : Rules K A) where
       finders = omega (arith, t.finders, f);
     }
 
-    pub told_delete : (row number : ℕ) (new : StoreState K A) → Commits rules.is_match old (Delete row) new → number ≡ length old.commits + 1
+    -- a commit ended the row
+    pub told_end : (write : Write K) (row number : ℕ) (new : StoreState K A) → Commits rules.is_match old write new → number ≡ length old.commits + 1
         → IsPermutation ((record { row = row; died = length old.commits + 1 }) ∷ old.dead) new.dead → new.finders ≤ old.finders + 1
-        → IsAsTold rules new (record told { commits = told.commits ++ Delete row ∷ []; dead = (record { row = row; died = number }) ∷ told.dead; finders = told.finders + 1 })
-    told_delete row number new c n d f = record {
+        → IsAsTold rules new (record told { commits = told.commits ++ write ∷ []; dead = (record { row = row; died = number }) ∷ told.dead; finders = told.finders + 1 })
+    told_end write row number new c n d f = record {
       limit = t.limit ∙ sym c.limit;
-      commits = ap (λ l. l ++ Delete row ∷ []) t.commits ∙ sym c.commits;
+      commits = ap (λ l. l ++ write ∷ []) t.commits ∙ sym c.commits;
       page_limit = t.page_limit ∙ sym c.page_limit;
       cursors = λ n. stays_same old.commits new.commits (cursor_of old n) (cursor_of new n) (told.cursors n) (c.cursors n) (t.cursors n);
       open_cursors = t.open_cursors ∙ sym c.as_many;
@@ -59,7 +60,7 @@ module _ {K A : Type 0} (rules : Rules K A) where
       finders = omega (arith, t.finders, f);
     }
 
-    -- an insert or a delete that was refused
+    -- a call that was refused
     pub told_kept : (new : StoreState K A) (finders : ℕ) → Keeps rules.is_match old new → new.finders ≤ finders → IsAsTold rules new (record told { finders = finders })
     told_kept new finders c f = record {
       limit = t.limit ∙ sym c.limit;
@@ -192,6 +193,7 @@ module _ {K A : Type 0} (rules : Rules K A) where
     gives_to k after f (item.Row row) a q o w fits = w ∙ sym a.asked
     gives_to k after f (item.Inserted row) a q o w fits = w ∙ sym a.asked
     gives_to k after f (item.Deleted n row) a q o w fits = w ∙ sym a.asked
+    gives_to k after f (item.Moved row ended) a q o w fits = w ∙ sym a.asked
 
     -- what the client of a cursor is told with an item
     pub record IsGiven (c : ℕ) (given : Item K) (new : StoreState K A) : Type 0 where

@@ -4,6 +4,7 @@ use Rattle.std.specs.Io.KnownBytes.{Consumes, Appends, IsAtEnd}
 use Rattle.key_class.specs.declared.refusal.Fault.{Fault}
 use Rattle.key_class.specs.declared.refusal.Fault.TheVariants as fault
 use Rattle.key_class.specs.declared.refusal.Refusal.TheVariants as refusal
+use Rattle.key_class.specs.Limits.{most_bytes}
 use Rattle.query_text.specs.Tokens.{Placed, Cuts}
 use Rattle.front.specs.Lines.{AreLines}
 use Rattle.front.specs.Replies.{refusal_line}
@@ -47,8 +48,8 @@ module _ {S : Type 0} (answers : ℕ → S → List Placed → List ℕ → S �
   -- a line that is too long is refused at the first byte too many
   abbrev pub AnswersLine : S → List ℕ → List ℕ → S → Type 0
   AnswersLine old line text new =
-      ((4096 < length line) × (text ≡ refusal_line (refusal.Line 4096)) × (new ≡ old))
-      ⊎ ((length line ≤ 4096) × (ts : List Placed) × Cuts false 0 line ts × answers (length line) old ts text new)
+      ((most_bytes < length line) × (text ≡ refusal_line (refusal.Line most_bytes)) × (new ≡ old))
+      ⊎ ((length line ≤ most_bytes) × (ts : List Placed) × Cuts false 0 line ts × answers (length line) old ts text new)
 
   -- the text may answer the lines, one after the other
   abbrev pub AnswersLines : S → List (List ℕ) → List ℕ → S → Type 0

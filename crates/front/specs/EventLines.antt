@@ -32,6 +32,7 @@ event_verb_of_word w =
     else (if bytes_eq w (codes "grow") then verb.Grow
     else (if bytes_eq w (codes "find") then verb.Find
     else (if bytes_eq w (codes "seek") then verb.Seek
+    else (if bytes_eq w (codes "move") then verb.Move
     else (if bytes_eq w (codes "unfind") then verb.Unfind
     else (if bytes_eq w (codes "sweep") then verb.Sweep
     else (if bytes_eq w (codes "open") then verb.Open
@@ -39,7 +40,7 @@ event_verb_of_word w =
     else (if bytes_eq w (codes "askmark") then verb.AskMark
     else (if bytes_eq w (codes "take") then verb.Take
     else (if bytes_eq w (codes "close") then verb.Close
-    else verb.Other)))))))))))))
+    else verb.Other))))))))))))))
 
 abbrev pub event_verb_of : Token → EventVerb
 event_verb_of (word w) = event_verb_of_word w
@@ -86,12 +87,13 @@ module _ {C K A : Type 0} (texts : Texts K A) where
       ⊎ (why ≡ refusal.OutOfMemory)
 
 module _ {C K A : Type 0} (key_at : ℕ → List Placed → Reading K) where
-  abbrev pub two_pages_and_key : ℕ → List Placed → Result (Asked C K A) ℕ
-  two_pages_and_key len ts = do
-    parent ← natural_at len ts
-    child ← natural_at len parent.1
-    key ← key_at len child.1
-    alone (one_event (event.Enlarge parent.0 child.0 key.0)) key.1
+  -- an event of two numbers and a key
+  abbrev pub two_numbers_and_key : (ℕ → ℕ → K → Event C K A) → ℕ → List Placed → Result (Asked C K A) ℕ
+  two_numbers_and_key event_of len ts = do
+    first ← natural_at len ts
+    second ← natural_at len first.1
+    key ← key_at len second.1
+    alone (one_event (event_of first.0 second.0 key.0)) key.1
 
   abbrev pub page_key_and_tag : ℕ → List Placed → Result (Asked C K A) ℕ
   page_key_and_tag len ts = do
@@ -124,13 +126,14 @@ cursor_asked len ts = do
 
 -- what the tokens behind a verb ask, or the place of the first fault; any other first token is one
 abbrev pub event_asked_by : {C K A : Type 0} → (ℕ → List Placed → Reading K) → ℕ → ℕ → EventVerb → List Placed → Result (Asked C K A) ℕ
-event_asked_by key_at len place verb.Enlarge ts = two_pages_and_key key_at len ts
+event_asked_by key_at len place verb.Enlarge ts = two_numbers_and_key key_at event.Enlarge len ts
 event_asked_by key_at len place verb.Place ts = page_key_and_tag key_at len ts
 event_asked_by key_at len place verb.Split ts = page_and_sides len ts
 event_asked_by key_at len place verb.Post ts = two_pages len ts
 event_asked_by key_at len place verb.Grow ts = only_sides len ts
 event_asked_by key_at len place verb.Find ts = one_number (λ row. one_event (event.Find row)) len ts
 event_asked_by key_at len place verb.Seek ts = one_number (λ f. one_event (event.Seek f)) len ts
+event_asked_by key_at len place verb.Move ts = two_numbers_and_key key_at event.Move len ts
 event_asked_by key_at len place verb.Unfind ts = one_number (λ f. one_event (event.Unfind f)) len ts
 event_asked_by key_at len place verb.Sweep ts = one_number (λ page. one_event (event.Sweep page)) len ts
 event_asked_by key_at len place verb.Open ts = cursor_asked len ts
@@ -149,6 +152,7 @@ asked_of text (request.Post parent child) = one_event (event.Post parent child)
 asked_of text (request.Grow letters) = one_event (event.Grow (map side_of letters.now))
 asked_of text (request.Find row) = one_event (event.Find row)
 asked_of text (request.Seek f) = one_event (event.Seek f)
+asked_of text (request.Move f leaf key) = one_event (event.Move f leaf key)
 asked_of text (request.Unfind f) = one_event (event.Unfind f)
 asked_of text (request.Sweep page) = one_event (event.Sweep page)
 asked_of text (request.Open room lexemes) = cursor_on room (placed text lexemes.now)

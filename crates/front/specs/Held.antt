@@ -1,6 +1,7 @@
 -- What a session holds of the line that it reads.
 use Rattle.std.specs.Prelude.{◌≡◌, ℕ, ◌<◌, Bool, true, false, List, [], ◌++◌, ◌-◌, take, drop, length, nat_eq, Option, if◌then◌else◌}
 use Rattle.std.specs.Io.KnownBytes.{Consumes, Keeps, IsAtEnd}
+use Rattle.key_class.specs.Limits.{most_bytes}
 use Rattle.key_class.specs.declared.refusal.Fault.{Fault}
 use Rattle.key_class.specs.declared.refusal.Fault.TheVariants as fault
 
@@ -39,4 +40,4 @@ AreMovedToFront start end old new n = (n ≡ end - start) × (n < length new) ×
 -- the line is all that is held of it, or, where its first bytes were let go, has more bytes than a line may have
 abbrev pub IsRestOf : Bool → List ℕ → List ℕ → Type 0
 IsRestOf false whole line = whole ≡ line
-IsRestOf true whole line = 4096 < length whole
+IsRestOf true whole line = most_bytes < length whole

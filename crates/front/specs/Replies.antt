@@ -27,17 +27,27 @@ abbrev pub refusal_line : Refusal → List ℕ
 refusal_line why = codes "refused " ++ (refusals.refusal_text why ++ codes "\n")
 
 module _ {K : Type 0} (key_text : K → List ℕ) where
+  -- a row's key and its tag
+  abbrev pub content_text : Row K → List ℕ
+  content_text r = key_text r.key ++ (codes " " ++ decimal r.tag)
+
   -- a row's number, its key and its tag
   abbrev pub row_text : Row K → List ℕ
-  row_text r = decimal r.row ++ (codes " " ++ (key_text r.key ++ (codes " " ++ decimal r.tag)))
+  row_text r = decimal r.row ++ (codes " " ++ content_text r)
 
   abbrev pub row_line : Row K → List ℕ
   row_line r = codes "row " ++ (row_text r ++ codes "\n")
+
+  -- of the row that a move made, and the number of the row that it ended
+  abbrev pub moved_line : Row K → ℕ → List ℕ
+  moved_line r ended =
+      codes "moved " ++ (decimal r.row ++ (codes " " ++ (decimal ended ++ (codes " " ++ (content_text r ++ codes "\n")))))
 
   abbrev pub item_line : Item K → List ℕ
   item_line (item.Row r) = row_line r
   item_line (item.Inserted r) = codes "inserted " ++ (row_text r ++ codes "\n")
   item_line (item.Deleted n row) = codes "deleted " ++ (decimal n ++ (codes " " ++ (decimal row ++ codes "\n")))
+  item_line (item.Moved r ended) = moved_line r ended
   item_line (item.Mark n) = codes "mark " ++ (decimal n ++ codes "\n")
 
   -- the first line of a reply

@@ -15,13 +15,14 @@ abbrev pub verb_of_word : List ℕ → Verb
 verb_of_word w =
     if bytes_eq w (codes "insert") then verb.Insert
     else (if bytes_eq w (codes "delete") then verb.Delete
+    else (if bytes_eq w (codes "move") then verb.Move
     else (if bytes_eq w (codes "open") then verb.Open
     else (if bytes_eq w (codes "next") then verb.Next
     else (if bytes_eq w (codes "mark") then verb.Mark
     else (if bytes_eq w (codes "find") then verb.Find
     else (if bytes_eq w (codes "sweep") then verb.Sweep
     else (if bytes_eq w (codes "close") then verb.Close
-    else verb.Other)))))))
+    else verb.Other))))))))
 
 abbrev pub verb_of : Token → Verb
 verb_of (word w) = verb_of_word w
@@ -31,6 +32,7 @@ verb_of _ = verb.Other
 pub data Command (K : Type 0) : Type 0 where
   insert_row : K → ℕ → Command K
   delete_row next_item ask_mark close_cursor : ℕ → Command K
+  move_row : ℕ → K → Command K
   open_cursor : ℕ → List Placed → Command K
   find_rows : List Placed → Command K
   sweep_all : Command K
@@ -58,6 +60,12 @@ key_and_tag key_at len ts = do
   tag ← natural_at len key.1
   alone (insert_row key.0 tag.0) tag.1
 
+abbrev pub number_and_key : {K : Type 0} → (ℕ → List Placed → Reading K) → ℕ → List Placed → Result (Command K) ℕ
+number_and_key key_at len ts = do
+  row ← natural_at len ts
+  key ← key_at len row.1
+  alone (move_row row.0 key.0) key.1
+
 abbrev pub room_and_query : {K : Type 0} → ℕ → List Placed → Result (Command K) ℕ
 room_and_query len ts = do
   room ← natural_at len ts
@@ -67,6 +75,7 @@ room_and_query len ts = do
 abbrev pub asked_by : {K : Type 0} → (ℕ → List Placed → Reading K) → ℕ → ℕ → Verb → List Placed → Result (Command K) ℕ
 asked_by key_at len place verb.Insert ts = key_and_tag key_at len ts
 asked_by key_at len place verb.Delete ts = one_number delete_row len ts
+asked_by key_at len place verb.Move ts = number_and_key key_at len ts
 asked_by key_at len place verb.Open ts = room_and_query len ts
 asked_by key_at len place verb.Next ts = one_number next_item len ts
 asked_by key_at len place verb.Mark ts = one_number ask_mark len ts
@@ -79,6 +88,7 @@ asked_by key_at len place verb.Other ts = Err place
 abbrev pub command_of : {K : Type 0} → List ℕ → Request K → Command K
 command_of text (request.Insert key tag) = insert_row key tag
 command_of text (request.Delete row) = delete_row row
+command_of text (request.Move row key) = move_row row key
 command_of text (request.Open room lexemes) = open_cursor room (placed text lexemes.now)
 command_of text (request.Next cursor) = next_item cursor
 command_of text (request.Mark cursor) = ask_mark cursor

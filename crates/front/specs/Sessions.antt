@@ -11,9 +11,9 @@ use Rattle.query_text.specs.Grammar.{SpellsQuery, RefusesTokens}
 use Rattle.front.specs.declared.request.Request.{Request}
 use Rattle.front.specs.declared.reply.Reply.{Reply}
 use Rattle.front.specs.declared.reply.Reply.TheVariants as reply
-use Rattle.front.specs.Requests.{Command, insert_row, delete_row, next_item, ask_mark, close_cursor, open_cursor, find_rows, sweep_all, asked_by, verb_of, command_of}
+use Rattle.front.specs.Requests.{Command, insert_row, delete_row, move_row, next_item, ask_mark, close_cursor, open_cursor, find_rows, sweep_all, asked_by, verb_of, command_of}
 use Rattle.front.specs.Replies.{reply_text}
-use Rattle.front.specs.Told.{Told, nothing_told, RepliesInsert, RepliesDelete, RepliesOpen, RepliesNext, RepliesMark, RepliesFind, RepliesSweep, RepliesClose}
+use Rattle.front.specs.Told.{Told, nothing_told, RepliesInsert, RepliesDelete, RepliesMove, RepliesOpen, RepliesNext, RepliesMark, RepliesFind, RepliesSweep, RepliesClose}
 use Rattle.front.specs.AsTold.{IsAsTold, Tells}
 use Rattle.front.specs.Conversations.{Exchange, AnsweredAll, AnsweredWhole, AnsweredFirst}
 
@@ -35,6 +35,7 @@ module _ {K A : Type 0} (texts : Texts K A) where
     abbrev pub RepliesTo : ℕ → Command K → Reply K → Told K A → Told K A → Type 0
     RepliesTo len (insert_row key tag) said old new = RepliesInsert key tag said old new
     RepliesTo len (delete_row row) said old new = RepliesDelete row said old new
+    RepliesTo len (move_row row key) said old new = RepliesMove row key said old new
     RepliesTo len (open_cursor room ts) said old new = WithQuery len ts (RepliesOpen room) said old new
     RepliesTo len (next_item c) said old new = RepliesNext rules c said old new
     RepliesTo len (ask_mark c) said old new = RepliesMark c said old new

@@ -3,6 +3,7 @@ use Rattle.std.specs.Prelude.{◌≡◌, ℕ, ◌+◌, ◌-◌, ◌<◌, ◌≤�
 use Rattle.std.specs.List.{AllByRecursion}
 use Rattle.key_class.specs.declared.refusal.Refusal.{Refusal}
 use Rattle.key_class.specs.declared.refusal.Refusal.TheVariants as refusal
+use Rattle.key_class.specs.Limits.{greatest_serial, most_cursors, most_room}
 use Rattle.key_class.specs.Queries.{Query}
 use Rattle.key_class.specs.Rules.{Rules, satisfies}
 use Rattle.change_list.specs.declared.write.Write.{Write}
@@ -44,7 +45,7 @@ pub record Told (K A : Type 0) : Type 0 where
   pub finders : ℕ
 
 abbrev pub IsBadRoom : ℕ → Type 0
-IsBadRoom room = (room ≡ 0) ⊎ (4096 < room)
+IsBadRoom room = (room ≡ 0) ⊎ (most_room < room)
 
 module _ {K A : Type 0} where
   -- before the first line
@@ -59,11 +60,11 @@ module _ {K A : Type 0} where
   IsFullAsTold told = told.limit ≤ length told.commits
 
   abbrev pub HasNoCursorLeft : Told K A → Type 0
-  HasNoCursorLeft told = (256 ≤ told.open_cursors) ⊎ (4294967295 ≤ told.last)
+  HasNoCursorLeft told = (most_cursors ≤ told.open_cursors) ⊎ (greatest_serial ≤ told.last)
 
   -- no finder may be left
   abbrev pub MayLackFinders : Told K A → Type 0
-  MayLackFinders told = 4294967295 ≤ told.finders
+  MayLackFinders told = greatest_serial ≤ told.finders
 
   -- fewer than two pages may be left: at most one more was made than there are commits
   abbrev pub MayLackPages : Told K A → Type 0
@@ -77,16 +78,32 @@ module _ {K A : Type 0} where
   RepliesInsert key tag (reply.Refused refusal.OutOfMemory) old new = (¬ IsFullAsTold old) × (new ≡ old)
   RepliesInsert key tag _ old new = ⊥
 
+  -- why a row doesn't end
+  abbrev pub RefusesToEnd : ℕ → Refusal → Told K A → Told K A → Type 0
+  RefusesToEnd row refusal.NoSuchRow old new = (status_of old.commits row ≡ status.NeverIssued) × (new ≡ old)
+  RefusesToEnd row refusal.AlreadyDeleted old new = (status_of old.commits row ≡ status.Dead) × (new ≡ old)
+  RefusesToEnd row refusal.CommitsFull old new = (status_of old.commits row ≡ status.Live) × IsFullAsTold old × (new ≡ old)
+  RefusesToEnd row refusal.OutOfMemory old new = (status_of old.commits row ≡ status.Live) × (¬ IsFullAsTold old) × (new ≡ record old { finders = old.finders + 1 })
+  RefusesToEnd row refusal.FindersFull old new = (status_of old.commits row ≡ status.Live) × (¬ IsFullAsTold old) × MayLackFinders old × (new ≡ old)
+  RefusesToEnd row _ old new = ⊥
+
+  -- the row may end, but there may be too few pages for another key
+  abbrev pub LacksPagesFor : ℕ → Refusal → Told K A → Told K A → Type 0
+  LacksPagesFor row why old new = (why ≡ refusal.PagesFull) × (status_of old.commits row ≡ status.Live) × (¬ IsFullAsTold old) × MayLackPages old × (new ≡ old)
+
   abbrev pub RepliesDelete : ℕ → Reply K → Told K A → Told K A → Type 0
   RepliesDelete row (reply.Committed n) old new =
       (status_of old.commits row ≡ status.Live) × (¬ IsFullAsTold old) × (n ≡ length old.commits + 1)
       × (new ≡ record old { commits = old.commits ++ write.Delete row ∷ []; dead = (record { row = row; died = n }) ∷ old.dead; finders = old.finders + 1 })
-  RepliesDelete row (reply.Refused refusal.NoSuchRow) old new = (status_of old.commits row ≡ status.NeverIssued) × (new ≡ old)
-  RepliesDelete row (reply.Refused refusal.AlreadyDeleted) old new = (status_of old.commits row ≡ status.Dead) × (new ≡ old)
-  RepliesDelete row (reply.Refused refusal.CommitsFull) old new = (status_of old.commits row ≡ status.Live) × IsFullAsTold old × (new ≡ old)
-  RepliesDelete row (reply.Refused refusal.OutOfMemory) old new = (status_of old.commits row ≡ status.Live) × (¬ IsFullAsTold old) × (new ≡ record old { finders = old.finders + 1 })
-  RepliesDelete row (reply.Refused refusal.FindersFull) old new = (status_of old.commits row ≡ status.Live) × (¬ IsFullAsTold old) × MayLackFinders old × (new ≡ old)
+  RepliesDelete row (reply.Refused why) old new = RefusesToEnd row why old new
   RepliesDelete row _ old new = ⊥
+
+  abbrev pub RepliesMove : ℕ → K → Reply K → Told K A → Told K A → Type 0
+  RepliesMove row key (reply.Committed n) old new =
+      (status_of old.commits row ≡ status.Live) × (¬ IsFullAsTold old) × (n ≡ length old.commits + 1)
+      × (new ≡ record old { commits = old.commits ++ write.Move row key ∷ []; dead = (record { row = row; died = n }) ∷ old.dead; finders = old.finders + 1 })
+  RepliesMove row key (reply.Refused why) old new = RefusesToEnd row why old new ⊎ LacksPagesFor row why old new
+  RepliesMove row key _ old new = ⊥
 
   abbrev pub RepliesOpen : ℕ → Query A → Reply K → Told K A → Told K A → Type 0
   RepliesOpen room query (reply.Opened c) old new =

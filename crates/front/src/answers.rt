@@ -1,6 +1,6 @@
 ghost use Rattle.std.specs.Prelude.{◌≡◌, ◌+◌, ◌≤◌, [], ◌++◌, length, OnOk, IfErr, OnErr};
 ghost use Rattle.std.specs.List.{flat_map};
-ghost use Rattle.front.specs.Replies.{row_text, row_line, item_line, refusal_line, first_line, listed, reply_text, numbered_line, pair_line};
+ghost use Rattle.front.specs.Replies.{row_text, row_line, item_line, refusal_line, first_line, listed, reply_text, numbered_line, pair_line, content_text, moved_line};
 ghost use Rattle.std.specs.Io.KnownBytes.{Appends};
 ghost use Rattle.front.specs.Written.{HasRoomForLine, Says, TakesBeginning};
 
@@ -14,7 +14,7 @@ use std::io::{ErrorKind, Write};
 /// How many bytes of answers are gathered before they are written.
 const GATHERED: usize = 512;
 
-/// The room for fewer bytes than are written at once, and for one line more, which has at most 455.
+/// The room for fewer bytes than are written at once, and for one line more, which has at most 473.
 const ANSWERS: usize = 1_024;
 
 /// Answers that are gathered, in an array: no memory is asked for them.
@@ -96,6 +96,17 @@ pub fn append_pair(gathered: &mut Gathered, words: &[u8], first: u64, second: u6
     append_numbered(gathered, b" ", second);
 }
 
+/// Appends a row's key and tag.
+fn append_content<C: ClassText>(gathered: &mut Gathered, row: &Row<C::Key>)
+    requires room { length gathered.old.items + 424 ≤ 1024 }
+    ensures text { gathered.new.items ≡ gathered.old.items ++ content_text C.texts.key_text row.now }
+    ensures short { length gathered.new.items ≤ length gathered.old.items + 424 }
+{
+    append(gathered, C::text(row.key).as_slice());
+    append(gathered, b" ");
+    append_number(gathered, row.tag);
+}
+
 /// Appends a row's number, key and tag.
 fn append_row<C: ClassText>(gathered: &mut Gathered, row: &Row<C::Key>)
     requires room { length gathered.old.items + 445 ≤ 1024 }
@@ -104,9 +115,7 @@ fn append_row<C: ClassText>(gathered: &mut Gathered, row: &Row<C::Key>)
 {
     append_number(gathered, row.row);
     append(gathered, b" ");
-    append(gathered, C::text(row.key).as_slice());
-    append(gathered, b" ");
-    append_number(gathered, row.tag);
+    append_content::<C>(gathered, row);
 }
 
 /// Appends the line of a row.
@@ -116,6 +125,20 @@ fn append_row_line<C: ClassText>(gathered: &mut Gathered, row: &Row<C::Key>)
 {
     append(gathered, b"row ");
     append_row::<C>(gathered, row);
+    append(gathered, b"\n");
+}
+
+/// Appends the line of a move: of the row that it made, and the number of the row that it ended.
+fn append_moved_line<C: ClassText>(gathered: &mut Gathered, row: &Row<C::Key>, ended: u64)
+    requires room { HasRoomForLine gathered.old.items }
+    ensures { gathered.new.items ≡ gathered.old.items ++ moved_line C.texts.key_text row.now ended }
+{
+    append(gathered, b"moved ");
+    append_number(gathered, row.row);
+    append(gathered, b" ");
+    append_number(gathered, ended);
+    append(gathered, b" ");
+    append_content::<C>(gathered, row);
     append(gathered, b"\n");
 }
 
@@ -132,6 +155,7 @@ pub fn append_item<C: ClassText>(gathered: &mut Gathered, item: &Item<C::Key>)
             append(gathered, b"\n");
         }
         Item::Deleted(number, row) => append_pair(gathered, b"deleted ", *number, *row),
+        Item::Moved(row, ended) => append_moved_line::<C>(gathered, row, *ended),
         Item::Mark(number) => append_numbered(gathered, b"mark ", *number),
     }
 }

@@ -1,6 +1,7 @@
 ghost use Rattle.std.specs.Prelude.{◌≤◌};
+ghost use Rattle.key_class.specs.Limits.{most_depth};
 ghost use Rattle.key_class.specs.Queries.{query_of, depth_of};
-ghost use Rattle.front.specs.Told.{RepliesInsert, RepliesDelete, RepliesOpen, RepliesNext, RepliesMark, RepliesFind, RepliesSweep, RepliesClose};
+ghost use Rattle.front.specs.Told.{RepliesInsert, RepliesDelete, RepliesMove, RepliesOpen, RepliesNext, RepliesMark, RepliesFind, RepliesSweep, RepliesClose};
 ghost use Rattle.front.specs.AsTold.{Tells};
 
 use crate::reply::Reply;
@@ -27,9 +28,19 @@ pub fn delete<C: KeyClass>(store: &mut Store<C>, row: u64) -> Reply<C::Key>
     }
 }
 
+/// Moves a row.
+pub fn move_row<C: KeyClass>(store: &mut Store<C>, row: u64, key: C::Key) -> Reply<C::Key>
+    ensures { Tells C.rules store.old store.new (RepliesMove row key result) }
+{
+    match store.move_row(row, key) {
+        Ok(number) => Reply::Committed(number),
+        Err(why) => Reply::Refused(why),
+    }
+}
+
 /// Opens a cursor.
 pub fn open<C: KeyClass>(store: &mut Store<C>, room: u64, query: Pred<C::Atom>) -> Reply<C::Key>
-    requires { depth_of (query_of query) ≤ 32 }
+    requires { depth_of (query_of query) ≤ most_depth }
     ensures { Tells C.rules store.old store.new (RepliesOpen room (query_of query) result) }
 {
     match store.open(query, room) {
@@ -61,7 +72,7 @@ pub fn mark<C: KeyClass>(store: &mut Store<C>, cursor: u64) -> Reply<C::Key>
 
 /// Finds the rows that match.
 pub fn find<C: KeyClass>(store: &mut Store<C>, query: &Pred<C::Atom>) -> Reply<C::Key>
-    requires { depth_of (query_of query.now) ≤ 32 }
+    requires { depth_of (query_of query.now) ≤ most_depth }
     ensures { Tells C.rules store.old store.new (RepliesFind C.rules (query_of query.now) result) }
 {
     match store.find(query) {

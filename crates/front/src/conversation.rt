@@ -6,7 +6,8 @@ ghost use Rattle.front.specs.Held.{IsRestOf};
 ghost use Rattle.front.specs.Written.{HasRoomForLine, Says};
 
 use crate::answers::{Gathered, gather_refusal, send};
-use crate::line_buffer::{LineBuffer, MAX_LINE};
+use crate::line_buffer::LineBuffer;
+use key_class::limits::MAX_LINE;
 use key_class::{Fault, Refusal};
 use query_text::{Lexeme, scan};
 use std::alloc::Global;

@@ -2,7 +2,8 @@
 ghost use Rattle.std.specs.Prelude.{◌≡◌, Ok, Err};
 ghost use Rattle.std.specs.List.{list_all};
 ghost use Rattle.query_text.specs.Tokens.{token_in};
-ghost use Rattle.front.specs.EventLines.{event_verb_of, event_verb_of_word, is_side, two_pages_and_key, page_key_and_tag, page_and_sides, two_pages, only_sides, cursor_asked, event_from, IsEventAsked, GivesSides};
+ghost use Rattle.world.specs.declared.event.Event.TheVariants as event;
+ghost use Rattle.front.specs.EventLines.{event_verb_of, event_verb_of_word, is_side, two_numbers_and_key, page_key_and_tag, page_and_sides, two_pages, only_sides, cursor_asked, event_from, IsEventAsked, GivesSides};
 
 use crate::tokens::{end, lone_number, natural};
 use query_text::{ClassText, Kind, Lexeme};
@@ -17,6 +18,7 @@ pub enum EventVerb {
     Grow,
     Find,
     Seek,
+    Move,
     Unfind,
     Sweep,
     Open,
@@ -38,6 +40,7 @@ pub enum EventRequest<'a, K> {
     Grow(&'a [u8]),
     Find(u64),
     Seek(u64),
+    Move(u64, u64, K),
     Unfind(u64),
     Sweep(u64),
     Open(u64, &'a [Lexeme]),
@@ -64,6 +67,8 @@ fn verb_of_word(word: &[u8]) -> EventVerb
         EventVerb::Find
     } else if word == b"seek".as_slice() {
         EventVerb::Seek
+    } else if word == b"move".as_slice() {
+        EventVerb::Move
     } else if word == b"unfind".as_slice() {
         EventVerb::Unfind
     } else if word == b"sweep".as_slice() {
@@ -127,7 +132,8 @@ fn enlarge<'a, C: ClassText>(
     text: &'a [u8],
     lexemes: &'a [Lexeme],
 ) -> Result<EventRequest<'a, C::Key>, usize>
-    ensures { IsEventAsked C C.Atom (two_pages_and_key C.texts.key_at) text.now lexemes.now result }
+    ensures { IsEventAsked C C.Atom (two_numbers_and_key C.texts.key_at event.Enlarge)
+        text.now lexemes.now result }
 {
     let parent = natural(text, lexemes)?;
     let child = natural(text, parent.1)?;
@@ -147,6 +153,20 @@ fn place<'a, C: ClassText>(
     let tag = natural(text, key.1)?;
     end(tag.1)?;
     Ok(EventRequest::Place(page.0, key.0, tag.0))
+}
+
+fn move_row<'a, C: ClassText>(
+    text: &'a [u8],
+    lexemes: &'a [Lexeme],
+) -> Result<EventRequest<'a, C::Key>, usize>
+    ensures { IsEventAsked C C.Atom (two_numbers_and_key C.texts.key_at event.Move)
+        text.now lexemes.now result }
+{
+    let finder = natural(text, lexemes)?;
+    let leaf = natural(text, finder.1)?;
+    let key = C::read_key(text, leaf.1)?;
+    end(key.1)?;
+    Ok(EventRequest::Move(finder.0, leaf.0, key.0))
 }
 
 fn split<'a, C: ClassText>(
@@ -213,6 +233,7 @@ pub fn read_event<'a, C: ClassText>(
         EventVerb::Grow => grow::<C>(text, rest),
         EventVerb::Find => Ok(EventRequest::Find(lone_number(text, rest)?)),
         EventVerb::Seek => Ok(EventRequest::Seek(lone_number(text, rest)?)),
+        EventVerb::Move => move_row::<C>(text, rest),
         EventVerb::Unfind => Ok(EventRequest::Unfind(lone_number(text, rest)?)),
         EventVerb::Sweep => Ok(EventRequest::Sweep(lone_number(text, rest)?)),
         EventVerb::Open => open::<C>(text, rest),

@@ -62,6 +62,7 @@ fn event_of<C: ClassText>(
         EventRequest::Grow(letters) => Ok(Event::Grow(collect_sides(alloc, letters)?)),
         EventRequest::Find(row) => Ok(Event::Find(row)),
         EventRequest::Seek(finder) => Ok(Event::Seek(finder)),
+        EventRequest::Move(finder, leaf, key) => Ok(Event::Move(finder, leaf, key)),
         EventRequest::Unfind(finder) => Ok(Event::Unfind(finder)),
         EventRequest::Sweep(page) => Ok(Event::Sweep(page)),
         EventRequest::Open(room, lexemes) => {

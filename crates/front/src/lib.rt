@@ -14,6 +14,5 @@ mod serve;
 mod tokens;
 
 pub use events::replay;
-pub use line_buffer::MAX_LINE;
 pub use reply::Reply;
 pub use serve::session;

@@ -4,12 +4,10 @@ ghost use Rattle.front.specs.Lines.{HasNoFeed, IsFirstFeed, IsFirstLine};
 ghost use Rattle.front.specs.Held.{Held, AreMovedToFront, FailsToRead, FillsFrom, ReadsMore};
 
 use key_class::Fault;
+use key_class::limits::MAX_LINE;
 use std::alloc::{AllocError, Global};
 use std::io::Read;
 use std::marker::Model;
-
-/// The most bytes that a line may have, its line feed not counted.
-pub const MAX_LINE: usize = 4_096;
 
 /// How many bytes are held: as many as a line may have, and one more.
 const ROOM: usize = 4_097;

@@ -1,6 +1,6 @@
 ghost use Rattle.std.specs.Prelude.{◌≡◌};
 ghost use Rattle.query_text.specs.Tokens.{token_in};
-ghost use Rattle.front.specs.Requests.{verb_of, verb_of_word, key_and_tag, room_and_query, asked_from, IsAsked};
+ghost use Rattle.front.specs.Requests.{verb_of, verb_of_word, key_and_tag, number_and_key, room_and_query, asked_from, IsAsked};
 
 use crate::tokens::{end, lone_number, natural};
 use query_text::{ClassText, Kind, Lexeme};
@@ -10,6 +10,7 @@ use query_text::{ClassText, Kind, Lexeme};
 pub enum Verb {
     Insert,
     Delete,
+    Move,
     Open,
     Next,
     Mark,
@@ -25,6 +26,7 @@ pub enum Verb {
 pub enum Request<'a, K> {
     Insert(K, u64),
     Delete(u64),
+    Move(u64, K),
     Open(u64, &'a [Lexeme]),
     Next(u64),
     Mark(u64),
@@ -40,6 +42,8 @@ fn verb_of_word(word: &[u8]) -> Verb
         Verb::Insert
     } else if word == b"delete".as_slice() {
         Verb::Delete
+    } else if word == b"move".as_slice() {
+        Verb::Move
     } else if word == b"open".as_slice() {
         Verb::Open
     } else if word == b"next".as_slice() {
@@ -79,6 +83,18 @@ fn insert<'a, C: ClassText>(
     Ok(Request::Insert(key.0, tag.0))
 }
 
+fn move_row<'a, C: ClassText>(
+    text: &[u8],
+    lexemes: &'a [Lexeme],
+) -> Result<Request<'a, C::Key>, usize>
+    ensures { IsAsked (number_and_key C.texts.key_at) text.now lexemes.now result }
+{
+    let row = natural(text, lexemes)?;
+    let key = C::read_key(text, row.1)?;
+    end(key.1)?;
+    Ok(Request::Move(row.0, key.0))
+}
+
 fn open<'a, K: Copy>(text: &[u8], lexemes: &'a [Lexeme]) -> Result<Request<'a, K>, usize>
     ensures { IsAsked room_and_query text.now lexemes.now result }
 {
@@ -100,6 +116,7 @@ pub fn read_request<'a, C: ClassText>(
     match read_verb(text, first) {
         Verb::Insert => insert::<C>(text, rest),
         Verb::Delete => Ok(Request::Delete(lone_number(text, rest)?)),
+        Verb::Move => move_row::<C>(text, rest),
         Verb::Open => open(text, rest),
         Verb::Next => Ok(Request::Next(lone_number(text, rest)?)),
         Verb::Mark => Ok(Request::Mark(lone_number(text, rest)?)),

@@ -5,7 +5,7 @@ ghost use Rattle.change_list.specs.declared.config.Config.{Config};
 ghost use Rattle.front.specs.Conversations.{IfOutOfMemory, IfReadFails, IfWriteFails, IsConversationFault, Kept, exchange};
 
 use crate::answers::{Gathered, write_reply};
-use crate::commands::{close, delete, find, insert, mark, next, open, sweep};
+use crate::commands::{close, delete, find, insert, mark, move_row, next, open, sweep};
 use crate::conversation::{Responder, converse};
 use crate::reply::Reply;
 use crate::request::{Request, read_request};
@@ -59,6 +59,7 @@ fn carry_out<C: ClassText>(
     match request {
         Request::Insert(key, tag) => insert(store, key, tag),
         Request::Delete(row) => delete(store, row),
+        Request::Move(row, key) => move_row(store, row, key),
         Request::Open(room, lexemes) => open_query(alloc, store, text, room, lexemes),
         Request::Next(cursor) => next(store, cursor),
         Request::Mark(cursor) => mark(store, cursor),

@@ -3,6 +3,7 @@ use Rattle.std.specs.Prelude.{◌≡◌, List, Result, Ok, Err, ◌⊎◌}
 use Rattle.std.specs.Borrow.{Bor}
 use Rattle.change_list.specs.Configs.{IsWithinLimits}
 use Rattle.change_list.specs.declared.config.Config.{Config}
+use Rattle.key_class.specs.Limits.{most_commits, most_pages}
 use Rattle.key_class.specs.Rules.{Rules}
 use Rattle.key_class.specs.declared.refusal.Fault.{Fault}
 use Rattle.key_class.specs.declared.refusal.Fault.TheVariants as fault
@@ -37,7 +38,7 @@ use Rattle.gist.specs.declared.options.Settings.TheVariants as settings
 
 -- the options with the greatest limits of pages and commits
 abbrev pub limits_of : StoreOptions → Config
-limits_of options = record { fan = options.fan; least = options.least; pages = 65536; commits = 16777216 }
+limits_of options = record { fan = options.fan; least = options.least; pages = most_pages; commits = most_commits }
 
 -- All bytes of the reader were lines of a session over this store, and what was written answers them. At the end the
 -- store is as the answers tell.

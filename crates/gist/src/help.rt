@@ -21,12 +21,14 @@ pub const SERVE_GUIDE: &str = "\
 Commands, one a line, with what answers them:
   insert KEY TAG   adds a row             committed ROW
   delete ROW       deletes a row          committed COMMIT
+  move ROW KEY     gives a row a new key  committed NEW, the row's new number
   find QUERY       rows that match now    found COUNT, and a line for each
                                           row ROW KEY TAG
   open ROOM QUERY  opens a cursor         opened CURSOR (ROOM is 1 to 4096)
   next CURSOR      a cursor's next item   row ROW KEY TAG   there at its opening
                                           inserted ROW KEY TAG    a later insert
                                           deleted COMMIT ROW      a later delete
+                                          moved NEW ROW KEY TAG   a later move
                                           mark COMMIT  all up to it was given
                                           empty        nothing is left for now
   mark CURSOR      asks for a mark        asked
@@ -34,7 +36,7 @@ Commands, one a line, with what answers them:
   close CURSOR     closes a cursor        closed
 A line that can't be carried out changes nothing and is answered by refused,
 the cause's number and name, and the place of a fault of the line.
-ROW is the number of the commit that inserted the row, TAG below 2 to the 64th.
+ROW is the number of the commit that made the row, TAG below 2 to the 64th.
 
 Keys, of the class interval where none is named:
   interval  (LO HI)        numbers of 64 bits, LO not above HI, both inside
@@ -46,15 +48,14 @@ Queries, joined by and, or, not and round brackets:
   holds KEY        KEY lies inside the row's key
   same KEY         the row's key is KEY
 
-A row costs some 90 bytes. A larger fan makes fewer pages, and each takes
-longer: 8 suits some thousand rows, --fan 32 --least 12 many.
+A row costs some 90 bytes. For many rows --fan 32 --least 12 is faster.
 
 A session:
   insert (5 5) 0         => committed 1
   open 4 overlaps(0 9)   => opened 1
-  insert (6 6) 7         => committed 2
+  move 1 (6 6)           => committed 2
   next 1                 => row 1 (5 5) 0
-  next 1                 => inserted 2 (6 6) 7";
+  next 1                 => moved 2 1 (6 6) 0";
 
 /// What `replay` does.
 pub const REPLAY_ABOUT: &str = "Carries out the events on standard input, step by step";
@@ -74,6 +75,8 @@ Events, one a line, with what answers them:
   sweep PAGE             removes dead rows no scan needs      swept COUNT
   find ROW               opens a finder, to look for a row    finder FINDER
   seek FINDER            visits a page, deletes the row there committed COMMIT
+                                                              or seeking
+  move FINDER PAGE KEY   the same, moves the row to a leaf    committed ROW
                                                               or seeking
   unfind FINDER          closes a finder                      unfound
   open ROOM QUERY        opens a cursor with room for ROOM    opened CURSOR

@@ -19,6 +19,7 @@ use clap::Error;
 use clap::error::ErrorKind;
 use front::session;
 use interval_class::Intervals;
+use key_class::limits::{MAX_COMMITS, MAX_PAGES};
 use key_class::{Fault, Refusal};
 use mailbox::Tray;
 use query_text::{ClassText, append, append_number};
@@ -41,8 +42,8 @@ fn config_of(options: StoreOptions) -> Config
     Config {
         fan: options.fan,
         least: options.least,
-        pages: 65_536,
-        commits: 16_777_216,
+        pages: MAX_PAGES,
+        commits: MAX_COMMITS,
     }
 }
 

@@ -1,13 +1,16 @@
 //! Single steps of an insertion.
-ghost use Rattle.std.specs.Prelude.{◌≡◌, ◌<◌, ◌+◌, length, IfOk, IfErr, OnOk, OnErr, IsPermutation};
+ghost use Rattle.std.specs.Prelude.{◌≡◌, ◌<◌, length, IfOk, IfErr, OnOk, OnErr, IsPermutation};
 ghost use Rattle.change_list.specs.declared.write.Write.TheVariants.{Insert};
+ghost use Rattle.world.specs.Promises.{KeepsMailboxes};
 ghost use Rattle.world.specs.Resting.{Rests, deaths};
 ghost use Rattle.world.specs.States.{AddsCommit, IsSoundWorld};
+ghost use Rattle.world.specs.Visits.{IsOneEvent};
 ghost use Rattle.insertion.specs.PageSteps.{MayMove, MayPlace, Moves, MovesPages, IsWanting};
+ghost use Rattle.insertion.specs.Visits.{IsNextStamp};
 
 use key_class::{KeyClass, Refusal};
 use mailbox::Outlet;
-use world::{Event, Reply, World};
+use world::{Event, Reply, Stamped, World};
 
 /// Carries out a step that changes pages alone.
 ///
@@ -29,21 +32,25 @@ pub(crate) fn move_pages<C: KeyClass, O: Outlet<C::Key>>(
     }
 }
 
-/// Adds a row to a leaf, and gives the number of its commit.
+/// Adds a row to a leaf for a seat.
 ///
 /// # Errors
 /// Memory was wanting; nothing is changed then.
 pub(crate) fn place<C: KeyClass, O: Outlet<C::Key>>(
     world: &mut World<C, O>,
+    seat: u32,
     leaf: u32,
     key: C::Key,
     tag: u64,
-) -> Result<u64, Refusal>
+) -> Result<Stamped<C::Key>, Refusal>
     requires passes { MayPlace C.rules.is_cover world.old.search leaf key }
     requires room { length world.old.commits < world.old.limit }
-    ensures number { IfOk result (λ number. number ≡ length world.old.commits + 1) }
+    ensures stamped { IfOk result (IsNextStamp world.old seat (Insert key tag)) }
     ensures committed { OnOk result (AddsCommit world.old (Insert key tag) world.new) }
     ensures unchanged { OnErr result (world.new ≡ world.old) }
+    ensures one_event { IsOneEvent C O O.End C.rules O.rule seat world.old world.new }
+    ensures sound { IsSoundWorld C.rules.is_cover world.new }
+    ensures mailboxes { KeepsMailboxes C.rules O.rule world.old world.new }
     ensures rests { Rests C.rules O.rule world.old world.new }
     ensures dead { IsPermutation (deaths world.old.search.tree) (deaths world.new.search.tree) }
     ensures finders { world.new.finders ≡ world.old.finders }
@@ -51,8 +58,8 @@ pub(crate) fn place<C: KeyClass, O: Outlet<C::Key>>(
     ensures refusals { IfErr result (λ why. why ≡ Refusal.OutOfMemory) }
 {
     world.recall_soundness();
-    match world.step(Event::Place(u64::from(leaf), key, tag)) {
-        Reply::Committed(stamp) => Ok(stamp.number()),
+    match world.step_as(seat, Event::Place(u64::from(leaf), key, tag)) {
+        Reply::Committed(stamp) => Ok(stamp),
         Reply::Refused(why) => Err(why),
         _ => unreachable!(),
     }

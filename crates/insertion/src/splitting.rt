@@ -5,7 +5,7 @@ ghost use Rattle.world.specs.States.{IsSoundWorld};
 ghost use Rattle.insertion.specs.PageSteps.{IsWanting};
 ghost use Rattle.insertion.specs.Visits.{SplitsAtMost, TellsInTime};
 
-use crate::visit::make;
+use crate::approach::make;
 use key_class::{KeyClass, Refusal};
 use mailbox::Outlet;
 use world::{SplitTask, World};

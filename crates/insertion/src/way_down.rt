@@ -4,8 +4,8 @@ ghost use Rattle.world.specs.Resting.{Rests, deaths};
 ghost use Rattle.world.specs.States.{AddsCommit, IsFullOfCommits};
 ghost use Rattle.insertion.specs.PageSteps.{IsFullOrWanting, IsWanting, MayPlace, MovesPages};
 
+use crate::approach::resumed;
 use crate::page_steps::{move_pages, place};
-use crate::visit::resumed;
 use descent::{Step, next_step};
 use key_class::{KeyClass, Refusal};
 use mailbox::Outlet;
@@ -42,14 +42,15 @@ pub fn insert<C: KeyClass, O: Outlet<C::Key>>(
         return Err(Refusal::CommitsFull);
     }
     let leaf = make_way(alloc, world, key)?;
-    place(world, leaf, key, tag)
+    let stamp = place(world, 0, leaf, key, tag)?;
+    Ok(stamp.number())
 }
 
 /// Goes down to a leaf that takes the key, with the changes of pages that this needs, and gives the leaf's number.
 ///
 /// # Errors
 /// `PagesFull` where fewer than two pages are left when it returns, and want of memory. The steps that were made stand.
-fn make_way<C: KeyClass, O: Outlet<C::Key>>(
+pub fn make_way<C: KeyClass, O: Outlet<C::Key>>(
     alloc: Global,
     world: &mut World<C, O>,
     key: C::Key,

@@ -3,6 +3,7 @@
 
 mod class;
 mod grouping;
+pub mod limits;
 mod pred;
 mod refusal;
 mod sides;

@@ -35,9 +35,9 @@ pub enum Refusal {
     Unhung,
     /// The sides have another length than the entries, or a side has too few of them.
     BadSides,
-    /// The number is not that of an insert.
+    /// No insert or move has that number.
     NoSuchRow,
-    /// The row was deleted.
+    /// The row was deleted or moved.
     AlreadyDeleted,
     /// The serial was never given.
     NoSuchCursor,

@@ -133,6 +133,7 @@ module _ {K : Type 0} (wanted : K → Bool) (s : ℕ) (commits : List (Write K))
           ap length p.0 ∙ length_permutation all l.rows l.each_once
       rows_full (item.Inserted row ∷ rest) e h = by_change (item.Inserted row) rest e refl (λ r z. cc)
       rows_full (item.Deleted k row ∷ rest) e h = by_change (item.Deleted k row) rest e refl (λ r z. cc)
+      rows_full (item.Moved row k ∷ rest) e h = by_change (item.Moved row k) rest e refl (λ r z. cc)
 
       full : n < length items → length t.given ≡ length all
       full h = rows_full (drop n items) refl (omega (arith, h, length-drop n items))

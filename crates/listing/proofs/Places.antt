@@ -164,6 +164,7 @@ module _ {K : Type 0} (wanted : K → Bool) (commits : List (Write K)) where
   not_mark (item.Row row) h = refl
   not_mark (item.Inserted row) h = refl
   not_mark (item.Deleted n row) h = refl
+  not_mark (item.Moved row n) h = refl
 
   module _ (p place : ℕ) (next : IsNextPlace wanted commits p place) (items : List (Item K)) (i : ℕ) where
     one : suc i ≡ i + 1

@@ -1,19 +1,21 @@
 -- The rows that live and are wanted, in slots, as commits follow.
-use Rattle.std.proofs.Common.{◌≡◌, ◌+◌, ◌-◌, ◌<◌, ◌≤◌, ℕ, suc, zero, Bool, true, false, not, cond, ◌&&◌, List, [], ◌∷◌, ◌++◌, length, take, filter, Option, Some, None, refl, sym, ap, ◌∙◌, arith, subst, ⊎_elim, length-append}
-use Rattle.std.specs.Prelude.{slice_get, nat_eq, option_to_list}
-use Rattle.std.proofs.lemmas.List.{append-nil}
-use Rattle.std.proofs.Common.{length-set}
+use Rattle.std.proofs.Common.{◌≡◌, ◌+◌, ◌-◌, ◌<◌, ◌≤◌, ℕ, suc, zero, Bool, true, false, not, cond, ◌&&◌, ◌||◌, List, [], ◌∷◌, ◌++◌, length, take, filter, Option, Some, None, refl, sym, ap, ◌∙◌, arith, subst, ⊎_elim, length-append}
+use Rattle.std.specs.Prelude.{slice_get, nat_eq, option_map, option_to_list}
+use Rattle.std.proofs.lemmas.Bool.{ne_eqb}
+use Rattle.std.proofs.lemmas.List.{append-nil, length-take}
+use Rattle.std.proofs.lemmas.List.Elements.{filter-append}
 use Rattle.change_list.specs.declared.write.Write.{Write}
-use Rattle.change_list.specs.declared.write.Write.TheVariants.{Insert, Delete}
+use Rattle.change_list.specs.declared.write.Write.TheVariants.{Insert, Delete, Move}
 use Rattle.change_list.specs.declared.item.Row.{Row}
-use Rattle.change_list.specs.Changes.{commit_at, rows, IsLegal, MayFollow}
+use Rattle.change_list.specs.Changes.{commit_at, ends, is_ended, made_row, made_rows, moved, row_at, rows, IsLegal, MayFollow}
 use Rattle.change_list.specs.Roomy.{NamesEarlier}
-use Rattle.change_list.proofs.Lists.{filter_map_push, slice_get_push}
-use Rattle.change_list.proofs.Pushing.{filter_push, filter_push_not, filter_same, filter_twice, rows_insert, rows_delete}
-use Rattle.change_list.proofs.Tracking.{live_within, legal_push, none_deletes}
-use Rattle.listing.specs.Remaining.{rows_in, IsPlaced, slots_with, IsRoll}
+use Rattle.change_list.proofs.Lists.{filter_all, filter_map_push, slice_get_push, slice_get_within}
+use Rattle.change_list.proofs.Made.{made_none, made_number, row_at_place}
+use Rattle.change_list.proofs.Pushing.{filter_same, filter_twice, list_any-push, rows_insert, rows_delete, rows_move}
+use Rattle.change_list.proofs.Tracking.{live_row, live_within, legal_push, none_ends}
+use Rattle.listing.specs.Remaining.{wanted_row, without_ended, slots_with, IsPlaced, IsRoll}
 use Rattle.listing.proofs.Cuts.{take_next}
-use Rattle.listing.proofs.Slots.{emptied, placed_set}
+use Rattle.listing.proofs.Slots.{length_without, placed_without, rows_without}
 
 module _ {K : Type 0} (wanted : K → Bool) where
   abbrev kept : List (Row K) → List (Row K)
@@ -27,39 +29,6 @@ module _ {K : Type 0} (wanted : K → Bool) where
         (slice_get_push slots slot (Some row) place e);
   }
 
-  roll_insert : (commits : List (Write K)) (slots : List (Option (Row K))) (key : K) (tag : ℕ) → IsRoll wanted commits slots → IsRoll wanted (commits ++ Insert key tag ∷ []) (slots_with wanted slots (Insert key tag))
-  roll_insert commits slots key tag h = record {
-    legal = legal_push commits (Insert key tag) h.legal tt;
-    one_each = omega (arith, h.one_each, length-append commits (Insert key tag ∷ []), length-append slots (slot ∷ []));
-    placed = placed_push slots slot h.placed (new (wanted key));
-    is = filter_map_push (λ s. s) slots slot ∙ by_key (wanted key) refl;
-  }
-    where
-      row : Row K
-      row = record { row = length slots + 1; key = key; tag = tag }
-
-      slot : Option (Row K)
-      slot = cond (wanted key) (Some row) None
-
-      new : (b : Bool) (r : Row K) → cond b (Some row) None ≡ Some r → r.row ≡ length slots + 1
-      new true r e = let f : row ≡ r = cc in sym (ap (λ (x : Row K). x.row) f)
-      new false r e = absurd (cc)
-
-      more : rows (commits ++ Insert key tag ∷ []) ≡ rows commits ++ row ∷ []
-      more =
-          let n : length commits < length commits + 1 = omega arith in
-          let e : length commits + 1 ≡ length slots + 1 = omega (arith, h.one_each) in
-          rows_insert commits key tag (none_deletes commits (length commits + 1) h.legal n)
-          ∙ ap (λ m. rows commits ++ (record { row = m; key = key; tag = tag }) ∷ []) e
-
-      by_key : (b : Bool) → wanted key ≡ b → rows_in slots ++ option_to_list slot ≡ kept (rows (commits ++ Insert key tag ∷ []))
-      by_key true e =
-          ap (λ c. rows_in slots ++ option_to_list (cond c (Some row) None)) e ∙ ap (λ l. l ++ row ∷ []) h.is
-          ∙ sym (ap kept more ∙ filter_push (λ (r : Row K). wanted r.key) (rows commits) row e)
-      by_key false e =
-          ap (λ c. rows_in slots ++ option_to_list (cond c (Some row) None)) e ∙ append-nil (rows_in slots) ∙ h.is
-          ∙ sym (ap kept more ∙ filter_push_not (λ (r : Row K). wanted r.key) (rows commits) row e)
-
   swapped : (p q : Row K → Bool) (l : List (Row K)) → filter p (filter q l) ≡ filter q (filter p l)
   swapped p q l = filter_twice q p l ∙ filter_same (λ x. q x && p x) (λ x. p x && q x) l (λ x. both (q x) (p x)) ∙ sym (filter_twice p q l)
     where
@@ -69,36 +38,91 @@ module _ {K : Type 0} (wanted : K → Bool) where
       both false true = refl
       both false false = refl
 
-  roll_delete : (commits : List (Write K)) (slots : List (Option (Row K))) (row : ℕ) → IsRoll wanted commits slots → MayFollow commits (Delete row) → IsRoll wanted (commits ++ Delete row ∷ []) (slots_with wanted slots (Delete row))
-  roll_delete commits slots row h live = record {
-    legal = legal_push commits (Delete row) h.legal live;
-    one_each = omega (arith, h.one_each, length-append commits (Delete row ∷ []), length-append slots (none ∷ []), length-set (slots ++ none ∷ []) (row - 1) none);
-    placed = placed_set (slots ++ none ∷ []) (row - 1) longer;
-    is = emptied row (slots ++ none ∷ []) within.0 longer
-        ∙ ap (filter other) (filter_map_push (λ s. s) slots none ∙ append-nil (rows_in slots) ∙ h.is)
-        ∙ swapped other (λ (r : Row K). wanted r.key) (rows commits)
-        ∙ sym (ap kept (rows_delete commits row));
-  }
+  -- the row that a commit makes behind those before it
+  abbrev made_by : List (Write K) → Write K → Option (Row K)
+  made_by commits write = made_row (made_rows commits) (length commits + 1) write
+
+  abbrev stays : Write K → Row K → Bool
+  stays write r = not (ends r.row write)
+
+  -- the rows that lived and that a commit doesn't end, and the row that it makes
+  rows_after : (commits : List (Write K)) (write : Write K) → IsLegal commits → MayFollow commits write
+      → rows (commits ++ write ∷ []) ≡ filter (stays write) (rows commits) ++ option_to_list (made_by commits write)
+  unfolding row_at
+  rows_after commits (Insert key tag) legal m =
+      rows_insert commits key tag (none_ends commits (length commits + 1) legal (omega arith))
+      ∙ ap (λ l. l ++ option_to_list (made_by commits (Insert key tag))) (sym (filter_all (λ (r : Row K). true) (rows commits) (λ r. refl)))
+  rows_after commits (Delete row) legal m = rows_delete commits row ∙ sym (append-nil _)
+  rows_after commits (Move row key) legal m =
+      let live = live_row commits row legal m in
+      rows_move commits row key live.found live.is unended
+      ∙ ap (λ o. filter (stays (Move row key)) (rows commits) ++ option_to_list (option_map (moved (length commits + 1) key) o)) (sym live.is)
     where
-      none : Option (Row K)
-      none = None
-
-      other : Row K → Bool
-      other r = not (nat_eq row r.row)
-
       within : (0 < row) × (row ≤ length commits)
-      within = live_within commits row live
+      within = live_within commits row m
 
-      longer : IsPlaced (slots ++ none ∷ [])
-      longer = placed_push slots none h.placed (λ r e. absurd (cc))
+      neither : (a b : Bool) → a ≡ false → b ≡ false → (a || b) ≡ false
+      neither a b g h = rw (g, h) refl
 
-  roll_push : (commits : List (Write K)) (slots : List (Option (Row K))) (write : Write K) → IsRoll wanted commits slots → MayFollow commits write → IsRoll wanted (commits ++ write ∷ []) (slots_with wanted slots write)
-  roll_push commits slots (Insert key tag) h m = roll_insert commits slots key tag h
-  roll_push commits slots (Delete row) h m = roll_delete commits slots row h m
+      unended : is_ended (commits ++ Move row key ∷ []) (length commits + 1) ≡ false
+      unended =
+          let other : nat_eq row (length commits + 1) ≡ false = ne_eqb row (length commits + 1) (λ e. omega (arith, e, within.1)) in
+          list_any-push (ends (length commits + 1)) commits (Move row key)
+          ∙ neither _ _ (none_ends commits (length commits + 1) legal (omega arith)) other
+
+  kept_row : (made : Option (Row K)) → kept (option_to_list made) ≡ option_to_list (wanted_row wanted made)
+  kept_row None = refl
+  kept_row (Some row) = by_test (wanted row.key)
+    where
+      by_test : (b : Bool) → cond b (row ∷ []) [] ≡ option_to_list (cond b (Some row) None)
+      by_test true = refl
+      by_test false = refl
+
+  wanted_number : (n : ℕ) (made : Option (Row K)) (row : Row K) → ((r : Row K) → made ≡ Some r → r.row ≡ n) → wanted_row wanted made ≡ Some row → row.row ≡ n
+  wanted_number n None row h e = absurd (cc)
+  wanted_number n (Some r) row h e = by_test (wanted r.key) e
+    where
+      by_test : (b : Bool) → cond b (Some r) None ≡ Some row → row.row ≡ n
+      by_test true e = let same : r ≡ row = cc in ap (λ (x : Row K). x.row) (sym same) ∙ h r refl
+      by_test false e = absurd (cc)
 
   names : (commits : List (Write K)) (slots : List (Option (Row K))) (write : Write K) → IsRoll wanted commits slots → MayFollow commits write → NamesEarlier (length slots) write
   names commits slots (Insert key tag) h m = tt
   names commits slots (Delete row) h m = let b = live_within commits row m in (b.0, omega (arith, b.1, h.one_each))
+  names commits slots (Move row key) h m = let b = live_within commits row m in (b.0, omega (arith, b.1, h.one_each))
+
+  -- no slots, for no commits
+  pub roll_none : IsRoll wanted [] []
+  roll_none = record {
+    legal = λ place write e. absurd (cc);
+    one_each = refl;
+    placed = record { each = λ place row e. absurd (cc) };
+    is = sym (ap (λ l. kept (filter (λ (r : Row K). not (is_ended {K = K} [] r.row)) l)) made_none);
+  }
+
+  roll_push : (commits : List (Write K)) (slots : List (Option (Row K))) (write : Write K) → IsRoll wanted commits slots → MayFollow commits write → IsRoll wanted (commits ++ write ∷ []) (slots_with wanted slots write (made_by commits write))
+  roll_push commits slots write h m = record {
+    legal = legal_push commits write h.legal m;
+    one_each = omega (arith, h.one_each, lengths, length-append commits (write ∷ []), length-append left (slot ∷ []));
+    placed = placed_push left slot (placed_without slots write h.placed)
+        (λ row e.
+        let n = wanted_number (length commits + 1) (made_by commits write) row (made_number (made_rows commits) (length commits + 1) write) e in
+        omega (arith, n, lengths, h.one_each));
+    is = filter_map_push (λ s. s) left slot
+        ∙ ap (λ l. l ++ option_to_list slot)
+        (rows_without slots write h.placed (names commits slots write h m) ∙ ap (filter (stays write)) h.is ∙ swapped (stays write) (λ (r : Row K). wanted r.key) (rows commits))
+        ∙ ap (λ l. kept (filter (stays write) (rows commits)) ++ l) (sym (kept_row (made_by commits write)))
+        ∙ sym (ap kept (rows_after commits write h.legal m) ∙ filter-append (λ (r : Row K). wanted r.key) (filter (stays write) (rows commits)) (option_to_list (made_by commits write)));
+  }
+    where
+      left : List (Option (Row K))
+      left = without_ended slots write
+
+      slot : Option (Row K)
+      slot = wanted_row wanted (made_by commits write)
+
+      lengths : length (without_ended slots write) ≡ length slots
+      lengths = length_without slots write
 
   module _ (commits : List (Write K)) (place : ℕ) (slots : List (Option (Row K))) (write : Write K) (legal : IsLegal commits) (h : IsRoll wanted (take place commits) slots) (found : commit_at commits (place + 1) ≡ Some write) where
     at : slice_get commits place ≡ Some write
@@ -110,10 +134,19 @@ module _ {K : Type 0} (wanted : K → Bool) where
     pub names_next : NamesEarlier (length slots) write
     names_next = names (take place commits) slots write h (legal place write at)
 
-    pub roll_next : IsRoll wanted (take (place + 1) commits) (slots_with wanted slots write)
+    made_next : made_by (take place commits) write ≡ row_at commits (place + 1)
+    made_next =
+        let within = slice_get_within commits place write at in
+        let n : length (take place commits) ≡ place = omega (arith, within, length-take place commits) in
+        ap (λ k. made_row (made_rows (take place commits)) (k + 1) write) n ∙ sym (row_at_place commits write place at)
+
+    pub roll_next : IsRoll wanted (take (place + 1) commits) (slots_with wanted slots write (row_at commits (place + 1)))
     roll_next =
         let e : suc place ≡ place + 1 = omega arith in
-        subst (λ l. IsRoll wanted l (slots_with wanted slots write)) (sym (take_next commits place write at) ∙ ap (λ n. take n commits) e) (roll_push (take place commits) slots write h (legal place write at))
+        let longer : take place commits ++ write ∷ [] ≡ take (place + 1) commits = sym (take_next commits place write at) ∙ ap (λ n. take n commits) e in
+        subst (λ made. IsRoll wanted (take (place + 1) commits) (slots_with wanted slots write made)) made_next
+        (subst (λ l. IsRoll wanted l (slots_with wanted slots write (made_by (take place commits) write))) longer
+        (roll_push (take place commits) slots write h (legal place write at)))
 
 module _ {K : Type 0} where
   -- each place of a list has a commit

@@ -1,10 +1,14 @@
 -- Rows in the slots of their numbers.
-use Rattle.std.proofs.Common.{◌≡◌, ◌≢◌, ◌+◌, ◌-◌, ◌<◌, ℕ, suc, zero, Bool, true, false, not, List, [], ◌∷◌, length, filter, Option, Some, None, ◌⊎◌, refl, sym, ap, ◌∙◌, arith, subst, ⊎_elim}
+use Rattle.std.proofs.Common.{◌≡◌, ◌≢◌, ◌+◌, ◌-◌, ◌<◌, ℕ, suc, zero, Bool, true, false, not, List, [], ◌∷◌, length, filter, Option, Some, None, ◌⊎◌, refl, sym, ap, ◌∙◌, arith, subst, ⊎_elim, length-set}
 use Rattle.std.specs.Prelude.{slice_get, slice_set, nat_eq, Contains, IsPermutation}
 use Rattle.std.proofs.lemmas.List.Sorted.{IsPermutation-refl, IsPermutation-sym, IsPermutation-cons, IsPermutation-trans, IsPermutation-middle, Contains-permutation}
+use Rattle.change_list.specs.declared.write.Write.{Write}
+use Rattle.change_list.specs.declared.write.Write.TheVariants.{Insert, Delete, Move}
 use Rattle.change_list.specs.declared.item.Row.{Row}
-use Rattle.change_list.proofs.Lists.{slice_get_set_same, slice_get_set_other, slice_get_within}
-use Rattle.listing.specs.Remaining.{rows_in, IsPlaced}
+use Rattle.change_list.specs.Changes.{ends}
+use Rattle.change_list.specs.Roomy.{NamesEarlier}
+use Rattle.change_list.proofs.Lists.{filter_all, slice_get_set_same, slice_get_set_other, slice_get_within}
+use Rattle.listing.specs.Remaining.{rows_in, without_ended, IsPlaced}
 
 differ : (a b : ℕ) → (a ≡ b → ⊥) → nat_eq a b ≡ false
 differ a b h = search (arith, h)
@@ -106,15 +110,26 @@ module _ {K : Type 0} where
       there : (place : ℕ) (row : Row K) → slice_get (slice_set slots k None) place ≡ Some (Some row) → k ≢ place → row.row ≡ place + 1
       there place row e n = h.each place row (sym (slice_get_set_other slots k place None n) ∙ e)
 
-      length_set : {X : Type 0} (xs : List X) (i : ℕ) (x : X) → length (slice_set xs i x) ≡ length xs
-      length_set [] i x = refl
-      length_set (y ∷ xs) zero x = refl
-      length_set (y ∷ xs) (suc i) x = ap suc (length_set xs i x)
-
       here : (place : ℕ) (row : Row K) → slice_get (slice_set slots k None) place ≡ Some (Some row) → k ≡ place → row.row ≡ place + 1
       here place row e p =
           let w = slice_get_within (slice_set slots k None) place (Some row) e in
-          let l : k < length slots = omega (arith, w, p, length_set slots k None) in
+          let l : k < length slots = omega (arith, w, p, length-set slots k None) in
           let z = slice_get_set_same slots k None l in
           let y : slice_get (slice_set slots k None) k ≡ Some (Some row) = ap (slice_get (slice_set slots k None)) p ∙ e in
           absurd (cc)
+
+  -- the slots that are left have the rows that a commit doesn't end
+  pub rows_without : (slots : List (Option (Row K))) (write : Write K) → IsPlaced slots → NamesEarlier (length slots) write → rows_in (without_ended slots write) ≡ filter (λ (r : Row K). not (ends r.row write)) (rows_in slots)
+  rows_without slots (Insert key tag) h n = sym (filter_all (λ (r : Row K). true) (rows_in slots) (λ r. refl))
+  rows_without slots (Delete row) h n = emptied row slots n.0 h
+  rows_without slots (Move row key) h n = emptied row slots n.0 h
+
+  pub placed_without : (slots : List (Option (Row K))) (write : Write K) → IsPlaced slots → IsPlaced (without_ended slots write)
+  placed_without slots (Insert key tag) h = h
+  placed_without slots (Delete row) h = placed_set slots (row - 1) h
+  placed_without slots (Move row key) h = placed_set slots (row - 1) h
+
+  pub length_without : (slots : List (Option (Row K))) (write : Write K) → length (without_ended slots write) ≡ length slots
+  length_without slots (Insert key tag) = refl
+  length_without slots (Delete row) = length-set slots (row - 1) None
+  length_without slots (Move row key) = length-set slots (row - 1) None

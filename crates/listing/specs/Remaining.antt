@@ -4,7 +4,7 @@ use Rattle.key_class.specs.declared.pred.Pred.{Pred}
 use Rattle.key_class.specs.Queries.{query_of}
 use Rattle.key_class.specs.Rules.{Rules, satisfies}
 use Rattle.change_list.specs.declared.write.Write.{Write}
-use Rattle.change_list.specs.declared.write.Write.TheVariants.{Insert, Delete}
+use Rattle.change_list.specs.declared.write.Write.TheVariants.{Insert, Delete, Move}
 use Rattle.change_list.specs.declared.item.Row.{Row}
 use Rattle.change_list.specs.declared.item.Item.{Item}
 use Rattle.change_list.specs.declared.item.Item.TheVariants as item
@@ -23,11 +23,20 @@ module _ {K : Type 0} where
   pub record IsPlaced (slots : List (Option (Row K))) : Type 0 where
     pub each : (place : ℕ) (row : Row K) → slice_get slots place ≡ Some (Some row) → row.row ≡ place + 1
 
-  -- the slots with one for a further commit; a delete empties that of its row
-  abbrev pub slots_with : (K → Bool) → List (Option (Row K)) → Write K → List (Option (Row K))
-  slots_with wanted slots (Insert key tag) =
-      slots ++ cond (wanted key) (Some (record { row = length slots + 1; key = key; tag = tag })) None ∷ []
-  slots_with wanted slots (Delete row) = slice_set (slots ++ None ∷ []) (row - 1) None
+  -- the row that a commit makes, if it makes one, where its key is wanted
+  abbrev pub wanted_row : (K → Bool) → Option (Row K) → Option (Row K)
+  wanted_row wanted None = None
+  wanted_row wanted (Some row) = cond (wanted row.key) (Some row) None
+
+  -- the slots, with that of the row that a commit ends emptied
+  abbrev pub without_ended : List (Option (Row K)) → Write K → List (Option (Row K))
+  without_ended slots (Insert key tag) = slots
+  without_ended slots (Delete row) = slice_set slots (row - 1) None
+  without_ended slots (Move row key) = slice_set slots (row - 1) None
+
+  -- the slots without the row that a further commit ends, and one more, with the row that it makes where that is wanted
+  abbrev pub slots_with : (K → Bool) → List (Option (Row K)) → Write K → Option (Row K) → List (Option (Row K))
+  slots_with wanted slots write made = without_ended slots write ++ wanted_row wanted made ∷ []
 
   -- a slot for each commit, with the row that it made where that lives and is wanted
   pub record IsRoll (wanted : K → Bool) (commits : List (Write K)) (slots : List (Option (Row K))) : Type 0 where
@@ -60,6 +69,6 @@ module _ {K : Type 0} where
   abbrev pub TakesRows : List (Row K) → List (Item K) → Option ℕ → List (Row K) → Type 0
   TakesRows all items result left = MatchOption result (HasWrongRow all items) (λ count. AllTaken all items count left)
 
--- the slots with one for a further commit, of a query
-abbrev pub slots_for : {K A : Type 0} → Rules K A → Pred A → List (Option (Row K)) → Write K → List (Option (Row K))
-slots_for rules query slots write = slots_with (satisfies rules (query_of query)) slots write
+-- the slots with one for a further commit, given the row that it makes, of a query
+abbrev pub slots_for : {K A : Type 0} → Rules K A → Pred A → List (Option (Row K)) → Write K → Option (Row K) → List (Option (Row K))
+slots_for rules query slots write made = slots_with (satisfies rules (query_of query)) slots write made

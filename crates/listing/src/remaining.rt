@@ -95,15 +95,16 @@ pub(crate) fn snapshot<C: KeyClass>(
 {
     let mut slots = Vec::new(alloc);
     for place in 0..opened {
-        match commits.get(place + 1) {
-            Some(write) => slots = with_slot::<C>(slots, query, write)?,
+        let number = place + 1;
+        match commits.get(number) {
+            Some(write) => slots = with_slot::<C>(slots, query, write, commits.row(number))?,
             None => unreachable!(),
         }
     }
     Ok(Remaining { slots })
 }
 
-/// The slots with one for a further commit. A delete empties that of its row.
+/// The slots with one for a further commit, given the row that it makes. The slot of a row that it ends is emptied.
 ///
 /// # Errors
 /// Want of memory.
@@ -111,24 +112,18 @@ fn with_slot<C: KeyClass>(
     slots: Vec<Option<Row<C::Key>>>,
     query: &Pred<C::Atom>,
     write: Write<C::Key>,
+    made: Option<Row<C::Key>>,
 ) -> Result<Vec<Option<Row<C::Key>>>, Refusal>
     requires { NamesEarlier (length slots.items) write }
-    ensures slots { IfOk result (λ v. v.items ≡ slots_for C.rules query.now slots.items write) }
+    ensures ok { IfOk result (λ v. v.items ≡ slots_for C.rules query.now slots.items write made) }
     ensures refusals { IfErr result (λ why. why ≡ Refusal.OutOfMemory) }
 {
     let mut slots = slots;
-    match write {
-        Write::Insert(key, tag) => {
-            let row = slots.len() as u64 + 1;
-            slots.push(query.matches::<C>(key).then_some(Row { row, key, tag }))?;
-            Ok(slots)
-        }
-        Write::Delete(row) => {
-            slots.push(None)?;
-            slots[(row - 1) as usize] = None;
-            Ok(slots)
-        }
+    if let Write::Delete(row) | Write::Move(row, _) = write {
+        slots[(row - 1) as usize] = None;
     }
+    slots.push(made.filter(|row| query.matches::<C>(row.key)))?;
+    Ok(slots)
 }
 
 /// Takes the rows with which the items begin. Gives how many they are, or nothing where one of them doesn't remain.

@@ -18,6 +18,9 @@ pub(crate) fn is_same_item<C: KeyClass>(a: Item<C::Key>, b: Item<C::Key>) -> boo
         (Item::Row(row), Item::Row(other)) => is_same_row::<C>(row, other),
         (Item::Inserted(row), Item::Inserted(other)) => is_same_row::<C>(row, other),
         (Item::Deleted(number, row), Item::Deleted(other, dead)) => number == other && row == dead,
+        (Item::Moved(row, ended), Item::Moved(other, dead)) => {
+            is_same_row::<C>(row, other) && ended == dead
+        }
         (Item::Mark(number), Item::Mark(other)) => number == other,
         _ => false,
     }

@@ -6,6 +6,7 @@ pub mod Entries
 pub mod Facts
 pub mod Following
 pub mod Lists
+pub mod Moving
 pub mod NewTree
 pub mod PageLists
 pub mod Pruning

@@ -1,6 +1,8 @@
--- What an insert, a delete and a sweep make of a tree, each on one leaf.
+-- What an insert, a delete and a sweep make of a tree, each on one leaf, and what the move of a row makes of it.
 use Rattle.std.specs.Prelude.{◌≡◌, ℕ, ◌+◌, [], ◌∷◌, ◌++◌, length, map, filter}
 use Rattle.row_version.specs.Entries.{Entry, is_needed, marked}
+use Rattle.node.specs.Pages.{Page}
+use Rattle.node.specs.Changes.{with_rows}
 use Rattle.page_table.specs.Trees.{Tree, after_rows, page_at}
 
 module _ {K : Type 0} where
@@ -11,6 +13,14 @@ module _ {K : Type 0} where
   -- commit n deletes the row
   abbrev pub after_bury : Tree K → ℕ → ℕ → ℕ → Tree K
   after_bury t p row n = after_rows t p (map (marked row n) (page_at t p).rows)
+
+  -- a leaf with a row dead since commit n
+  abbrev pub with_dead : Page K → ℕ → ℕ → Page K
+  with_dead page row n = with_rows page (map (marked row n) page.rows)
+
+  -- commit n moves the row away from the leaf `from`: there it is dead, and the leaf `to` has the entry at its end
+  abbrev pub after_move : Tree K → ℕ → ℕ → ℕ → ℕ → Entry K → Tree K
+  after_move t from row n to entry = after_place (after_bury t from row n) to entry
 
   -- without the dead that nobody needs who opened at the horizon or later
   abbrev pub after_sweep : Tree K → ℕ → ℕ → Tree K

@@ -4,8 +4,8 @@ ghost use Rattle.page_table.specs.Trees.{page_at, replaced, added, new_tree};
 ghost use Rattle.page_table.specs.contracts.table.PageTable.{the_row};
 ghost use Rattle.node.specs.contracts.page.Page.{the_row as page_row};
 ghost use Rattle.node.specs.Pages.{entries_of, has_unneeded};
-ghost use Rattle.node.specs.Changes.{post_child, post_sibling, enlarge_parent, enlarge_child, post_up};
-ghost use Rattle.page_table.specs.LeafChanges.{after_place, after_sweep, CountsUnneeded, after_bury};
+ghost use Rattle.node.specs.Changes.{post_child, post_sibling, enlarge_parent, enlarge_child, post_up, with_row};
+ghost use Rattle.page_table.specs.LeafChanges.{after_place, after_sweep, CountsUnneeded, after_bury, after_move, with_dead};
 ghost use Rattle.page_table.specs.PageChanges.{with_rise, with_posting, with_wider, with_part};
 
 use crate::shared_page::SharedPage;
@@ -259,6 +259,43 @@ impl<K: Copy> PageTable<K> {
         Ok(())
     }
 
+    /// Marks a row of a leaf as ended by that commit, and adds another row to a leaf, at the end: both or neither. Commits
+    /// count from 1.
+    ///
+    /// # Errors
+    /// Memory was wanting; the table is as it was.
+    #[tactic(auto, using(crate::proofs::Moving::moved_aside, crate::proofs::Aside::kept_aside))]
+    pub fn relocate(
+        &mut self,
+        from: u32,
+        row: u32,
+        commit: u32,
+        to: u32,
+        entry: Entry<K>,
+    ) -> Result<(), AllocError>
+        requires from_exists { from < length self.old.pages }
+        requires to_exists { to < length self.old.pages }
+        requires counted { 0 < commit }
+        requires other { entry.row ≢ row }
+        ensures moved { OnOk result (self.new ≡ after_move self.old from row commit to entry) }
+        ensures unchanged { OnErr result (self.new ≡ self.old) }
+    {
+        if from == to {
+            let page = self.page_mut(from)?;
+            return move_within(page, row, commit, entry);
+        }
+        mem::swap(&mut self.pages[to as usize], &mut self.aside);
+        let moved = move_row(
+            &mut self.pages[from as usize],
+            row,
+            commit,
+            &mut self.aside,
+            entry,
+        );
+        mem::swap(&mut self.pages[to as usize], &mut self.aside);
+        moved
+    }
+
     /// Takes the dead rows out of a leaf that nobody needs who opened at the commit `horizon` or later, and gives their number.
     ///
     /// # Errors
@@ -320,5 +357,44 @@ fn post_both<K: Copy>(
     above.name_both((child, below.cover()), (sibling, beside.cover()))?;
     below.settle(number);
     beside.hang();
+    Ok(())
+}
+
+/// Marks a row of a page as ended by that commit, and adds another row to the same page, at the end.
+#[tactic(auto, using(crate::proofs::Moving::marked_around))]
+fn move_within<K: Copy>(
+    page: &mut Page<K>,
+    row: u32,
+    commit: u32,
+    entry: Entry<K>,
+) -> Result<(), AllocError>
+    requires counted { 0 < commit }
+    requires other { entry.row ≢ row }
+    ensures moved { OnOk result (page.new ≡ with_row (with_dead page.old row commit) entry) }
+    ensures stays { OnErr result (page.new ≡ page.old) }
+{
+    page.place(entry)?;
+    page.bury(row, commit);
+    Ok(())
+}
+
+/// Marks a row of a page as ended by that commit, and adds a row to another page, at the end.
+fn move_row<K: Copy>(
+    from: &mut SharedPage<K>,
+    row: u32,
+    commit: u32,
+    to: &mut SharedPage<K>,
+    entry: Entry<K>,
+) -> Result<(), AllocError>
+    requires { 0 < commit }
+    ensures from { OnOk result (from.new ≡ with_dead from.old row commit) }
+    ensures to { OnOk result (to.new ≡ with_row to.old entry) }
+    ensures from_stays { OnErr result (from.new ≡ from.old) }
+    ensures to_stays { OnErr result (to.new ≡ to.old) }
+{
+    let source = from.get_mut()?;
+    let target = to.get_mut()?;
+    target.place(entry)?;
+    source.bury(row, commit);
     Ok(())
 }

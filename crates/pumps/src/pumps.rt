@@ -1,7 +1,9 @@
 ghost use Rattle.std.specs.Prelude.{◌≡◌, ◌↔◌, ◌⊎◌, ◌<◌, Err, IfOk, IfErr};
+ghost use Rattle.key_class.specs.Limits.{most_pumps};
 
 use crossbeam_channel::Receiver;
 use desk::Desk;
+use key_class::limits::MAX_PUMPS;
 use key_class::{KeyClass, Refusal};
 use std::alloc::Global;
 use std::marker::Model;
@@ -90,10 +92,10 @@ impl<G: Gate> Pumps<G> {
     /// `BadConfig` where there are none or more than 16.
     pub fn new(count: usize, gate: G) -> Result<Pumps<G>, Refusal>
         ensures gate { IfOk result (λ pumps. pumps ≡ gate) }
-        ensures bad { (result ≡ Err Refusal.BadConfig) ↔ ((count ≡ 0) ⊎ (16 < count)) }
+        ensures bad { (result ≡ Err Refusal.BadConfig) ↔ ((count ≡ 0) ⊎ (most_pumps < count)) }
         ensures refusals { IfErr result (λ why. why ≡ Refusal.BadConfig) }
     {
-        if count == 0 || count > 16 {
+        if count == 0 || count > MAX_PUMPS {
             return Err(Refusal::BadConfig);
         }
         Ok(Pumps { count, gate })

@@ -4,7 +4,8 @@ use Rattle.key_class.specs.Queries.{Query, depth_of}
 use Rattle.query_text.specs.Tokens.{Placed}
 use Rattle.query_text.specs.Keys.{LeavesFewer}
 use Rattle.query_text.specs.ClassTexts.{Texts}
-use Rattle.query_text.specs.Grammar.{most_bytes, most_depth, whole, Spells, ends_before, SpellsQuery, RefusesTokens, no_spelling, too_deep, SpellOrAreRefused, SpellsText, RefusesText, too_long, refuses_tokens, SpellsOrIsRefused}
+use Rattle.key_class.specs.Limits.{most_bytes, most_depth}
+use Rattle.query_text.specs.Grammar.{whole, Spells, ends_before, SpellsQuery, RefusesTokens, no_spelling, too_deep, SpellOrAreRefused, SpellsText, RefusesText, too_long, refuses_tokens, SpellsOrIsRefused}
 use Rattle.query_text.proofs.CutLaws.{one_cut}
 use Rattle.query_text.proofs.Cutting.{text_is_cut}
 use Rattle.query_text.proofs.Total.{spelled_or_refused}

@@ -11,7 +11,8 @@ use Rattle.query_text.specs.declared.parser.Pending.TheVariants.{Not, Bracket, A
 use Rattle.query_text.specs.Tokens.{Placed}
 use Rattle.query_text.specs.Keys.{Reading}
 use Rattle.query_text.specs.ClassTexts.{Texts}
-use Rattle.query_text.specs.Grammar.{most_depth, terminal_of, Level, whole, conjunction, unit, Spells, one_conjunction, or_of, one_unit, and_of, not_of, in_brackets, relation_of, before, behind, move, refused, Refused, ends_before, ends_open, stuck, moves, bad_key, good_key, RefusesTokens, no_spelling, too_deep}
+use Rattle.key_class.specs.Limits.{most_depth}
+use Rattle.query_text.specs.Grammar.{terminal_of, Level, whole, conjunction, unit, Spells, one_conjunction, or_of, one_unit, and_of, not_of, in_brackets, relation_of, before, behind, move, refused, Refused, ends_before, ends_open, stuck, moves, bad_key, good_key, RefusesTokens, no_spelling, too_deep}
 use Rattle.query_text.specs.Parsing.{open_brackets, Waits, at_start, in_whole, in_conjunction, behind_or, behind_and, behind_not, behind_bracket, HasRead, Completes, pending}
 
 pub pending-push : {A : Type 0} (ps : List (Pending A)) (p : Pending A) → pending (ps ++ p ∷ []) ≡ p ∷ pending ps

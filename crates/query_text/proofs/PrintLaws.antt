@@ -11,7 +11,8 @@ use Rattle.query_text.specs.declared.terminal.Terminal.TheVariants as terminal
 use Rattle.query_text.specs.Tokens.{Placed, at, word, open_bracket, close_bracket, is_letter, begins, beginning, Cuts, cut_nothing, cut_space, cut_token}
 use Rattle.query_text.specs.Keys.{Reading, ReadsBack}
 use Rattle.query_text.specs.ClassTexts.{Texts, AtomReadsBack}
-use Rattle.query_text.specs.Grammar.{most_bytes, most_depth, rel_word, keyword_of, Level, whole, conjunction, unit, Spells, one_conjunction, or_of, one_unit, and_of, not_of, in_brackets, relation_of, SpellsText}
+use Rattle.key_class.specs.Limits.{most_bytes, most_depth}
+use Rattle.query_text.specs.Grammar.{rel_word, keyword_of, Level, whole, conjunction, unit, Spells, one_conjunction, or_of, one_unit, and_of, not_of, in_brackets, relation_of, SpellsText}
 use Rattle.query_text.specs.Printing.{is_or, is_and_or_or, bracketed, text_of, begins_apart, EachAtom, IsSpelling}
 use Rattle.query_text.proofs.TextLaws.{cuts_open, cuts_close}
 

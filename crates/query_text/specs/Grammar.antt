@@ -5,6 +5,7 @@ use Rattle.key_class.specs.declared.sides.Rel.{Rel}
 use Rattle.key_class.specs.declared.sides.Rel.TheVariants.{Overlaps, Within, Holds, Same}
 use Rattle.key_class.specs.declared.refusal.Refusal.{Refusal}
 use Rattle.key_class.specs.declared.refusal.Refusal.TheVariants as refusal
+use Rattle.key_class.specs.Limits.{most_bytes, most_depth}
 use Rattle.key_class.specs.Queries.{Query, atom, both, either, never, depth_of}
 use Rattle.query_text.specs.declared.terminal.Terminal.{Terminal}
 use Rattle.query_text.specs.declared.terminal.Terminal.TheVariants as terminal
@@ -12,14 +13,6 @@ use Rattle.query_text.specs.declared.lexeme.Lexeme.{Lexeme}
 use Rattle.query_text.specs.Tokens.{Token, open_bracket, close_bracket, word, Placed, placed, Cuts}
 use Rattle.query_text.specs.Keys.{Reading}
 use Rattle.query_text.specs.ClassTexts.{Texts}
-
--- how many bytes a query's text may have
-abbrev pub most_bytes : ℕ
-most_bytes = 4096
-
--- how deep a query may be
-abbrev pub most_depth : ℕ
-most_depth = 32
 
 abbrev pub rel_word : Rel → List ℕ
 rel_word Overlaps = codes "overlaps"

@@ -5,7 +5,8 @@ use Rattle.key_class.specs.declared.pred.Pred.{Pred}
 use Rattle.key_class.specs.Queries.{Query, query_of, depth_of, atom, both, either, never}
 use Rattle.query_text.specs.Tokens.{Placed, is_letter, Cuts}
 use Rattle.query_text.specs.ClassTexts.{Texts}
-use Rattle.query_text.specs.Grammar.{most_bytes, most_depth, rel_word, whole, Spells, SpellsText}
+use Rattle.key_class.specs.Limits.{most_bytes, most_depth}
+use Rattle.query_text.specs.Grammar.{rel_word, whole, Spells, SpellsText}
 
 abbrev pub is_or : {A : Type 0} → Query A → Bool
 is_or (either l r) = true

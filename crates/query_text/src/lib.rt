@@ -5,7 +5,6 @@ mod boxes;
 mod class;
 mod intervals;
 mod lexeme;
-mod limits;
 mod numbers;
 mod parser;
 mod printer;
@@ -17,7 +16,6 @@ mod text;
 
 pub use class::ClassText;
 pub use lexeme::{Kind, Lexeme};
-pub use limits::{MAX_BYTES, MAX_DEPTH};
 pub use parser::{one_meaning_for_text, one_meaning_for_tokens, parse, parse_tokens};
 pub use printer::print;
 pub use scanner::{one_cut_for_text, scan};

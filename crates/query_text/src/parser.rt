@@ -10,10 +10,10 @@ ghost use Rattle.query_text.specs.OneMeaning.{AtMostOne};
 
 use crate::class::ClassText;
 use crate::lexeme::Lexeme;
-use crate::limits::{MAX_BYTES, MAX_DEPTH};
 use crate::reader::first_of;
 use crate::scanner::scan;
 use crate::terminal::Terminal;
+use key_class::limits::{MAX_DEPTH, MAX_LINE};
 use key_class::{Pred, Refusal};
 use std::alloc::{AllocError, AllocFailed, Global};
 
@@ -246,15 +246,15 @@ pub fn parse_tokens<C: ClassText>(
 /// The query that a text spells.
 ///
 /// # Errors
-/// `QueryText` with the place where the text is refused, which for a text of more than [`MAX_BYTES`] bytes is
-/// [`MAX_BYTES`], or `OutOfMemory`.
+/// `QueryText` with the place where the text is refused, which for a text of more than [`MAX_LINE`] bytes is
+/// [`MAX_LINE`], or `OutOfMemory`.
 pub fn parse<C: ClassText>(alloc: Global, text: &[u8]) -> Result<Pred<C::Atom>, Refusal>
     ensures spells { IfOk result (λ q. SpellsText C.texts text.now (query_of q)) }
     ensures refuses { IfQueryText result (RefusesText C.texts text.now) }
     ensures refusals { IfErr result IsParseRefusal }
 {
-    if text.len() > MAX_BYTES {
-        return Err(Refusal::QueryText(MAX_BYTES as u64));
+    if text.len() > MAX_LINE {
+        return Err(Refusal::QueryText(MAX_LINE as u64));
     }
     let mut lexemes = Vec::new(alloc);
     scan(text, &mut lexemes)?;

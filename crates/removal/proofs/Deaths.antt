@@ -3,8 +3,8 @@ use Rattle.std.proofs.Common.{◌≡◌, ◌+◌, ◌<◌, ◌≤◌, ℕ, Bool,
 use Rattle.std.specs.Prelude.{option_to_list, IsPermutation}
 use Rattle.std.proofs.lemmas.Bool.{both_ways, eq-eqb, ne_eqb}
 use Rattle.std.proofs.lemmas.List.Elements.{All-head, All-tail, All-weaker}
-use Rattle.change_list.proofs.Tracking.{live_row}
-use Rattle.change_list.specs.Changes.{is_deleted, status_of}
+use Rattle.change_list.proofs.Tracking.{live_kept}
+use Rattle.change_list.specs.Changes.{is_ended, status_of}
 use Rattle.change_list.specs.declared.write.Status.TheVariants.{Live}
 use Rattle.change_list.specs.declared.write.Write.{Write}
 use Rattle.page_table.proofs.Arranged.{arranged}
@@ -18,7 +18,7 @@ use Rattle.page_table.specs.Weights.{one_if_equal, weigh}
 use Rattle.row_version.specs.Entries.{Entry, died_at, marked}
 use Rattle.scan.specs.Agreement.{Agrees, IsDeath, IsEntryOf, is_row}
 use Rattle.page_table.specs.LeafChanges.{after_bury}
-use Rattle.scan.proofs.Commits.{deleted_by}
+use Rattle.scan.proofs.Commits.{ended_by}
 use Rattle.world.proofs.Resting.{death_weight, same_pair, same_pair_exact, weigh_filter_map}
 use Rattle.world.specs.Resting.{death, death_from, deaths}
 
@@ -89,12 +89,12 @@ module _ {K : Type 0} (is_cover : K → K → Bool) (t : Tree K) (fan : ℕ) (so
   alive_entry : (row : ℕ) → status_of commits row ≡ Live → (e : Entry K) → IsEntryOf commits e → e.row ≡ row → e.died ≡ None
   alive_entry row live e is same = go e.died is.death
     where
-      alive : is_deleted commits row ≡ false
-      alive = let r = live_row commits row live in r.kept
+      alive : is_ended commits row ≡ false
+      alive = live_kept commits row live
 
       go : (o : Option ℕ) → IsDeath commits e.row o → o ≡ None
       go None x = refl
-      go (Some m) x = absurd (both_ways (is_deleted commits row) alive (ap (is_deleted commits) (sym same) ∙ deleted_by commits e.row m x))
+      go (Some m) x = absurd (both_ways (is_ended commits row) alive (ap (is_ended commits) (sym same) ∙ ended_by commits e.row m x))
 
   -- a leaf whose live row is deleted: one row more is dead
   pub buried_deaths : (p row n : ℕ) → p < length t.pages → status_of commits row ≡ Live → 1 ≤ weigh (is_row row) (page_at t p).rows → IsPermutation ((row, n) ∷ deaths t) (deaths (after_bury t p row n))

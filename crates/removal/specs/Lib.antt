@@ -1,3 +1,3 @@
-pub mod Deleting
+pub mod Ending
 pub mod Sweeping
 pub mod Visits

@@ -1,17 +1,19 @@
--- One visit of a deletion to a world.
+-- One visit to a world of what ends a row.
 use Rattle.std.specs.Prelude.{◌≡◌, ◌⊎◌, ℕ, ◌+◌, ◌<◌, ◌≤◌, length}
+use Rattle.key_class.specs.Limits.{greatest_serial, most_finders}
 use Rattle.change_list.specs.Changes.{NamesNoRow, NamesLive, NamesDead}
-use Rattle.change_list.specs.declared.write.Write.TheVariants.{Delete}
 use Rattle.key_class.specs.declared.refusal.Refusal.{Refusal}
 use Rattle.key_class.specs.declared.refusal.Refusal.TheVariants as refusal
 use Rattle.world.specs.States.{State, AddsCommit, IsFullOfCommits}
+use Rattle.removal.specs.Ending.{write_of_ending}
+use Rattle.removal.specs.declared.ending.Ending.{Ending}
 use Rattle.removal.specs.declared.visiting.Search.{Search}
 use Rattle.removal.specs.declared.visiting.Search.TheVariants as search
 
 module _ {K A : Type 0} where
   -- there is no place or no serial for one more finder
   abbrev pub IsFullOfFinders : State K A → Type 0
-  IsFullOfFinders s = (64 ≤ length s.finders) ⊎ (4294967295 ≤ s.last_finder)
+  IsFullOfFinders s = (most_finders ≤ length s.finders) ⊎ (greatest_serial ≤ s.last_finder)
 
   -- why no finder of a live row is opened
   abbrev pub RefusesFinder : State K A → Refusal → Type 0
@@ -42,9 +44,17 @@ module _ {K A : Type 0} where
       ⊎ ((why ≡ refusal.CommitsFull) × IsFullOfCommits s)
       ⊎ ((why ≡ refusal.FindersFull) × IsFullOfFinders s)
 
-  -- the row is deleted by the next commit, or none is made
-  abbrev pub SeeksForDelete : State K A → ℕ → ℕ → Search K → State K A → Type 0
-  SeeksForDelete old seat row search.On new = new.commits ≡ old.commits
-  SeeksForDelete old seat row search.Lost new = new ≡ old
-  SeeksForDelete old seat row (search.Deleted stamp) new =
-      AddsCommit old (Delete row) new × (stamp ≡ record { number = length old.commits + 1; seat = seat; write = Delete row })
+  -- why the row may not end
+  abbrev pub RefusesEnding : State K A → ℕ → Refusal → Type 0
+  RefusesEnding s row why =
+      ((why ≡ refusal.NoSuchRow) × NamesNoRow s.commits row)
+      ⊎ ((why ≡ refusal.AlreadyDeleted) × NamesDead s.commits row)
+      ⊎ ((why ≡ refusal.CommitsFull) × LacksCommit s row)
+
+  -- the row is ended so by the next commit, or none is made
+  abbrev pub Seeks : State K A → ℕ → ℕ → Ending K → Search K → State K A → Type 0
+  Seeks old seat row how search.On new = new.commits ≡ old.commits
+  Seeks old seat row how search.Lost new = new ≡ old
+  Seeks old seat row how (search.Ended stamp) new =
+      AddsCommit old (write_of_ending row how) new
+      × (stamp ≡ record { number = length old.commits + 1; seat = seat; write = write_of_ending row how })

@@ -1,10 +1,12 @@
-//! What removes rows: a deletion, as a whole or by visits, and a sweep of every leaf.
+//! What ends rows, a deletion, as a whole or by visits, and the end of a move; and a sweep of every leaf.
 #![tactic(auto)]
 
 mod deleting;
+mod ending;
 mod sweeping;
 mod visiting;
 
 pub use deleting::delete;
+pub use ending::{Ending, check_ending, end_row};
 pub use sweeping::sweep_all;
-pub use visiting::{Search, find_row, seek_row};
+pub use visiting::{Search, end_step, find_row, seek_row};

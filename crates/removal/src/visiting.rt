@@ -1,33 +1,35 @@
-//! A deletion by visits, between which others may change the world.
+//! A deletion by visits, and the end of a move. Between visits others may change the world.
 ghost use Rattle.std.specs.Prelude.{◌≡◌, ◌↔◌, ◌+◌, Err, IfOk, IfErr, OnOk, OnErr};
 ghost use Rattle.key_class.specs.declared.refusal.Refusal.TheVariants.{NoSuchRow, AlreadyDeleted, FindersFull};
 ghost use Rattle.change_list.specs.Changes.{NamesNoRow, NamesLive, NamesDead};
-ghost use Rattle.removal.specs.Deleting.{Looks};
-ghost use Rattle.removal.specs.Visits.{IsFullOfFinders, LacksFinder, RefusesCommit, RefusesDelete, RefusesFinder, SeeksForDelete};
+ghost use Rattle.removal.specs.Ending.{Looks, MayEnd};
+ghost use Rattle.removal.specs.declared.ending.Ending.TheVariants as Ending;
+ghost use Rattle.removal.specs.Visits.{IsFullOfFinders, LacksFinder, RefusesCommit, RefusesDelete, RefusesFinder, Seeks};
 ghost use Rattle.world.specs.Promises.{KeepsMailboxes};
 ghost use Rattle.world.specs.States.{IsSoundWorld};
 ghost use Rattle.world.specs.Visits.{IsOneEvent};
 
+use crate::ending::{Ending, visit};
 use change_list::Status;
 use key_class::{KeyClass, Refusal};
 use mailbox::Outlet;
 use world::{Event, Reply, Stamped, World};
 
-/// How far the search for a row to be deleted has come.
+/// How far the search for a row that is to end has come.
 #[derive(Clone, Copy)]
 pub enum Search<K> {
     /// The finder goes on.
     On,
     /// No finder of the row has this serial.
     Lost,
-    /// The row was deleted.
-    Deleted(Stamped<K>),
+    /// The row has ended.
+    Ended(Stamped<K>),
 }
 
 /// The first visit of a deletion: a finder of the row, by its serial.
 ///
 /// # Errors
-/// `NoSuchRow` where no insert has the number, else `AlreadyDeleted`, else `FindersFull` where 64 finders are open or the
+/// `NoSuchRow` where no insert or move has the number, else `AlreadyDeleted`, else `FindersFull` where 64 finders are open or the
 /// last serial was given, and want of memory. Nothing is changed then.
 pub fn find_row<C: KeyClass, O: Outlet<C::Key>>(
     world: &mut World<C, O>,
@@ -85,7 +87,7 @@ pub fn seek_row<C: KeyClass, O: Outlet<C::Key>>(
     finder: u64,
     row: u64,
 ) -> Result<Search<C::Key>, Refusal>
-    ensures seeks { IfOk result (λ search. SeeksForDelete world.old seat row search world.new) }
+    ensures seeks { IfOk result (λ search. Seeks world.old seat row Ending.Delete search world.new) }
     ensures one_event { IsOneEvent C O O.End C.rules O.rule seat world.old world.new }
     ensures sound { IsSoundWorld C.rules.is_cover world.new }
     ensures mailboxes { KeepsMailboxes C.rules O.rule world.old world.new }
@@ -98,19 +100,24 @@ pub fn seek_row<C: KeyClass, O: Outlet<C::Key>>(
     match world.status(row) {
         Status::NeverIssued => return Err(Refusal::NoSuchRow),
         Status::Dead => return Err(Refusal::AlreadyDeleted),
-        Status::Live => return seek_live(world, seat, finder, row),
+        Status::Live => return end_step(world, seat, finder, row, Ending::Delete),
     }
 }
 
-/// The next step of a finder of a live row.
-fn seek_live<C: KeyClass, O: Outlet<C::Key>>(
+/// A later visit of what ends a row: the next step of a finder of the row, which ends it so where it meets it.
+///
+/// # Errors
+/// `CommitsFull` where there are as many commits as may be and the row is met, and want of memory. Nothing is changed then.
+pub fn end_step<C: KeyClass, O: Outlet<C::Key>>(
     world: &mut World<C, O>,
     seat: u32,
     finder: u64,
     row: u64,
+    ending: Ending<C::Key>,
 ) -> Result<Search<C::Key>, Refusal>
     requires live { NamesLive world.old.commits row }
-    ensures seeks { IfOk result (λ search. SeeksForDelete world.old seat row search world.new) }
+    requires may { MayEnd C.rules.is_cover world.old.search ending }
+    ensures seeks { IfOk result (λ search. Seeks world.old seat row ending search world.new) }
     ensures one_event { IsOneEvent C O O.End C.rules O.rule seat world.old world.new }
     ensures sound { IsSoundWorld C.rules.is_cover world.new }
     ensures mailboxes { KeepsMailboxes C.rules O.rule world.old world.new }
@@ -120,14 +127,14 @@ fn seek_live<C: KeyClass, O: Outlet<C::Key>>(
     world.recall_soundness();
     match world.finder_row(finder) {
         None => return Ok(Search::Lost),
-        Some(other) => {
-            if other != row {
+        Some(found) => {
+            if found != row {
                 return Ok(Search::Lost);
             }
         }
     }
-    match world.step_as(seat, Event::Seek(finder)) {
-        Reply::Committed(stamp) => return Ok(Search::Deleted(stamp)),
+    match world.step_as(seat, visit::<C>(finder, ending)) {
+        Reply::Committed(stamp) => return Ok(Search::Ended(stamp)),
         Reply::Refused(why) => return Err(why),
         _ => return Ok(Search::On),
     }

@@ -1,12 +1,14 @@
 -- The entries of a tree stay those of the commits through every step.
-use Rattle.std.proofs.Common.{◌≡◌, ◌+◌, ◌<◌, ◌≤◌, ℕ, zero, suc, Bool, true, false, cond, List, [], ◌∷◌, ◌++◌, length, map, filter, Option, Some, None, All, inl, inr, refl, sym, ap, ◌∙◌, arith, subst}
+use Rattle.std.proofs.Common.{◌≡◌, ◌+◌, ◌<◌, ◌≤◌, ℕ, zero, suc, Bool, true, false, cond, List, [], ◌∷◌, ◌++◌, length, map, filter, Option, Some, None, All, inl, inr, refl, sym, ap, ◌∙◌, arith, subst, length-append}
 use Rattle.std.specs.Prelude.{nat_eq}
 use Rattle.std.proofs.lemmas.Bool.{both_ways, cases_eq, eq-eqb, eqb-true, ne_eqb}
 use Rattle.std.proofs.lemmas.List.Elements.{All-append, All-cons, All-filter, All-map, All-nil, All-weaker}
-use Rattle.change_list.proofs.Tracking.{commit_within, live_row, none_deletes}
-use Rattle.change_list.specs.Changes.{IsLegal, is_deleted, status_of}
+use Rattle.change_list.proofs.Made.{row_before, row_found, row_of_delete, row_of_new_insert, row_of_new_move, row_push}
+use Rattle.change_list.proofs.Tracking.{live_kept, live_made, live_commit, live_within, none_ends}
+use Rattle.change_list.specs.declared.item.Row.{Row}
+use Rattle.change_list.specs.Changes.{IsLegal, commit_at, ends, is_ended, row_at, status_of}
 use Rattle.change_list.specs.declared.write.Status.TheVariants.{Live}
-use Rattle.change_list.specs.declared.write.Write.TheVariants.{Insert, Delete}
+use Rattle.change_list.specs.declared.write.Write.TheVariants.{Insert, Delete, Move}
 use Rattle.change_list.specs.declared.write.Write.{Write}
 use Rattle.node.specs.Changes.{with_rows}
 use Rattle.page_table.proofs.Counting.{found_two, one-different, one-equal}
@@ -22,8 +24,9 @@ use Rattle.page_table.specs.Soundness.{IsSound}
 use Rattle.page_table.specs.Trees.{Tree, after_rows, new_tree, page_at, pages_under, pages_within, rows_of_tree}
 use Rattle.page_table.specs.Weights.{one_if_equal, weigh}
 use Rattle.row_version.specs.Entries.{Entry, died_at, is_needed, lives_at, marked}
-use Rattle.scan.proofs.Commits.{commit_last, commit_push, deleted_by, deleted_push, live_pushed, none_live, or_false}
+use Rattle.scan.proofs.Commits.{commit_last, commit_push, commit_pushed, ended_by, ended_push, ends_push, live_pushed, none_live, or_false, or_left_false}
 use Rattle.scan.specs.Agreement.{Agrees, IsDeath, IsEntryOf, is_row}
+use Rattle.scan.specs.Scanning.{row_of}
 
 none : (K : Type 0) (n : ℕ) → weigh (is_row n) (rows_of_tree (new_tree {K = K})) ≡ 0
 unfolding new_tree pages_under pages_within
@@ -64,6 +67,14 @@ marked_row {K} row n e = go (nat_eq e.row row)
     go true = refl
     go false = refl
 
+-- an entry stays one behind a further commit that doesn't end its row
+entry_push : {K : Type 0} (commits : List (Write K)) (write : Write K) (e : Entry K) → ends e.row write ≡ false → IsEntryOf commits e → IsEntryOf (commits ++ write ∷ []) e
+entry_push {K} commits write e off a = record { made = row_push commits write e.row (row_of e) a.made; death = death e.died a.death }
+  where
+    death : (o : Option ℕ) → IsDeath commits e.row o → IsDeath (commits ++ write ∷ []) e.row o
+    death None d = ended_push commits write e.row ∙ or_false _ _ d off
+    death (Some n) d = ends_push commits write n e.row d
+
 module _ {K : Type 0} (is_cover : K → K → Bool) (t : Tree K) (fan : ℕ) (sound : IsSound is_cover fan t) (commits : List (Write K)) where
   abbrev At : ℕ → List (Entry K)
   At p = (page_at t p).rows
@@ -71,7 +82,7 @@ module _ {K : Type 0} (is_cover : K → K → Bool) (t : Tree K) (fan : ℕ) (so
   module _ (legal : IsLegal commits) (agrees : Agrees t commits) (p : ℕ) (l : p < length t.pages) where
     -- all entries have numbers up to the last commit
     numbers : EachEntry (λ e. e.row ≤ length commits) t
-    numbers q k = All-weaker (λ (e : Entry K). IsEntryOf commits e) (λ (e : Entry K). e.row ≤ length commits) (λ e a. (commit_within commits e.row (Insert e.key e.tag) a.inserted).1) _ (agrees.entries q k)
+    numbers q k = All-weaker (λ (e : Entry K). IsEntryOf commits e) (λ (e : Entry K). e.row ≤ length commits) (λ e a. (row_found commits e.row (row_of e) a.made).2) _ (agrees.entries q k)
 
     none_past : (n : ℕ) → length commits < n → weigh (is_row n) (rows_of_tree t) ≡ 0
     none_past n k = weigh-none (is_row n) (rows_of_tree t)
@@ -86,14 +97,10 @@ module _ {K : Type 0} (is_cover : K → K → Bool) (t : Tree K) (fan : ℕ) (so
       after_insert = commits ++ Insert key tag ∷ []
 
       entry_after_insert : (e : Entry K) → IsEntryOf commits e → IsEntryOf after_insert e
-      entry_after_insert e a = record { inserted = commit_push commits (Insert key tag) e.row (Insert e.key e.tag) a.inserted; death = death e.died a.death }
-        where
-          death : (o : Option ℕ) → IsDeath commits e.row o → IsDeath after_insert e.row o
-          death None d = deleted_push commits (Insert key tag) e.row ∙ or_false _ _ d refl
-          death (Some n) d = commit_push commits (Insert key tag) n (Delete e.row) d
+      entry_after_insert e a = entry_push commits (Insert key tag) e refl a
 
-      alive_new : is_deleted after_insert (length commits + 1) ≡ false
-      alive_new = deleted_push commits (Insert key tag) (length commits + 1) ∙ or_false _ _ (none_deletes commits (length commits + 1) legal (omega arith)) refl
+      alive_new : is_ended after_insert (length commits + 1) ≡ false
+      alive_new = ended_push commits (Insert key tag) (length commits + 1) ∙ or_false _ _ (none_ends commits (length commits + 1) legal (omega arith)) refl
 
       -- an insert, its entry placed on a page
       pub place_agrees : Agrees (after_rows t p (At p ++ placed ∷ [])) after_insert
@@ -101,7 +108,7 @@ module _ {K : Type 0} (is_cover : K → K → Bool) (t : Tree K) (fan : ℕ) (so
       place_agrees = record {
         entries = rows_entries t p (At p ++ placed ∷ []) (λ e. IsEntryOf after_insert e) l
             (All-append (λ (e : Entry K). IsEntryOf after_insert e) (At p) (placed ∷ []) (old p l)
-            (All-cons (λ (e : Entry K). IsEntryOf after_insert e) placed [] (record { inserted = commit_last commits (Insert key tag); death = alive_new }) (All-nil (λ (e : Entry K). IsEntryOf after_insert e))))
+            (All-cons (λ (e : Entry K). IsEntryOf after_insert e) placed [] (record { made = row_of_new_insert commits key tag; death = alive_new }) (All-nil (λ (e : Entry K). IsEntryOf after_insert e))))
             (λ q k d. old q k);
         live_once = λ n live. elim (live_pushed commits (Insert key tag) n live) [
           | inl before ↦ omega (arith, count n, agrees.live_once n before, one-different (length commits + 1) n (λ x. omega (arith, x, (live_number n before))))
@@ -117,7 +124,7 @@ module _ {K : Type 0} (is_cover : K → K → Bool) (t : Tree K) (fan : ℕ) (so
           old q k = All-weaker (λ (e : Entry K). IsEntryOf commits e) (λ (e : Entry K). IsEntryOf after_insert e) entry_after_insert _ (agrees.entries q k)
 
           live_number : (n : ℕ) → status_of commits n ≡ Live → n ≤ length commits
-          live_number n h = let r = live_row commits n h in (commit_within commits n (Insert r.key r.tag) r.is).1
+          live_number n h = (live_within commits n h).1
 
           count : (n : ℕ) → weigh (is_row n) (rows_of_tree (after_rows t p (At p ++ placed ∷ []))) ≡ weigh (is_row n) (rows_of_tree t) + one_if_equal (length commits + 1) n
           count n = place_all is_cover t fan sound (is_row n) p l placed
@@ -139,19 +146,15 @@ module _ {K : Type 0} (is_cover : K → K → Bool) (t : Tree K) (fan : ℕ) (so
           (weigh-zero (is_row row) (At q) (omega (arith, two, sum, agrees.at_most_once row, there)))
 
       entry_after_delete : (e : Entry K) → IsEntryOf commits e → ((e.row ≡ row) → ⊥) → IsEntryOf after_delete e
-      entry_after_delete e a d = record { inserted = commit_push commits (Delete row) e.row (Insert e.key e.tag) a.inserted; death = death e.died a.death }
-        where
-          death : (o : Option ℕ) → IsDeath commits e.row o → IsDeath after_delete e.row o
-          death None x = deleted_push commits (Delete row) e.row ∙ or_false _ _ x (ne_eqb row e.row (λ f. d (sym f)))
-          death (Some m) x = commit_push commits (Delete row) m (Delete e.row) x
+      entry_after_delete e a d = entry_push commits (Delete row) e (ne_eqb row e.row (λ f. d (sym f))) a
 
       entry_marked : (e : Entry K) → IsEntryOf commits e → IsEntryOf after_delete (marked row n e)
       entry_marked e a = go (nat_eq e.row row) refl
         where
           go : (b : Bool) → nat_eq e.row row ≡ b → IsEntryOf after_delete (cond b (died_at n e) e)
           go true h = record {
-            inserted = commit_push commits (Delete row) e.row (Insert e.key e.tag) a.inserted;
-            death = commit_last commits (Delete row) ∙ ap (λ x. Some (Delete x)) (sym (eqb-true e.row row h));
+            made = row_push commits (Delete row) e.row (row_of e) a.made;
+            death = record { write = Delete row; is = commit_last commits (Delete row); ending = eq-eqb row e.row (sym (eqb-true e.row row h)) };
           }
           go false h = entry_after_delete e a (λ x. both_ways (nat_eq e.row row) h (eq-eqb e.row row x))
 
@@ -164,7 +167,7 @@ module _ {K : Type 0} (is_cover : K → K → Bool) (t : Tree K) (fan : ℕ) (so
             (λ q k d. All-both (λ (e : Entry K). IsEntryOf commits e) (λ (e : Entry K). (e.row ≡ row) → ⊥) (λ (e : Entry K). IsEntryOf after_delete e) entry_after_delete (At q) (agrees.entries q k) (nowhere_else q k d));
         live_once = λ k still. count k ∙ elim (live_pushed commits (Delete row) k still) [
           | inl before ↦ agrees.live_once k before
-          | inr new ↦ absurd (let e = new.1.2 in cc)
+          | inr new ↦ absurd (let e = new.1 in cc)
         ];
         at_most_once = λ k. omega (arith, count k, agrees.at_most_once k);
       }
@@ -176,12 +179,12 @@ module _ {K : Type 0} (is_cover : K → K → Bool) (t : Tree K) (fan : ℕ) (so
 
   module _ (agrees : Agrees t commits) (p : ℕ) (l : p < length t.pages) (horizon : ℕ) where
     -- what a sweep takes is dead
-    pub swept_dead : (e : Entry K) → IsEntryOf commits e → is_needed horizon e ≡ false → is_deleted commits e.row ≡ true
+    pub swept_dead : (e : Entry K) → IsEntryOf commits e → is_needed horizon e ≡ false → is_ended commits e.row ≡ true
     swept_dead e a off = go e.died a.death off
       where
-        go : (o : Option ℕ) → IsDeath commits e.row o → lives_at horizon o ≡ false → is_deleted commits e.row ≡ true
+        go : (o : Option ℕ) → IsDeath commits e.row o → lives_at horizon o ≡ false → is_ended commits e.row ≡ true
         go None x h = absurd (cc)
-        go (Some m) x h = deleted_by commits e.row m x
+        go (Some m) x h = ended_by commits e.row m x
 
     -- a sweep of a page up to any horizon
     pub sweep_agrees : Agrees (after_rows t p (filter (is_needed horizon) (At p))) commits
@@ -189,11 +192,100 @@ module _ {K : Type 0} (is_cover : K → K → Bool) (t : Tree K) (fan : ℕ) (so
     sweep_agrees = record {
       entries = rows_entries t p (filter (is_needed horizon) (At p)) (λ e. IsEntryOf commits e) l (All-filter (is_needed horizon) (λ (e : Entry K). IsEntryOf commits e) (At p) (agrees.entries p l)) (λ q k d. agrees.entries q k);
       live_once = λ n live.
-          let r = live_row commits n live in
+          let kept = live_kept commits n live in
           sweep_kept t sound.rank sound.ranked p l (is_needed horizon) (is_row n)
           (All-weaker (λ (e : Entry K). IsEntryOf commits e) (λ (e : Entry K). is_needed horizon e ≡ false → is_row n e ≡ 0)
-          (λ e a off. one-different e.row n (λ x. both_ways (is_deleted commits n) r.kept (ap (is_deleted commits) (sym x) ∙ swept_dead e a off))) (At p) (agrees.entries p l))
+          (λ e a off. one-different e.row n (λ x. both_ways (is_ended commits n) kept (ap (is_ended commits) (sym x) ∙ swept_dead e a off))) (At p) (agrees.entries p l))
           0 t.counter sound.root_exists
           ∙ agrees.live_once n live;
       at_most_once = λ n. omega (arith, sweep_less t sound.rank sound.ranked p l (is_needed horizon) (is_row n) 0 t.counter sound.root_exists, agrees.at_most_once n);
     }
+
+-- the row that a delete would end goes on as a row that a move makes
+module _ {K : Type 0} (is_cover : K → K → Bool) (t : Tree K) (fan : ℕ) (sound : IsSound is_cover fan t) (commits : List (Write K)) (legal : IsLegal commits) (row : ℕ) (live : status_of commits row ≡ Live)
+    (agrees : Agrees t (commits ++ Delete row ∷ [])) (key : K) (r : Row K) (found : row_at commits row ≡ Some r) (p : ℕ) (l : p < length t.pages) where
+  abbrev number : ℕ
+  number = length commits + 1
+
+  abbrev after_move : List (Write K)
+  after_move = commits ++ Move row key ∷ []
+
+  abbrev remade : Entry K
+  remade = record { key = key; row = length commits + 1; tag = r.tag; died = None }
+
+  -- both end the same rows
+  ended_alike : (k : ℕ) → is_ended (commits ++ Move row key ∷ []) k ≡ is_ended (commits ++ Delete row ∷ []) k
+  ended_alike k = ended_push commits (Move row key) k ∙ sym (ended_push commits (Delete row) k)
+
+  -- no entry has the number of the delete
+  number_within : (e : Entry K) → IsEntryOf (commits ++ Delete row ∷ []) e → e.row ≤ length commits
+  number_within e a =
+      let w = row_found (commits ++ Delete row ∷ []) e.row (row_of e) a.made in
+      elim (cases_eq e.row (length commits + 1)) [
+        | inl x ↦
+            let none : row_at (commits ++ Delete row ∷ []) e.row ≡ None = row_of_delete (commits ++ Delete row ∷ []) e.row row (ap (commit_at (commits ++ Delete row ∷ [])) x ∙ commit_last commits (Delete row)) in
+            let c : None ≡ Some (row_of e) = sym none ∙ a.made in
+            absurd (cc)
+        | inr x ↦ omega (arith, x, w.2, length-append commits (Delete row ∷ []))
+      ]
+
+  entry_moved : (e : Entry K) → IsEntryOf (commits ++ Delete row ∷ []) e → IsEntryOf (commits ++ Move row key ∷ []) e
+  entry_moved e a = record {
+    made = row_before commits (Move row key) e.row (number_within e a) ∙ sym (row_before commits (Delete row) e.row (number_within e a)) ∙ a.made;
+    death = death e.died a.death;
+  }
+    where
+      death : (o : Option ℕ) → IsDeath (commits ++ Delete row ∷ []) e.row o → IsDeath (commits ++ Move row key ∷ []) e.row o
+      death None d = ended_alike e.row ∙ d
+      death (Some m) d = elim (commit_pushed commits (Delete row) m d.write d.is) [
+        | inl c ↦ record { write = d.write; is = commit_push commits (Move row key) m d.write c; ending = d.ending }
+        | inr c ↦ record {
+          write = Move row key;
+          is = ap (commit_at (commits ++ Move row key ∷ [])) c.0 ∙ commit_last commits (Move row key);
+          ending = ap (ends e.row) c.1 ∙ d.ending;
+        }
+      ]
+
+  remade_alive : is_ended (commits ++ Move row key ∷ []) (length commits + 1) ≡ false
+  remade_alive =
+      let w = live_within commits row live in
+      ended_push commits (Move row key) (length commits + 1) ∙ or_false _ _ (none_ends commits (length commits + 1) legal (omega arith)) (ne_eqb row (length commits + 1) (λ x. omega (arith, x, w.1)))
+
+  none_yet : weigh (is_row (length commits + 1)) (rows_of_tree t) ≡ 0
+  none_yet = weigh-none (is_row (length commits + 1)) (rows_of_tree t)
+      (All-weaker (λ (e : Entry K). e.row ≤ length commits) (λ (e : Entry K). is_row (length commits + 1) e ≡ 0) (λ e a. one-different e.row (length commits + 1) (λ x. omega (arith, a, x))) _
+      (entries_under t sound.rank sound.ranked (λ e. e.row ≤ length commits)
+      (λ q k. All-weaker (λ (e : Entry K). IsEntryOf (commits ++ Delete row ∷ []) e) (λ (e : Entry K). e.row ≤ length commits) number_within _ (agrees.entries q k)) 0 t.counter sound.root_exists))
+
+  -- the entry of the new row placed on a page
+  pub remade_agrees : Agrees (after_rows t p ((page_at t p).rows ++ remade ∷ [])) (commits ++ Move row key ∷ [])
+  unfolding after_rows
+  remade_agrees = record {
+    entries = rows_entries t p ((page_at t p).rows ++ remade ∷ []) (λ e. IsEntryOf (commits ++ Move row key ∷ []) e) l
+        (All-append (λ (e : Entry K). IsEntryOf (commits ++ Move row key ∷ []) e) (page_at t p).rows (remade ∷ []) (old p l)
+        (All-cons (λ (e : Entry K). IsEntryOf (commits ++ Move row key ∷ []) e) remade [] (record { made = row_of_new_move commits row key r found; death = remade_alive }) (All-nil (λ (e : Entry K). IsEntryOf (commits ++ Move row key ∷ []) e))))
+        (λ q k d. old q k);
+    live_once = λ k alive. elim (live_pushed commits (Move row key) k alive) [
+      | inl before ↦ omega (arith, count k, agrees.live_once k (stays k before alive), one-different (length commits + 1) k (λ x. omega (arith, x, (live_within commits k before).1)))
+      | inr new ↦
+          let z : weigh (is_row k) (rows_of_tree t) ≡ 0 = ap (λ n. weigh (is_row n) (rows_of_tree t)) new.0 ∙ none_yet in
+          omega (arith, count k, z, one-equal (length commits + 1) k (sym new.0))
+    ];
+    at_most_once = λ k. elim (cases_eq (length commits + 1) k) [
+      | inl x ↦
+          let z : weigh (is_row k) (rows_of_tree t) ≡ 0 = ap (λ n. weigh (is_row n) (rows_of_tree t)) (sym x) ∙ none_yet in
+          omega (arith, count k, z, one-equal (length commits + 1) k x)
+      | inr x ↦ omega (arith, count k, agrees.at_most_once k, one-different (length commits + 1) k x)
+    ];
+  }
+    where
+      old : EachEntry (λ e. IsEntryOf (commits ++ Move row key ∷ []) e) t
+      old q k = All-weaker (λ (e : Entry K). IsEntryOf (commits ++ Delete row ∷ []) e) (λ (e : Entry K). IsEntryOf (commits ++ Move row key ∷ []) e) entry_moved _ (agrees.entries q k)
+
+      stays : (k : ℕ) → status_of commits k ≡ Live → status_of (commits ++ Move row key ∷ []) k ≡ Live → status_of (commits ++ Delete row ∷ []) k ≡ Live
+      stays k before alive =
+          let c = live_commit commits k before in
+          live_made (commits ++ Delete row ∷ []) k c.write (commit_push commits (Delete row) k c.write c.is) c.makes_it (sym (ended_alike k) ∙ live_kept (commits ++ Move row key ∷ []) k alive)
+
+      count : (k : ℕ) → weigh (is_row k) (rows_of_tree (after_rows t p ((page_at t p).rows ++ remade ∷ []))) ≡ weigh (is_row k) (rows_of_tree t) + one_if_equal (length commits + 1) k
+      count k = place_all is_cover t fan sound (is_row k) p l remade

@@ -4,10 +4,9 @@ use Rattle.std.specs.Prelude.{nat_eq, slice_get}
 use Rattle.std.proofs.lemmas.Bool.{eq-eqb}
 use Rattle.change_list.proofs.Lists.{slice_get_before, slice_get_end, slice_get_push}
 use Rattle.change_list.proofs.Pushing.{list_any-push}
-use Rattle.change_list.proofs.Tracking.{commit_within, live_row}
-use Rattle.change_list.specs.Changes.{commit_at, deletes, is_deleted, status_from, status_of}
+use Rattle.change_list.proofs.Tracking.{commit_within, live_commit, live_made, live_within}
+use Rattle.change_list.specs.Changes.{EndsRow, commit_at, ends, is_ended, makes, status_of}
 use Rattle.change_list.specs.declared.write.Status.TheVariants.{Live}
-use Rattle.change_list.specs.declared.write.Write.TheVariants.{Insert, Delete}
 use Rattle.change_list.specs.declared.write.Write.{Write}
 
 pub or_right_false : (b c : Bool) → (b || c) ≡ false → c ≡ false
@@ -60,34 +59,33 @@ module _ {K : Type 0} where
         | inr p ↦ inr (omega (arith, p.0, l.0), p.1)
       ]
 
-  pub deleted_push : (commits : List (Write K)) (x : Write K) (row : ℕ) → is_deleted (commits ++ x ∷ []) row ≡ (is_deleted commits row || deletes row x)
-  deleted_push commits x row = list_any-push (deletes row) commits x
+  pub ended_push : (commits : List (Write K)) (x : Write K) (row : ℕ) → is_ended (commits ++ x ∷ []) row ≡ (is_ended commits row || ends row x)
+  ended_push commits x row = list_any-push (ends row) commits x
 
-  deleted_at : (commits : List (Write K)) (row i : ℕ) → slice_get commits i ≡ Some (Delete row) → is_deleted commits row ≡ true
-  deleted_at [] row i h = absurd (cc)
-  deleted_at (c ∷ commits) row zero h =
-      let e : c ≡ Delete row = cc in
-      or_true_left (deletes row c) (is_deleted commits row) (ap (deletes row) e ∙ eq-eqb row row refl)
-  deleted_at (c ∷ commits) row (suc i) h = or_true_right (deletes row c) (is_deleted commits row) (deleted_at commits row i h)
+  ended_at : (commits : List (Write K)) (row i : ℕ) (w : Write K) → slice_get commits i ≡ Some w → ends row w ≡ true → is_ended commits row ≡ true
+  ended_at [] row i w h e = absurd (cc)
+  ended_at (c ∷ commits) row zero w h e =
+      let same : c ≡ w = cc in
+      or_true_left (ends row c) (is_ended commits row) (ap (ends row) same ∙ e)
+  ended_at (c ∷ commits) row (suc i) w h e = or_true_right (ends row c) (is_ended commits row) (ended_at commits row i w h e)
 
-  -- a row that a commit deletes is deleted
-  pub deleted_by : (commits : List (Write K)) (row n : ℕ) → commit_at commits n ≡ Some (Delete row) → is_deleted commits row ≡ true
-  deleted_by commits row n c = deleted_at commits row (n - 1) (commit_is commits n (Delete row) c)
+  -- a row that a commit ends is ended
+  pub ended_by : (commits : List (Write K)) (row n : ℕ) → EndsRow commits n row → is_ended commits row ≡ true
+  ended_by commits row n c = ended_at commits row (n - 1) c.write (commit_is commits n c.write c.is) c.ending
 
-  -- an inserted row that is not deleted is live
-  pub live_from : (commits : List (Write K)) (row : ℕ) (key : K) (tag : ℕ) → commit_at commits row ≡ Some (Insert key tag) → is_deleted commits row ≡ false → status_of commits row ≡ Live
-  live_from commits row key tag c d = ap (λ b. status_from b (commit_at commits row)) d ∙ ap (λ o. status_from false o) c
+  -- and so it is behind a further commit
+  pub ends_push : (commits : List (Write K)) (x : Write K) (n row : ℕ) → EndsRow commits n row → EndsRow (commits ++ x ∷ []) n row
+  ends_push commits x n row c = record { write = c.write; is = commit_push commits x n c.write c.is; ending = c.ending }
 
-  -- what is live after a commit was live before it, or that commit is its insert
-  pub live_pushed : (commits : List (Write K)) (x : Write K) (n : ℕ) → status_of (commits ++ x ∷ []) n ≡ Live
-      → (status_of commits n ≡ Live) ⊎ ((n ≡ length commits + 1) × ((key : K) × (tag : ℕ) × (x ≡ Insert key tag)))
+  -- what is live after a commit was live before it, or that commit makes it
+  pub live_pushed : (commits : List (Write K)) (x : Write K) (n : ℕ) → status_of (commits ++ x ∷ []) n ≡ Live → (status_of commits n ≡ Live) ⊎ ((n ≡ length commits + 1) × (makes x ≡ true))
   live_pushed commits x n h =
-      let l = live_row (commits ++ x ∷ []) n h in
-      elim (commit_pushed commits x n (Insert l.key l.tag) l.is) [
-        | inl c ↦ inl (live_from commits n l.key l.tag c (or_left_false (is_deleted commits n) (deletes n x) (sym (deleted_push commits x n) ∙ l.kept)))
-        | inr e ↦ inr (e.0, (l.key, l.tag, e.1))
+      let l = live_commit (commits ++ x ∷ []) n h in
+      elim (commit_pushed commits x n l.write l.is) [
+        | inl c ↦ inl (live_made commits n l.write c l.makes_it (or_left_false (is_ended commits n) (ends n x) (sym (ended_push commits x n) ∙ l.kept)))
+        | inr e ↦ inr (e.0, ap makes e.1 ∙ l.makes_it)
       ]
 
 -- nothing was live before the first commit
 pub none_live : (K : Type 0) (n : ℕ) → status_of {K = K} [] n ≡ Live → ⊥
-none_live K n h = let l = live_row {K = K} [] n h in let w = commit_within [] n (Insert l.key l.tag) l.is in omega (arith, w.0, w.1)
+none_live K n h = let w = live_within {K = K} [] n h in omega (arith, w.0, w.1)

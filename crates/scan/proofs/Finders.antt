@@ -2,10 +2,10 @@
 use Rattle.std.proofs.Common.{◌≡◌, ◌+◌, ◌<◌, ◌≤◌, ℕ, Bool, true, false, List, [], ◌∷◌, ◌++◌, length, map, filter, Some, sym, ap, ◌∙◌, arith, subst}
 use Rattle.std.proofs.lemmas.Bool.{both_ways}
 use Rattle.std.proofs.lemmas.List.Elements.{All-append, All-weaker}
-use Rattle.change_list.proofs.Tracking.{live_row}
-use Rattle.change_list.specs.Changes.{commit_at, is_deleted, status_of}
+use Rattle.change_list.proofs.Tracking.{live_kept}
+use Rattle.change_list.specs.declared.item.Row.{Row}
+use Rattle.change_list.specs.Changes.{is_ended, row_at, status_of}
 use Rattle.change_list.specs.declared.write.Status.TheVariants.{Live}
-use Rattle.change_list.specs.declared.write.Write.TheVariants.{Insert}
 use Rattle.change_list.specs.declared.write.Write.{Write}
 use Rattle.node.specs.declared.branch.Branch.{Branch}
 use Rattle.page_table.proofs.Counting.{one-different}
@@ -28,7 +28,7 @@ use Rattle.scan.proofs.Scans.{keeps_stack, rows_stack}
 use Rattle.scan.proofs.Visiting.{next_exists}
 use Rattle.scan.specs.Agreement.{Agrees, IsEntryOf, is_row}
 use Rattle.scan.specs.Finding.{FindsHere, IsFinder, SeeksFurther}
-use Rattle.scan.specs.Scanning.{GoesOn}
+use Rattle.scan.specs.Scanning.{GoesOn, row_of}
 
 -- a finder has something left to visit
 pub finder_open : {K : Type 0} (row : ℕ) (t : Tree K) → IsFinder row t [] → ⊥
@@ -68,13 +68,13 @@ module _ {K : Type 0} (row : ℕ) (t : Tree K) (stack : List StackItem) where
           stack_kept t (after_rows t p (filter (is_needed horizon) (page_at t p).rows)) (is_row row)
           (λ q m k c. sweep_kept t sound.rank sound.ranked p l (is_needed horizon) (is_row row)
           (All-weaker (λ (e : Entry K). IsEntryOf commits e) (λ (e : Entry K). is_needed horizon e ≡ false → is_row row e ≡ 0)
-          (λ e a off. one-different e.row row (λ x. both_ways (is_deleted commits row) alive (ap (is_deleted commits) (sym x) ∙ swept_dead is_cover t fan sound commits agrees p l horizon e a off))) (page_at t p).rows (agrees.entries p l))
+          (λ e a off. one-different e.row row (λ x. both_ways (is_ended commits row) alive (ap (is_ended commits) (sym x) ∙ swept_dead is_cover t fan sound commits agrees p l horizon e a off))) (page_at t p).rows (agrees.entries p l))
           q m k) stack find.exists
           ∙ find.there;
     }
       where
-        alive : is_deleted commits row ≡ false
-        alive = let r = live_row commits row live in r.kept
+        alive : is_ended commits row ≡ false
+        alive = live_kept commits row live
 
 module _ {K : Type 0} (is_cover : K → K → Bool) (t : Tree K) (fan : ℕ) (sound : IsSound is_cover fan t) (commits : List (Write K)) (agrees : Agrees t commits) (row : ℕ) where
   -- the finder of a live row begins at the root
@@ -84,12 +84,13 @@ module _ {K : Type 0} (is_cover : K → K → Bool) (t : Tree K) (fan : ℕ) (so
     there = left_one t (is_row row) (record { page = 0; memo = t.counter }) ∙ agrees.live_once row live;
   }
 
-  module _ (through : (a b c : K) → is_cover a b ≡ true → is_cover b c ≡ true → is_cover a c ≡ true) (key : K) (tag : ℕ) (inserted : commit_at commits row ≡ Some (Insert key tag)) where
+  module _ (through : (a b c : K) → is_cover a b ≡ true → is_cover b c ≡ true → is_cover a c ≡ true) (key : K) (tag : ℕ) (made : row_at commits row ≡ Some (record { row = row; key = key; tag = tag })) where
     -- an entry of the row has the row's key
     its_key : (e : Entry K) → IsEntryOf commits e → e.row ≡ row → e.key ≡ key
     its_key e a h =
-        let same : Some (Insert e.key e.tag) ≡ Some (Insert key tag) = sym (subst (λ x. commit_at commits x ≡ Some (Insert e.key e.tag)) h a.inserted) ∙ inserted in
-        cc
+        let both : Some (row_of e) ≡ Some (record { row = row; key = key; tag = tag }) = sym (subst (λ x. row_at commits x ≡ Some (row_of e)) h a.made) ∙ made in
+        let same : row_of e ≡ record { row = row; key = key; tag = tag } = cc in
+        ap (λ (r : Row K). r.key) same
 
     unwanted : (b : Branch K) → b.child < length t.pages → BoundsBelow is_cover t b → is_cover b.key key ≡ false → weigh (is_row row) (rows_under t b.child t.counter) ≡ 0
     unwanted b l w off = weigh-none (is_row row) (rows_under t b.child t.counter)

@@ -3,8 +3,8 @@ use Rattle.std.proofs.Common.{◌≡◌, ◌<◌, ◌≤◌, ℕ, Bool, true, fa
 use Rattle.std.specs.Prelude.{nat_eq, nat_le, nat_lt}
 use Rattle.std.proofs.lemmas.Bool.{and_left, and_right, both_ways, eqb-true, le-ltb, lt-leb, lt-ltb, ltb-false}
 use Rattle.std.proofs.lemmas.List.Elements.{All-weaker}
-use Rattle.change_list.proofs.Tracking.{live_row}
-use Rattle.change_list.specs.Changes.{is_deleted, status_of}
+use Rattle.change_list.proofs.Tracking.{live_kept}
+use Rattle.change_list.specs.Changes.{is_ended, status_of}
 use Rattle.change_list.specs.declared.item.Row.{Row}
 use Rattle.change_list.specs.declared.write.Status.TheVariants.{Live}
 use Rattle.change_list.specs.declared.write.Write.{Write}
@@ -19,7 +19,7 @@ use Rattle.page_table.specs.Stacks.{IsStack, StackItem, rows_left}
 use Rattle.page_table.specs.Trees.{Tree, after_rows, page_at}
 use Rattle.page_table.specs.Weights.{Same, weigh}
 use Rattle.row_version.specs.Entries.{Entry, died_at, is_needed, lives_at, marked, visible_at}
-use Rattle.scan.proofs.Commits.{deleted_by}
+use Rattle.scan.proofs.Commits.{ended_by}
 use Rattle.scan.proofs.Seen.{seen_weight, unseen_weight, weigh_seen}
 use Rattle.scan.specs.Agreement.{Agrees, IsDeath, IsEntryOf}
 use Rattle.scan.specs.Scanning.{row_of, to_find}
@@ -71,12 +71,12 @@ module _ {K : Type 0} (wanted : K → Bool) (s : ℕ) (t : Tree K) (stack : List
         ∙ weigh-each (λ e. seen_weight w wanted s (marked row n e)) (seen_weight w wanted s) (page_at t p).rows
         (All-weaker (λ (e : Entry K). IsEntryOf commits e) (λ (e : Entry K). seen_weight w wanted s (marked row n e) ≡ seen_weight w wanted s e) (same w) (page_at t p).rows (agrees.entries p l)))
       where
-        alive : is_deleted commits row ≡ false
-        alive = let r = live_row commits row live in r.kept
+        alive : is_ended commits row ≡ false
+        alive = live_kept commits row live
 
         lives : (row' : ℕ) → row' ≡ row → (o : Option ℕ) → IsDeath commits row' o → nat_lt s n ≡ lives_at s o
         lives row' h None d = lt-ltb s n late
-        lives row' h (Some m) d = absurd (both_ways (is_deleted commits row) alive (ap (is_deleted commits) (sym h) ∙ deleted_by commits row' m d))
+        lives row' h (Some m) d = absurd (both_ways (is_ended commits row) alive (ap (is_ended commits) (sym h) ∙ ended_by commits row' m d))
 
         same : (w : Row K → ℕ) (e : Entry K) → IsEntryOf commits e → seen_weight w wanted s (marked row n e) ≡ seen_weight w wanted s e
         same w e a = go (nat_eq e.row row) refl

@@ -1,23 +1,22 @@
 -- The entries of a tree are those of a list of commits.
 use Rattle.std.specs.Prelude.{◌≡◌, ℕ, ◌≤◌, false, List, Option, Some, None}
 use Rattle.change_list.specs.declared.write.Write.{Write}
-use Rattle.change_list.specs.declared.write.Write.TheVariants.{Insert, Delete}
 use Rattle.change_list.specs.declared.write.Status.TheVariants.{Live}
-use Rattle.change_list.specs.Changes.{commit_at, is_deleted, status_of}
+use Rattle.change_list.specs.Changes.{EndsRow, is_ended, row_at, status_of}
 use Rattle.row_version.specs.Entries.{Entry}
 use Rattle.page_table.specs.Keeping.{EachEntry}
 use Rattle.page_table.specs.Trees.{Tree, rows_of_tree}
 use Rattle.page_table.specs.Weights.{weigh, one_if_equal}
 
 module _ {K : Type 0} where
-  -- no commit deletes a live entry's row; the commit that a dead one names deletes its row
+  -- no commit ends a live entry's row; the commit that a dead one names ends its row
   abbrev pub IsDeath : List (Write K) → ℕ → Option ℕ → Type 0
-  IsDeath commits row None = is_deleted commits row ≡ false
-  IsDeath commits row (Some n) = commit_at commits n ≡ Some (Delete row)
+  IsDeath commits row None = is_ended commits row ≡ false
+  IsDeath commits row (Some n) = EndsRow commits n row
 
-  -- the entry has the key and tag of its row's commit, and its death is that of the row
+  -- the entry has its row's key and tag, and its death is that of the row
   pub record IsEntryOf (commits : List (Write K)) (e : Entry K) : Type 0 where
-    pub inserted : commit_at commits e.row ≡ Some (Insert e.key e.tag)
+    pub made : row_at commits e.row ≡ Some (record { row = e.row; key = e.key; tag = e.tag })
     pub death : IsDeath commits e.row e.died
 
   -- 1 where the entry is that of the row, for counting

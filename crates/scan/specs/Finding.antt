@@ -3,9 +3,8 @@ use Rattle.std.specs.Prelude.{◌≡◌, ℕ, ◌≤◌, Bool, false, List, ◌�
 use Rattle.std.specs.List.{list_any}
 use Rattle.key_class.specs.Rules.{Rules}
 use Rattle.row_version.specs.Entries.{Entry}
-use Rattle.change_list.specs.Changes.{commit_at}
+use Rattle.change_list.specs.Changes.{HasKey}
 use Rattle.change_list.specs.declared.write.Write.{Write}
-use Rattle.change_list.specs.declared.write.Write.TheVariants.{Insert}
 use Rattle.page_table.specs.Soundness.{IsSound}
 use Rattle.page_table.specs.Stacks.{StackItem, IsStack, rows_left}
 use Rattle.page_table.specs.Trees.{Tree, page_at}
@@ -51,7 +50,7 @@ module _ {K : Type 0} where
   -- in a sound tree that agrees with the commits, the finder of a row with that key is one still
   abbrev pub KeepsFinder : (K → K → Bool) → K → ℕ → Tree K → List StackItem → List StackItem → Type 0
   KeepsFinder is_cover key row t old new =
-      (fan tag : ℕ) (commits : List (Write K)) → IsSound is_cover fan t → Agrees t commits → commit_at commits row ≡ Some (Insert key tag) → IsFinder row t old → IsFinder row t new
+      (fan : ℕ) (commits : List (Write K)) → IsSound is_cover fan t → Agrees t commits → HasKey commits row key → IsFinder row t old → IsFinder row t new
 
   -- where it goes on, fewer pages are left
   abbrev pub SeeksLess : (K → K → Bool) → Tree K → List StackItem → Sought → List StackItem → Type 0

@@ -1,8 +1,9 @@
 -- What each step leaves to the entries, to a scan that is under way and to a finder.
-use Rattle.std.specs.Prelude.{◌≡◌, ◌⊎◌, ℕ, ◌+◌, ◌<◌, ◌≤◌, Bool, List, [], ◌∷◌, ◌++◌, length, None}
+use Rattle.std.specs.Prelude.{◌≡◌, ◌⊎◌, ℕ, ◌+◌, ◌<◌, ◌≤◌, Bool, List, [], ◌∷◌, ◌++◌, length, Some, None}
 use Rattle.change_list.specs.declared.write.Write.{Write}
-use Rattle.change_list.specs.declared.write.Write.TheVariants.{Insert, Delete}
-use Rattle.change_list.specs.Changes.{IsLegal, NamesLive, snapshot}
+use Rattle.change_list.specs.declared.write.Write.TheVariants.{Insert, Delete, Move}
+use Rattle.change_list.specs.declared.item.Row.{Row}
+use Rattle.change_list.specs.Changes.{IsLegal, NamesLive, row_at, snapshot}
 use Rattle.row_version.specs.Entries.{Entry}
 use Rattle.page_table.specs.Keeping.{KeepsRows, EachEntry, StandsIn}
 use Rattle.page_table.specs.LeafChanges.{after_place, after_bury, after_sweep}
@@ -44,6 +45,12 @@ module _ {K : Type 0} (is_cover : K → K → Bool) where
   abbrev pub BurialsKeepEntries : Type 0
   BurialsKeepEntries = (t : Tree K) (fan p : ℕ) (commits : List (Write K)) (row : ℕ) → IsSound is_cover fan t → IsLegal commits → Agrees t commits
       → p < length t.pages → NamesLive commits row → 1 ≤ weigh (is_row row) (page_at t p).rows → Agrees (after_bury t p row (length commits + 1)) (commits ++ Delete row ∷ [])
+
+  -- with both by a move, the next commit, of a live row on the one page to the other, or within a page
+  abbrev pub RowMovesKeepEntries : Type 0
+  RowMovesKeepEntries = (t : Tree K) (fan p q : ℕ) (commits : List (Write K)) (row : ℕ) (key : K) (r : Row K) → IsSound is_cover fan t → IsSound is_cover fan (after_bury t p row (length commits + 1))
+      → IsLegal commits → Agrees t commits → p < length t.pages → q < length t.pages → NamesLive commits row → 1 ≤ weigh (is_row row) (page_at t p).rows → row_at commits row ≡ Some r
+      → Agrees (after_place (after_bury t p row (length commits + 1)) q (record { key = key; row = length commits + 1; tag = r.tag; died = None })) (commits ++ Move row key ∷ [])
 
   -- after a sweep
   abbrev pub SweepsKeepEntries : Type 0

@@ -5,7 +5,7 @@ ghost use Rattle.page_table.specs.Trees.{Tree, new_tree};
 ghost use Rattle.page_table.specs.Weights.{Same};
 ghost use Rattle.scan.specs.Agreement.{Agrees};
 ghost use Rattle.scan.specs.Finding.{IsFinder};
-ghost use Rattle.scan.specs.ScanLaws.{PlacesLeaveScans, MovesKeepEntries, PlacesLeaveFinders, FindersBegin, SweepsLeaveFinders, MovesLeaveScans, SweepsKeepEntries, SweepsLeaveScans, BurialsKeepEntries, MovesLeaveFinders, BurialsLeaveScans, BurialsLeaveFinders, PlacesKeepEntries, ScansFindSnapshots};
+ghost use Rattle.scan.specs.ScanLaws.{PlacesLeaveScans, MovesKeepEntries, PlacesLeaveFinders, FindersBegin, SweepsLeaveFinders, MovesLeaveScans, SweepsKeepEntries, SweepsLeaveScans, BurialsKeepEntries, RowMovesKeepEntries, MovesLeaveFinders, BurialsLeaveScans, BurialsLeaveFinders, PlacesKeepEntries, ScansFindSnapshots};
 ghost use Rattle.page_table.specs.TraversalLaws.{EachSound};
 
 use key_class::KeyClass;
@@ -16,6 +16,7 @@ pub fn entries_follow_commits<C: KeyClass>()
     ensures moved { MovesKeepEntries C.Key }
     ensures placed { PlacesKeepEntries C.rules.is_cover }
     ensures buried { BurialsKeepEntries C.rules.is_cover }
+    ensures row_moved { RowMovesKeepEntries C.rules.is_cover }
     ensures swept { SweepsKeepEntries C.rules.is_cover }
 {}
 

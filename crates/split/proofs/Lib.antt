@@ -9,6 +9,7 @@ pub mod GrowDone
 pub mod GrowRows
 pub mod GrowSound
 pub mod Halves
+pub mod MoveDone
 pub mod Naming
 pub mod NewSearchTree
 pub mod PartWeights

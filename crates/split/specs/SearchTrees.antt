@@ -1,9 +1,10 @@
 -- A sound tree with its limits.
 use Rattle.std.specs.Prelude.{◌≡◌, ℕ, suc, ◌*◌, ◌≤◌, Bool, List, length, Some}
+use Rattle.key_class.specs.Limits.{least_part, most_fan, most_pages}
 use Rattle.key_class.specs.Rules.{Rules}
 use Rattle.key_class.specs.declared.sides.Side.{Side}
 use Rattle.row_version.specs.Entries.{Entry}
-use Rattle.page_table.specs.LeafChanges.{after_place, after_bury, after_sweep}
+use Rattle.page_table.specs.LeafChanges.{after_place, after_bury, after_move, after_sweep}
 use Rattle.page_table.specs.Trees.{Tree, page_at, new_tree}
 use Rattle.page_table.specs.Soundness.{IsSound}
 use Rattle.split.specs.Steps.{after_split, after_post, after_grow, after_enlarge}
@@ -22,10 +23,10 @@ with_tree s tree = record s { tree = tree }
 
 pub record IsSearchTree {K : Type 0} (is_cover : K → K → Bool) (tree : Tree K) (fan least limit : ℕ) : Type 0 where
   pub sound : IsSound is_cover fan tree
-  pub two_least : 2 ≤ least
+  pub two_least : least_part ≤ least
   pub two_parts : 2 * least ≤ fan
-  pub fan_limit : fan ≤ 64
-  pub page_limit : limit ≤ 65536
+  pub fan_limit : fan ≤ most_fan
+  pub page_limit : limit ≤ most_pages
   pub within : length tree.pages ≤ limit
 
 -- a new tree with its limits
@@ -64,6 +65,10 @@ module _ {K : Type 0} where
   -- with a row of a leaf dead since commit n
   abbrev pub with_death : SearchTree K → ℕ → ℕ → ℕ → SearchTree K
   with_death s leaf row n = with_tree s (after_bury s.tree leaf row n)
+
+  -- with a row of the leaf `from` dead since commit n, and the entry in the leaf `to`
+  abbrev pub with_move : SearchTree K → ℕ → ℕ → ℕ → ℕ → Entry K → SearchTree K
+  with_move s from row n to entry = with_tree s (after_move s.tree from row n to entry)
 
   -- without those rows of a leaf that nobody needs who opened at the horizon or later
   abbrev pub without_unneeded : SearchTree K → ℕ → ℕ → SearchTree K

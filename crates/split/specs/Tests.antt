@@ -1,5 +1,6 @@
 -- The tests of each step, in their order. The first that fails gives the refusal.
 use Rattle.std.specs.Prelude.{◌≡◌, ◌⊎◌, ℕ, ◌+◌, ◌/◌, Bool, true, false, not, ◌&&◌, ◌||◌, nat_eq, nat_lt, nat_le, List, [], ◌∷◌, length, count_by, Option, Some, None}
+use Rattle.key_class.specs.Limits.{least_fan, least_part, most_fan, most_pages}
 use Rattle.key_class.specs.Splits.{is_left, is_right}
 use Rattle.key_class.specs.declared.sides.Side.{Side}
 use Rattle.key_class.specs.declared.refusal.Refusal.{Refusal}
@@ -24,10 +25,10 @@ NoneFails tests = first_failing tests ≡ None
 abbrev pub IsRefusedBy : List (Bool × Refusal) → Refusal → Type 0
 IsRefusedBy tests why = (first_failing tests ≡ Some why) ⊎ ((first_failing tests ≡ None) × (why ≡ refusal.OutOfMemory))
 
--- a fan of 4 to 64, parts of at least 2 up to half of it, and 1 to 65,536 pages
+-- each limit of a tree is in its range
 abbrev pub config_tests : ℕ → ℕ → ℕ → List (Bool × Refusal)
 config_tests fan least limit =
-    (nat_lt fan 4 || (nat_lt 64 fan || (nat_lt least 2 || (nat_lt (fan / 2) least || (nat_lt limit 1 || nat_lt 65536 limit)))), refusal.BadConfig)
+    (nat_lt fan least_fan || (nat_lt most_fan fan || (nat_lt least least_part || (nat_lt (fan / 2) least || (nat_lt limit 1 || nat_lt most_pages limit)))), refusal.BadConfig)
     ∷ []
 
 -- the sides have a letter for each of so many entries, and each part has at least the fewest

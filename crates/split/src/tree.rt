@@ -1,12 +1,14 @@
-ghost use Rattle.std.specs.Prelude.{◌≡◌, ◌+◌, ◌*◌, ◌<◌, ◌≤◌, length, true, IfOk, IfErr, OnOk, OnErr};
+ghost use Rattle.std.specs.Prelude.{◌≡◌, ◌≢◌, ◌+◌, ◌*◌, ◌<◌, ◌≤◌, length, true, IfOk, IfErr, OnOk, OnErr};
+ghost use Rattle.key_class.specs.Limits.{most_pages};
 ghost use Rattle.page_table.specs.Trees.{page_at};
 ghost use Rattle.page_table.specs.Keeping.{KeepsRows, EachEntry, StandsIn, KeepsRowsInOrder, GainsEntry, KeepsRowsAtEveryMemo};
 ghost use Rattle.page_table.specs.Soundness.{IsSound};
-ghost use Rattle.split.specs.SearchTrees.{PostsSibling, AreNextTwo, divided, with_death, empty_tree, with_entry, without_unneeded, with_growth, extended};
+ghost use Rattle.split.specs.SearchTrees.{PostsSibling, AreNextTwo, divided, with_death, empty_tree, with_entry, without_unneeded, with_growth, extended, with_move};
 ghost use Rattle.split.specs.Tests.{first_failing, IsRefusedBy, is_leaf, config_tests, split_tests, post_tests, grow_tests, sweep_tests, CountsSides, RefusesPlace, PlacePasses, NoneFails, RefusesEnlarge, refusal_to_place, refusal_to_enlarge, sides_well, EnlargePasses, WantsMemoryToSweep};
 ghost use Rattle.page_table.specs.LeafChanges.{CountsUnneeded};
 
 use crate::steps;
+use key_class::limits::{MAX_FAN, MAX_PAGES, MIN_FAN, MIN_LEAST};
 use key_class::{KeyClass, Refusal, Side, Sides};
 use page_table::PageTable;
 use row_version::Entry;
@@ -45,7 +47,13 @@ impl<C: KeyClass> SearchTree<C> {
         ensures passed { OnOk result (NoneFails (config_tests fan least limit)) }
         ensures refused { IfErr result (IsRefusedBy (config_tests fan least limit)) }
     {
-        if fan < 4 || 64 < fan || least < 2 || fan / 2 < least || limit < 1 || 65_536 < limit {
+        if fan < u64::from(MIN_FAN)
+            || u64::from(MAX_FAN) < fan
+            || least < u64::from(MIN_LEAST)
+            || fan / 2 < least
+            || limit < 1
+            || u64::from(MAX_PAGES) < limit
+        {
             return Err(Refusal::BadConfig);
         }
         let table = PageTable::new(alloc, fan as usize)?;
@@ -62,7 +70,7 @@ impl<C: KeyClass> SearchTree<C> {
     pub fn pages(&self) -> &PageTable<C::Key>
         ensures table { result.now ≡ self.now.tree }
         ensures sound { IsSound C.rules.is_cover self.now.fan self.now.tree }
-        ensures few { length self.now.tree.pages ≤ 65536 }
+        ensures few { length self.now.tree.pages ≤ most_pages }
     {
         &self.table
     }
@@ -244,6 +252,33 @@ impl<C: KeyClass> SearchTree<C> {
         ensures sound { IsSound C.rules.is_cover self.new.fan self.new.tree }
     {
         self.table.bury(leaf as u32, row, commit)?;
+        Ok(())
+    }
+
+    /// Marks a row of a leaf as ended by that commit, and adds another row to a leaf that takes it, at the end: both or
+    /// neither. Commits count from 1.
+    ///
+    /// # Errors
+    /// Memory was wanting; nothing is changed then.
+    pub fn relocate(
+        &mut self,
+        from: u64,
+        row: u32,
+        commit: u32,
+        to: u64,
+        entry: Entry<C::Key>,
+    ) -> Result<(), Refusal>
+        requires leaf { is_leaf self.old.tree from ≡ true }
+        requires passes { PlacePasses C.rules.is_cover self.old to entry.key }
+        requires counted { 0 < commit }
+        requires other { entry.row ≢ row }
+        ensures moved { OnOk result (self.new ≡ with_move self.old from row commit to entry) }
+        ensures refused { IfErr result (λ why. why ≡ Refusal.OutOfMemory) }
+        ensures unchanged { OnErr result (self.new ≡ self.old) }
+        ensures sound { IsSound C.rules.is_cover self.new.fan self.new.tree }
+    {
+        self.table
+            .relocate(from as u32, row, commit, to as u32, entry)?;
         Ok(())
     }
 

@@ -123,7 +123,7 @@ module _ {K A : Type 0} (rules : Rules K A) (rule : Rule) (old : world.State K A
       by_death rest None h = rw h rest
       by_death rest (Some n) h =
           let d : IsDeath old.commits e.row (Some n) = subst (λ o. IsDeath old.commits e.row o) h (All-head (λ e. IsEntryOf old.commits e) e es a).death in
-          rw h (All-cons (λ (d : ℕ × ℕ). d.1 ≤ length old.commits) (e.row, n) (filter_map death es) (commit_within old.commits n _ d).1 rest)
+          rw h (All-cons (λ (d : ℕ × ℕ). d.1 ≤ length old.commits) (e.row, n) (filter_map death es) (commit_within old.commits n d.write d.is).1 rest)
 
   kept_filtered : (ds : List (ℕ × ℕ)) → All (λ (d : ℕ × ℕ). d.1 ≤ length old.commits) ds → All IsKept (filter (is_past horizon) ds)
   kept_filtered [] a = All-nil IsKept

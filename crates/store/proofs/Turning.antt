@@ -55,6 +55,7 @@ sent_unread : {K A : Type 0} (x : Item K) (k : OpenCursor K A) → (sent x k).un
 sent_unread (item.Row row) k = refl
 sent_unread (item.Inserted row) k = refl
 sent_unread (item.Deleted n row) k = refl
+sent_unread (item.Moved row other) k = refl
 sent_unread (item.Mark n) k = refl
 
 module _ {K A : Type 0} (rules : Rules K A) (rule : Rule) where
@@ -244,6 +245,7 @@ module _ {K A : Type 0} (rules : Rules K A) (rule : Rule) where
           answers (item.Row row) s = s ∙ g.strives.asked
           answers (item.Inserted row) s = s ∙ g.strives.asked
           answers (item.Deleted n row) s = s ∙ g.strives.asked
+          answers (item.Moved row other) s = s ∙ g.strives.asked
 
           pub gives : GivesNext rules.is_match old.commits (shown rules rule old.search.tree g.before) (Some taken) (shown rules rule old.search.tree m.next)
           gives = record {

@@ -1,6 +1,7 @@
 -- What contracts see of a store, and what its calls do to it.
 use Rattle.std.specs.Prelude.{◌≡◌, ℕ, ◌+◌, ◌-◌, ◌<◌, ◌≤◌, Bool, true, false, not, ◌||◌, nat_lt, nat_eq, List, [], ◌∷◌, ◌++◌, length, filter, find, min, Option, Some, None, Result, Ok, Err, IsPermutation, if◌then◌else◌, option_to_list, ◌⊎◌, IfSome}
 use Rattle.std.specs.List.{AllByRecursion}
+use Rattle.key_class.specs.Limits.{greatest_serial, most_cursors, most_depth, most_room}
 use Rattle.change_list.specs.declared.config.Config.{Config}
 use Rattle.change_list.specs.declared.write.Write.{Write}
 use Rattle.change_list.specs.declared.item.Item.{Item}
@@ -242,7 +243,7 @@ module _ {K A : Type 0} (matching : A → K → Bool) where
 module _ {K A : Type 0} where
   -- no finder can be opened any more
   abbrev pub HasNoFinderLeft : StoreState K A → Type 0
-  HasNoFinderLeft state = 4294967295 ≤ state.finders
+  HasNoFinderLeft state = greatest_serial ≤ state.finders
 
   -- no commit can be made any more
   abbrev pub HasNoCommitLeft : StoreState K A → Type 0
@@ -270,6 +271,10 @@ module _ {K A : Type 0} where
       (why ≡ refusal.NoSuchRow) ⊎ (why ≡ refusal.AlreadyDeleted) ⊎ (why ≡ refusal.CommitsFull) ⊎ (why ≡ refusal.OutOfMemory)
       ⊎ ((why ≡ refusal.FindersFull) × HasNoFinderLeft old)
 
+  -- the refusals that a move may give, and what is left then
+  abbrev pub MayRefuseMove : StoreState K A → StoreState K A → Refusal → Type 0
+  MayRefuseMove old new why = MayRefuseDelete old why ⊎ ((why ≡ refusal.PagesFull) × (new.pages_left < 2))
+
   -- the open cursor is open no more, and all else stays
   pub record Closes (old : StoreState K A) (c : ℕ) (new : StoreState K A) : Type 0 where
     pub cursor : CursorState K A
@@ -288,14 +293,18 @@ module _ {K A : Type 0} where
 
 -- the room or the depth is out of range
 abbrev pub IsBadOpening : {A : Type 0} → Query A → ℕ → Type 0
-IsBadOpening query room = (room ≡ 0) ⊎ (4096 < room) ⊎ (32 < depth_of query)
+IsBadOpening query room = (room ≡ 0) ⊎ (most_room < room) ⊎ (most_depth < depth_of query)
+
+-- the refusals that the list of commits gives
+abbrev pub IsListed : Refusal → Type 0
+IsListed why = (why ≡ refusal.NoSuchRow) ⊎ (why ≡ refusal.AlreadyDeleted) ⊎ (why ≡ refusal.CommitsFull)
 
 -- why no cursor is opened
 abbrev pub RefusesCursor : Refusal → Type 0
 RefusesCursor why = (why ≡ refusal.BadConfig) ⊎ (why ≡ refusal.CursorsFull) ⊎ (why ≡ refusal.OutOfMemory)
 
 abbrev pub IsFullOf : {K A : Type 0} → StoreState K A → Type 0
-IsFullOf state = (256 ≤ length state.cursors) ⊎ (4294967295 ≤ state.last)
+IsFullOf state = (most_cursors ≤ length state.cursors) ⊎ (greatest_serial ≤ state.last)
 
 -- the query and the room are in range, but no cursor can be opened
 abbrev pub HasNoCursorFor : {K A : Type 0} → StoreState K A → Query A → ℕ → Type 0

@@ -3,13 +3,14 @@ ghost use Rattle.key_class.specs.declared.refusal.Refusal.TheVariants.{BadConfig
 ghost use Rattle.key_class.specs.Refusals.{IsEither};
 ghost use Rattle.key_class.specs.Queries.{query_of, depth_of};
 ghost use Rattle.change_list.specs.Configs.{IsWithinLimits};
-ghost use Rattle.change_list.specs.declared.write.Write.TheVariants.{Insert, Delete};
+ghost use Rattle.change_list.specs.declared.write.Write.TheVariants.{Insert, Delete, Move};
 ghost use Rattle.change_list.specs.Changes.{IsLegal, NamesNoRow, NamesDead, commit_at};
 ghost use Rattle.store.specs.Worlds.{HasCursor};
-ghost use Rattle.store.specs.States.{new_store, Commits, Keeps, cursor_of, IsOpenedFor, IsBadOpening, HasFewPages, HasNoCommitLeft, HasNoCommitFor, HasNoFinderFor, HasNoCursorFor, RefusesRow, RefusesCursor, AddsDead, MayRefuseDelete, LacksCursor, Closes, DrainsInto, SweepsStore, SweepsStorePart, Nexts, RefusesNext, ChangesCursor, with_asking, matching_rows};
+ghost use Rattle.store.specs.States.{new_store, Commits, Keeps, cursor_of, IsOpenedFor, IsBadOpening, HasFewPages, HasNoCommitLeft, HasNoCommitFor, HasNoFinderFor, HasNoCursorFor, RefusesRow, RefusesCursor, AddsDead, IsListed, MayRefuseDelete, MayRefuseMove, LacksCursor, Closes, DrainsInto, SweepsStore, SweepsStorePart, Nexts, RefusesNext, ChangesCursor, with_asking, matching_rows};
 
 use crate::reading::next_item;
 use change_list::{Config, Item, Row, Status, Write};
+use key_class::limits::{MAX_DEPTH, MAX_ROOM};
 use key_class::{KeyClass, Pred, Refusal};
 use mailbox::Tray;
 use std::alloc::Global;
@@ -100,7 +101,7 @@ impl<C: KeyClass> Store<C> {
     /// Deletes a row, and gives the commit's number.
     ///
     /// # Errors
-    /// `NoSuchRow` where no insert has the number, else `AlreadyDeleted`, else `CommitsFull`, else `FindersFull` once the
+    /// `NoSuchRow` where no insert or move has the number, else `AlreadyDeleted`, else `CommitsFull`, else `FindersFull` once the
     /// last finder of the store's life was opened, and want of memory. Nothing is changed then, but that want of memory may
     /// have used up a finder.
     pub fn delete(&mut self, row: u64) -> Result<u64, Refusal>
@@ -124,6 +125,36 @@ impl<C: KeyClass> Store<C> {
         deleted
     }
 
+    /// Moves a row: one commit ends it and begins another, with this key and its tag. Gives the commit's number, which is
+    /// the new row's.
+    ///
+    /// # Errors
+    /// `NoSuchRow` where no insert or move has the number, else `AlreadyDeleted`, else `CommitsFull`; nothing is changed then.
+    /// Else `PagesFull` where fewer than two pages are left when it returns, `FindersFull` once the last finder of the
+    /// store's life was opened, and want of memory. No row is moved then, but pages may have been made, and want of memory
+    /// may have used up a finder.
+    pub fn move_row(&mut self, row: u64, key: C::Key) -> Result<u64, Refusal>
+        ensures number { IfOk result (λ n. n ≡ length self.old.commits + 1) }
+        ensures ok { OnOk result (Commits C.rules.is_match self.old (Move row key) self.new) }
+        ensures dead { OnOk result (AddsDead self.old row self.new) }
+        ensures err { OnErr result (Keeps C.rules.is_match self.old self.new) }
+        ensures no_such_row { (result ≡ Err NoSuchRow) ↔ NamesNoRow self.old.commits row }
+        ensures already_deleted { (result ≡ Err AlreadyDeleted) ↔ NamesDead self.old.commits row }
+        ensures full { (result ≡ Err CommitsFull) ↔ HasNoCommitFor self.old row }
+        ensures refusals { IfErr result (MayRefuseMove self.old self.new) }
+        ensures untouched { IfErr result (λ why. IsListed why → self.new ≡ self.old) }
+        ensures found { OnOk result (self.new.finders ≡ self.old.finders + 1) }
+        ensures unfound { IfErr result (λ why.
+            why ≢ OutOfMemory → self.new.finders ≡ self.old.finders) }
+        ensures finders { self.new.finders ≤ self.old.finders + 1 }
+        ensures legal { IsLegal self.new.commits }
+        ensures few_pages { HasFewPages self.new }
+    {
+        let moved = relocation::move_row(self.alloc, &mut self.world, row, key);
+        self.recall_soundness();
+        moved
+    }
+
     /// Opens a cursor at the present commits.
     ///
     /// # Errors
@@ -136,7 +167,7 @@ impl<C: KeyClass> Store<C> {
         ensures full { (result ≡ Err CursorsFull) ↔ HasNoCursorFor self.old (query_of query) room }
         ensures refusals { IfErr result RefusesCursor }
     {
-        if room == 0 || room > 4_096 {
+        if room == 0 || room > MAX_ROOM {
             return Err(Refusal::BadConfig);
         }
         match self.world.step(Event::Open(query, 1)) {
@@ -228,7 +259,7 @@ impl<C: KeyClass> Store<C> {
         ensures depth { (result ≡ Err BadConfig) ↔ (32 < depth_of (query_of query.now)) }
         ensures refusals { IfErr result (IsEither BadConfig OutOfMemory) }
     {
-        if !query.is_within_depth(32) {
+        if !query.is_within_depth(MAX_DEPTH) {
             return Err(Refusal::BadConfig);
         }
         self.world.recall_soundness();

@@ -22,6 +22,7 @@ module _ {K : Type 0} where
   no_marks_twice (item.Row row ∷ items) = ap (λ l. item.Row row ∷ l) (no_marks_twice items)
   no_marks_twice (item.Inserted row ∷ items) = ap (λ l. item.Inserted row ∷ l) (no_marks_twice items)
   no_marks_twice (item.Deleted n row ∷ items) = ap (λ l. item.Deleted n row ∷ l) (no_marks_twice items)
+  no_marks_twice (item.Moved row other ∷ items) = ap (λ l. item.Moved row other ∷ l) (no_marks_twice items)
 
   abbrev HasNoMark : List (Item K) → Type 0
   HasNoMark [] = Unit {0}
@@ -33,6 +34,7 @@ module _ {K : Type 0} where
   none_left (item.Row row ∷ items) = (refl, none_left items)
   none_left (item.Inserted row ∷ items) = (refl, none_left items)
   none_left (item.Deleted n row ∷ items) = (refl, none_left items)
+  none_left (item.Moved row other ∷ items) = (refl, none_left items)
 
   no_cut : (before after : List (Item K)) (n : ℕ) → [] ≡ before ++ item.Mark n ∷ after → ⊥
   no_cut [] after n e = cc

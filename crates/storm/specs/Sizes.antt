@@ -1,5 +1,6 @@
 -- How large a storm may be.
 use Rattle.std.specs.Prelude.{◌≤◌}
+use Rattle.key_class.specs.Limits.{most_room}
 use Rattle.storm.specs.declared.limits.Limits.{Limits}
 
 pub record IsStorm (s : Limits) : Type 0 where
@@ -9,7 +10,7 @@ pub record IsStorm (s : Limits) : Type 0 where
   pub deletes : s.deletes ≤ s.inserts
   pub readers : s.readers ≤ 32
   pub some_room : 1 ≤ s.room
-  pub room : s.room ≤ 4096
+  pub room : s.room ≤ most_room
   pub some_pump : 1 ≤ s.pumps
   pub pumps : s.pumps ≤ 8
   pub sweeps : s.sweeps ≤ 1000

@@ -89,6 +89,9 @@ fn is_same_commit<C: KeyClass>(a: Option<Write<C::Key>>, b: Option<Write<C::Key>
             key == other && tag == mark
         }
         (Some(Write::Delete(row)), Some(Write::Delete(other))) => row == other,
+        (Some(Write::Move(row, key)), Some(Write::Move(other, same))) => {
+            row == other && key == same
+        }
         (None, None) => true,
         _ => false,
     }

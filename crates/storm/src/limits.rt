@@ -2,6 +2,8 @@
 ghost use Rattle.std.specs.Prelude.{◌≡◌, ◌↔◌, ◌+◌, ◌*◌, IsTrue};
 ghost use Rattle.storm.specs.Sizes.{IsStorm};
 
+use key_class::limits::MAX_ROOM;
+
 /// How many clients a storm has, and what they do.
 #[derive(Clone, Copy, Debug, PartialEq, Eq)]
 pub struct Limits {
@@ -34,7 +36,7 @@ impl Limits {
             && self.deletes <= self.inserts
             && self.readers <= 32
             && self.room >= 1
-            && self.room <= 4_096
+            && u64::from(self.room) <= MAX_ROOM
             && self.pumps >= 1
             && self.pumps <= 8
             && self.sweeps <= 1_000

@@ -11,6 +11,7 @@ use change_list::{ChangeList, Config};
 use crossbeam_channel::bounded;
 use desk::{Desk, Finished, Seat};
 use interval_class::{Atom, Interval, Intervals};
+use key_class::limits::{MAX_COMMITS, MAX_PAGES};
 use key_class::{Pred, Refusal};
 use pumps::{Gate, Pumps};
 use std::alloc::{AllocError, Global};
@@ -22,8 +23,8 @@ use std::thread::Threads;
 const CONFIG: Config = Config {
     fan: 8,
     least: 3,
-    pages: 65_536,
-    commits: 16_777_216,
+    pages: MAX_PAGES,
+    commits: MAX_COMMITS,
 };
 
 /// How many orders wait for a pump at most.

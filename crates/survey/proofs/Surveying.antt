@@ -2,11 +2,13 @@
 use Rattle.std.proofs.Common.{◌≡◌, ◌+◌, ◌<◌, ◌≤◌, ℕ, Bool, not, List, [], ◌∷◌, length, take, All, ◌++◌, refl, sym, subst, ap, ◌∙◌, arith}
 use Rattle.std.specs.Prelude.{◌↔◌, IsPermutation, IsTrue, MatchOption, Option, None, Some, false}
 use Rattle.std.specs.List.Sorted.{IsNonDecreasingBy}
-use Rattle.std.specs.List.{filter_map, enumerate_from}
-use Rattle.std.proofs.lemmas.List.Elements.{All-cons, All-nil, All-weaker}
-use Rattle.change_list.specs.Changes.{inserted_row, inserted_rows, is_deleted, rows, snapshot}
+use Rattle.std.specs.Prelude.{option_to_list}
+use Rattle.std.proofs.lemmas.List.{append-nil}
+use Rattle.std.proofs.lemmas.List.Elements.{All-weaker}
+use Rattle.change_list.proofs.Lists.{by_pushes}
+use Rattle.change_list.proofs.Made.{made_none, made_number, made_push, rows_within}
+use Rattle.change_list.specs.Changes.{is_ended, made_row, made_rows, rows, snapshot}
 use Rattle.change_list.specs.declared.item.Row.{Row}
-use Rattle.change_list.specs.declared.write.Write.TheVariants.{Insert, Delete}
 use Rattle.change_list.specs.declared.write.Write.{Write}
 use Rattle.page_table.proofs.Weights.{weigh-append}
 use Rattle.page_table.specs.Soundness.{IsSound}
@@ -14,32 +16,29 @@ use Rattle.page_table.specs.Stacks.{StackItem}
 use Rattle.page_table.specs.Trees.{Tree}
 use Rattle.page_table.specs.Weights.{Same, weigh}
 use Rattle.scan.specs.Scanning.{LosesNothing, to_find}
-use Rattle.survey.proofs.Rising.{Rises, rises_filtered, same_permutation, sorted_is}
+use Rattle.survey.proofs.Rising.{Rises, rises_filtered, rises_push, same_permutation, sorted_is}
 
 module _ {K : Type 0} where
-  abbrev rows_from : ℕ → List (Write K) → List (Row K)
-  rows_from k commits = filter_map inserted_row (enumerate_from k commits)
-
-  numbers_from : (k : ℕ) (commits : List (Write K)) → All (λ r. k ≤ r.row) (rows_from k commits)
-  numbers_from k [] = All-nil (λ (r : Row K). k ≤ r.row)
-  numbers_from k (Insert key tag ∷ commits) =
-      All-cons (λ (r : Row K). k ≤ r.row) (record { row = k; key = key; tag = tag }) (rows_from (k + 1) commits) (omega arith)
-      (All-weaker (λ (r : Row K). k + 1 ≤ r.row) (λ (r : Row K). k ≤ r.row) (λ r l. omega (arith, l)) (rows_from (k + 1) commits) (numbers_from (k + 1) commits))
-  numbers_from k (Delete row ∷ commits) =
-      All-weaker (λ (r : Row K). k + 1 ≤ r.row) (λ (r : Row K). k ≤ r.row) (λ r l. omega (arith, l)) (rows_from (k + 1) commits) (numbers_from (k + 1) commits)
-
-  rises_from : (k : ℕ) (commits : List (Write K)) → Rises (λ (r : Row K). r.row) (rows_from k commits)
-  rises_from k [] = tt
-  rises_from k (Insert key tag ∷ commits) =
-      (All-weaker (λ (r : Row K). k + 1 ≤ r.row) (λ (r : Row K). k < r.row) (λ r l. omega (arith, l)) (rows_from (k + 1) commits) (numbers_from (k + 1) commits), rises_from (k + 1) commits)
-  rises_from k (Delete row ∷ commits) = rises_from (k + 1) commits
+  -- the rows that were made have rising numbers
+  rows_rise : (commits : List (Write K)) → Rises (λ (r : Row K). r.row) (made_rows commits)
+  rows_rise commits = by_pushes (λ cs. Rises (λ (r : Row K). r.row) (made_rows cs)) (subst (λ l. Rises (λ (r : Row K). r.row) l) (sym made_none) tt) more commits
+    where
+      more : (cs : List (Write K)) (write : Write K) → Rises (λ (r : Row K). r.row) (made_rows cs) → Rises (λ (r : Row K). r.row) (made_rows (cs ++ write ∷ []))
+      more cs write rises = subst (λ l. Rises (λ (r : Row K). r.row) l) (sym (made_push cs write)) (by_row (made_row (made_rows cs) (length cs + 1) write) refl)
+        where
+          by_row : (o : Option (Row K)) → made_row (made_rows cs) (length cs + 1) write ≡ o → Rises (λ (r : Row K). r.row) (made_rows cs ++ option_to_list o)
+          by_row None e = subst (λ l. Rises (λ (r : Row K). r.row) l) (sym (append-nil (made_rows cs))) rises
+          by_row (Some r) e =
+              let number = made_number (made_rows cs) (length cs + 1) write r e in
+              rises_push (λ (r : Row K). r.row) (made_rows cs) r
+              (All-weaker (λ (x : Row K). (0 < x.row) × (x.row ≤ length cs)) (λ (x : Row K). x.row < r.row) (λ x w. omega (arith, w.1, number)) (made_rows cs) (rows_within cs)) rises
 
   -- the rows of a snapshot have rising numbers
   pub snapshot_rises : (wanted : K → Bool) (s : ℕ) (commits : List (Write K)) → Rises (λ (r : Row K). r.row) (snapshot wanted s commits)
   snapshot_rises wanted s commits =
       let first = take s commits in
       rises_filtered (λ (r : Row K). r.row) (λ r. wanted r.key) (rows first)
-      (rises_filtered (λ (r : Row K). r.row) (λ r. not (is_deleted first r.row)) (inserted_rows first) (rises_from 1 first))
+      (rises_filtered (λ (r : Row K). r.row) (λ r. not (is_ended first r.row)) (made_rows first) (rows_rise first))
 
 module _ {K : Type 0} (is_cover : K → K → Bool) (t : Tree K) (fan : ℕ) (sound : IsSound is_cover fan t) (wanted : K → Bool) (s : ℕ) where
   -- what was found, with what is still to be found, stays the same through a visit

@@ -1,10 +1,16 @@
-use change_list::{ChangeList, RoomyList, Status, Write};
+use change_list::{ChangeList, RoomyList, Row, Status, Write};
 use key_class::Refusal;
 use std::alloc::Global;
 use std::test::Fail;
 
+/// The greatest number of commits of a list.
+pub const MOST_COMMITS: usize = 4_294_967_295;
+
 /// The list with memory for an insert.
 fn reserved(list: ChangeList<u8>) -> Result<RoomyList<u8>, Fail> {
+    if list.len() >= MOST_COMMITS {
+        return Err(Refusal::CommitsFull.into());
+    }
     match list.reserve(Write::Insert(5, 9)) {
         Ok(roomy) => Ok(roomy),
         Err(_) => Err(Refusal::OutOfMemory.into()),
@@ -26,6 +32,9 @@ fn deleted(list: ChangeList<u8>) -> Result<ChangeList<u8>, Fail> {
     if list.status(1) != Status::Live {
         return Err(Refusal::AlreadyDeleted.into());
     }
+    if list.len() >= MOST_COMMITS {
+        return Err(Refusal::CommitsFull.into());
+    }
     match list.reserve(Write::Delete(1)) {
         Ok(roomy) => Ok(roomy.push()),
         Err(_) => Err(Refusal::OutOfMemory.into()),
@@ -44,11 +53,32 @@ fn has_memory_for_one_commit(rt: HostRuntime) -> Result<(), Fail> {
     Ok(())
 }
 
+/// Adds a commit, if a row that it ends lives.
+pub fn commit(changes: &mut ChangeList<u8>, write: Write<u8>) -> Result<(), Refusal> {
+    if changes.len() >= MOST_COMMITS {
+        return Err(Refusal::CommitsFull);
+    }
+    match write {
+        Write::Insert(_, _) => {}
+        Write::Delete(row) => {
+            if changes.status(row) != Status::Live {
+                return Err(Refusal::NoSuchRow);
+            }
+        }
+        Write::Move(row, _) => {
+            if changes.status(row) != Status::Live {
+                return Err(Refusal::NoSuchRow);
+            }
+        }
+    }
+    Ok(changes.push(write)?)
+}
+
 /// A list of inserts whose tags are their numbers.
 fn of_inserts(alloc: Global, count: u64) -> Result<ChangeList<u8>, Fail> {
     let mut list = ChangeList::new(alloc);
     for tag in 1..=count {
-        list.push(Write::Insert(5, tag))?;
+        commit(&mut list, Write::Insert(5, tag))?;
     }
     Ok(list)
 }
@@ -93,12 +123,45 @@ fn segments_have_256_commits(rt: HostRuntime) -> Result<(), Fail> {
 fn viewed(alloc: Global) -> Result<(usize, usize), Fail> {
     let mut list = of_inserts(alloc, 256)?;
     let view = list.view()?;
-    list.push(Write::Insert(5, 257))?;
+    commit(&mut list, Write::Insert(5, 257))?;
     Ok((view.len(), list.len()))
 }
 
 #[test]
 fn a_view_stays_as_it_was(rt: HostRuntime) -> Result<(), Fail> {
     assert!(rt; viewed(rt.alloc())? == (256, 257));
+    Ok(())
+}
+
+/// A row that was inserted and twice moved.
+fn moved(alloc: Global) -> Result<ChangeList<u8>, Refusal> {
+    let mut list = ChangeList::new(alloc);
+    for write in [Write::Insert(5, 9), Write::Move(1, 6), Write::Move(2, 7)] {
+        commit(&mut list, write)?;
+    }
+    Ok(list)
+}
+
+/// What a list tells of a number.
+fn told(list: &ChangeList<u8>, number: u64) -> (Option<Row<u8>>, Status, Option<Write<u8>>) {
+    (list.row(number), list.status(number), list.commit(number))
+}
+
+fn row(row: u64, key: u8) -> Option<Row<u8>> {
+    Some(Row { row, key, tag: 9 })
+}
+
+#[test]
+fn moves_end_a_row_and_make_one_with_its_tag(rt: HostRuntime) -> Result<(), Fail> {
+    let list = moved(rt.alloc())?;
+    for (number, row, status, write) in [
+        (0, None, Status::NeverIssued, None),
+        (1, row(1, 5), Status::Dead, Some(Write::Insert(5, 9))),
+        (2, row(2, 6), Status::Dead, Some(Write::Move(1, 6))),
+        (3, row(3, 7), Status::Live, Some(Write::Move(2, 7))),
+        (4, None, Status::NeverIssued, None),
+    ] {
+        assert!(rt; told(&list, number) == (row, status, write), "{number}");
+    }
     Ok(())
 }

@@ -1,7 +1,8 @@
 ghost use Rattle.std.specs.Prelude.{◌≡◌, [], ◌∷◌, IfOk};
 
+use crate::commits::commit;
 use crate::limits::Limits;
-use change_list::{ChangeList, Item, Row, Status, Write};
+use change_list::{ChangeList, Item, Row, Write, change_item};
 use cursor::{Cursor, Turned, cursors_survive_steps};
 use key_class::{Pred, Refusal};
 use mailbox::{Outlet, Taken, Tray};
@@ -19,16 +20,6 @@ fn row(row: u64, key: u8, tag: u64) -> Item<u8> {
 
 fn inserted(row: u64, key: u8, tag: u64) -> Item<u8> {
     Item::Inserted(Row { row, key, tag })
-}
-
-/// Adds a commit, if a row that it deletes lives.
-fn commit(changes: &mut ChangeList<u8>, write: Write<u8>) -> Result<(), Fail> {
-    if let Write::Delete(row) = write {
-        if changes.status(row) != Status::Live {
-            return Err(Refusal::NoSuchRow.into());
-        }
-    }
-    Ok(changes.push(write)?)
 }
 
 /// The changes by three insertions.
@@ -178,6 +169,32 @@ fn gives_rows_changes_and_a_mark(rt: HostRuntime) -> Result<(), Fail> {
         Deed::Take(Taken::Item(inserted(6, 5, 1))),
     ] {
         assert!(rt; is_done(rt.alloc(), &mut scene, deed)?, "{deed:?}");
+    }
+    Ok(())
+}
+
+/// The item of a move of a row from one key to another, for a query that asks for key 5.
+fn item_of_move(alloc: Global, old: u8, new: u8) -> Result<Option<Item<u8>>, Refusal> {
+    let mut changes = ChangeList::new(alloc);
+    commit(&mut changes, Write::Insert(old, 9))?;
+    commit(&mut changes, Write::Move(1, new))?;
+    Ok(change_item::<Limits>(changes.as_view(), &Pred::Atom(5), 1))
+}
+
+#[test]
+fn items_of_moves_tell_which_keys_match(rt: HostRuntime) -> Result<(), Fail> {
+    let made = Row {
+        row: 2,
+        key: 5,
+        tag: 9,
+    };
+    for (old, new, item) in [
+        (5, 5, Some(Item::Moved(made, 1))),
+        (5, 3, Some(Item::Deleted(2, 1))),
+        (3, 5, Some(Item::Inserted(made))),
+        (3, 3, None),
+    ] {
+        assert!(rt; item_of_move(rt.alloc(), old, new)? == item, "{old} {new}");
     }
     Ok(())
 }

@@ -1,5 +1,6 @@
+use crate::commits::commit;
 use crate::limits::Limits;
-use change_list::{ChangeList, Item, Row, Status, View, Write};
+use change_list::{ChangeList, Item, Row, View, Write};
 use key_class::{Pred, Refusal};
 use listing::is_delivered;
 use std::alloc::Global;
@@ -62,16 +63,6 @@ fn items(alloc: Global, letters: &[u8]) -> Result<Vec<Item<u8>>, Refusal> {
         items.push(item(*letter))?;
     }
     Ok(items)
-}
-
-/// Adds a commit, if a row that it deletes lives.
-fn commit(changes: &mut ChangeList<u8>, write: Write<u8>) -> Result<(), Refusal> {
-    if let Write::Delete(row) = write {
-        if changes.status(row) != Status::Live {
-            return Err(Refusal::NoSuchRow);
-        }
-    }
-    Ok(changes.push(write)?)
 }
 
 /// The commits.

@@ -333,3 +333,53 @@ fn buries_and_sweeps_rows(rt: HostRuntime) -> Result<(), Fail> {
     assert!(rt; tree.place_refusal(0, Interval::new(7, 7)?).is_none());
     Ok(())
 }
+
+/// A tree of two leaves, pages 1 and 2, with the rows 1 and 2, and 3 and 4.
+fn with_two_leaves(alloc: Global) -> Result<SearchTree<Intervals>, Refusal> {
+    let mut tree = SearchTree::<Intervals>::new(alloc, 4, 2, 9)?;
+    fill(&mut tree, 5)?;
+    grown(alloc, &mut tree)?;
+    Ok(tree)
+}
+
+/// Moves a row at the point 7 by a commit, of which the entry has the number.
+fn moved(
+    tree: &mut SearchTree<Intervals>,
+    from: u64,
+    row: u32,
+    commit: u32,
+    to: u64,
+) -> Result<(), Refusal> {
+    if commit == 0 || commit == row || !tree.is_leaf(from) {
+        return Err(Refusal::NotHere);
+    }
+    let key = Interval::new(7, 7)?;
+    if let Some(refusal) = tree.place_refusal(to, key) {
+        return Err(refusal);
+    }
+    tree.relocate(from, row, commit, to, Entry::new(key, commit, 0))
+}
+
+/// Whether a page has rows of these numbers, with the commits that deleted them.
+fn page_has(tree: &SearchTree<Intervals>, number: u32, wanted: &[(u32, Option<u32>)]) -> bool {
+    let table = tree.pages();
+    if number as usize >= table.len() {
+        return false;
+    }
+    let versions = table
+        .page(number)
+        .rows()
+        .iter()
+        .map(|entry| (entry.row(), entry.died()));
+    versions.eq(wanted.iter().copied())
+}
+
+#[test]
+fn moves_rows(rt: HostRuntime) -> Result<(), Fail> {
+    let mut tree = with_two_leaves(rt.alloc())?;
+    moved(&mut tree, 1, 1, 5, 2)?;
+    moved(&mut tree, 1, 2, 6, 1)?;
+    assert!(rt; page_has(&tree, 1, &[(1, Some(5)), (2, Some(6)), (6, None)]));
+    assert!(rt; page_has(&tree, 2, &[(3, None), (4, None), (5, None)]));
+    Ok(())
+}

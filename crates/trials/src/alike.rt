@@ -191,6 +191,7 @@ struct Tally {
     rows: u64,
     inserted: u64,
     deleted: u64,
+    moved: u64,
     marks: u64,
     ends: u64,
     swept: u64,
@@ -204,6 +205,7 @@ impl Tally {
             rows: 0,
             inserted: 0,
             deleted: 0,
+            moved: 0,
             marks: 0,
             ends: 0,
             swept: 0,
@@ -217,6 +219,7 @@ impl Tally {
             .rows
             .min(self.inserted)
             .min(self.deleted)
+            .min(self.moved)
             .min(self.marks);
         let others = self.found.min(self.ends).min(self.swept).min(self.refused);
         items.min(others)
@@ -227,6 +230,7 @@ impl Tally {
             Some(Item::Row(_)) => &mut self.rows,
             Some(Item::Inserted(_)) => &mut self.inserted,
             Some(Item::Deleted(_, _)) => &mut self.deleted,
+            Some(Item::Moved(_, _)) => &mut self.moved,
             Some(Item::Mark(_)) => &mut self.marks,
             None => &mut self.ends,
         };
@@ -255,6 +259,10 @@ impl<C: Drawn> Bare<C> {
 
     fn delete(&mut self, row: u64) -> Result<u64, Refusal> {
         self.store.delete(row)
+    }
+
+    fn move_row(&mut self, row: u64, key: C::Key) -> Result<u64, Refusal> {
+        self.store.move_row(row, key)
     }
 
     fn find(&self, query: &Pred<C::Atom>) -> Result<Vec<Row<C::Key>>, Refusal> {
@@ -379,6 +387,14 @@ impl<C: Drawn> Pair<C> {
         let row = self.row();
         let store = self.store.delete(row);
         let plain = self.plain.delete(row);
+        Ok(self.agree(store, plain)?)
+    }
+
+    fn move_row(&mut self) -> Result<bool, Fail> {
+        let row = self.row();
+        let key = self.key()?;
+        let store = self.store.move_row(row, key);
+        let plain = self.plain.move_row(row, key);
         Ok(self.agree(store, plain)?)
     }
 
@@ -560,7 +576,8 @@ impl<C: Drawn> Pair<C> {
             } else {
                 self.insert()
             },
-            450..650 => self.delete(),
+            450..550 => self.delete(),
+            550..650 => self.move_row(),
             650..750 => self.find(),
             750..780 => self.open(),
             780..930 => self.next(),

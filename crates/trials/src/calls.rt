@@ -15,11 +15,25 @@ fn overlapping(lo: i64, hi: i64) -> Result<Pred<Atom>, Refusal> {
     Ok(Pred::Atom(Intervals::atom(Rel::Overlaps, key(lo, hi)?)))
 }
 
-/// Adds a commit, if a row that it deletes is live.
+/// The greatest number of commits of a list.
+const MOST_COMMITS: usize = 4_294_967_295;
+
+/// Adds a commit, if a row that it ends lives.
 fn commit(changes: &mut ChangeList<u8>, write: Write<u8>) -> Result<(), Refusal> {
-    if let Write::Delete(row) = write {
-        if changes.status(row) != Status::Live {
-            return Err(Refusal::NoSuchRow);
+    if changes.len() >= MOST_COMMITS {
+        return Err(Refusal::CommitsFull);
+    }
+    match write {
+        Write::Insert(_, _) => {}
+        Write::Delete(row) => {
+            if changes.status(row) != Status::Live {
+                return Err(Refusal::NoSuchRow);
+            }
+        }
+        Write::Move(row, _) => {
+            if changes.status(row) != Status::Live {
+                return Err(Refusal::NoSuchRow);
+            }
         }
     }
     Ok(changes.push(write)?)

@@ -20,14 +20,16 @@ static COMMANDS: Script = Script {
         "next 1\n",
         "mark 1\n",
         "delete 1\n",
+        "move 2 (7 7)\n",
+        "next 1\n",
         "next 1\n",
         "next 1\n",
         "next 1\n",
         "sweep\n",
         "close 1\n",
-        "find not (overlaps(0 5) or same(7 7))\n",
+        "find not (overlaps(0 5) or same(8 8))\n",
     ],
-    answers: "committed 1\nopened 1\ncommitted 2\nrow 1 (5 5) 0\nasked\ncommitted 3\ninserted 2 (6 6) 1\ndeleted 3 1\nmark 3\nswept 1\nclosed\nfound 1\nrow 2 (6 6) 1\n",
+    answers: "committed 1\nopened 1\ncommitted 2\nrow 1 (5 5) 0\nasked\ncommitted 3\ncommitted 4\ninserted 2 (6 6) 1\ndeleted 3 1\nmoved 4 2 (7 7) 1\nmark 4\nswept 2\nclosed\nfound 1\nrow 4 (7 7) 1\n",
 };
 
 static EVENTS: Script = Script {
@@ -44,9 +46,12 @@ static EVENTS: Script = Script {
         "seek 1\n",
         "seek 1\n",
         "sweep 2\n",
+        "find 2\n",
+        "move 2 2 (4 4)\n",
+        "move 2 2 (4 4)\n",
         "turn 1\n",
     ],
-    answers: "committed 1\ncommitted 2\ncommitted 3\ncommitted 4\ngrown 1 2\nopened 1\nvisited 0\nfinder 1\nseeking\ncommitted 5\nswept 0\nvisited 1\n",
+    answers: "committed 1\ncommitted 2\ncommitted 3\ncommitted 4\ngrown 1 2\nopened 1\nvisited 0\nfinder 1\nseeking\ncommitted 5\nswept 0\nfinder 2\nseeking\ncommitted 6\nvisited 1\n",
 };
 
 pub const REFUSED: &str = "refused 1 OutOfMemory";

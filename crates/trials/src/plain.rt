@@ -36,26 +36,68 @@ pub struct Plain<C: KeyClass> {
     last: u64,
 }
 
-/// The item of a write, where its row's key matches.
+/// The key of the row that a commit makes.
+fn key_at<K: Copy>(commits: &[Write<K>], row: u64) -> Option<K> {
+    match commits.get(row.wrapping_sub(1) as usize) {
+        Some(Write::Insert(key, _)) => Some(*key),
+        Some(Write::Move(_, key)) => Some(*key),
+        _ => None,
+    }
+}
+
+/// The tag of a row: that of the insert to which its moves go back.
+fn tag_at<K: Copy>(commits: &[Write<K>], row: u64) -> Option<u64> {
+    let mut made = row;
+    for _ in 0..commits.len() {
+        match commits.get(made.wrapping_sub(1) as usize) {
+            Some(Write::Insert(_, tag)) => return Some(*tag),
+            Some(Write::Move(ended, _)) => made = *ended,
+            _ => return None,
+        }
+    }
+    None
+}
+
+/// Whether a write ends a row.
+fn ends<K: Copy>(write: Write<K>, row: u64) -> bool {
+    match write {
+        Write::Insert(_, _) => false,
+        Write::Delete(ended) | Write::Move(ended, _) => ended == row,
+    }
+}
+
+/// The item of a write, where a key that it ends or makes matches.
 fn item_of<C: KeyClass>(
     commits: &[Write<C::Key>],
     query: &Pred<C::Atom>,
     number: u64,
     write: Write<C::Key>,
 ) -> Option<Item<C::Key>> {
+    let row = number;
     match write {
         Write::Insert(key, tag) => {
-            let row = number;
             query
                 .matches::<C>(key)
                 .then_some(Item::Inserted(Row { row, key, tag }))
         }
-        Write::Delete(row) => match commits.get(row.wrapping_sub(1) as usize) {
-            Some(Write::Insert(key, _)) => query
-                .matches::<C>(*key)
-                .then_some(Item::Deleted(number, row)),
-            _ => None,
-        },
+        Write::Delete(ended) => {
+            query
+                .matches::<C>(key_at(commits, ended)?)
+                .then_some(Item::Deleted(number, ended))
+        }
+        Write::Move(ended, key) => {
+            let tag = tag_at(commits, ended)?;
+            let made = Row { row, key, tag };
+            match (
+                query.matches::<C>(key_at(commits, ended)?),
+                query.matches::<C>(key),
+            ) {
+                (true, true) => Some(Item::Moved(made, ended)),
+                (true, false) => Some(Item::Deleted(number, ended)),
+                (false, true) => Some(Item::Inserted(made)),
+                (false, false) => None,
+            }
+        }
     }
 }
 
@@ -122,23 +164,44 @@ impl<C: KeyClass> Plain<C> {
         Ok(row)
     }
 
-    pub fn delete(&mut self, row: u64) -> Result<u64, Refusal> {
-        let Some(Write::Insert(_, _)) = self.commits.get(row.wrapping_sub(1) as usize) else {
+    /// The commit of a write that ends a row.
+    fn end(&mut self, row: u64, write: Write<C::Key>) -> Result<u64, Refusal> {
+        if key_at(&self.commits, row).is_none() {
             return Err(Refusal::NoSuchRow);
-        };
-        if self.commits.iter().any(|write| matches!(write, Write::Delete(dead) if *dead == row)) {
+        }
+        if self.commits.iter().any(|earlier| ends(*earlier, row)) {
             return Err(Refusal::AlreadyDeleted);
         }
         if self.commits.len() >= self.limit {
             return Err(Refusal::CommitsFull);
         }
-        self.commits.push(Write::Delete(row))?;
+        self.commits.push(write)?;
         let number = self.commits.len() as u64;
         for entry in self.entries.iter_mut() {
             if entry.row.row == row {
                 entry.died = Some(number);
             }
         }
+        Ok(number)
+    }
+
+    pub fn delete(&mut self, row: u64) -> Result<u64, Refusal> {
+        self.end(row, Write::Delete(row))
+    }
+
+    pub fn move_row(&mut self, row: u64, key: C::Key) -> Result<u64, Refusal> {
+        let number = self.end(row, Write::Move(row, key))?;
+        let Some(tag) = tag_at(&self.commits, row) else {
+            return Err(Refusal::NoSuchRow);
+        };
+        self.entries.push(Entry {
+            row: Row {
+                row: number,
+                key,
+                tag,
+            },
+            died: None,
+        })?;
         Ok(number)
     }
 

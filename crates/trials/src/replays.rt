@@ -94,6 +94,36 @@ static PASSED_SETS: [(&str, &str); 5] = [
     ("take 1", "row 1 {1 2} 3"),
 ];
 
+static MOVED_BOXES: [(&str, &str); 9] = [
+    ("open 2 holds(0 0 0 0)", "opened 1"),
+    ("place 0 (0 0 1 1) 3", "committed 1"),
+    ("find 1", "finder 1"),
+    ("move 1 0 (-1 -1 2 2)", "committed 2"),
+    ("turn 1", "visited 0"),
+    ("turn 1", "offered"),
+    ("turn 1", "offered"),
+    ("take 1", "inserted 1 (0 0 1 1) 3"),
+    ("take 1", "moved 2 1 (-1 -1 2 2) 3"),
+];
+
+static MOVED_SETS: [(&str, &str); 8] = [
+    ("place 0 {2 1} 3", "committed 1"),
+    ("open 2 overlaps{2}", "opened 1"),
+    ("find 1", "finder 1"),
+    ("move 1 0 {}", "committed 2"),
+    ("turn 1", "visited 0"),
+    ("turn 1", "offered"),
+    ("take 1", "row 1 {1 2} 3"),
+    ("turn 1", "offered"),
+];
+
+#[test]
+fn moves_in_other_classes(rt: HostRuntime) -> Result<(), Fail> {
+    assert!(rt; are_answered::<Boxes>(rt, PAGES_OF_EIGHT, &MOVED_BOXES)?);
+    assert!(rt; are_answered::<Sets>(rt, PAGES_OF_EIGHT, &MOVED_SETS)?);
+    Ok(())
+}
+
 #[test]
 fn commits_that_a_query_passes(rt: HostRuntime) -> Result<(), Fail> {
     assert!(rt; are_answered::<Boxes>(rt, PAGES_OF_EIGHT, &PASSED_BOXES)?);
@@ -101,7 +131,7 @@ fn commits_that_a_query_passes(rt: HostRuntime) -> Result<(), Fail> {
     Ok(())
 }
 
-static REFUSED: [(&str, &str); 34] = [
+static REFUSED: [(&str, &str); 39] = [
     ("\n  \n", ""),
     ("next 1\n", "refused 22 Line 0\n"),
     ("7\n", "refused 22 Line 0\n"),
@@ -113,6 +143,11 @@ static REFUSED: [(&str, &str); 34] = [
     ("turn 18446744073709551616", "refused 22 Line 5\n"),
     ("find 1 2", "refused 22 Line 7\n"),
     ("seek -1", "refused 22 Line 5\n"),
+    ("move", "refused 22 Line 4\n"),
+    ("move 1 2", "refused 22 Line 8\n"),
+    ("move 1 (0 0)", "refused 22 Line 7\n"),
+    ("move 1 2 (0 0) 3", "refused 22 Line 15\n"),
+    ("move 1 2 (0 0)", "refused 20 NoSuchFinder\n"),
     ("unfind", "refused 22 Line 6\n"),
     ("sweep", "refused 22 Line 5\n"),
     ("split 0 llrx", "refused 22 Line 8\n"),

@@ -254,6 +254,45 @@ fn deep_queries(rt: HostRuntime) -> Result<(), Fail> {
     Ok(())
 }
 
+pub static MOVES: [Lines; 5] = [
+    (
+        INTERVALS,
+        "insert (5 5) 7\nopen 4 overlaps(0 9)\nopen 4 overlaps(20 29)\nmove 1 (6 6)\nmove 1 (7 7)\nmove 2 (25 25)\nmove 3 (50 50)\nnext 1\nnext 1\nnext 1\nnext 1\nnext 2\nnext 2\nnext 2\nfind overlaps(0 99)\ndelete 4\nmove 5 (0 0)\n",
+        "committed 1\nopened 1\nopened 2\ncommitted 2\nrefused 15 AlreadyDeleted\ncommitted 3\ncommitted 4\nrow 1 (5 5) 7\nmoved 2 1 (6 6) 7\ndeleted 3 2\nempty\ninserted 3 (25 25) 7\ndeleted 4 3\nempty\nfound 1\nrow 4 (50 50) 7\ncommitted 5\nrefused 14 NoSuchRow\n",
+    ),
+    (
+        INTERVALS_OF_FOUR,
+        "insert (1 1) 0\ninsert (2 2) 0\ninsert (3 3) 0\ninsert (4 4) 0\ninsert (5 5) 9\nmove 5 (90 99)\nmove 6 (1 2)\nmove 7 (1 2)\nfind overlaps(0 99)\nsweep\nmove 5 (0 0)\nmove 0 (0 0)\nmove 9 (0 0)\n",
+        "committed 1\ncommitted 2\ncommitted 3\ncommitted 4\ncommitted 5\ncommitted 6\ncommitted 7\ncommitted 8\nfound 5\nrow 1 (1 1) 0\nrow 2 (2 2) 0\nrow 3 (3 3) 0\nrow 4 (4 4) 0\nrow 8 (1 2) 9\nswept 3\nrefused 15 AlreadyDeleted\nrefused 14 NoSuchRow\nrefused 14 NoSuchRow\n",
+    ),
+    (
+        BOXES,
+        "insert (0 0 1 1) 3\nopen 1 holds(0 0 0 0)\nmove 1 (0 0 9 9)\nmove 2 (5 5 6 6)\nnext 1\nnext 1\nnext 1\nnext 1\n",
+        "committed 1\nopened 1\ncommitted 2\ncommitted 3\nrow 1 (0 0 1 1) 3\nmoved 2 1 (0 0 9 9) 3\ndeleted 3 2\nempty\n",
+    ),
+    (
+        SETS,
+        "insert {1 2} 3\nopen 1 not overlaps{2}\nmove 1 {}\nmark 1\nmove 2 {127}\nnext 1\nnext 1\nnext 1\n",
+        "committed 1\nopened 1\ncommitted 2\nasked\ncommitted 3\ninserted 2 {} 3\nmoved 3 2 {127} 3\nmark 3\n",
+    ),
+    (
+        INTERVALS,
+        "move\nmove 1\nmove x (0 0)\nmove 1 (0 0) 1\nmove 1 (1 0)\nmove 1 {1}\nmove 1(0 0)\nmove 18446744073709551615 (0 0)\nmove 18446744073709551616 (0 0)\n",
+        "refused 22 Line 4\nrefused 22 Line 6\nrefused 22 Line 5\nrefused 22 Line 13\nrefused 22 Line 7\nrefused 22 Line 7\nrefused 14 NoSuchRow\nrefused 14 NoSuchRow\nrefused 22 Line 5\n",
+    ),
+];
+
+#[test]
+fn moves(rt: HostRuntime) -> Result<(), Fail> {
+    for (options, input, output) in &MOVES {
+        assert!(rt;
+            is_answered(rt, *options, input.as_bytes(), output)?,
+            "{input}"
+        );
+    }
+    Ok(())
+}
+
 pub static CURSORS_AND_SWEEPS: [Lines; 8] = [
     (
         INTERVALS,

@@ -191,6 +191,7 @@ module _ {C O K A E : Type 0} (rules : Rules K A) (rule : Rule) (trace : Trace C
       go (item.Row row ∷ []) h = quiet after.asked h
       go (item.Inserted row ∷ []) h = quiet after.asked h
       go (item.Deleted n row ∷ []) h = quiet after.asked h
+      go (item.Moved row other ∷ []) h = quiet after.asked h
       go (item.Mark n ∷ []) h =
           subst (λ k. FullAskings (trace ++ (e, r) ∷ []) c (marks_of (taken c trace ++ before.unread) ++ k ∷ []) after.asked (length new.commits)) (sym h.1) (noted before.asked h.0 f last_taken)
         where

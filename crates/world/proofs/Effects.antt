@@ -7,7 +7,7 @@ use Rattle.key_class.specs.Queries.{query_of}
 use Rattle.key_class.specs.declared.pred.Pred.{Pred}
 use Rattle.key_class.specs.declared.refusal.Refusal.TheVariants as refusal
 use Rattle.change_list.specs.declared.write.Write.{Write}
-use Rattle.change_list.specs.declared.write.Write.TheVariants.{Insert, Delete}
+use Rattle.change_list.specs.declared.write.Write.TheVariants.{Insert, Delete, Move}
 use Rattle.change_list.specs.declared.item.Item.{Item}
 use Rattle.change_list.specs.Changes.{IsLegal}
 use Rattle.change_list.specs.Cursors.{Fits}
@@ -50,10 +50,11 @@ module _ {K A : Type 0} (rules : Rules K A) (rule : Rule) where
     pub fits : Fits rules.is_match new.commits (shown rules rule new.search.tree cursor) []
 
 module _ {C K A : Type 0} where
-  -- a commit is the insert that was asked for, or the delete of the row that the finder looks for
+  -- a commit is the insert that was asked for, or the delete or the move of the row that the finder looks for
   abbrev pub WritesAs : State K A → Event C K A → Write K → Type 0
   WritesAs old (event.Place page key tag) write = write ≡ Insert key tag
   WritesAs old (event.Seek f) write = (k : OpenFinder K) × (finder_at old f ≡ Some k) × (write ≡ Delete k.row)
+  WritesAs old (event.Move f leaf key) write = (k : OpenFinder K) × (finder_at old f ≡ Some k) × (write ≡ Move k.row key)
   WritesAs old e write = ⊥
 
 module _ {C O K A E : Type 0} (rules : Rules K A) (rule : Rule) where

@@ -1,35 +1,47 @@
 -- The events of finders, and sweeps.
-use Rattle.std.proofs.Common.{◌≡◌, ◌+◌, ◌<◌, ℕ, Bool, true, false, not, ◌||◌, ◌&&◌, [], ◌∷◌, ◌++◌, length, Some, None, refl, sym, ◌∙◌, arith, subst}
+use Rattle.std.proofs.Common.{◌≡◌, ◌+◌, ◌<◌, ◌≤◌, ◌⊎◌, inl, inr, ℕ, Bool, true, false, ◌||◌, List, [], ◌∷◌, ◌++◌, length, Some, None, refl, sym, ap, ◌∙◌, arith, subst}
 use Rattle.std.proofs.Common.{Result, Ok, Err}
-use Rattle.std.specs.Prelude.{nat_le, nat_lt, nat_eq, OnOk, OnErr}
+use Rattle.std.specs.Prelude.{nat_le, nat_lt, nat_eq, is_none, OnOk, OnErr}
 use Rattle.std.proofs.lemmas.Bool.{and_parts}
 use Rattle.mailbox.specs.Outlets.{Rule}
 use Rattle.key_class.specs.Rules.{IsLawful, Rules}
 use Rattle.key_class.specs.declared.refusal.Refusal.{Refusal}
 use Rattle.key_class.specs.declared.refusal.Refusal.TheVariants as refusal
-use Rattle.change_list.specs.Changes.{commit_at, is_deleted, status_of}
-use Rattle.change_list.specs.declared.write.Status.TheVariants.{Live}
-use Rattle.change_list.specs.declared.write.Write.TheVariants.{Insert}
+use Rattle.change_list.proofs.Tracking.{dead_made, live_from}
+use Rattle.change_list.specs.Changes.{HasKey, is_ended, row_at, status_of}
+use Rattle.change_list.specs.declared.write.Status.TheVariants.{Live, Dead}
+use Rattle.change_list.specs.declared.write.Write.{Write}
+use Rattle.change_list.specs.declared.item.Row.{Row}
 use Rattle.page_table.specs.Trees.{page_at}
 use Rattle.page_table.specs.LeafChanges.{after_sweep}
 use Rattle.split.specs.SearchTrees.{SearchTree, with_tree}
-use Rattle.split.specs.Tests.{first_failing, is_leaf, sweep_tests}
+use Rattle.split.specs.Tests.{PlacePasses, first_failing, is_leaf, place_tests, sweep_tests}
 use Rattle.split.proofs.RowsDone.{buried, swept, sweepable}
 use Rattle.descent.specs.Finders.{OpenFinder, IsSeeking, FindsRow, is_at_row}
 use Rattle.descent.proofs.Seeking.{seeking_begun, seeking_further, finds_at_row, finds_page, finds_weigh, finds_leaf}
 use Rattle.world.specs.Serials.{without, put}
 use Rattle.world.specs.Stamps.{Stamp}
 use Rattle.world.specs.States.{State, finder_at, with_finder, IsSoundWorld}
-use Rattle.world.specs.Steps.{find_tests, finder_tests, row_tests, is_insert, Finds, Buries, SeeksOn, SweepsLeaf}
-use Rattle.world.proofs.Refusing.{failing_later, passed_first, passed_at}
+use Rattle.world.specs.Steps.{commit_tests, find_tests, finder_tests, row_tests, visit_tests, where_met, Finds, Buries, MovesRow, SeeksOn, SweepsLeaf}
+use Rattle.world.proofs.Refusing.{failing_later, fails_at, passed_first, passed_at, passes_at}
 use Rattle.world.proofs.Serials.{member_all}
 use Rattle.world.proofs.FinderLists.{finders_push, finders_put, finders_without}
-use Rattle.world.proofs.Sounding.{buried_sound, swept_sound, sought_sound}
+use Rattle.world.proofs.Sounding.{buried_sound, row_moved_sound, swept_sound, sought_sound}
+
+-- tests that are met are all to be passed
+pub met_all : (tests : List (Bool × Refusal)) → where_met true tests ≡ tests
+met_all [] = refl
+met_all ((fails, why) ∷ tests) = ap (λ more. (fails, why) ∷ more) (met_all tests)
+
+-- those that aren't met pass
+pub unmet_pass : (tests : List (Bool × Refusal)) → first_failing (where_met false tests) ≡ None
+unmet_pass [] = refl
+unmet_pass ((fails, why) ∷ tests) = unmet_pass tests
 
 module _ {K A : Type 0} (s : State K A) (row : ℕ) where
   -- where the tests of a finder pass, the row lives and there is a place and a serial
   pub record MayFind : Type 0 where
-    pub alive : is_deleted s.commits row ≡ false
+    pub alive : is_ended s.commits row ≡ false
     pub few : length s.finders < 64
     pub given : s.last_finder < 4294967295
 
@@ -38,30 +50,49 @@ module _ {K A : Type 0} (s : State K A) (row : ℕ) where
 
   pub may_find : first_failing (find_tests s row) ≡ None → MayFind
   may_find h =
-      let first = passed_at (not (is_insert (commit_at s.commits row))) refusal.NoSuchRow ((is_deleted s.commits row, refusal.AlreadyDeleted) ∷ (full, refusal.FindersFull) ∷ []) h in
-      let second = passed_at (is_deleted s.commits row) refusal.AlreadyDeleted ((full, refusal.FindersFull) ∷ []) first.1 in
+      let first = passed_at (is_none (row_at s.commits row)) refusal.NoSuchRow ((is_ended s.commits row, refusal.AlreadyDeleted) ∷ (full, refusal.FindersFull) ∷ []) h in
+      let second = passed_at (is_ended s.commits row) refusal.AlreadyDeleted ((full, refusal.FindersFull) ∷ []) first.1 in
       let third = passed_at full refusal.FindersFull [] second.1 in
       record { alive = second.0; few = search (arith, third.0); given = search (arith, third.0) }
+
+  -- where a row isn't dead and there is no place for a finder, and where there is one
+  module _ (r : Row K) (found : row_at s.commits row ≡ Some r) (alive : is_ended s.commits row ≡ false) where
+    find_decides : first_failing (find_tests s row) ≡ first_failing ((full, refusal.FindersFull) ∷ [])
+    find_decides = rw (found, alive) refl
+
+    pub find_full : (64 ≤ length s.finders) ⊎ (4294967295 ≤ s.last_finder) → first_failing (find_tests s row) ≡ Some refusal.FindersFull
+    find_full h = find_decides ∙ fails_at full refusal.FindersFull [] (elim h [ inl few ↦ search (arith, few) | inr last ↦ search (arith, last) ])
+
+    pub find_passes : length s.finders < 64 → s.last_finder < 4294967295 → first_failing (find_tests s row) ≡ None
+    find_passes few last = let t : full ≡ false = search (arith, few, last) in find_decides ∙ passes_at full refusal.FindersFull [] t
+
+-- a row that was made and isn't dead isn't ended
+pub alive_from : {K : Type 0} (commits : List (Write K)) (row : ℕ) (r : Row K) → row_at commits row ≡ Some r → (status_of commits row ≡ Dead → ⊥) → is_ended commits row ≡ false
+alive_from commits row r found alive = go (is_ended commits row) refl
+  where
+    go : (b : Bool) → is_ended commits row ≡ b → is_ended commits row ≡ false
+    go false e = e
+    go true e = absurd (alive (dead_made commits row r found e))
 
 module _ {K A : Type 0} (is_cover : K → K → Bool) (old : State K A) (inv : IsSoundWorld is_cover old) where
   pub finder_of : (f : ℕ) (k : OpenFinder K) → finder_at old f ≡ Some k → IsSeeking old.search.tree old.commits k
   finder_of f k h = member_all (λ k. k.serial) (λ k. IsSeeking old.search.tree old.commits k) f old.finders k h inv.finders.seeking
 
-  pub row_lives : (f : ℕ) (k : OpenFinder K) → finder_at old f ≡ Some k → is_deleted old.commits k.row ≡ false → status_of old.commits k.row ≡ Live
-  row_lives f k h alive = let seeking = finder_of f k h in rw (alive, seeking.inserted) refl
+  pub row_lives : (f : ℕ) (k : OpenFinder K) → finder_at old f ≡ Some k → is_ended old.commits k.row ≡ false → status_of old.commits k.row ≡ Live
+  row_lives f k h alive = let seeking = finder_of f k h in live_from old.commits k.row (record { row = k.row; key = k.key; tag = seeking.made.0 }) seeking.made.1 alive
 
   pub finds_sound : (row f : ℕ) (new : State K A) → first_failing (find_tests old row) ≡ None → Finds old row f new → IsSoundWorld is_cover new
   finds_sound row f new passed d =
       let may = may_find old row passed in
       let k : OpenFinder K = record { serial = old.last_finder + 1; row = row; key = d.key; stack = (record { page = 0; memo = old.search.tree.counter }) ∷ [] } in
-      let seeking = seeking_begun is_cover old.search.fan old.search.tree inv.tree.sound old.commits inv.agrees (old.last_finder + 1) row d.key d.tag d.inserted in
+      let seeking = seeking_begun is_cover old.search.fan old.search.tree inv.tree.sound old.commits inv.agrees (old.last_finder + 1) row d.key d.made in
       subst (λ s. IsSoundWorld is_cover s) (sym d.after)
       (sought_sound is_cover old inv (old.finders ++ k ∷ []) (old.last_finder + 1) (finders_push old.search.tree old.commits old.finders old.last_finder inv.finders k refl seeking may.few may.given))
 
   -- a finder more, by what it is made of
-  pub found_sound : (row : ℕ) (key : K) (tag counter : ℕ) → first_failing (find_tests old row) ≡ None → commit_at old.commits row ≡ Some (Insert key tag) → counter ≡ old.search.tree.counter
+  pub found_sound : (row : ℕ) (key : K) (counter : ℕ) → first_failing (find_tests old row) ≡ None → HasKey old.commits row key → counter ≡ old.search.tree.counter
       → IsSoundWorld is_cover (record old { finders = old.finders ++ (record { serial = old.last_finder + 1; row = row; key = key; stack = (record { page = 0; memo = counter }) ∷ [] }) ∷ []; last_finder = old.last_finder + 1 })
-  found_sound row key tag counter passed inserted same = finds_sound row (old.last_finder + 1) _ passed (record { key = key; tag = tag; inserted = inserted; serial = refl; after = rw same refl })
+  found_sound row key counter passed made same = finds_sound row (old.last_finder + 1) _ passed (record { key = key; made = made; serial = refl; after = rw same refl })
 
   pub unfound_sound : (f : ℕ) (new : State K A) → new ≡ record old { finders = without (λ k. k.serial) f old.finders } → IsSoundWorld is_cover new
   unfound_sound f new made = subst (λ s. IsSoundWorld is_cover s) (sym made)
@@ -81,30 +112,57 @@ module _ {K A : Type 0} (is_cover : K → K → Bool) (old : State K A) (inv : I
       let low : nat_eq (page_at old.search.tree page).level 0 ≡ true = search (arith, level) in
       record { exists = l; leaf = rw (there, low) refl }
 
-  -- where the tests of a seek pass
-  pub record MaySeek (k : OpenFinder K) : Type 0 where
-    pub alive : is_deleted old.commits k.row ≡ false
-    pub room : is_at_row old.search.tree k ≡ true → length old.commits < old.limit
+  -- where the tests of a visit pass
+  pub record MayVisit (k : OpenFinder K) (further : List (Bool × Refusal)) : Type 0 where
+    pub alive : is_ended old.commits k.row ≡ false
+    pub passed : is_at_row old.search.tree k ≡ true → first_failing further ≡ None
 
-  pub may_seek : (f : ℕ) (k : OpenFinder K) → finder_at old f ≡ Some k → first_failing (finder_tests old f ++ row_tests old (finder_at old f)) ≡ None → MaySeek k
-  may_seek f k h passed =
-      let here : first_failing (finder_tests old f) ≡ None = passed_first (finder_tests old f) (row_tests old (finder_at old f)) passed in
-      let rest : first_failing (row_tests old (Some k)) ≡ None = subst (λ o. first_failing (row_tests old o) ≡ None) h (sym (failing_later (finder_tests old f) (row_tests old (finder_at old f)) here) ∙ passed) in
-      let first = passed_at (is_deleted old.commits k.row) refusal.AlreadyDeleted ((is_at_row old.search.tree k && nat_le old.limit (length old.commits), refusal.CommitsFull) ∷ []) rest in
-      let second = passed_at (is_at_row old.search.tree k && nat_le old.limit (length old.commits)) refusal.CommitsFull [] first.1 in
+  pub may_visit : (f : ℕ) (k : OpenFinder K) (further : List (Bool × Refusal)) → finder_at old f ≡ Some k → first_failing (visit_tests old f further) ≡ None → MayVisit k further
+  may_visit f k further h passed =
+      let here : first_failing (finder_tests old f) ≡ None = passed_first (finder_tests old f) (row_tests old further (finder_at old f)) passed in
+      let rest : first_failing (row_tests old further (Some k)) ≡ None
+      = subst (λ o. first_failing (row_tests old further o) ≡ None) h (sym (failing_later (finder_tests old f) (row_tests old further (finder_at old f)) here) ∙ passed) in
+      let first = passed_at (is_ended old.commits k.row) refusal.AlreadyDeleted (where_met (is_at_row old.search.tree k) further) rest in
       record {
         alive = first.0;
-        room = λ there. let full : nat_le old.limit (length old.commits) ≡ false = subst (λ b. (b && nat_le old.limit (length old.commits)) ≡ false) there second.0 in search (arith, full);
+        passed = λ there. ap first_failing (sym (met_all further) ∙ ap (λ b. where_met b further) (sym there)) ∙ first.1;
       }
 
-  pub buries_sound : (seat f : ℕ) (stamp : Stamp K) (new : State K A) → first_failing (finder_tests old f ++ row_tests old (finder_at old f)) ≡ None → Buries seat old f stamp new → IsSoundWorld is_cover new
+  -- there is room for one more commit
+  pub has_room : first_failing (commit_tests old) ≡ None → length old.commits < old.limit
+  has_room h = let full = (passed_at (nat_le old.limit (length old.commits)) refusal.CommitsFull [] h).0 in search (arith, full)
+
+  pub buries_sound : (seat f : ℕ) (stamp : Stamp K) (new : State K A) → first_failing (visit_tests old f (commit_tests old)) ≡ None → Buries seat old f stamp new → IsSoundWorld is_cover new
   buries_sound seat f stamp new passed d =
-      let may = may_seek f d.finder d.is_open passed in
+      let may = may_visit f d.finder (commit_tests old) d.is_open passed in
       let on = meets_on f d.finder d.page d.is_open d.finds in
-      let room = may.room (finds_at_row old.search.tree d.finder d.page d.finds) in
+      let room = has_room (may.passed (finds_at_row old.search.tree d.finder d.page d.finds)) in
       subst (λ s. IsSoundWorld is_cover s) (sym d.after)
       (buried_sound is_cover old inv d.page on.exists d.finder.row (row_lives f d.finder d.is_open may.alive) (finds_weigh old.search.tree d.finder d.page d.finds) room
       (buried is_cover old.search.tree old.search.fan old.search.least old.search.limit inv.tree d.page on.leaf d.finder.row (length old.commits + 1)) f)
+
+  -- where a row is moved, the leaf takes it, and there is room for the commit
+  pub record MayMove (k : OpenFinder K) (leaf : ℕ) (key : K) : Type 0 where
+    pub alive : is_ended old.commits k.row ≡ false
+    pub takes : PlacePasses is_cover old.search leaf key
+    pub room : length old.commits < old.limit
+
+  pub may_move : (f : ℕ) (k : OpenFinder K) (page leaf : ℕ) (key : K) → finder_at old f ≡ Some k → FindsRow old.search.tree k page
+      → first_failing (visit_tests old f (place_tests is_cover old.search leaf key ++ commit_tests old)) ≡ None → MayMove k leaf key
+  may_move f k page leaf key h finds passed =
+      let tests : List (Bool × Refusal) = place_tests is_cover old.search leaf key in
+      let may = may_visit f k (place_tests is_cover old.search leaf key ++ commit_tests old) h passed in
+      let all = may.passed (finds_at_row old.search.tree k page finds) in
+      let takes : first_failing (place_tests is_cover old.search leaf key) ≡ None = passed_first (place_tests is_cover old.search leaf key) (commit_tests old) all in
+      record { alive = may.alive; takes = takes; room = has_room (sym (failing_later (place_tests is_cover old.search leaf key) (commit_tests old) takes) ∙ all) }
+
+  pub moves_sound : (seat f leaf : ℕ) (key : K) (stamp : Stamp K) (new : State K A) → first_failing (visit_tests old f (place_tests is_cover old.search leaf key ++ commit_tests old)) ≡ None
+      → MovesRow seat old f leaf key stamp new → IsSoundWorld is_cover new
+  moves_sound seat f leaf key stamp new passed d =
+      let may = may_move f d.finder d.page leaf key d.is_open d.finds passed in
+      let on = meets_on f d.finder d.page d.is_open d.finds in
+      subst (λ s. IsSoundWorld is_cover s) (sym d.after)
+      (row_moved_sound is_cover old inv d.page on.exists on.leaf d.finder.row (row_lives f d.finder d.is_open may.alive) (finds_weigh old.search.tree d.finder d.page d.finds) may.room leaf key d.row d.is_row may.takes f)
 
   -- a leaf that is swept
   pub swept_page : (page : ℕ) → first_failing (sweep_tests old.search page) ≡ None → page < length old.search.tree.pages

@@ -30,6 +30,7 @@ module _ {C O K A E : Type 0} (rules : Rules K A) (rule : Rule) (trace : Trace C
   write_now : (stamp : Stamp K) → Founds trace old → (d : Event C K A) → WritesAs old d stamp.write → IsWriteOf trace d stamp.write
   write_now stamp F (event.Place page key tag) h = h
   write_now stamp F (event.Seek f) h = (h.0.row, F.found f h.0 h.1, h.2)
+  write_now stamp F (event.Move f leaf key) h = (h.0.row, F.found f h.0 h.1, h.2)
   write_now stamp F d h = absurd h
 
   finding_now : (f row : ℕ) → ◌≡◌ {A = Event C K A × Reply C O K A E} (e, r) (event.Find row, reply.Finder f) → (old.last_finder < f) × (f ≤ new.last_finder)

@@ -1,11 +1,11 @@
 -- What a step does to the open cursors.
-use Rattle.std.proofs.Common.{◌≡◌, ◌≢◌, ◌+◌, ◌<◌, ◌≤◌, ℕ, suc, zero, Bool, List, [], ◌∷◌, ◌++◌, length, Some, None, ◌⊎◌, inl, inr, refl, sym, ap, ◌∙◌, arith, subst, Result}
+use Rattle.std.proofs.Common.{◌≡◌, ◌≢◌, ◌+◌, ◌<◌, ◌≤◌, ℕ, suc, zero, Bool, List, [], ◌∷◌, ◌++◌, length, map, Some, None, ◌⊎◌, inl, inr, refl, sym, ap, ◌∙◌, arith, subst, Result}
 use Rattle.std.specs.Prelude.{option_to_list}
 use Rattle.std.proofs.lemmas.List.{append-nil}
 use Rattle.mailbox.specs.Outlets.{Rule}
 use Rattle.key_class.specs.Rules.{IsLawful, Rules}
 use Rattle.key_class.specs.declared.refusal.Refusal.{Refusal}
-use Rattle.change_list.specs.declared.write.Write.TheVariants.{Insert, Delete}
+use Rattle.change_list.specs.declared.write.Write.TheVariants.{Insert, Delete, Move}
 use Rattle.change_list.specs.declared.write.Status.TheVariants.{Live}
 use Rattle.change_list.specs.Changes.{status_of}
 use Rattle.change_list.specs.declared.item.Item.{Item}
@@ -13,8 +13,11 @@ use Rattle.change_list.specs.declared.item.Item.TheVariants as item
 use Rattle.change_list.specs.Cursors.{Fits}
 use Rattle.page_table.specs.Trees.{Tree, page_at, after_rows}
 use Rattle.page_table.specs.Keeping.{KeepsRows}
-use Rattle.scan.proofs.Scans.{keeps_find, place_find, bury_find, sweep_find}
-use Rattle.page_table.specs.LeafChanges.{after_bury, after_sweep}
+use Rattle.scan.proofs.Scans.{keeps_find, place_find, bury_find, rows_length, rows_stack, sweep_find}
+use Rattle.page_table.specs.Soundness.{IsSound}
+use Rattle.page_table.specs.Stacks.{IsStack}
+use Rattle.row_version.specs.Entries.{Entry, marked}
+use Rattle.page_table.specs.LeafChanges.{after_bury, after_move, after_sweep}
 use Rattle.cursor.specs.declared.cursor.Turned.{Turned}
 use Rattle.cursor.specs.OpenCursors.{OpenCursor, Turns, shown, wants}
 use Rattle.cursor.specs.Sending.{SendsItems}
@@ -93,6 +96,27 @@ module _ {C O K A E : Type 0} (rules : Rules K A) (rule : Rule) {same_key : K �
       (same_fits rules rule lawful old.search.tree (after_bury old.search.tree p row (length old.commits + 1)) old.commits before items
       (bury_find (wants rules rule before) before.opened old.search.tree before.stack h.stack rules.is_cover old.search.fan inv.tree.sound p l old.commits inv.agrees row (length old.commits + 1) (omega (arith, h.from_opening, h.within)) live) f))))
 
+  -- a commit that moves a row from where it stands to a leaf
+  pub served_by_move : (e : Event C K A) (r : Reply C O K A E) (p : ℕ) → p < length old.search.tree.pages → (row leaf : ℕ) (key : K) → status_of old.commits row ≡ Live → leaf < length old.search.tree.pages
+      → IsSound rules.is_cover old.search.fan (after_bury old.search.tree p row (length old.commits + 1)) → (entry : Entry K) → entry.row ≡ length old.commits + 1 → (new : State K A)
+      → new.search.tree ≡ after_move old.search.tree p row (length old.commits + 1) leaf entry → new.commits ≡ old.commits ++ Move row key ∷ [] → new.cursors ≡ old.cursors
+      → (c : ℕ) (before after : OpenCursor K A) → taken_by c (e, r) ≡ None → cursor_at old c ≡ Some before → cursor_at new c ≡ Some after → Serves rules rule old e r new c before after
+  served_by_move e r p l row leaf key live k sound entry number new tree commits cursors c before after none a b =
+      let there : cursor_at new c ≡ cursor_at old c = ap (λ ks. member (λ k. k.serial) c ks) cursors in
+      let same : before ≡ after = let s : Some before ≡ Some after = sym a ∙ sym there ∙ b in cc in
+      let h = at_work_of rules.is_cover old inv c before a in
+      let dead : Tree K = after_bury old.search.tree p row (length old.commits + 1) in
+      let length_same : length dead.pages ≡ length old.search.tree.pages = rows_length old.search.tree p (map (marked row (length old.commits + 1)) (page_at old.search.tree p).rows) in
+      let late : before.opened < entry.row = omega (arith, h.from_opening, h.within, number) in
+      let stack : IsStack dead before.stack = rows_stack old.search.tree p (map (marked row (length old.commits + 1)) (page_at old.search.tree p).rows) before.stack h.stack in
+      subst (λ k. Serves rules rule old e r new c before k) same
+      (untouched e r new c before none (λ items f.
+      rw (tree, commits) (commit_fits rules rule (after_move old.search.tree p row (length old.commits + 1) leaf entry) old.commits (Move row key) before items
+      (same_fits rules rule lawful dead (after_move old.search.tree p row (length old.commits + 1) leaf entry) old.commits before items
+      (place_find (wants rules rule before) before.opened dead before.stack stack rules.is_cover old.search.fan sound leaf (omega (arith, k, length_same)) entry late)
+      (same_fits rules rule lawful old.search.tree dead old.commits before items
+      (bury_find (wants rules rule before) before.opened old.search.tree before.stack h.stack rules.is_cover old.search.fan inv.tree.sound p l old.commits inv.agrees row (length old.commits + 1) (omega (arith, h.from_opening, h.within)) live) f)))))
+
   -- a sweep of what no cursor has still to find
   pub served_by_sweep : (e : Event C K A) (r : Reply C O K A E) (p : ℕ) → p < length old.search.tree.pages → (horizon : ℕ) → IsHorizon (length old.commits) old.cursors horizon → (new : State K A)
       → new ≡ with_pages old (after_sweep old.search.tree p horizon)
@@ -134,6 +158,7 @@ module _ {C O K A E : Type 0} (rules : Rules K A) (rule : Rule) {same_key : K �
   sends_as e r d was later (item.Row row ∷ []) within h = inl h
   sends_as e r d was later (item.Inserted row ∷ []) within h = inl h
   sends_as e r d was later (item.Deleted n row ∷ []) within h = inl h
+  sends_as e r d was later (item.Moved row other ∷ []) within h = inl h
   sends_as e r d was later (item.Mark n ∷ []) within h = (h.0, omega (arith, h.1, h.2, within), h.3)
   sends_as e r d was later (x ∷ y ∷ items) within h = absurd h
 

@@ -1,13 +1,14 @@
 -- Every change of an event keeps a world sound.
-use Rattle.std.proofs.Common.{◌≡◌, ◌+◌, ◌<◌, ◌≤◌, ℕ, Bool, map, filter, List, [], ◌∷◌, ◌++◌, length, None, refl, sym, arith, subst, All, length-append}
+use Rattle.std.proofs.Common.{◌≡◌, ◌+◌, ◌<◌, ◌≤◌, ℕ, true, Bool, map, filter, List, [], ◌∷◌, ◌++◌, length, Some, None, refl, sym, arith, subst, All, length-append}
 use Rattle.std.proofs.lemmas.List.{length-map}
 use Rattle.std.proofs.lemmas.List.Elements.{All-nil}
 use Rattle.std.proofs.lemmas.List.Sums.{length-filter, count_by-le-length}
 use Rattle.change_list.specs.declared.config.Config.{Config}
 use Rattle.change_list.specs.Configs.{IsWithinLimits}
-use Rattle.change_list.specs.declared.write.Write.TheVariants.{Insert, Delete}
+use Rattle.change_list.specs.declared.write.Write.TheVariants.{Insert, Delete, Move}
 use Rattle.change_list.specs.declared.write.Status.TheVariants.{Live}
-use Rattle.change_list.specs.Changes.{status_of}
+use Rattle.change_list.specs.declared.item.Row.{Row}
+use Rattle.change_list.specs.Changes.{row_at, status_of}
 use Rattle.change_list.proofs.Tracking.{legal_push}
 use Rattle.row_version.specs.Entries.{Entry, marked, is_needed}
 use Rattle.page_table.specs.Trees.{Tree, page_at, after_rows, new_tree}
@@ -16,18 +17,22 @@ use Rattle.split.specs.SearchTrees.{SearchTree}
 use Rattle.split.specs.SearchTrees.{IsSearchTree, with_tree}
 use Rattle.split.proofs.Potential.{few_pages, new_potential, rows_potential}
 use Rattle.split.proofs.Done.{IsDone}
+use Rattle.split.proofs.MoveDone.{leaf_within, moved, move_potential}
+use Rattle.split.proofs.RowsDone.{buried}
+use Rattle.split.specs.Tests.{PlacePasses, is_leaf}
+use Rattle.change_list.proofs.Made.{row_found}
 use Rattle.std.proofs.Common.{Result, Ok, Err}
 use Rattle.std.specs.Prelude.{OnOk, OnErr}
 use Rattle.key_class.specs.declared.refusal.Refusal.{Refusal}
 use Rattle.split.proofs.NewSearchTree.{new_search_tree}
-use Rattle.scan.proofs.Agreement.{new_agrees, keeps_agrees, place_agrees, bury_agrees, sweep_agrees}
+use Rattle.scan.proofs.Agreement.{new_agrees, keeps_agrees, place_agrees, bury_agrees, remade_agrees, sweep_agrees}
 use Rattle.scan.specs.Agreement.{is_row}
-use Rattle.page_table.specs.LeafChanges.{after_bury, after_sweep}
-use Rattle.scan.proofs.Scans.{keeps_stack, rows_stack}
+use Rattle.page_table.specs.LeafChanges.{after_bury, after_move, after_place, after_sweep}
+use Rattle.scan.proofs.Scans.{keeps_stack, rows_length, rows_stack}
 use Rattle.scan.proofs.Opening.{open_stack}
 use Rattle.cursor.specs.OpenCursors.{OpenCursor}
 use Rattle.descent.specs.Finders.{OpenFinder, IsSeeking}
-use Rattle.descent.proofs.Seeking.{seeking_moved, seeking_placed, seeking_buried, seeking_swept}
+use Rattle.descent.proofs.Seeking.{seeking_beside, seeking_moved, seeking_placed, seeking_buried, seeking_swept}
 use Rattle.world.specs.Serials.{without, Rise}
 use Rattle.world.specs.States.{State, new_state, with_pages, with_cursor, IsAtWork, HasFinders, IsSoundWorld}
 use Rattle.world.proofs.FinderLists.{finders_kept, finders_without}
@@ -97,7 +102,7 @@ module _ {K A : Type 0} (is_cover : K → K → Bool) where
         let rows : List (Entry K) = map (marked row (length old.commits + 1)) (page_at old.search.tree p).rows in
         let n : length (old.commits ++ Delete row ∷ []) ≡ length old.commits + 1 = length-append old.commits (Delete row ∷ []) in
         let kept = finders_kept old.search.tree old.commits old.finders old.last_finder s.finders (after_rows old.search.tree p rows) (old.commits ++ Delete row ∷ [])
-        (λ k h. seeking_buried is_cover old.search.fan old.search.tree s.tree.sound old.commits k h p l row) in
+        (λ k h. seeking_buried is_cover old.search.fan old.search.tree s.tree.sound old.commits k h p l row (Delete row)) in
         record {
           tree = sound;
           legal = legal_push old.commits (Delete row) s.legal live;
@@ -110,6 +115,45 @@ module _ {K A : Type 0} (is_cover : K → K → Bool) where
           few_cursors = s.few_cursors;
           last_serial = s.last_serial;
           finders = finders_without (after_rows old.search.tree p rows) (old.commits ++ Delete row ∷ []) old.finders old.last_finder kept f;
+        }
+
+    -- a commit that moves a row from where it stands to a leaf that takes it
+    pub row_moved_sound : (p : ℕ) → p < length old.search.tree.pages → is_leaf old.search.tree p ≡ true → (row : ℕ) → status_of old.commits row ≡ Live → 1 ≤ weigh (is_row row) (page_at old.search.tree p).rows
+        → length old.commits < old.limit → (leaf : ℕ) (key : K) (r : Row K) → row_at old.commits row ≡ Some r → PlacePasses is_cover old.search leaf key
+        → (f : ℕ) → IsSoundWorld is_cover (record old {
+          search = record old.search { tree = after_move old.search.tree p row (length old.commits + 1) leaf (record { key = key; row = length old.commits + 1; tag = r.tag; died = None }) };
+          commits = old.commits ++ Move row key ∷ [];
+          finders = without (λ k. k.serial) f old.finders;
+        })
+    row_moved_sound p l here row live there room leaf key r found passes f =
+        let number : ℕ = length old.commits + 1 in
+        let entry : Entry K = record { key = key; row = length old.commits + 1; tag = r.tag; died = None } in
+        let dead : Tree K = after_bury old.search.tree p row (length old.commits + 1) in
+        let rows : List (Entry K) = map (marked row (length old.commits + 1)) (page_at old.search.tree p).rows in
+        let n : length (old.commits ++ Move row key ∷ []) ≡ length old.commits + 1 = length-append old.commits (Move row key ∷ []) in
+        let same : length dead.pages ≡ length old.search.tree.pages = rows_length old.search.tree p rows in
+        let tree : IsSearchTree is_cover dead old.search.fan old.search.least old.search.limit = buried is_cover old.search.tree old.search.fan old.search.least old.search.limit s.tree p here row (length old.commits + 1) in
+        let leaf_there : leaf < length old.search.tree.pages = leaf_within is_cover old.search leaf key passes in
+        let k : leaf < length dead.pages = omega (arith, leaf_there, same) in
+        let kept = finders_kept old.search.tree old.commits old.finders old.last_finder s.finders (after_place dead leaf entry) (old.commits ++ Move row key ∷ [])
+        (λ k h. seeking_beside is_cover old.search.fan dead tree.sound (old.commits ++ Move row key ∷ []) k (seeking_buried is_cover old.search.fan old.search.tree s.tree.sound old.commits k h p l row (Move row key)) leaf
+        (omega (arith, leaf_there, same)) entry (λ e. let w = row_found old.commits k.row (record { row = k.row; key = k.key; tag = h.made.0 }) h.made.1 in omega (arith, e, w.2))) in
+        record {
+          tree = moved is_cover old.search.tree old.search.fan old.search.least old.search.limit s.tree p row (length old.commits + 1) leaf entry here passes;
+          legal = legal_push old.commits (Move row key) s.legal live;
+          agrees = remade_agrees is_cover dead old.search.fan tree.sound old.commits s.legal row live (bury_agrees is_cover old.search.tree old.search.fan s.tree.sound old.commits s.legal s.agrees p l row live there) key r found leaf k;
+          at_work = all_kept (λ k. IsAtWork old.search.tree old.commits k) (λ k. IsAtWork (after_place dead leaf entry) (old.commits ++ Move row key ∷ []) k) (λ k h. record {
+            stack = rows_stack dead leaf ((page_at dead leaf).rows ++ entry ∷ []) k.stack (rows_stack old.search.tree p rows k.stack h.stack);
+            from_opening = h.from_opening;
+            within = omega (arith, h.within, n);
+          }) old.cursors s.at_work;
+          serials = s.serials;
+          grown = omega (arith, s.grown, n, move_potential old.search.fan old.search.tree p row (length old.commits + 1) leaf entry l leaf_there);
+          few_commits = omega (arith, n, room);
+          commit_limit = s.commit_limit;
+          few_cursors = s.few_cursors;
+          last_serial = s.last_serial;
+          finders = finders_without (after_place dead leaf entry) (old.commits ++ Move row key ∷ []) old.finders old.last_finder kept f;
         }
 
     -- a leaf without the dead that nobody needs

@@ -7,7 +7,8 @@ use Rattle.key_class.specs.Rules.{IsLawful, Rules}
 use Rattle.key_class.specs.declared.pred.Pred.{Pred}
 use Rattle.key_class.specs.declared.refusal.Refusal.{Refusal}
 use Rattle.key_class.specs.declared.refusal.Refusal.TheVariants as refusal
-use Rattle.change_list.specs.declared.write.Write.TheVariants.{Delete}
+use Rattle.change_list.specs.declared.write.Write.TheVariants.{Delete, Move}
+use Rattle.change_list.specs.declared.write.Write.{Write}
 use Rattle.change_list.specs.declared.item.Item.{Item}
 use Rattle.change_list.specs.Cursors.{Fits}
 use Rattle.page_table.specs.Trees.{Tree}
@@ -18,6 +19,8 @@ use Rattle.split.proofs.EnlargeDone.{enlarge_done}
 use Rattle.split.proofs.SplitDone.{split_done}
 use Rattle.split.proofs.GrowDone.{grow_done}
 use Rattle.split.proofs.PostDone.{post_done}
+use Rattle.split.proofs.MoveDone.{leaf_within}
+use Rattle.split.proofs.RowsDone.{buried}
 use Rattle.cursor.specs.declared.cursor.Turned.{Turned}
 use Rattle.cursor.specs.declared.cursor.Turned.TheVariants as turned
 use Rattle.cursor.specs.OpenCursors.{OpenCursor, shown, wants, tree_work}
@@ -29,7 +32,7 @@ use Rattle.world.specs.declared.reply.Reply.{Reply}
 use Rattle.world.specs.declared.reply.Reply.TheVariants as reply
 use Rattle.world.specs.Serials.{member, without}
 use Rattle.world.specs.States.{State, cursor_at, finder_at, with_pages, with_cursor, IsAtWork, IsSoundWorld}
-use Rattle.world.specs.Steps.{tests, cursor_tests, opened_cursor, Step, IsRefused, IsCarriedOut, TurnsAt}
+use Rattle.world.specs.Steps.{commit_tests, tests, cursor_tests, opened_cursor, SeeksOn, Step, IsRefused, IsCarriedOut, TurnsAt}
 use Rattle.world.specs.Traces.{written, taken_by, asks}
 use Rattle.page_table.specs.Keeping.{KeepsRows}
 use Rattle.world.specs.Promises.{Serves, ServesAll, LowersCursorWork, FitsAtOpening, KeepsRowsUnder}
@@ -39,11 +42,11 @@ use Rattle.descent.specs.Finders.{OpenFinder}
 use Rattle.world.proofs.Refusing.{closed_fails, failing_first, passed_first, open_leaves_room, open_from_tests}
 use Rattle.world.proofs.Sounding.{moved_sound, placed_sound, opened_sound, turned_sound, closed_sound, fresh_at_work}
 use Rattle.world.proofs.PageSteps.{placed_tree}
-use Rattle.world.proofs.FinderSteps.{finds_sound, unfound_sound, may_seek, meets_on, row_lives, buries_sound, seeks_on_sound, swept_page, sweeps_sound}
+use Rattle.world.proofs.FinderSteps.{finds_sound, unfound_sound, may_move, may_visit, meets_on, moves_sound, row_lives, buries_sound, seeks_on_sound, swept_page, sweeps_sound}
 use Rattle.world.proofs.Placing.{page_exists, place_room}
 use Rattle.world.proofs.Turning.{turn_serial, turn_work}
 use Rattle.world.proofs.Askings.{taken_same}
-use Rattle.world.proofs.Serving.{at_work_of, same_or_not, untouched, served_by_moves, served_by_place, served_by_bury, served_by_sweep, served_by_put, turn_serves}
+use Rattle.world.proofs.Serving.{at_work_of, same_or_not, untouched, served_by_moves, served_by_place, served_by_bury, served_by_move, served_by_sweep, served_by_put, turn_serves}
 
 none_is_some : {X : Type 0} (x : X) → (o : Option X) → o ≡ None → o ≡ Some x → ⊥
 none_is_some x o a b = let c : None ≡ Some x = sym a ∙ b in cc
@@ -456,14 +459,15 @@ module _ {C O K A E : Type 0} (rules : Rules K A) (rule : Rule) {same_key : K �
       })
       (λ c s a. absurd a)
 
-  leads_by_seek : (f : ℕ) (new : State K A) → IsCarriedOut {C = C} {O = O} {E = E} rules rule seat old (event.Seek f) reply.Seeking new → Leads {C = C} {O = O} {E = E} rules rule lawful seat old inv (event.Seek f) reply.Seeking new
-  leads_by_seek f new d =
-      let t = d.change in
+  -- a visit of a finder that goes on, by an event that commits, takes, opens and closes nothing
+  leads_further : (e : Event C K A) (f : ℕ) (new : State K A) → IsQuiet {O = O} {E = E} rules rule old new e reply.Seeking → SeeksOn rules rule old f new → ((c : ℕ) → asks e c → ⊥)
+      → Leads {C = C} {O = O} {E = E} rules rule lawful seat old inv e reply.Seeking new
+  leads_further e f new q t unasked =
       let row : t.later.row ≡ t.before.row = ap (λ k. k.row) t.further.after in
       let number : t.later.serial ≡ f = ap (λ k. k.serial) t.further.after ∙ member_serial (λ k. k.serial) f old.finders t.before t.is_open in
-      leads_alike (event.Seek f) reply.Seeking new refl (λ c. refl) tt tt tt (seeks_on_sound rules rule lawful old inv f new t)
+      leads_alike e reply.Seeking new q.uncommitted q.untaken q.opening q.closing q.numbering (seeks_on_sound rules rule lawful old inv f new t)
       (ap (λ s. s.commits) t.after) (ap (λ s. s.cursors) t.after) (ap (λ s. s.last) t.after)
-      (λ c k a b. kept_by (event.Seek f) reply.Seeking new (ap (λ s. s.search.tree) t.after) (ap (λ s. s.commits) t.after) c k refl)
+      (λ c k a b. kept_by e reply.Seeking new (ap (λ s. s.search.tree) t.after) (ap (λ s. s.commits) t.after) c k (q.untaken c))
       (record {
         last = omega (arith, ap (λ (s : State K A). s.last_finder) t.after);
         asked = λ x k h. elim (same_or_not x f) [
@@ -474,10 +478,10 @@ module _ {C O K A E : Type 0} (rules : Rules K A) (rule : Rule) {same_key : K �
               inl (t.before, ap (λ n. finder_at old n) eq ∙ t.is_open, sym row ∙ ap (λ k. k.row) same)
           | inr n ↦ inl (k, sym (ap (λ s. finder_at s x) t.after ∙ put_other (λ k. k.serial) x t.later old.finders (λ eq. n (eq ∙ number))) ∙ h, refl)
         ];
-        finding = tt;
-        writing = tt;
+        finding = q.finding;
+        writing = q.writing;
       })
-      (λ c s a. absurd a)
+      (λ c s a. absurd (unasked c a))
 
   leads_by_unfind : (f : ℕ) (new : State K A) → IsCarriedOut {C = C} {O = O} {E = E} rules rule seat old (event.Unfind f) reply.Unfound new → Leads {C = C} {O = O} {E = E} rules rule lawful seat old inv (event.Unfind f) reply.Unfound new
   leads_by_unfind f new d = leads_alike (event.Unfind f) reply.Unfound new refl (λ c. refl) tt tt tt (unfound_sound rules.is_cover old inv f new d.change)
@@ -491,36 +495,65 @@ module _ {C O K A E : Type 0} (rules : Rules K A) (rule : Rule) {same_key : K �
       })
       (λ c s a. absurd a)
 
-  leads_by_bury : (f : ℕ) (stamp : Stamp K) (new : State K A) → IsCarriedOut {C = C} {O = O} {E = E} rules rule seat old (event.Seek f) (reply.Committed stamp) new → Leads {C = C} {O = O} {E = E} rules rule lawful seat old inv (event.Seek f) (reply.Committed stamp) new
-  leads_by_bury f stamp new d =
-      let t = d.change in
-      let may = may_seek rules.is_cover old inv f t.finder t.is_open d.passed in
-      let on = meets_on rules.is_cover old inv f t.finder t.page t.is_open t.finds in
-      let live = row_lives rules.is_cover old inv f t.finder t.is_open may.alive in
-      let write : stamp.write ≡ Delete t.finder.row = ap (λ s. s.write) t.stamped in
+  -- a visit of a finder that ends it with a commit, by an event that takes, opens and closes nothing
+  leads_by_end : (e : Event C K A) (f : ℕ) (stamp : Stamp K) (write : Write K) (new : State K A) → IsSoundWorld rules.is_cover new
+      → ((c : ℕ) → taken_by {C = C} {O = O} {A = A} {E = E} c (e, reply.Committed stamp) ≡ None) → ((c : ℕ) → asks e c → ⊥)
+      → Opening {C = C} {O = O} {E = E} rules rule old new e (reply.Committed stamp) → Closing {C = C} {O = O} {E = E} rules rule new e (reply.Committed stamp) → Finding {C = C} {O = O} {E = E} rules rule old new e (reply.Committed stamp)
+      → Writing {C = C} {O = O} {E = E} rules rule old e (reply.Committed stamp)
+      → stamp.number ≡ length old.commits + 1 → stamp.write ≡ write → new.commits ≡ old.commits ++ write ∷ [] → new.cursors ≡ old.cursors → new.last ≡ old.last
+      → new.finders ≡ without (λ k. k.serial) f old.finders → new.last_finder ≡ old.last_finder
+      → ((c : ℕ) (before after : OpenCursor K A) → cursor_at old c ≡ Some before → cursor_at new c ≡ Some after → Serves {C = C} {O = O} {E = E} rules rule old e (reply.Committed stamp) new c before after)
+      → Leads {C = C} {O = O} {E = E} rules rule lawful seat old inv e (reply.Committed stamp) new
+  leads_by_end e f stamp write new sound untaken unasked opening closing finding writing number is commits cursors last finders last_finder serves =
+      let alike : (c : ℕ) → cursor_at new c ≡ cursor_at old c = λ c. ap (λ ks. member (λ k. k.serial) c ks) cursors in
       record {
-        sound = buries_sound rules.is_cover old inv seat f stamp new d.passed t;
+        sound = sound;
         effect = record {
-          commits = ap (λ s. s.commits) t.after ∙ ap (λ x. old.commits ++ x ∷ []) (sym write);
-          legal = (buries_sound rules.is_cover old inv seat f stamp new d.passed t).legal;
-          serves = λ c before after a b. served_by_bury rules rule lawful old inv (event.Seek f) (reply.Committed stamp) t.page on.exists t.finder.row live new (ap (λ s. s.search.tree) t.after) (ap (λ s. s.commits) t.after) (ap (λ s. s.cursors) t.after) c before after refl a b;
-          last = omega (arith, ap (λ (s : State K A). s.last) t.after);
-          within = λ c k h. (member_within (λ k. k.serial) c 0 new.last new.cursors k (buries_sound rules.is_cover old inv seat f stamp new d.passed t).serials h).1;
-          shut = λ c l h. ap (λ s. cursor_at s c) t.after ∙ h;
-          appears = λ c k h g. absurd (none_is_some k (cursor_at new c) (ap (λ s. cursor_at s c) t.after ∙ h) g);
-          takes = λ c item g. absurd (cc);
-          opening = tt;
-          closing = tt;
-          silent = λ c s a. absurd a;
-          numbering = ap (λ s. s.number) t.stamped;
+          commits = commits ∙ ap (λ x. old.commits ++ x ∷ []) (sym is);
+          legal = sound.legal;
+          serves = serves;
+          last = omega (arith, last);
+          within = λ c k h. (member_within (λ k. k.serial) c 0 new.last new.cursors k sound.serials h).1;
+          shut = λ c l h. alike c ∙ h;
+          appears = λ c k h g. absurd (none_is_some k (cursor_at new c) (alike c ∙ h) g);
+          takes = λ c item g. absurd (none_is_some item (taken_by {C = C} {O = O} {A = A} {E = E} c (e, reply.Committed stamp)) (untaken c) g);
+          opening = opening;
+          closing = closing;
+          silent = λ c s a. absurd (unasked c a);
+          numbering = number;
           finders = record {
-            last = omega (arith, ap (λ (s : State K A). s.last_finder) t.after);
-            asked = λ x k h. inl (k, left old f new (ap (λ s. s.finders) t.after) x k h, refl);
-            finding = tt;
-            writing = (t.finder, t.is_open, write);
+            last = omega (arith, last_finder);
+            asked = λ x k h. inl (k, left old f new finders x k h, refl);
+            finding = finding;
+            writing = writing;
           };
         };
       }
+
+  leads_by_bury : (f : ℕ) (stamp : Stamp K) (new : State K A) → IsCarriedOut {C = C} {O = O} {E = E} rules rule seat old (event.Seek f) (reply.Committed stamp) new → Leads {C = C} {O = O} {E = E} rules rule lawful seat old inv (event.Seek f) (reply.Committed stamp) new
+  leads_by_bury f stamp new d =
+      let t = d.change in
+      let may = may_visit rules.is_cover old inv f t.finder (commit_tests old) t.is_open d.passed in
+      let on = meets_on rules.is_cover old inv f t.finder t.page t.is_open t.finds in
+      let live = row_lives rules.is_cover old inv f t.finder t.is_open may.alive in
+      let write : stamp.write ≡ Delete t.finder.row = ap (λ s. s.write) t.stamped in
+      leads_by_end (event.Seek f) f stamp (Delete t.finder.row) new (buries_sound rules.is_cover old inv seat f stamp new d.passed t) (λ c. refl) (λ c a. a) tt tt tt (t.finder, t.is_open, write)
+      (ap (λ s. s.number) t.stamped) write (ap (λ s. s.commits) t.after) (ap (λ s. s.cursors) t.after) (ap (λ s. s.last) t.after) (ap (λ s. s.finders) t.after) (ap (λ s. s.last_finder) t.after)
+      (λ c before after a b. served_by_bury rules rule lawful old inv (event.Seek f) (reply.Committed stamp) t.page on.exists t.finder.row live new (ap (λ s. s.search.tree) t.after) (ap (λ s. s.commits) t.after) (ap (λ s. s.cursors) t.after) c before after refl a b)
+
+  leads_by_move : (f leaf : ℕ) (key : K) (stamp : Stamp K) (new : State K A) → IsCarriedOut {C = C} {O = O} {E = E} rules rule seat old (event.Move f leaf key) (reply.Committed stamp) new
+      → Leads {C = C} {O = O} {E = E} rules rule lawful seat old inv (event.Move f leaf key) (reply.Committed stamp) new
+  leads_by_move f leaf key stamp new d =
+      let t = d.change in
+      let may = may_move rules.is_cover old inv f t.finder t.page leaf key t.is_open t.finds d.passed in
+      let on = meets_on rules.is_cover old inv f t.finder t.page t.is_open t.finds in
+      let live = row_lives rules.is_cover old inv f t.finder t.is_open may.alive in
+      let write : stamp.write ≡ Move t.finder.row key = ap (λ s. s.write) t.stamped in
+      let dead = buried rules.is_cover old.search.tree old.search.fan old.search.least old.search.limit inv.tree t.page on.leaf t.finder.row (length old.commits + 1) in
+      leads_by_end (event.Move f leaf key) f stamp (Move t.finder.row key) new (moves_sound rules.is_cover old inv seat f leaf key stamp new d.passed t) (λ c. refl) (λ c a. a) tt tt tt (t.finder, t.is_open, write)
+      (ap (λ s. s.number) t.stamped) write (ap (λ s. s.commits) t.after) (ap (λ s. s.cursors) t.after) (ap (λ s. s.last) t.after) (ap (λ s. s.finders) t.after) (ap (λ s. s.last_finder) t.after)
+      (λ c before after a b. served_by_move rules rule lawful old inv (event.Move f leaf key) (reply.Committed stamp) t.page on.exists t.finder.row leaf key live (leaf_within rules.is_cover old.search leaf key may.takes) dead.sound
+      (record { key = key; row = length old.commits + 1; tag = t.row.tag; died = None }) refl new (ap (λ s. s.search.tree) t.after) (ap (λ s. s.commits) t.after) (ap (λ s. s.cursors) t.after) c before after refl a b)
 
   leads_by_sweep : (page count : ℕ) (new : State K A) → IsCarriedOut {C = C} {O = O} {E = E} rules rule seat old (event.Sweep page) (reply.Swept count) new → Leads {C = C} {O = O} {E = E} rules rule lawful seat old inv (event.Sweep page) (reply.Swept count) new
   leads_by_sweep page count new d =
@@ -552,8 +585,10 @@ module _ {C O K A E : Type 0} (rules : Rules K A) (rule : Rule) {same_key : K �
       (leads_by_moves rules rule lawful seat old inv (event.Grow sides) (reply.Grown first second) _ (grow_done rules.is_cover old.search inv.tree sides d.passed rules.union_of lawful.bounds)
       (record { uncommitted = refl; untaken = λ c. refl; opening = tt; closing = tt; numbering = tt; finding = tt; writing = tt }) (λ c s a. absurd a))
   step_leads (event.Find row) (reply.Finder f) new d = leads_by_find row f new d
-  step_leads (event.Seek f) reply.Seeking new d = leads_by_seek f new d
+  step_leads (event.Seek f) reply.Seeking new d = leads_further (event.Seek f) f new (record { uncommitted = refl; untaken = λ c. refl; opening = tt; closing = tt; numbering = tt; finding = tt; writing = tt }) d.change (λ c a. a)
   step_leads (event.Seek f) (reply.Committed stamp) new d = leads_by_bury f stamp new d
+  step_leads (event.Move f leaf key) (reply.Committed stamp) new d = leads_by_move f leaf key stamp new d
+  step_leads (event.Move f leaf key) reply.Seeking new d = leads_further (event.Move f leaf key) f new (record { uncommitted = refl; untaken = λ c. refl; opening = tt; closing = tt; numbering = tt; finding = tt; writing = tt }) d.change (λ c a. a)
   step_leads (event.Unfind f) reply.Unfound new d = leads_by_unfind f new d
   step_leads (event.Sweep page) (reply.Swept count) new d = leads_by_sweep page count new d
   step_leads (event.Open query room) (reply.Opened c end) new d = leads_by_open query room c end new d

@@ -21,6 +21,7 @@ sent_serial : {K A : Type 0} (x : Item K) (k : OpenCursor K A) → (sent x k).se
 sent_serial (item.Row row) k = refl
 sent_serial (item.Inserted row) k = refl
 sent_serial (item.Deleted n row) k = refl
+sent_serial (item.Moved row other) k = refl
 sent_serial (item.Mark n) k = refl
 
 module _ {K A : Type 0} (rules : Rules K A) (rule : Rule) (t : Tree K) (commits : List (Write K)) (before later : OpenCursor K A) where

@@ -1,8 +1,9 @@
 -- What contracts see of a world.
 use Rattle.std.specs.Prelude.{◌≡◌, ℕ, ◌+◌, ◌≤◌, Bool, List, [], ◌∷◌, ◌++◌, length, false, Option, Some, All}
+use Rattle.key_class.specs.Limits.{greatest_serial, most_commits, most_cursors, most_finders}
 use Rattle.change_list.specs.declared.config.Config.{Config}
 use Rattle.change_list.specs.declared.write.Write.{Write}
-use Rattle.change_list.specs.Changes.{IsLegal, is_deleted}
+use Rattle.change_list.specs.Changes.{IsLegal, is_ended}
 use Rattle.page_table.specs.Trees.{Tree, new_tree}
 use Rattle.page_table.specs.Stacks.{IsStack}
 use Rattle.split.specs.Potential.{potential}
@@ -40,13 +41,13 @@ new_state config = record {
 }
 
 module _ {K : Type 0} where
-  -- Each open finder looks for a row that was inserted, and while the row lives, it stands once under what the finder has
+  -- Each open finder looks for a row that was made, and while the row lives, it stands once under what the finder has
   -- still to visit.
   pub record HasFinders (tree : Tree K) (commits : List (Write K)) (finders : List (OpenFinder K)) (last : ℕ) : Type 0 where
     pub seeking : All (λ k. IsSeeking tree commits k) finders
     pub serials : Rise (λ k. k.serial) 0 last finders
-    pub few : length finders ≤ 64
-    pub last_serial : last ≤ 4294967295
+    pub few : length finders ≤ most_finders
+    pub last_serial : last ≤ greatest_serial
 
 module _ {K A : Type 0} where
   -- the open cursor with a serial
@@ -94,9 +95,9 @@ module _ {K A : Type 0} where
     -- the tree's potential bounds the number of its pages
     pub grown : potential s.search.fan s.search.tree ≤ length s.commits + 1
     pub few_commits : length s.commits ≤ s.limit
-    pub commit_limit : s.limit ≤ 16777216
-    pub few_cursors : length s.cursors ≤ 256
-    pub last_serial : s.last ≤ 4294967295
+    pub commit_limit : s.limit ≤ most_commits
+    pub few_cursors : length s.cursors ≤ most_cursors
+    pub last_serial : s.last ≤ greatest_serial
     pub finders : HasFinders s.search.tree s.commits s.finders s.last_finder
 
   -- an open cursor by its place
@@ -110,5 +111,5 @@ module _ {K A : Type 0} where
   -- a finder of a live row, and the page that it visits next holds the row
   pub record Meets (s : State K A) (f at page : ℕ) : Type 0 where
     pub here : IsFinderAt s f at
-    pub alive : is_deleted s.commits here.value.row ≡ false
+    pub alive : is_ended s.commits here.value.row ≡ false
     pub finds : FindsRow s.search.tree here.value page

@@ -1,22 +1,23 @@
 -- What each event makes of a world, and how it is answered.
-use Rattle.std.specs.Prelude.{◌≡◌, ℕ, suc, ◌+◌, Bool, true, false, not, ◌||◌, ◌&&◌, nat_eq, nat_le, nat_lt, List, [], ◌∷◌, ◌++◌, length, filter, Option, Some, None, is_none, Ok, Err, Result, ◌⊎◌}
+use Rattle.std.specs.Prelude.{◌≡◌, ℕ, suc, ◌+◌, Bool, true, false, ◌||◌, ◌&&◌, nat_eq, nat_le, nat_lt, List, [], ◌∷◌, ◌++◌, length, filter, Option, Some, None, is_none, Ok, Err, Result, ◌⊎◌}
 use Rattle.std.specs.List.{zip}
 use Rattle.key_class.specs.Rules.{Rules}
 use Rattle.mailbox.specs.Outlets.{Rule, tray_rule}
+use Rattle.key_class.specs.Limits.{greatest_serial, most_cursors, most_depth, most_finders, most_room}
 use Rattle.key_class.specs.Queries.{query_of, depth_of}
 use Rattle.key_class.specs.declared.pred.Pred.{Pred}
 use Rattle.key_class.specs.declared.refusal.Refusal.{Refusal}
 use Rattle.key_class.specs.declared.refusal.Refusal.TheVariants as refusal
-use Rattle.change_list.specs.Changes.{commit_at, is_deleted}
-use Rattle.change_list.specs.declared.write.Write.{Write}
-use Rattle.change_list.specs.declared.write.Write.TheVariants.{Insert, Delete}
+use Rattle.change_list.specs.Changes.{HasKey, is_ended, row_at}
+use Rattle.change_list.specs.declared.write.Write.TheVariants.{Insert, Delete, Move}
 use Rattle.change_list.specs.declared.config.Config.{Config}
 use Rattle.change_list.specs.declared.item.Item.{Item}
+use Rattle.change_list.specs.declared.item.Row.{Row}
 use Rattle.row_version.specs.Entries.{is_needed}
 use Rattle.page_table.specs.Trees.{page_at, after_rows}
 use Rattle.split.specs.Steps.{after_split, after_post, after_grow, after_enlarge}
 use Rattle.split.specs.Tests.{first_failing, place_tests, enlarge_tests, split_tests, post_tests, grow_tests, sweep_tests, HasUnneeded}
-use Rattle.page_table.specs.LeafChanges.{after_bury, after_sweep}
+use Rattle.page_table.specs.LeafChanges.{after_bury, after_move, after_sweep}
 use Rattle.scan.specs.Scanning.{PushesSome}
 use Rattle.cursor.specs.declared.cursor.Turned.{Turned}
 use Rattle.cursor.specs.declared.cursor.Turned.TheVariants as turned
@@ -29,24 +30,19 @@ use Rattle.world.specs.declared.reply.Reply.{Reply}
 use Rattle.world.specs.declared.reply.Reply.TheVariants as reply
 use Rattle.world.specs.Serials.{without}
 use Rattle.world.specs.Stamps.{Stamp}
-use Rattle.world.specs.States.{State, new_state, cursor_at, finder_at, with_pages, with_cursor, with_finder}
+use Rattle.world.specs.States.{State, Meets, new_state, cursor_at, finder_at, with_pages, with_cursor, with_finder}
 use Rattle.world.specs.Traces.{Trace}
 
 -- the first test that fails gives the refusal
 abbrev pub FirstFails : List (Bool × Refusal) → Refusal → Type 0
 FirstFails tests why = first_failing tests ≡ Some why
 
-module _ {K : Type 0} where
-  abbrev pub is_insert : Option (Write K) → Bool
-  is_insert (Some (Insert key tag)) = true
-  is_insert (Some (Delete row)) = false
-  is_insert None = false
+-- these tests, where something is met; else none of them fails
+abbrev pub where_met : Bool → List (Bool × Refusal) → List (Bool × Refusal)
+where_met met [] = []
+where_met met ((fails, why) ∷ tests) = (met && fails, why) ∷ where_met met tests
 
 module _ {K A : Type 0} where
-  -- the commit with the row's number inserts the key
-  abbrev pub HasKey : State K A → ℕ → K → Type 0
-  HasKey s row key = (tag : ℕ) × (commit_at s.commits row ≡ Some (Insert key tag))
-
   -- the serial was given, and its cursor is open
   abbrev pub cursor_tests : State K A → ℕ → List (Bool × Refusal)
   cursor_tests old c =
@@ -57,29 +53,34 @@ module _ {K A : Type 0} where
   -- the room and the query's depth are in range, and there is a place and a serial for one more cursor
   abbrev pub open_tests : State K A → Pred A → ℕ → List (Bool × Refusal)
   open_tests old query room =
-      (nat_eq room 0 || (nat_lt 4096 room || nat_lt 32 (depth_of (query_of query))), refusal.BadConfig)
-      ∷ (nat_le 256 (length old.cursors) || nat_le 4294967295 old.last, refusal.CursorsFull)
+      (nat_eq room 0 || (nat_lt most_room room || nat_lt most_depth (depth_of (query_of query))), refusal.BadConfig)
+      ∷ (nat_le most_cursors (length old.cursors) || nat_le greatest_serial old.last, refusal.CursorsFull)
       ∷ []
 
-  -- the row was inserted and is not deleted, and there is a place and a serial for one more finder
+  -- there is a place for one more commit
+  abbrev pub commit_tests : State K A → List (Bool × Refusal)
+  commit_tests old = (nat_le old.limit (length old.commits), refusal.CommitsFull) ∷ []
+
+  -- the row was made and isn't ended, and there is a place and a serial for one more finder
   abbrev pub find_tests : State K A → ℕ → List (Bool × Refusal)
   find_tests old row =
-      (not (is_insert (commit_at old.commits row)), refusal.NoSuchRow)
-      ∷ (is_deleted old.commits row, refusal.AlreadyDeleted)
-      ∷ (nat_le 64 (length old.finders) || nat_le 4294967295 old.last_finder, refusal.FindersFull)
+      (is_none (row_at old.commits row), refusal.NoSuchRow)
+      ∷ (is_ended old.commits row, refusal.AlreadyDeleted)
+      ∷ (nat_le most_finders (length old.finders) || nat_le greatest_serial old.last_finder, refusal.FindersFull)
       ∷ []
 
   -- the finder is open
   abbrev pub finder_tests : State K A → ℕ → List (Bool × Refusal)
   finder_tests old f = (is_none (finder_at old f), refusal.NoSuchFinder) ∷ []
 
-  -- its row is not deleted, and there is a place for one more commit where the page that it visits next holds the row
-  abbrev pub row_tests : State K A → Option (OpenFinder K) → List (Bool × Refusal)
-  row_tests old (Some k) =
-      (is_deleted old.commits k.row, refusal.AlreadyDeleted)
-      ∷ (is_at_row old.search.tree k && nat_le old.limit (length old.commits), refusal.CommitsFull)
-      ∷ []
-  row_tests old None = []
+  -- its row isn't ended; and further tests, where the page that it visits next holds the row
+  abbrev pub row_tests : State K A → List (Bool × Refusal) → Option (OpenFinder K) → List (Bool × Refusal)
+  row_tests old further (Some k) = (is_ended old.commits k.row, refusal.AlreadyDeleted) ∷ where_met (is_at_row old.search.tree k) further
+  row_tests old further None = []
+
+  -- of a visit of a finder, with the further tests of what is done where it meets its row
+  abbrev pub visit_tests : State K A → ℕ → List (Bool × Refusal) → List (Bool × Refusal)
+  visit_tests old f further = finder_tests old f ++ row_tests old further (finder_at old f)
 
   -- a cursor at the present commits, whose scan begins at the root
   abbrev pub opened_cursor : State K A → Pred A → ℕ → OpenCursor K A
@@ -111,8 +112,7 @@ module _ {K A : Type 0} where
   -- a finder of the row begins at the root
   pub record Finds (old : State K A) (row f : ℕ) (new : State K A) : Type 0 where
     pub key : K
-    pub tag : ℕ
-    pub inserted : commit_at old.commits row ≡ Some (Insert key tag)
+    pub made : HasKey old.commits row key
     pub serial : f ≡ old.last_finder + 1
     pub after : new ≡ record old {
       finders = old.finders ++ (record { serial = old.last_finder + 1; row = row; key = key; stack = (record { page = 0; memo = old.search.tree.counter }) ∷ [] }) ∷ [];
@@ -129,6 +129,22 @@ module _ {K A : Type 0} where
     pub after : new ≡ record old {
       search = record old.search { tree = after_bury old.search.tree page finder.row (length old.commits + 1) };
       commits = old.commits ++ Delete finder.row ∷ [];
+      finders = without (λ k. k.serial) f old.finders;
+    }
+
+  -- The page that the finder visits holds its row: the next commit moves the row, which is dead since then, the leaf has the
+  -- row with its new key at the end, and the finder ends.
+  pub record MovesRow (seat : ℕ) (old : State K A) (f leaf : ℕ) (key : K) (stamp : Stamp K) (new : State K A) : Type 0 where
+    pub finder : OpenFinder K
+    pub is_open : finder_at old f ≡ Some finder
+    pub page : ℕ
+    pub finds : FindsRow old.search.tree finder page
+    pub row : Row K
+    pub is_row : row_at old.commits finder.row ≡ Some row
+    pub stamped : stamp ≡ record { number = length old.commits + 1; seat = seat; write = Move finder.row key }
+    pub after : new ≡ record old {
+      search = record old.search { tree = after_move old.search.tree page finder.row (length old.commits + 1) leaf (record { key = key; row = length old.commits + 1; tag = row.tag; died = None }) };
+      commits = old.commits ++ Move finder.row key ∷ [];
       finders = without (λ k. k.serial) f old.finders;
     }
 
@@ -187,11 +203,22 @@ module _ {K A : Type 0} (rules : Rules K A) (rule : Rule) where
     pub after : new ≡ with_finder old later
 
   -- memory was wanting, and the page that the finder visits holds its row, or something is pushed after it
-  pub record RefusesSeek (old : State K A) (f : ℕ) (why : Refusal) : Type 0 where
+  pub record RefusesVisit (old : State K A) (f : ℕ) (why : Refusal) : Type 0 where
     pub memory : why ≡ refusal.OutOfMemory
     pub finder : OpenFinder K
     pub is_open : finder_at old f ≡ Some finder
     pub grows : (is_at_row old.search.tree finder ≡ true) ⊎ PushesSome (λ bound. rules.is_cover bound finder.key) old.search.tree finder.stack
+
+  -- why a visit of a finder is refused, whatever is tested where it meets its row
+  abbrev pub IsRefusedVisit : State K A → ℕ → Refusal → Type 0
+  IsRefusedVisit old f why = (further : List (Bool × Refusal))
+      → (first_failing (visit_tests old f further) ≡ Some why) ⊎ ((first_failing (visit_tests old f further) ≡ None) × RefusesVisit old f why)
+
+  -- a visit of a finder: it meets its row on a page, by its place among the finders, or it goes on; or it is refused
+  abbrev pub VisitsFor : State K A → ℕ → Result (Option (ℕ × ℕ)) Refusal → State K A → Type 0
+  VisitsFor old f (Ok (Some (at, page))) new = Meets old f at page × (new ≡ old)
+  VisitsFor old f (Ok None) new = ((further : List (Bool × Refusal)) → first_failing (visit_tests old f further) ≡ None) × SeeksOn old f new
+  VisitsFor old f (Err why) new = IsRefusedVisit old f why × (new ≡ old)
 
   pub record RefusesTurn (old : State K A) (c : ℕ) (why : Refusal) : Type 0 where
     pub cursor : OpenCursor K A
@@ -208,12 +235,13 @@ module _ {C K A : Type 0} (rules : Rules K A) (rule : Rule) where
   -- the tests of an event in their order, each true where it fails
   abbrev pub tests : State K A → Event C K A → List (Bool × Refusal)
   tests old (event.Enlarge page child key) = enlarge_tests rules.is_cover old.search page child key
-  tests old (event.Place page key tag) = place_tests rules.is_cover old.search page key ++ (nat_le old.limit (length old.commits), refusal.CommitsFull) ∷ []
+  tests old (event.Place page key tag) = place_tests rules.is_cover old.search page key ++ commit_tests old
   tests old (event.Split page sides) = split_tests old.search page sides
   tests old (event.Post page child) = post_tests old.search page child
   tests old (event.Grow sides) = grow_tests old.search sides
   tests old (event.Find row) = find_tests old row
-  tests old (event.Seek f) = finder_tests old f ++ row_tests old (finder_at old f)
+  tests old (event.Seek f) = visit_tests old f (commit_tests old)
+  tests old (event.Move f leaf key) = visit_tests old f (place_tests rules.is_cover old.search leaf key ++ commit_tests old)
   tests old (event.Unfind f) = finder_tests old f
   tests old (event.Sweep page) = sweep_tests old.search page
   tests old (event.Open query room) = open_tests old query room
@@ -222,11 +250,12 @@ module _ {C K A : Type 0} (rules : Rules K A) (rule : Rule) where
   tests old (event.Take c) = cursor_tests old c ++ (rule.is_emptied_elsewhere, refusal.NotHere) ∷ []
   tests old (event.Close c) = cursor_tests old c
 
-  -- Where all tests pass, an event that opens something or changes a page is refused for want of memory alone; so is a seek,
-  -- where it deletes its row or pushes a page, and a sweep, where it takes something out; a turn is refused by its rule.
+  -- Where all tests pass, an event that opens something or changes a page is refused for want of memory alone; so is a seek or a
+  -- move, where it ends its row or pushes a page, and a sweep, where it takes something out; a turn is refused by its rule.
   -- Ending a finder, asking for a mark, taking and closing are not refused.
   abbrev pub RefusesLater : State K A → Event C K A → Refusal → Type 0
-  RefusesLater old (event.Seek f) why = RefusesSeek rules rule old f why
+  RefusesLater old (event.Seek f) why = RefusesVisit rules rule old f why
+  RefusesLater old (event.Move f leaf key) why = RefusesVisit rules rule old f why
   RefusesLater old (event.Unfind f) why = ⊥
   RefusesLater old (event.Sweep page) why = RefusesSweep old page why
   RefusesLater old (event.Turn c) why = RefusesTurn rules rule old c why
@@ -253,6 +282,8 @@ module _ {C O K A E : Type 0} (rules : Rules K A) (rule : Rule) where
   Changes seat old (event.Find row) (reply.Finder f) new = Finds old row f new
   Changes seat old (event.Seek f) (reply.Committed stamp) new = Buries seat old f stamp new
   Changes seat old (event.Seek f) reply.Seeking new = SeeksOn rules rule old f new
+  Changes seat old (event.Move f leaf key) (reply.Committed stamp) new = MovesRow seat old f leaf key stamp new
+  Changes seat old (event.Move f leaf key) reply.Seeking new = SeeksOn rules rule old f new
   Changes seat old (event.Unfind f) reply.Unfound new = new ≡ record old { finders = without (λ k. k.serial) f old.finders }
   Changes seat old (event.Sweep page) (reply.Swept count) new = SweepsLeaf old page count new
   Changes seat old (event.Open query room) (reply.Opened c end) new = Opens old query room c new

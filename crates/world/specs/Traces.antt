@@ -7,7 +7,7 @@ use Rattle.key_class.specs.Queries.{query_of, matches_query}
 use Rattle.key_class.specs.declared.pred.Pred.{Pred}
 use Rattle.key_class.specs.declared.refusal.Refusal.TheVariants as refusal
 use Rattle.change_list.specs.declared.write.Write.{Write}
-use Rattle.change_list.specs.declared.write.Write.TheVariants.{Insert, Delete}
+use Rattle.change_list.specs.declared.write.Write.TheVariants.{Insert, Delete, Move}
 use Rattle.change_list.specs.declared.item.Item.{Item}
 use Rattle.change_list.specs.declared.item.Item.TheVariants as item
 use Rattle.change_list.specs.Changes.{IsLegal}
@@ -104,10 +104,11 @@ module _ {C O K A E : Type 0} where
     pub place : ℕ
     pub is : IsMoment trace place (event.Find row) (reply.Finder f)
 
-  -- what an event writes: a place inserts its row, and a seek deletes the row that its finder was asked to find
+  -- what an event writes: a place inserts its row, and a seek deletes and a move moves the row that its finder was asked to find
   abbrev pub IsWriteOf : Trace C O K A E → Event C K A → Write K → Type 0
   IsWriteOf before (event.Place page key tag) write = write ≡ Insert key tag
   IsWriteOf before (event.Seek f) write = (row : ℕ) × HasFinder before f row × (write ≡ Delete row)
+  IsWriteOf before (event.Move f leaf key) write = (row : ℕ) × HasFinder before f row × (write ≡ Move row key)
   IsWriteOf before event write = ⊥
 
   -- The headline. The commits are numbered in their order, each is the write of its event, and they are a legal list. What a

@@ -1,7 +1,7 @@
-//! A change of a leaf, and the commit that tells of it.
+//! A change of leaves, and the commit that tells of it.
 ghost use Rattle.std.specs.Prelude.{◌≡◌, ◌+◌, ◌<◌, ◌++◌, ◌∷◌, [], length, IfOk, IfErr, OnOk, OnErr};
 ghost use Rattle.change_list.specs.Changes.{MayFollow};
-ghost use Rattle.world.specs.Writing.{TakesWrite, WritesNext, with_written};
+ghost use Rattle.world.specs.Writing.{ChangesNext, IsOfEarlier, TakesChange, with_change, write_of_change};
 
 use change_list::{ChangeList, Write};
 use key_class::{KeyClass, Refusal};
@@ -10,65 +10,91 @@ use split::SearchTree;
 use std::alloc::Global;
 use std::mem;
 
-/// Changes a leaf as a write says, which is to be the commit with that number.
-///
-/// # Errors
-/// Memory was wanting; nothing is changed then.
-fn write_leaf<C: KeyClass>(
-    search: &mut SearchTree<C>,
-    page: u64,
-    number: u32,
-    write: Write<C::Key>,
-) -> Result<(), Refusal>
-    requires takes { TakesWrite C.rules.is_cover search.old page write }
-    requires counted { 0 < number }
-    ensures written { OnOk result (search.new ≡ with_written search.old page number write) }
-    ensures unchanged { OnErr result (search.new ≡ search.old) }
-    ensures refused { IfErr result (λ why. why ≡ Refusal.OutOfMemory) }
-{
-    match write {
-        Write::Insert(key, tag) => {
-            search.add(page, Entry::new(key, number, tag))?;
-            Ok(())
+/// What a commit changes on leaves.
+#[derive(Clone, Copy)]
+pub(crate) enum LeafChange<K> {
+    /// A leaf gets a row: the leaf, the key, the tag.
+    Place(u64, K, u64),
+    /// A row of a leaf dies: the leaf, the row.
+    Bury(u64, u32),
+    /// A row of a leaf dies, and a leaf gets one in its place: the leaf, the row, the other leaf, the key, the tag.
+    Move(u64, u32, u64, K, u64),
+}
+
+impl<K: Copy> LeafChange<K> {
+    /// The commit that changes leaves so.
+    pub(crate) fn write(self) -> Write<K>
+        ensures { result ≡ write_of_change self }
+    {
+        match self {
+            LeafChange::Place(_, key, tag) => Write::Insert(key, tag),
+            LeafChange::Bury(_, row) => Write::Delete(u64::from(row)),
+            LeafChange::Move(_, row, _, key, _) => Write::Move(u64::from(row), key),
         }
-        Write::Delete(row) => search.bury(page, row as u32, number),
     }
 }
 
-/// Changes a leaf as a write says, and adds the write to the commits: both, or neither. Gives the commit's number.
+/// Changes leaves, as the commit with that number is to tell.
+///
+/// # Errors
+/// Memory was wanting; nothing is changed then.
+fn change_leaves<C: KeyClass>(
+    search: &mut SearchTree<C>,
+    number: u32,
+    change: LeafChange<C::Key>,
+) -> Result<(), Refusal>
+    requires takes { TakesChange C.rules.is_cover search.old change }
+    requires counted { 0 < number }
+    requires earlier { IsOfEarlier number change }
+    ensures changed { OnOk result (search.new ≡ with_change search.old number change) }
+    ensures unchanged { OnErr result (search.new ≡ search.old) }
+    ensures refused { IfErr result (λ why. why ≡ Refusal.OutOfMemory) }
+{
+    match change {
+        LeafChange::Place(leaf, key, tag) => {
+            search.add(leaf, Entry::new(key, number, tag))?;
+            Ok(())
+        }
+        LeafChange::Bury(leaf, row) => search.bury(leaf, row, number),
+        LeafChange::Move(leaf, row, other, key, tag) => {
+            search.relocate(leaf, row, number, other, Entry::new(key, number, tag))
+        }
+    }
+}
+
+/// Changes leaves, and adds the commit that tells of it: both, or neither. Gives the commit's number.
 ///
 /// # Errors
 /// Memory was wanting; nothing is changed then.
 pub(crate) fn commit<C: KeyClass>(
     alloc: Global,
     search: &mut SearchTree<C>,
-    changes: &mut ChangeList<C::Key>,
-    page: u64,
-    write: Write<C::Key>,
+    commits: &mut ChangeList<C::Key>,
+    change: LeafChange<C::Key>,
 ) -> Result<u64, Refusal>
-    requires follows { MayFollow changes.old write }
-    requires few { length changes.old < 4294967295 }
-    requires takes { TakesWrite C.rules.is_cover search.old page write }
-    ensures number { IfOk result (λ n. n ≡ length changes.old + 1) }
-    ensures written { OnOk result (WritesNext search.old changes.old page write search.new) }
-    ensures committed { OnOk result (changes.new ≡ changes.old ++ write ∷ []) }
+    requires follows { MayFollow commits.old (write_of_change change) }
+    requires few { length commits.old < 4294967295 }
+    requires takes { TakesChange C.rules.is_cover search.old change }
+    ensures number { IfOk result (λ n. n ≡ length commits.old + 1) }
+    ensures changed { OnOk result (ChangesNext search.old commits.old change search.new) }
+    ensures committed { OnOk result (commits.new ≡ commits.old ++ write_of_change change ∷ []) }
     ensures pages_kept { OnErr result (search.new ≡ search.old) }
-    ensures commits_kept { OnErr result (changes.new ≡ changes.old) }
+    ensures commits_kept { OnErr result (commits.new ≡ commits.old) }
     ensures refused { IfErr result (λ why. why ≡ Refusal.OutOfMemory) }
 {
-    let number = changes.len() as u64 + 1;
-    match mem::replace(changes, ChangeList::new(alloc)).reserve(write) {
+    let number = commits.len() as u64 + 1;
+    match mem::replace(commits, ChangeList::new(alloc)).reserve(change.write()) {
         Err(list) => {
-            *changes = list;
+            *commits = list;
             Err(Refusal::OutOfMemory)
         }
-        Ok(roomy) => match write_leaf(search, page, number as u32, write) {
+        Ok(roomy) => match change_leaves(search, number as u32, change) {
             Ok(()) => {
-                *changes = roomy.push();
+                *commits = roomy.push();
                 Ok(number)
             }
             Err(refusal) => {
-                *changes = roomy.into_list();
+                *commits = roomy.into_list();
                 Err(refusal)
             }
         },

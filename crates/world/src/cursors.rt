@@ -8,6 +8,7 @@ ghost use Rattle.world.specs.Promises.{HandsOut};
 use crate::reply::Reply;
 use crate::world::World;
 use cursor::{Cursor, Turned};
+use key_class::limits::{MAX_CURSORS, MAX_DEPTH, MAX_ROOM, MAX_SERIAL};
 use key_class::{KeyClass, Pred, Refusal};
 use mailbox::{Outlet, Taken};
 use std::sync::Arc;
@@ -17,10 +18,10 @@ impl<C: KeyClass, O: Outlet<C::Key>> World<C, O> {
     fn open_refusal(&self, query: &Pred<C::Atom>, room: u64) -> Option<Refusal>
         ensures { result ≡ first_failing (open_tests self.now query.now room) }
     {
-        if room == 0 || room > 4096 || !query.is_within_depth(32) {
+        if room == 0 || room > MAX_ROOM || !query.is_within_depth(MAX_DEPTH) {
             return Some(Refusal::BadConfig);
         }
-        if self.cursors.len() >= 256 || self.last >= 4_294_967_295 {
+        if self.cursors.len() >= MAX_CURSORS || self.last >= MAX_SERIAL {
             return Some(Refusal::CursorsFull);
         }
         None

@@ -23,6 +23,9 @@ pub enum Event<C: KeyClass> {
     Find(u64),
     /// Lets a finder visit one page. Where that page holds its row, the row is deleted and the finder ends.
     Seek(u64),
+    /// Lets a finder visit one page. Where that page holds its row, the row is moved to a leaf, and the finder ends: finder,
+    /// leaf, key.
+    Move(u64, u64, C::Key),
     /// Ends a finder.
     Unfind(u64),
     /// Takes the dead rows out of a leaf that no scan needs.
@@ -52,6 +55,7 @@ impl<C: KeyClass> Event<C> {
             Event::Grow(sides) => Event::Grow(sides.copy(alloc)?),
             Event::Find(row) => Event::Find(*row),
             Event::Seek(finder) => Event::Seek(*finder),
+            Event::Move(finder, leaf, key) => Event::Move(*finder, *leaf, *key),
             Event::Unfind(finder) => Event::Unfind(*finder),
             Event::Sweep(page) => Event::Sweep(*page),
             Event::Open(query, room) => Event::Open(query.copy(alloc)?, *room),

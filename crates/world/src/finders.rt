@@ -1,16 +1,18 @@
 //! Events of finders.
 ghost use Rattle.std.specs.Prelude.{◌≡◌, None, IfOk, IfErr};
+ghost use Rattle.change_list.specs.Changes.{HasKey};
 ghost use Rattle.split.specs.Tests.{first_failing};
 ghost use Rattle.world.specs.declared.event.Event.TheVariants as event;
 ghost use Rattle.world.specs.States.{Meets};
-ghost use Rattle.world.specs.Steps.{Acts, FirstFails, HasKey, Step, find_tests};
+ghost use Rattle.world.specs.Steps.{Acts, FirstFails, Step, VisitsFor, find_tests};
 
-use crate::commit::commit;
+use crate::commit::{LeafChange, commit};
 use crate::places::place_of;
 use crate::reply::{Reply, Stamped};
 use crate::world::World;
-use change_list::{Status, Write};
+use change_list::Status;
 use descent::Finder;
+use key_class::limits::{MAX_FINDERS, MAX_SERIAL};
 use key_class::{KeyClass, Refusal};
 use mailbox::Outlet;
 use scan::Sought;
@@ -19,19 +21,19 @@ impl<C: KeyClass, O: Outlet<C::Key>> World<C, O> {
     /// The key of a row that a further finder may look for, or why none may.
     fn key_to_find(&self, row: u64) -> Result<C::Key, Refusal>
         ensures passed { IfOk result (λ key. first_failing (find_tests self.now row) ≡ None) }
-        ensures inserted { IfOk result (HasKey self.now row) }
+        ensures made { IfOk result (HasKey self.now.commits row) }
         ensures refused { IfErr result (FirstFails (find_tests self.now row)) }
     {
-        let Some(Write::Insert(key, _)) = self.changes.commit(row) else {
+        let Some(found) = self.changes.row(row) else {
             return Err(Refusal::NoSuchRow);
         };
         if let Status::Dead = self.changes.status(row) {
             return Err(Refusal::AlreadyDeleted);
         }
-        if self.finders.len() >= 64 || self.last_finder >= 4_294_967_295 {
+        if self.finders.len() >= MAX_FINDERS || self.last_finder >= MAX_SERIAL {
             return Err(Refusal::FindersFull);
         }
-        Ok(key)
+        Ok(found.key)
     }
 
     pub(crate) fn find(&mut self, row: u64) -> Reply<C, O>
@@ -51,19 +53,31 @@ impl<C: KeyClass, O: Outlet<C::Key>> World<C, O> {
         Reply::Finder(serial)
     }
 
+    /// Lets a finder visit one page. Where that holds its row, gives the finder's place and the page; else the finder
+    /// goes on.
+    fn visit_for(&mut self, f: u64) -> Result<Option<(usize, u32)>, Refusal>
+        ensures { VisitsFor C.rules O.rule self.old f result self.new }
+    {
+        let Some(at) = place_of(self.finders.as_slice(), f) else {
+            return Err(Refusal::NoSuchFinder);
+        };
+        if let Status::Dead = self.changes.status(u64::from(self.finders[at].row())) {
+            return Err(Refusal::AlreadyDeleted);
+        }
+        match self.finders[at].seek(self.search.pages()) {
+            Ok(Sought::Here(page)) => return Ok(Some((at, page))),
+            Ok(Sought::Further(_)) => return Ok(None),
+            Err(_) => return Err(Refusal::OutOfMemory),
+        }
+    }
+
     pub(crate) fn seek(&mut self, seat: u32, f: u64) -> Reply<C, O>
         ensures { Step C.rules O.rule seat self.old (event.Seek f) result self.new }
     {
-        let Some(at) = place_of(self.finders.as_slice(), f) else {
-            return Reply::Refused(Refusal::NoSuchFinder);
-        };
-        if let Status::Dead = self.changes.status(u64::from(self.finders[at].row())) {
-            return Reply::Refused(Refusal::AlreadyDeleted);
-        }
-        match self.finders[at].seek(self.search.pages()) {
-            Ok(Sought::Here(page)) => self.bury(seat, f, at, page),
-            Ok(Sought::Further(_)) => Reply::Seeking,
-            Err(_) => Reply::Refused(Refusal::OutOfMemory),
+        match self.visit_for(f) {
+            Ok(Some((at, page))) => return self.bury(seat, f, at, page),
+            Ok(None) => return Reply::Seeking,
+            Err(refusal) => return Reply::Refused(refusal),
         }
     }
 
@@ -76,12 +90,55 @@ impl<C: KeyClass, O: Outlet<C::Key>> World<C, O> {
             return Reply::Refused(Refusal::CommitsFull);
         }
         let alloc = self.allocator();
-        let write = Write::Delete(u64::from(self.finders[at].row()));
-        let leaf = u64::from(page);
-        match commit(alloc, &mut self.search, &mut self.changes, leaf, write) {
+        let change = LeafChange::Bury(u64::from(page), self.finders[at].row());
+        match commit(alloc, &mut self.search, &mut self.changes, change) {
             Ok(number) => {
                 self.finders.remove(at);
-                return Reply::Committed(Stamped::new(number, seat, write));
+                return Reply::Committed(Stamped::new(number, seat, change.write()));
+            }
+            Err(refusal) => return Reply::Refused(refusal),
+        }
+    }
+
+    pub(crate) fn move_row(&mut self, seat: u32, f: u64, leaf: u64, key: C::Key) -> Reply<C, O>
+        ensures { Step C.rules O.rule seat self.old (event.Move f leaf key) result self.new }
+    {
+        match self.visit_for(f) {
+            Ok(Some((at, page))) => return self.relocate(seat, f, at, page, leaf, key),
+            Ok(None) => return Reply::Seeking,
+            Err(refusal) => return Reply::Refused(refusal),
+        }
+    }
+
+    /// Moves the row of a finder that has met it on a page to a leaf, with another key.
+    fn relocate(
+        &mut self,
+        seat: u32,
+        f: u64,
+        at: usize,
+        page: u32,
+        leaf: u64,
+        key: C::Key,
+    ) -> Reply<C, O>
+        requires { Meets self.old f at page }
+        ensures { Step C.rules O.rule seat self.old (event.Move f leaf key) result self.new }
+    {
+        if let Some(refusal) = self.search.place_refusal(leaf, key) {
+            return Reply::Refused(refusal);
+        }
+        if self.changes.len() as u64 >= self.limit {
+            return Reply::Refused(Refusal::CommitsFull);
+        }
+        let alloc = self.allocator();
+        let row = self.finders[at].row();
+        let Some(found) = self.changes.row(u64::from(row)) else {
+            unreachable!()
+        };
+        let change = LeafChange::Move(u64::from(page), row, leaf, key, found.tag);
+        match commit(alloc, &mut self.search, &mut self.changes, change) {
+            Ok(number) => {
+                self.finders.remove(at);
+                return Reply::Committed(Stamped::new(number, seat, change.write()));
             }
             Err(refusal) => return Reply::Refused(refusal),
         }

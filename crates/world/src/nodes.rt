@@ -2,10 +2,9 @@
 ghost use Rattle.world.specs.declared.event.Event.TheVariants as event;
 ghost use Rattle.world.specs.Steps.{Acts, Step};
 
-use crate::commit::commit;
+use crate::commit::{LeafChange, commit};
 use crate::reply::{Reply, Stamped};
 use crate::world::World;
-use change_list::Write;
 use collector::horizon;
 use key_class::{KeyClass, Refusal, Sides};
 use mailbox::Outlet;
@@ -57,9 +56,9 @@ impl<C: KeyClass, O: Outlet<C::Key>> World<C, O> {
             return Reply::Refused(Refusal::CommitsFull);
         }
         let alloc = self.allocator();
-        let write = Write::Insert(key, tag);
-        match commit(alloc, &mut self.search, &mut self.changes, page, write) {
-            Ok(number) => return Reply::Committed(Stamped::new(number, seat, write)),
+        let change = LeafChange::Place(page, key, tag);
+        match commit(alloc, &mut self.search, &mut self.changes, change) {
+            Ok(number) => return Reply::Committed(Stamped::new(number, seat, change.write())),
             Err(refusal) => return Reply::Refused(refusal),
         }
     }

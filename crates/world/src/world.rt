@@ -244,6 +244,7 @@ impl<C: KeyClass, O: Outlet<C::Key>> World<C, O> {
             Event::Grow(sides) => return self.grow(&sides),
             Event::Find(row) => return self.find(row),
             Event::Seek(finder) => return self.seek(seat, finder),
+            Event::Move(finder, leaf, key) => return self.move_row(seat, finder, leaf, key),
             Event::Unfind(finder) => return self.unfind(finder),
             Event::Sweep(page) => return self.sweep(page),
             Event::Open(query, room) => return self.open(query, room),

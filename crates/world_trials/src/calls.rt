@@ -39,24 +39,35 @@ fn places(alloc: Global, world: &mut Trial) -> Result<bool, Fail> {
     Ok(commits(world.step_as(7, event), 1, 7, Write::Insert(key()?, 5)))
 }
 
-fn finds(world: &mut Trial) -> bool {
-    matches!(world.step_as(7, Event::Find(1)), Reply::Finder(1))
+/// Whether the finder of a row has the row's number.
+fn finds(world: &mut Trial, row: u64) -> bool {
+    match world.step_as(7, Event::Find(row)) {
+        Reply::Finder(serial) => serial == row,
+        _ => false,
+    }
 }
 
-/// Whether the delete of row 1 by seat 8 is commit 2.
+/// Whether the move of row 1 by seat 9 is commit 2.
+fn moves(alloc: Global, world: &mut Trial) -> Result<bool, Fail> {
+    let event = Event::Move(1, 0, key()?).copy(alloc)?;
+    Ok(commits(world.step_as(9, event), 2, 9, Write::Move(1, key()?)))
+}
+
+/// Whether the delete of row 2 by seat 8 is commit 3.
 fn buries(world: &mut Trial) -> bool {
-    commits(world.step_as(8, Event::Seek(1)), 2, 8, Write::Delete(1))
+    commits(world.step_as(8, Event::Seek(2)), 3, 8, Write::Delete(2))
 }
 
-/// Whether the commits are those two.
+/// Whether the commits are those three.
 fn tells_commits(world: &Trial) -> Result<bool, Refusal> {
     let insert = Write::Insert(key()?, 5);
     Ok(
-        world.commits() == 2
+        world.commits() == 3
             && world.commit(0).is_none()
             && world.commit(1) == Some(insert)
-            && world.commit(2) == Some(Write::Delete(1))
-            && world.commit(3).is_none(),
+            && world.commit(2) == Some(Write::Move(1, key()?))
+            && world.commit(3) == Some(Write::Delete(2))
+            && world.commit(4).is_none(),
     )
 }
 
@@ -90,7 +101,8 @@ fn opened(alloc: Global, world: &mut Trial, nots: u32) -> Result<Result<u64, Ref
 #[derive(Clone, Copy, Debug)]
 enum Deed {
     Place,
-    Find,
+    Find(u64),
+    Move,
     Bury,
     TellCommits,
     /// There are so many pages.
@@ -104,7 +116,8 @@ enum Deed {
 fn is_done(alloc: Global, world: &mut Trial, deed: Deed) -> Result<bool, Fail> {
     match deed {
         Deed::Place => places(alloc, world),
-        Deed::Find => Ok(finds(world)),
+        Deed::Find(row) => Ok(finds(world, row)),
+        Deed::Move => moves(alloc, world),
         Deed::Bury => Ok(buries(world)),
         Deed::TellCommits => Ok(tells_commits(world)?),
         Deed::CountPages(count) => Ok(world.pages() == count),
@@ -123,13 +136,15 @@ fn first_wrong(alloc: Global, world: &mut Trial, deeds: &[Deed]) -> Result<Optio
     Ok(None)
 }
 
-static DEEDS: [Deed; 10] = [
+static DEEDS: [Deed; 12] = [
     Deed::Place,
-    Deed::Find,
+    Deed::Find(1),
+    Deed::Move,
+    Deed::Find(2),
     Deed::Bury,
     Deed::TellCommits,
     Deed::CountPages(1),
-    Deed::CountRows(0, Some(1)),
+    Deed::CountRows(0, Some(2)),
     Deed::CountRows(1, None),
     Deed::CountRows(4_294_967_296, None),
     // A query is 32 deep at most.

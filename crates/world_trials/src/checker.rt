@@ -117,12 +117,28 @@ struct Seeker {
 fn inserts(write: Write<Interval>, (lo, hi): Ends, wanted_tag: u64) -> bool {
     match write {
         Write::Insert(key, tag) => (key.lo, key.hi, tag) == (lo, hi, wanted_tag),
-        Write::Delete(_) => false,
+        _ => false,
     }
 }
 
 fn deletes(write: Write<Interval>, wanted_row: u64) -> bool {
     matches!(write, Write::Delete(row) if row == wanted_row)
+}
+
+fn moves(write: Write<Interval>, wanted_row: u64, (lo, hi): Ends) -> bool {
+    match write {
+        Write::Move(row, key) => (row, key.lo, key.hi) == (wanted_row, lo, hi),
+        _ => false,
+    }
+}
+
+/// Whether a write is what a visit is asked to do with the row of its finder.
+fn is_write_of(ask: Ask, row: u64, write: Write<Interval>) -> bool {
+    match ask {
+        Ask::Seek(_) => deletes(write, row),
+        Ask::Move(_, _, ends) => moves(write, row, ends),
+        _ => false,
+    }
 }
 
 /// What an answer tells of a row that can't be deleted.
@@ -226,15 +242,15 @@ impl Checker {
             return Ok(Some(Flaw::Finder));
         }
         match (ask, row) {
-            (Ask::Seek(_), Some(row)) => self.visit(row, answer),
+            (Ask::Seek(_) | Ask::Move(_, _, _), Some(row)) => self.visit(row, (ask, answer)),
             _ => Ok(None),
         }
     }
 
     /// An open finder of a row did a visit.
-    fn visit(&mut self, row: u64, answer: Answer) -> Result<Option<Flaw>, AllocError> {
+    fn visit(&mut self, row: u64, (ask, answer): Step) -> Result<Option<Flaw>, AllocError> {
         if let Answer::Committed(number, write) = answer {
-            return self.commit(deletes(write, row), number, write);
+            return self.commit(is_write_of(ask, row, write), number, write);
         }
         let is_told = told_of_row(answer) == delete_refusal(&self.commits, row);
         Ok((!is_told).then_some(Flaw::Row))

@@ -64,8 +64,35 @@ static DELETES: [Ask; 22] = [
     Ask::Find(3),
 ];
 
+/// Two rows are moved, one of them into the query and one of them within it and then out of it. Then a mark.
+static MOVES: [Ask; 23] = [
+    Ask::Place(0, (1, 1), 7),
+    Ask::Place(0, (20, 20), 8),
+    Ask::Open(Query::Overlaps(0, 9), 8),
+    Ask::Turn(1),
+    Ask::Turn(1),
+    Ask::Find(1),
+    Ask::Find(2),
+    Ask::Move(1, 0, (3, 3)),
+    Ask::Move(2, 0, (4, 4)),
+    Ask::Find(3),
+    Ask::Move(3, 0, (20, 20)),
+    Ask::AskMark(1),
+    Ask::Turn(1),
+    Ask::Turn(1),
+    Ask::Turn(1),
+    Ask::Turn(1),
+    Ask::Take(1),
+    Ask::Take(1),
+    Ask::Take(1),
+    Ask::Take(1),
+    Ask::Take(1),
+    Ask::Move(1, 0, (3, 3)),
+    Ask::Find(1),
+];
+
 /// Events of each kind, most of which are answered, and some refused.
-static EACH_KIND: [Ask; 71] = [
+static EACH_KIND: [Ask; 75] = [
     Ask::Place(0, (1, 1), 0),
     Ask::Place(0, (2, 2), 0),
     Ask::Place(0, (3, 3), 0),
@@ -144,6 +171,11 @@ static EACH_KIND: [Ask; 71] = [
     Ask::Turn(9),
     Ask::Sweep(2),
     Ask::Sweep(0),
+    // A row is moved where its finder meets it.
+    Ask::Find(1),
+    Ask::Move(3, 1, (2, 2)),
+    Ask::Move(3, 1, (2, 2)),
+    Ask::Move(3, 1, (2, 2)),
 ];
 
 /// An answer, told by plain values. A row is told by its number, its point and its tag.
@@ -152,12 +184,16 @@ enum Told {
     Row(u64, i64, u64),
     Inserted(u64, i64, u64),
     Deleted(u64, u64),
+    /// A row that a move made, and the row that it ended.
+    Moved(u64, i64, u64, u64),
     Mark(u64),
     Nothing,
     /// A commit that inserts a row at a point with a tag.
     Insert(u64, i64, u64),
     /// A commit that deletes a row.
     Delete(u64, u64),
+    /// A commit that moves a row to a point.
+    Move(u64, u64, i64),
     Finder(u64),
     Seeking,
     Opened(u64),
@@ -187,12 +223,18 @@ impl Told {
                 Answer::Taken(Item::Inserted(row(number, point, tag)))
             }
             Told::Deleted(commit, row) => Answer::Taken(Item::Deleted(commit, row)),
+            Told::Moved(number, point, tag, ended) => {
+                Answer::Taken(Item::Moved(row(number, point, tag), ended))
+            }
             Told::Mark(commit) => Answer::Taken(Item::Mark(commit)),
             Told::Nothing => Answer::Nothing,
             Told::Insert(commit, point, tag) => {
                 Answer::Committed(commit, Write::Insert(point_key(point), tag))
             }
             Told::Delete(commit, row) => Answer::Committed(commit, Write::Delete(row)),
+            Told::Move(commit, row, point) => {
+                Answer::Committed(commit, Write::Move(row, point_key(point)))
+            }
             Told::Finder(serial) => Answer::Finder(serial),
             Told::Seeking => Answer::Seeking,
             Told::Opened(serial) => Answer::Opened(serial),
@@ -317,7 +359,7 @@ fn a_trace_with_events_of_each_kind_has_no_flaw(rt: HostRuntime) -> Result<(), F
     Ok(())
 }
 
-static EDITED_DELETES: [Flawed; 25] = [
+static EDITED_DELETES: [Flawed; 26] = [
     // A delete left out, both left out, and a row left out that is dead when it is taken.
     (&[(16, Told::Nothing)], 17, Flaw::Delivery),
     (&[(16, Told::Nothing), (17, Told::Nothing)], 18, Flaw::Mark),
@@ -334,7 +376,8 @@ static EDITED_DELETES: [Flawed; 25] = [
     (&[(17, Told::Deleted(3, 1))], 17, Flaw::Delivery),
     // One of a row whose delete was not committed.
     (&[(6, Told::Seeking)], 17, Flaw::Delivery),
-    // A commit that deletes another row, alone and exchanged with the other's; one that inserts; one out of number.
+    // A commit that deletes another row, alone and exchanged with the other's; one that inserts; one that moves; one out of
+    // number.
     (&[(5, Told::Delete(3, 2))], 5, Flaw::Commit),
     (
         &[(5, Told::Delete(3, 2)), (6, Told::Delete(4, 1))],
@@ -342,6 +385,7 @@ static EDITED_DELETES: [Flawed; 25] = [
         Flaw::Commit,
     ),
     (&[(5, Told::Insert(3, 1, 7))], 5, Flaw::Commit),
+    (&[(5, Told::Move(3, 1, 1))], 5, Flaw::Commit),
     (&[(5, Told::Delete(4, 1))], 5, Flaw::Commit),
     // A delete by an event that deletes nothing.
     (&[(1, Told::Delete(2, 1))], 1, Flaw::Commit),
@@ -374,6 +418,71 @@ static EDITED_DELETES: [Flawed; 25] = [
 fn edited_answers_to_deletes_are_refused(rt: HostRuntime) -> Result<(), Fail> {
     for (number, (edits, place, wanted)) in EDITED_DELETES.iter().enumerate() {
         let found = flaw(rt.alloc(), &DELETES, edits)?;
+        assert!(rt; found == Some((*place, *wanted)), "{number}: {found:?}");
+    }
+    Ok(())
+}
+
+/// Edits of the answers to the moves that make no flaw: none, and what the world answers.
+static FLAWLESS_MOVES: [Edits; 2] = [
+    &[],
+    &[
+        (7, Told::Move(3, 1, 3)),
+        (8, Told::Move(4, 2, 4)),
+        (9, Told::Finder(3)),
+        (10, Told::Move(5, 3, 20)),
+        (16, Told::Row(1, 1, 7)),
+        (17, Told::Moved(3, 3, 7, 1)),
+        (18, Told::Inserted(4, 4, 8)),
+        (19, Told::Deleted(5, 3)),
+        (20, Told::Mark(5)),
+        (21, Told::Refused(Refusal::NoSuchFinder)),
+        (22, Told::Refused(Refusal::AlreadyDeleted)),
+    ],
+];
+
+#[test]
+fn a_trace_with_moves_has_no_flaw(rt: HostRuntime) -> Result<(), Fail> {
+    for (number, edits) in FLAWLESS_MOVES.iter().enumerate() {
+        assert!(rt; flaw(rt.alloc(), &MOVES, edits)?.is_none(), "{number}");
+    }
+    Ok(())
+}
+
+static EDITED_MOVES: [Flawed; 20] = [
+    // A commit that moves another row, one to another key, one that deletes, one that inserts, one out of number.
+    (&[(7, Told::Move(3, 2, 3))], 7, Flaw::Commit),
+    (&[(7, Told::Move(3, 1, 4))], 7, Flaw::Commit),
+    (&[(7, Told::Delete(3, 1))], 7, Flaw::Commit),
+    (&[(7, Told::Insert(3, 3, 7))], 7, Flaw::Commit),
+    (&[(7, Told::Move(4, 1, 3))], 7, Flaw::Commit),
+    // A move by an event that moves nothing.
+    (&[(1, Told::Move(2, 1, 20))], 1, Flaw::Commit),
+    (&[(11, Told::Move(6, 4, 3))], 11, Flaw::Commit),
+    // A move within the query told as a delete or as an insert, with another tag, and with another row.
+    (&[(17, Told::Deleted(3, 1))], 17, Flaw::Delivery),
+    (&[(17, Told::Inserted(3, 3, 7))], 17, Flaw::Delivery),
+    (&[(17, Told::Moved(3, 3, 8, 1))], 17, Flaw::Delivery),
+    (&[(17, Told::Moved(3, 3, 7, 2))], 17, Flaw::Delivery),
+    // One into the query and one out of it told as moves.
+    (&[(18, Told::Moved(4, 4, 8, 2))], 18, Flaw::Delivery),
+    (&[(19, Told::Moved(5, 20, 7, 3))], 19, Flaw::Delivery),
+    // One left out.
+    (&[(17, Told::Nothing)], 18, Flaw::Delivery),
+    (&[(19, Told::Nothing)], 20, Flaw::Mark),
+    // A finder that goes on after its move.
+    (&[(21, Told::Seeking)], 21, Flaw::Finder),
+    // A moved row that is found again, one that a move made and that isn't there, one that is told as deleted.
+    (&[(22, Told::Finder(4))], 22, Flaw::Row),
+    (&[(22, Told::Refused(Refusal::NoSuchRow))], 22, Flaw::Row),
+    (&[(9, Told::Refused(Refusal::NoSuchRow))], 9, Flaw::Row),
+    (&[(8, Told::Refused(Refusal::AlreadyDeleted))], 8, Flaw::Row),
+];
+
+#[test]
+fn edited_answers_to_moves_are_refused(rt: HostRuntime) -> Result<(), Fail> {
+    for (number, (edits, place, wanted)) in EDITED_MOVES.iter().enumerate() {
+        let found = flaw(rt.alloc(), &MOVES, edits)?;
         assert!(rt; found == Some((*place, *wanted)), "{number}: {found:?}");
     }
     Ok(())

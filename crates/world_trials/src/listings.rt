@@ -7,48 +7,83 @@ use std::alloc::{AllocError, Global};
 /// Some commits in their order. The first has number 1.
 pub type Commits<'a> = &'a [Write<Interval>];
 
-/// The row that the commit with a number made.
-fn inserted(commits: Commits, number: u64) -> Option<Row<Interval>> {
+/// The commit with a number.
+fn write_at(commits: Commits, number: u64) -> Option<Write<Interval>> {
     let place = usize::try_from(number.checked_sub(1)?).ok()?;
-    match *commits.get(place)? {
-        Write::Insert(key, tag) => Some(Row {
-            row: number,
-            key,
-            tag,
-        }),
+    commits.get(place).copied()
+}
+
+/// The key that a commit gives to its row.
+fn key_of(write: Write<Interval>) -> Option<Interval> {
+    match write {
+        Write::Insert(key, _) | Write::Move(_, key) => Some(key),
         Write::Delete(_) => None,
     }
 }
 
-/// Whether one of the first `count` commits deletes a row.
-fn is_deleted(commits: Commits, count: u64, row: u64) -> bool {
+/// The row that a commit ends.
+fn ended_by(write: Write<Interval>) -> Option<u64> {
+    match write {
+        Write::Insert(_, _) => None,
+        Write::Delete(row) | Write::Move(row, _) => Some(row),
+    }
+}
+
+/// The tag of a row: that of the insert with which its moves began.
+fn tag_of(commits: Commits, row: u64) -> Option<u64> {
+    let mut number = row;
+    for _ in commits {
+        match write_at(commits, number)? {
+            Write::Insert(_, tag) => return Some(tag),
+            Write::Move(ended, _) => number = ended,
+            Write::Delete(_) => return None,
+        }
+    }
+    None
+}
+
+/// The row that the commit with a number made.
+fn made(commits: Commits, number: u64) -> Option<Row<Interval>> {
+    let key = key_of(write_at(commits, number)?)?;
+    let tag = tag_of(commits, number)?;
+    Some(Row {
+        row: number,
+        key,
+        tag,
+    })
+}
+
+/// The row that the commit with a number ended, as it was made.
+fn ended(commits: Commits, number: u64) -> Option<Row<Interval>> {
+    made(commits, ended_by(write_at(commits, number)?)?)
+}
+
+/// Whether one of the first `count` commits ends a row.
+fn is_ended(commits: Commits, count: u64, row: u64) -> bool {
     for (number, write) in (1..=count).zip(commits) {
-        if let Write::Delete(deleted) = *write
-            && deleted == row
-            && number <= count
-        {
+        if ended_by(*write) == Some(row) && number <= count {
             return true;
         }
     }
     false
 }
 
-/// Why a row can't be deleted after some commits.
+/// Why a row can't be deleted or moved after some commits.
 pub fn delete_refusal(commits: Commits, row: u64) -> Option<Refusal> {
-    if inserted(commits, row).is_none() {
+    if made(commits, row).is_none() {
         Some(Refusal::NoSuchRow)
-    } else if is_deleted(commits, u64::MAX, row) {
+    } else if is_ended(commits, u64::MAX, row) {
         Some(Refusal::AlreadyDeleted)
     } else {
         None
     }
 }
 
-/// Whether a write may follow some commits: an insert, or the delete of a row that is there.
+/// Whether a write may follow some commits: an insert, or the delete or the move of a row that is there.
 pub fn may_follow(commits: Commits, write: Write<Interval>) -> bool {
-    match write {
-        Write::Insert(_, _) => true,
-        Write::Delete(row) => delete_refusal(commits, row).is_none(),
+    match ended_by(write) {
+        None => true,
+        Some(row) => delete_refusal(commits, row).is_none(),
     }
 }
 
@@ -61,9 +96,9 @@ fn snapshot(
 ) -> Result<Vec<Item<Interval>>, AllocError> {
     let mut rows = Vec::new(alloc);
     for number in 1..=opened {
-        if let Some(row) = inserted(commits, number)
+        if let Some(row) = made(commits, number)
             && query.asks_for(row.key)
-            && !is_deleted(commits, opened, number)
+            && !is_ended(commits, opened, number)
         {
             rows.push(Item::Row(row))?;
         }
@@ -71,20 +106,23 @@ fn snapshot(
     Ok(rows)
 }
 
-/// The change that a commit makes for a query.
-fn change(commits: Commits, query: Query, number: u64) -> Option<Item<Interval>> {
-    if let Some(row) = inserted(commits, number) {
-        return query.asks_for(row.key).then_some(Item::Inserted(row));
+/// A row, if a query asks for it.
+fn asked_for(query: Query, row: Option<Row<Interval>>) -> Option<Row<Interval>> {
+    match row {
+        Some(row) if query.asks_for(row.key) => Some(row),
+        _ => None,
     }
-    let place = usize::try_from(number.checked_sub(1)?).ok()?;
-    match *commits.get(place)? {
-        Write::Insert(_, _) => None,
-        Write::Delete(deleted) => {
-            let row = inserted(commits, deleted)?;
-            query
-                .asks_for(row.key)
-                .then_some(Item::Deleted(number, deleted))
-        }
+}
+
+/// The change that a commit makes for a query: which of the rows that it ends and makes are asked for.
+fn change(commits: Commits, query: Query, number: u64) -> Option<Item<Interval>> {
+    let old = asked_for(query, ended(commits, number));
+    let new = asked_for(query, made(commits, number));
+    match (old, new) {
+        (Some(old), Some(new)) => Some(Item::Moved(new, old.row)),
+        (Some(old), None) => Some(Item::Deleted(number, old.row)),
+        (None, Some(new)) => Some(Item::Inserted(new)),
+        (None, None) => None,
     }
 }
 

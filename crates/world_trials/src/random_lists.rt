@@ -76,7 +76,8 @@ impl Source {
                 self.last_finder = serial;
                 self.open_finders.push(serial)?;
             }
-            (Ask::Seek(ended), Answer::Committed(_, _)) | (Ask::Unfind(ended), Answer::Unfound) => {
+            (Ask::Seek(ended) | Ask::Move(ended, _, _), Answer::Committed(_, _))
+            | (Ask::Unfind(ended), Answer::Unfound) => {
                 self.open_finders.retain(|serial| *serial != ended);
             }
             _ => {}
@@ -270,8 +271,14 @@ impl Source {
         match self.below(32) {
             0..6 => Ask::Find(self.row(world)),
             6 => Ask::Unfind(finder),
+            7..27 => self.moving(world, finder),
             _ => Ask::Seek(finder),
         }
+    }
+
+    fn moving(&mut self, world: &Trial, finder: u64) -> Ask {
+        let leaf = self.page(world, Use::Placing);
+        Ask::Move(finder, leaf, self.key(world, leaf))
     }
 
     pub fn ask(&mut self, world: &Trial) -> Ask {
@@ -448,7 +455,7 @@ fn add_flawless(alloc: Global, seed: u64, all: &mut Vec<Step>) -> Result<bool, F
 }
 
 /// The words that begin answers, each of which comes.
-static WORDS: [&str; 36] = [
+static WORDS: [&str; 38] = [
     "enlarged",
     "committed",
     "split",
@@ -457,6 +464,7 @@ static WORDS: [&str; 36] = [
     "finder",
     "seeking",
     "buried",
+    "relocated",
     "unfound",
     "swept",
     "opened",
@@ -467,6 +475,7 @@ static WORDS: [&str; 36] = [
     "row",
     "inserted",
     "deleted",
+    "moved",
     "mark",
     "nothing",
     "closed",
@@ -499,6 +508,8 @@ fn random_lists_have_no_flaw(rt: HostRuntime) -> Result<(), Fail> {
     assert!(rt; count_word(&all, "OutOfMemory") == 0);
     assert!(rt; count_word(&all, "buried") >= 200);
     assert!(rt; count_word(&all, "deleted") >= 50);
+    assert!(rt; count_word(&all, "relocated") >= 200);
+    assert!(rt; count_word(&all, "moved") >= 10);
     assert!(rt; count_swept(&all) >= 200);
     Ok(())
 }

@@ -61,6 +61,7 @@ pub enum Ask {
     Grow(&'static str),
     Find(u64),
     Seek(u64),
+    Move(u64, u64, Ends),
     Unfind(u64),
     Sweep(u64),
     Open(Query, u64),
@@ -82,6 +83,9 @@ impl Ask {
             Ask::Grow(letters) => Ok(Event::Grow(sides(alloc, letters)?)),
             Ask::Find(row) => Ok(Event::Find(row)),
             Ask::Seek(finder) => Ok(Event::Seek(finder)),
+            Ask::Move(finder, leaf, (lo, hi)) => {
+                Ok(Event::Move(finder, leaf, Interval::new(lo, hi)?))
+            }
             Ask::Unfind(finder) => Ok(Event::Unfind(finder)),
             Ask::Sweep(page) => Ok(Event::Sweep(page)),
             Ask::Open(query, room) => Ok(Event::Open(query.pred(alloc)?, room)),
@@ -94,7 +98,10 @@ impl Ask {
 
     /// Whether it may be answered by a commit.
     pub fn writes(self) -> bool {
-        matches!(self, Ask::Place(_, _, _) | Ask::Seek(_))
+        matches!(
+            self,
+            Ask::Place(_, _, _) | Ask::Seek(_) | Ask::Move(_, _, _)
+        )
     }
 
     /// The cursor that is asked.
@@ -110,7 +117,7 @@ impl Ask {
     /// The finder that is asked.
     pub fn finder(self) -> Option<u64> {
         match self {
-            Ask::Seek(finder) | Ask::Unfind(finder) => Some(finder),
+            Ask::Seek(finder) | Ask::Move(finder, _, _) | Ask::Unfind(finder) => Some(finder),
             _ => None,
         }
     }
@@ -176,12 +183,14 @@ impl Answer {
         }
     }
 
-    /// The word that begins its text. A refusal is told by its name, and the commit of a delete by a word of its own.
+    /// The word that begins its text. A refusal is told by its name, and the commits of a delete and of a move by words of
+    /// their own.
     pub fn word(self) -> &'static str {
         match self {
             Answer::Enlarged => "enlarged",
             Answer::Committed(_, Write::Insert(_, _)) => "committed",
             Answer::Committed(_, Write::Delete(_)) => "buried",
+            Answer::Committed(_, Write::Move(_, _)) => "relocated",
             Answer::Split(_) => "split",
             Answer::Posted => "posted",
             Answer::Grown(_, _) => "grown",
@@ -197,6 +206,7 @@ impl Answer {
             Answer::Taken(Item::Row(_)) => "row",
             Answer::Taken(Item::Inserted(_)) => "inserted",
             Answer::Taken(Item::Deleted(_, _)) => "deleted",
+            Answer::Taken(Item::Moved(_, _)) => "moved",
             Answer::Taken(Item::Mark(_)) => "mark",
             Answer::Nothing => "nothing",
             Answer::Closed => "closed",

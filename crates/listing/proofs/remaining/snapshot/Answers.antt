@@ -1,5 +1,5 @@
 use Rattle.std.proofs.Common.{rules, arith}
-use Rattle.listing.proofs.Rolls.{names_next, roll_next, none_within}
+use Rattle.listing.proofs.Rolls.{names_next, roll_none, roll_next, none_within}
 use Rattle.listing.proofs.remaining.snapshot.Goals as goal
 
 pub with_slot-requires : goal.with_slot-requires
@@ -8,7 +8,10 @@ with_slot-requires g c = names_next _ c.args.commits.now c.loop-place.place c.lo
 pub unreachable-requires : goal.unreachable-requires
 unreachable-requires g c = none_within c.args.commits.now c.loop-place.place (omega arith) (search rules)
 
+pub loop-place-init : goal.loop-place-init
+loop-place-init g c = rw c.new-slots.ensures.items (roll_none _)
+
 pub loop-place-preserved : goal.loop-place-preserved
 loop-place-preserved g c =
-    rw c.in_ok-slots-in-Some.ensures.slots
+    rw (c.in_ok-slots-in-Some.ensures.ok, c.row.ensures)
     (roll_next _ c.args.commits.now c.loop-place.place c.loop-place.slots.items c.in-Some.write c.requires.legal c.loop-place.invariant (search rules))

@@ -1,7 +1,8 @@
 use Rattle.std.proofs.Common.{◌≡◌, ℕ, IsTrue, false, ◌<◌, ◌≤◌, ap, arith, length}
 use Rattle.key_class.specs.Queries.{query_of, depth_of}
 use Rattle.query_text.specs.Tokens.{placed, at, token_in}
-use Rattle.query_text.specs.Grammar.{most_depth, no_spelling}
+use Rattle.key_class.specs.Limits.{most_depth}
+use Rattle.query_text.specs.Grammar.{no_spelling}
 use Rattle.query_text.proofs.ParserLaws.{refuses_empty, refuses_deep}
 use Rattle.query_text.proofs.parser.parse_tokens.Goals as goal
 

@@ -1,17 +1,16 @@
-use Rattle.std.proofs.Common.{arith}
-use Rattle.change_list.specs.Changes.{IsTracked}
-use Rattle.change_list.specs.Segments.{joined}
-use Rattle.change_list.proofs.Tracking.{tracked_push}
+use Rattle.std.proofs.Common.{sym, subst}
+use Rattle.change_list.specs.Records.{IsKept}
+use Rattle.change_list.proofs.Keeping.{kept_push, tracked_kept}
 use Rattle.change_list.proofs.roomy_list.RoomyList.push.Goals as goal
 
 pub invariant_of-commits : goal.invariant_of-commits
 invariant_of-commits g c =
     let inside = c.self.inside in
-    let t : IsTracked (joined c.longer-full.result.0.items c.longer-full.result.1.items) c.with_letter-deleted.result.items =
-    rw (c.longer-full.ensures.list, c.with_letter-deleted.ensures) (tracked_push (joined inside.full.items inside.tail.items) inside.deleted.items inside.write c.self.invariant.1 c.self.invariant.2) in
-    (c.longer-full.ensures.segmented, t.legal, search (arith, t.one_each))
+    let kept = c.self.invariant in
+    subst (λ l. IsKept l) (sym c.push.ensures) (kept_push inside.kept.list inside.write inside.kept.next kept.0 kept.3 kept.1)
 
 pub invariant_of-result : goal.invariant_of-result
 invariant_of-result g c =
     let inside = c.self.inside in
-    rw (c.longer-full.ensures.list, c.with_letter-deleted.ensures) (tracked_push (joined inside.full.items inside.tail.items) inside.deleted.items inside.write c.self.invariant.1 c.self.invariant.2)
+    let kept = c.self.invariant in
+    tracked_kept inside.kept.list c.push.result inside.write inside.kept.next inside.ended.items c.with_letter-ended.result.items kept.1 kept.2 kept.3 c.push.ensures c.with_letter-ended.ensures

@@ -1,4 +1,4 @@
-use Rattle.desk.proofs.Closings.{visit_less, of_view}
+use Rattle.desk.proofs.Closings.{visit_less, of_view, no_fewer}
 use Rattle.desk.proofs.taker.Taker.close.Goals as goal
 
 pub returns-in-None-clause-closes : goal.returns-in-None-clause-closes
@@ -12,3 +12,13 @@ returns-in-Some-clause-closes g c =
 
 pub returns-in-Some-clause-taken : goal.returns-in-Some-clause-taken
 returns-in-Some-clause-taken g c = rw (← c.self.view_is) c.checked.ensures.taken
+
+pub returns-in-Some-clause-opened : goal.returns-in-Some-clause-opened
+returns-in-Some-clause-opened g c = rw (← c.self.view_is) c.checked.ensures.opened
+
+pub returns-in-Some-clause-share : goal.returns-in-Some-clause-share
+returns-in-Some-clause-share g c =
+    no_fewer c.checked.result c.in-Some.commits _ c.checked.ensures.list (rw c.in-Some.is at c.close_with_view.ensures.share)
+
+pub returns-in-Some-clause-stamps : goal.returns-in-Some-clause-stamps
+returns-in-Some-clause-stamps g c = rw c.close_with_view.ensures.seat at c.checked.ensures.stamps

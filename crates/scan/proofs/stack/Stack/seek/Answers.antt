@@ -16,8 +16,8 @@ returns-clause-sought g c =
     seeks_further (λ bound. g.C.KeyClass.rules.is_cover bound c.args.key) c.args.row c.args.table.now c.args.self.now c.in-Some.item c.item-2.inside.page c.go_on.new.self c.in_ok-go_on.ensures.ok (ap (λ i. i.page) c.item-2.view_is) (search rules)
 
 pub returns-clause-lost_nothing : goal.returns-clause-lost_nothing
-returns-clause-lost_nothing g c fan tag commits sound agrees inserted find =
-    further_finder g.C.KeyClass.rules.is_cover c.args.table.now fan sound commits agrees c.args.row g.met.C.KeyClass.lawful.bounds.through c.args.key tag inserted
+returns-clause-lost_nothing g c fan commits sound agrees made find =
+    further_finder g.C.KeyClass.rules.is_cover c.args.table.now fan sound commits agrees c.args.row g.met.C.KeyClass.lawful.bounds.through c.args.key made.0 made.1
     c.args.self.now c.item-2.inside.page c.go_on.new.self (returns-clause-sought g c) find
 
 pub returns-clause-less_work : goal.returns-clause-less_work

@@ -1,4 +1,4 @@
-use Rattle.std.proofs.Common.{◌≡◌, ◌+◌, ◌<◌, refl, sym, ap, ◌∙◌, subst, arith, inl, inr, length, true}
+use Rattle.std.proofs.Common.{◌≡◌, ◌+◌, refl, sym, ap, ◌∙◌, subst, arith, inl, inr, length, true}
 use Rattle.std.proofs.lemmas.Grind.{common_steps}
 use Rattle.change_list.specs.Changes.{status_of}
 use Rattle.change_list.specs.declared.write.Status.TheVariants.{Live}
@@ -28,7 +28,7 @@ pub commit-requires-clause-follows : goal.commit-requires-clause-follows
 commit-requires-clause-follows g c =
     let m = subst (λ s. Meets s c.args.f c.args.at c.args.page) (sym c.self.view_is) c.requires in
     let same = finder_is g.C.KeyClass.rules.is_cover _ c.self.invariant c.args.f c.args.at m.here c.index.result.now c.index.ensures in
-    let row : m.here.value.row ≡ c.from.result = ap (λ k. k.row) same ∙ sym c.row.ensures ∙ sym c.from.ensures in
+    let row : m.here.value.row ≡ c.row.result = ap (λ k. k.row) same ∙ sym c.row.ensures in
     let live = row_lives g.C.KeyClass.rules.is_cover _ c.self.invariant c.args.f m.here.value m.here.found m.alive in
     subst (λ n. status_of c.self.inside.changes n ≡ Live) row live
 
@@ -36,7 +36,7 @@ pub commit-requires-clause-takes : goal.commit-requires-clause-takes
 commit-requires-clause-takes g c =
     let m = subst (λ s. Meets s c.args.f c.args.at c.args.page) (sym c.self.view_is) c.requires in
     let there = (meets_on g.C.KeyClass.rules.is_cover _ c.self.invariant c.args.f m.here.value c.args.page m.here.found m.finds).leaf in
-    (subst (λ p. is_leaf c.self.inside.search.tree p ≡ true) (sym c.from-leaf.ensures) there, omega (arith, c.from.ensures, c.row.type_inv))
+    subst (λ p. is_leaf c.self.inside.search.tree p ≡ true) (sym c.from.ensures) there
 
 pub remove-requires : goal.remove-requires
 remove-requires g c =
@@ -48,26 +48,26 @@ pub invariant_of-self : goal.invariant_of-self
 invariant_of-self g c =
     let m = subst (λ s. Meets s c.args.f c.args.at c.args.page) (sym c.self.view_is) c.requires in
     let same = finder_is g.C.KeyClass.rules.is_cover _ c.self.invariant c.args.f c.args.at m.here c.index.result.now c.index.ensures in
-    let row : m.here.value.row ≡ c.from.result = ap (λ k. k.row) same ∙ sym c.row.ensures ∙ sym c.from.ensures in
+    let row : m.here.value.row ≡ c.row.result = ap (λ k. k.row) same ∙ sym c.row.ensures in
     let passed = meets_passes g.C.KeyClass.rules.is_cover _ c.self.invariant c.args.f c.args.at c.args.page m (omega (arith, c.if-len-self.false, c.len.ensures.len)) in
-    let buried : c.commit.new.search ≡ with_death c.self.inside.search c.args.page c.from.result (length c.self.inside.changes + 1)
-    = c.in-Ok.ensures.written ∙ ap (λ p. with_death c.self.inside.search p c.from.result (length c.self.inside.changes + 1)) c.from-leaf.ensures in
-    let change = bury_change g.C.KeyClass.rules.is_cover _ c.self.invariant c.args.f c.args.at c.args.page m c.args.seat (record { number = length c.self.inside.changes + 1; seat = c.args.seat; write = Delete c.from.result })
-    c.commit.new.search c.commit.new.changes c.remove.new.self.items c.from.result (length c.self.inside.changes + 1) row refl buried c.in-Ok.ensures.committed c.remove.ensures.items refl in
+    let buried : c.commit.new.search ≡ with_death c.self.inside.search c.args.page c.row.result (length c.self.inside.changes + 1)
+    = c.in-Ok.ensures.changed ∙ ap (λ p. with_death c.self.inside.search p c.row.result (length c.self.inside.changes + 1)) c.from.ensures in
+    let change = bury_change g.C.KeyClass.rules.is_cover _ c.self.invariant c.args.f c.args.at c.args.page m c.args.seat (record { number = length c.self.inside.changes + 1; seat = c.args.seat; write = Delete c.row.result })
+    c.commit.new.search c.commit.new.commits c.remove.new.self.items c.row.result (length c.self.inside.changes + 1) row refl buried c.in-Ok.ensures.committed c.remove.ensures.items refl in
     buries_sound g.C.KeyClass.rules.is_cover _ c.self.invariant c.args.seat c.args.f _ _ passed change
 
 pub returns-in-Ok : goal.returns-in-Ok
 returns-in-Ok g c =
     let m = subst (λ s. Meets s c.args.f c.args.at c.args.page) (sym c.self.view_is) c.requires in
     let same = finder_is g.C.KeyClass.rules.is_cover _ c.self.invariant c.args.f c.args.at m.here c.index.result.now c.index.ensures in
-    let row : m.here.value.row ≡ c.from.result = ap (λ k. k.row) same ∙ sym c.row.ensures ∙ sym c.from.ensures in
-    let buried : c.commit.new.search ≡ with_death c.self.inside.search c.args.page c.from.result (length c.self.inside.changes + 1)
-    = c.in-Ok.ensures.written ∙ ap (λ p. with_death c.self.inside.search p c.from.result (length c.self.inside.changes + 1)) c.from-leaf.ensures in
-    let stamped = c.new.ensures ∙ ap (λ n. record { number = n; seat = c.args.seat; write = Delete c.from.result }) c.in-Ok.ensures.number in
+    let row : m.here.value.row ≡ c.row.result = ap (λ k. k.row) same ∙ sym c.row.ensures in
+    let buried : c.commit.new.search ≡ with_death c.self.inside.search c.args.page c.row.result (length c.self.inside.changes + 1)
+    = c.in-Ok.ensures.changed ∙ ap (λ p. with_death c.self.inside.search p c.row.result (length c.self.inside.changes + 1)) c.from.ensures in
+    let stamped = c.new.ensures ∙ ap (λ n. record { number = n; seat = c.args.seat; write = c.write.result }) c.in-Ok.ensures.number ∙ ap (λ w. record { number = length c.self.inside.changes + 1; seat = c.args.seat; write = w }) c.write.ensures in
     rw (← c.self.view_is) (record {
       passed = meets_passes g.C.KeyClass.rules.is_cover _ c.self.invariant c.args.f c.args.at c.args.page m (omega (arith, c.if-len-self.false, c.len.ensures.len));
       change = bury_change g.C.KeyClass.rules.is_cover _ c.self.invariant c.args.f c.args.at c.args.page m c.args.seat _
-          c.commit.new.search c.commit.new.changes c.remove.new.self.items c.from.result (length c.self.inside.changes + 1) row refl buried c.in-Ok.ensures.committed c.remove.ensures.items stamped;
+          c.commit.new.search c.commit.new.commits c.remove.new.self.items c.row.result (length c.self.inside.changes + 1) row refl buried c.in-Ok.ensures.committed c.remove.ensures.items stamped;
     })
 
 pub returns-in-Err : goal.returns-in-Err

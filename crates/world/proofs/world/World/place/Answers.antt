@@ -7,5 +7,5 @@ returns-in-Some g c = rw (← c.self.view_is) (place_refused _ _ _ c.args.page c
 
 pub invariant_of-self : goal.invariant_of-self
 invariant_of-self g c =
-    place_sound g.C.KeyClass.rules g.O.Outlet.rule _ c.args.page c.args.key c.args.tag (sym c.place_refusal.ensures ∙ c.in_default.is) c.commit.new.search c.commit.new.changes _ refl c.in-Ok.ensures.written c.in-Ok.ensures.committed
+    place_sound g.C.KeyClass.rules g.O.Outlet.rule _ c.args.page c.args.key c.args.tag (sym c.place_refusal.ensures ∙ c.in_default.is) c.commit.new.search c.commit.new.commits _ refl c.in-Ok.ensures.changed c.in-Ok.ensures.committed
     (omega (arith, c.if-len-self.false, c.len.ensures.len)) c.self.invariant

@@ -1,0 +1,40 @@
+ghost use Rattle.std.specs.Prelude.{◌≡◌};
+ghost use Rattle.change_list.specs.Records.{origin_of, write_of};
+
+use crate::write::Write;
+
+/// A commit as a list keeps it.
+///
+/// A move has the number of the insert with which the moves of its row began, whose tag it has: so a row's tag is found in
+/// two reads, however often it was moved.
+#[derive(Clone, Copy)]
+pub(crate) enum Recorded<K> {
+    Insert(K, u64),
+    Delete(u64),
+    /// The new key, the number of the row that is moved, and that of the insert.
+    Move(K, u32, u32),
+}
+
+impl<K: Copy> Recorded<K> {
+    /// What the commit changes.
+    pub(crate) fn write(self) -> Write<K>
+        ensures { result ≡ write_of self }
+    {
+        match self {
+            Recorded::Insert(key, tag) => Write::Insert(key, tag),
+            Recorded::Delete(row) => Write::Delete(row),
+            Recorded::Move(key, row, _) => Write::Move(u64::from(row), key),
+        }
+    }
+
+    /// The number of the insert with which the moves of its row began; `number` is that of the commit.
+    pub(crate) fn origin(self, number: u32) -> u32
+        ensures { result ≡ origin_of number self }
+    {
+        match self {
+            Recorded::Insert(_, _) => number,
+            Recorded::Delete(_) => number,
+            Recorded::Move(_, _, origin) => origin,
+        }
+    }
+}

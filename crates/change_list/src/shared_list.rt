@@ -1,0 +1,226 @@
+ghost use Rattle.std.specs.Prelude.{◌≡◌, ◌<◌, ◌/◌, ◌%◌, [], length, slice_get, IfOk, IfErr};
+ghost use Rattle.std.specs.Vec.{vec_capacity};
+ghost use Rattle.change_list.specs.Segments.{IsReady, IsSegmented, joined, joined_with, with_next};
+
+use crate::segment::{SEGMENT, Segment, at};
+use std::alloc::{AllocError, Global};
+use std::marker::Model;
+
+/// A list that grows at its end. Its full segments are shared with its copies.
+#[derive(Drop)]
+pub(crate) struct SharedList<T> {
+    full: Vec<Segment<T>>,
+    tail: Vec<T>,
+    count: usize,
+}
+
+impl<T> Model for SharedList<T> {
+    ghost use Rattle.std.specs.Prelude.{List, ◌≡◌, length};
+    ghost use Rattle.change_list.specs.Segments.{joined, IsSegmented};
+
+    ghost Value = { List T };
+
+    ghost view = { λ l. joined l.full.items l.tail.items };
+
+    ghost invariant = { λ l. IsSegmented l.full.items l.tail.items × (l.count ≡ length (joined l.full.items l.tail.items)) };
+}
+
+/// A list with memory for one more element.
+#[derive(Drop)]
+pub(crate) struct RoomySharedList<T> {
+    full: Vec<Segment<T>>,
+    tail: Vec<T>,
+    count: usize,
+    next: T,
+    /// The segment that the element fills.
+    filled: Option<Segment<T>>,
+}
+
+impl<T> Model for RoomySharedList<T> {
+    ghost use Rattle.std.specs.Prelude.{◌≡◌, ◌<◌, length};
+    ghost use Rattle.std.specs.Vec.{vec_capacity};
+    ghost use Rattle.change_list.specs.Segments.{joined, IsSegmented, IsReady, Growing};
+
+    ghost Value = { Growing T };
+
+    ghost view = { λ r. record { list = joined r.full.items r.tail.items; next = r.next } };
+
+    ghost invariant = { λ r. IsSegmented r.full.items r.tail.items × (r.count ≡ length (joined r.full.items r.tail.items)) × IsReady r.tail.items r.next r.filled × (length r.full.items < vec_capacity r.full) × (length r.tail.items < vec_capacity r.tail) × (r.count < 4294967295) };
+}
+
+impl<T: Copy> SharedList<T> {
+    /// A list without elements.
+    pub(crate) fn new(alloc: Global) -> SharedList<T>
+        ensures { result ≡ [] }
+    {
+        SharedList {
+            full: Vec::new(alloc),
+            tail: Vec::new(alloc),
+            count: 0,
+        }
+    }
+
+    pub(crate) fn len(&self) -> usize
+        ensures { result ≡ length self.now }
+    {
+        self.count
+    }
+
+    /// The element at a place, counted from 0.
+    #[tactic(auto, using(crate::proofs::Joining::at_segment, crate::proofs::Joining::at_tail))]
+    pub(crate) fn get(&self, place: usize) -> Option<T>
+        ensures { result ≡ slice_get self.now place }
+    {
+        let segment = place / SEGMENT;
+        if segment < self.full.len() {
+            return self.full[segment].get(place % SEGMENT);
+        }
+        at(self.tail.as_slice(), place - self.full.len() * SEGMENT)
+    }
+
+    /// How many full segments of 256 elements it has.
+    #[tactic(auto, using(crate::proofs::Joining::full_segments))]
+    pub(crate) fn segments(&self) -> usize
+        ensures { result ≡ length self.now / 256 }
+    {
+        self.full.len()
+    }
+
+    /// How many elements it has beside those of its full segments.
+    #[tactic(auto, using(crate::proofs::Joining::rest_length))]
+    pub(crate) fn tail_len(&self) -> usize
+        ensures { result ≡ length self.now % 256 }
+    {
+        self.tail.len()
+    }
+
+    /// The same list, over the same segments.
+    ///
+    /// # Errors
+    /// Memory was wanting.
+    pub(crate) fn copy(&self) -> Result<SharedList<T>, AllocError>
+        ensures { IfOk result (λ copy. copy ≡ self.now) }
+    {
+        let alloc = *self.full.allocator();
+        let full = shared(alloc, self.full.as_slice())?;
+        let tail = Vec::from_slice(alloc, self.tail.as_slice())?;
+        let count = self.count;
+        Ok(SharedList { full, tail, count })
+    }
+
+    /// The list with memory for a further element.
+    ///
+    /// # Errors
+    /// Memory was wanting; gives the list back.
+    pub(crate) fn reserve(self, next: T) -> Result<RoomySharedList<T>, SharedList<T>>
+        requires few { length self < 4294967295 }
+        ensures list { IfOk result (λ roomy. roomy.list ≡ self) }
+        ensures next { IfOk result (λ roomy. roomy.next ≡ next) }
+        ensures err { IfErr result (λ list. list ≡ self) }
+    {
+        let SharedList {
+            mut full,
+            mut tail,
+            count,
+        } = self;
+        if full.try_reserve(1).is_err() || tail.try_reserve(1).is_err() {
+            return Err(SharedList { full, tail, count });
+        }
+        match filled(*full.allocator(), tail.as_slice(), next) {
+            Ok(filled) => Ok(RoomySharedList {
+                full,
+                tail,
+                count,
+                next,
+                filled,
+            }),
+            Err(_) => Err(SharedList { full, tail, count }),
+        }
+    }
+}
+
+impl<T: Copy> RoomySharedList<T> {
+    /// The list with the element. It takes no memory.
+    pub(crate) fn push(self) -> SharedList<T>
+        ensures { result ≡ with_next self }
+    {
+        let RoomySharedList {
+            full,
+            tail,
+            count,
+            next,
+            filled,
+        } = self;
+        let (full, tail) = longer(full, tail, next, filled);
+        let count = count + 1;
+        SharedList { full, tail, count }
+    }
+
+    /// The list without the element.
+    pub(crate) fn into_list(self) -> SharedList<T>
+        ensures { result ≡ self.list }
+    {
+        let RoomySharedList {
+            full,
+            tail,
+            count,
+            ..
+        } = self;
+        SharedList { full, tail, count }
+    }
+}
+
+/// Segments and a tail with one more element.
+#[tactic(auto, using(crate::proofs::Joining::joined_filled, crate::proofs::Joining::segmented_filled, crate::proofs::Joining::joined_longer, crate::proofs::Joining::segmented_longer))]
+fn longer<T: Copy>(
+    full: Vec<Segment<T>>,
+    tail: Vec<T>,
+    next: T,
+    filled: Option<Segment<T>>,
+) -> (Vec<Segment<T>>, Vec<T>)
+    requires segmented { IsSegmented full.items tail.items }
+    requires ready { IsReady tail.items next filled }
+    requires segment { length full.items < vec_capacity full }
+    requires element { length tail.items < vec_capacity tail }
+    ensures list { joined result.0.items result.1.items ≡ joined_with full.items tail.items next }
+    ensures segmented { IsSegmented result.0.items result.1.items }
+{
+    let mut full = full;
+    let mut tail = tail;
+    match filled {
+        Some(segment) => {
+            full.push_reserved(segment);
+            tail.clear();
+            return (full, tail);
+        }
+        None => {
+            tail.push_reserved(next);
+            return (full, tail);
+        }
+    }
+}
+
+/// The same segments, each with one more owner.
+fn shared<T: Copy>(alloc: Global, segments: &[Segment<T>]) -> Result<Vec<Segment<T>>, AllocError>
+    ensures { IfOk result (λ made. made.items ≡ segments.now) }
+{
+    let mut made = Vec::with_capacity(alloc, segments.len())?;
+    for segment in segments {
+        made.push(segment.share()?)?;
+    }
+    Ok(made)
+}
+
+/// The segment that an element fills, where the tail lacks one to be full.
+///
+/// # Errors
+/// Memory was wanting.
+fn filled<T: Copy>(alloc: Global, tail: &[T], next: T) -> Result<Option<Segment<T>>, AllocError>
+    requires { length tail.now < 256 }
+    ensures { IfOk result (IsReady tail.now next) }
+{
+    if tail.len() + 1 < SEGMENT {
+        return Ok(None);
+    }
+    Ok(Some(Segment::new(alloc, tail, next)?))
+}

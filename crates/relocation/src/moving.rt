@@ -1,0 +1,55 @@
+ghost use Rattle.std.specs.Prelude.{◌≡◌, ◌≢◌, ◌↔◌, ◌≤◌, ◌+◌, length, Err, IfOk, IfErr, OnOk, OnErr, IsPermutation};
+ghost use Rattle.key_class.specs.declared.refusal.Refusal.TheVariants.{NoSuchRow, AlreadyDeleted, CommitsFull, OutOfMemory};
+ghost use Rattle.change_list.specs.Changes.{NamesNoRow, NamesDead};
+ghost use Rattle.removal.specs.Ending.{AddsDeath};
+ghost use Rattle.removal.specs.Visits.{LacksCommit, RefusesEnding};
+ghost use Rattle.world.specs.Resting.{Rests, deaths};
+ghost use Rattle.world.specs.States.{AddsCommit};
+ghost use Rattle.relocation.specs.Moves.{RefusesMove};
+
+use change_list::Write;
+use insertion::make_way;
+use key_class::{KeyClass, Refusal};
+use mailbox::Outlet;
+use removal::{Ending, check_ending, end_row};
+use std::alloc::Global;
+use world::World;
+
+/// Moves a row: gives it a new number and another key, in one commit. A way is made first to a leaf that takes the key, as
+/// for an insertion; then a finder goes from the root to the leaf that holds the row (Kornacker, Mohan, Hellerstein 1997),
+/// which may be the same, and ends in every case.
+///
+/// # Errors
+/// `NoSuchRow` where no insert or move has the number, else `AlreadyDeleted`, else `CommitsFull`; nothing is changed then.
+/// Else `PagesFull` where fewer than two pages are left when it returns, `FindersFull` where 64 finders are open or the
+/// last serial was given, and want of memory. No row is moved then; the steps on the way that were made stand, and want of
+/// memory may have used up a finder's serial.
+pub fn move_row<C: KeyClass, O: Outlet<C::Key>>(
+    alloc: Global,
+    world: &mut World<C, O>,
+    row: u64,
+    key: C::Key,
+) -> Result<u64, Refusal>
+    ensures number { IfOk result (λ n. n ≡ length world.old.commits + 1) }
+    ensures committed { OnOk result (AddsCommit world.old (Write.Move row key) world.new) }
+    ensures unchanged { OnErr result (world.new.commits ≡ world.old.commits) }
+    ensures rests { Rests C.rules O.rule world.old world.new }
+    ensures dead { OnOk result (AddsDeath world.old row world.new) }
+    ensures dead_kept { OnErr result (IsPermutation
+        (deaths world.old.search.tree) (deaths world.new.search.tree)) }
+    ensures no_such_row { (result ≡ Err NoSuchRow) ↔ NamesNoRow world.old.commits row }
+    ensures already_deleted { (result ≡ Err AlreadyDeleted) ↔ NamesDead world.old.commits row }
+    ensures full { (result ≡ Err CommitsFull) ↔ LacksCommit world.old row }
+    ensures untouched { IfErr result (λ why.
+        RefusesEnding world.old row why → world.new ≡ world.old) }
+    ensures refusals { IfErr result (RefusesMove world.old world.new.search row) }
+    ensures finders { world.new.finders ≡ world.old.finders }
+    ensures found { OnOk result (world.new.last_finder ≡ world.old.last_finder + 1) }
+    ensures unfound { IfErr result (λ why.
+        why ≢ OutOfMemory → world.new.last_finder ≡ world.old.last_finder) }
+    ensures last_finder { world.new.last_finder ≤ world.old.last_finder + 1 }
+{
+    check_ending(world, row)?;
+    let leaf = make_way(alloc, world, key)?;
+    end_row(world, row, Ending::Move(u64::from(leaf), key))
+}

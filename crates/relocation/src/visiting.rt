@@ -1,0 +1,91 @@
+//! A move by visits, between which others may change the world.
+ghost use Rattle.std.specs.Prelude.{◌≡◌, ◌↔◌, ◌<◌, length, Err, IfOk, IfErr, OnErr};
+ghost use Rattle.key_class.specs.declared.refusal.Refusal.TheVariants.{NoSuchRow, AlreadyDeleted, CommitsFull};
+ghost use Rattle.change_list.specs.Changes.{NamesNoRow, NamesLive, NamesDead};
+ghost use Rattle.insertion.specs.PageSteps.{MayPlace};
+ghost use Rattle.removal.specs.Visits.{LacksCommit};
+ghost use Rattle.world.specs.Promises.{KeepsMailboxes};
+ghost use Rattle.world.specs.States.{IsSoundWorld};
+ghost use Rattle.world.specs.Visits.{IsOneEvent};
+ghost use Rattle.relocation.specs.Moves.{Relocates, RefusesMove};
+
+use insertion::{Approach, approach_leaf};
+use key_class::{KeyClass, Refusal};
+use mailbox::Outlet;
+use removal::{Ending, Search, check_ending, end_step};
+use std::alloc::Global;
+use world::{Stamped, World};
+
+/// How far a move has come.
+#[derive(Clone, Copy)]
+pub enum Moving<K> {
+    /// The way of its key goes on at this page, or its finder does.
+    On(u32),
+    /// This page is full: once it is split, the way goes on where it was.
+    Split(u32),
+    /// A leaf takes the key, and no finder of the row has the serial.
+    Lost,
+    /// The row was moved.
+    Moved(Stamped<K>),
+}
+
+/// One visit of a move to a world, which makes one event or none: the next step of the way to a leaf that takes the key,
+/// from the page to which the way has come, or where it has come to that leaf the next step of the finder, which moves the
+/// row there where it meets it. A leaf that takes the key no more, when it is visited again, is left for another way.
+///
+/// # Errors
+/// `NoSuchRow` where no insert or move has the number, else `AlreadyDeleted`, else `CommitsFull`, each tested again at each
+/// visit; else `PagesFull`, and want of memory. Nothing is changed then.
+pub fn move_step<C: KeyClass, O: Outlet<C::Key>>(
+    alloc: Global,
+    world: &mut World<C, O>,
+    seat: u32,
+    page: u32,
+    finder: u64,
+    row: u64,
+    key: C::Key,
+) -> Result<Moving<C::Key>, Refusal>
+    ensures goes { IfOk result (λ moving. Relocates world.old seat row key moving world.new) }
+    ensures one_event { IsOneEvent C O O.End C.rules O.rule seat world.old world.new }
+    ensures sound { IsSoundWorld C.rules.is_cover world.new }
+    ensures mailboxes { KeepsMailboxes C.rules O.rule world.old world.new }
+    ensures unchanged { OnErr result (world.new ≡ world.old) }
+    ensures no_such_row { (result ≡ Err NoSuchRow) ↔ NamesNoRow world.old.commits row }
+    ensures already_deleted { (result ≡ Err AlreadyDeleted) ↔ NamesDead world.old.commits row }
+    ensures full { (result ≡ Err CommitsFull) ↔ LacksCommit world.old row }
+    ensures refusals { IfErr result (RefusesMove world.old world.old.search row) }
+{
+    world.recall_soundness();
+    check_ending(world, row)?;
+    match approach_leaf(alloc, world, seat, page, key)? {
+        Approach::On(next) => return Ok(Moving::On(next)),
+        Approach::Split(full) => return Ok(Moving::Split(full)),
+        Approach::At(leaf) => return seek_from(world, seat, leaf, finder, row, key),
+    }
+}
+
+/// The next step of a move's finder, where a leaf takes the key.
+fn seek_from<C: KeyClass, O: Outlet<C::Key>>(
+    world: &mut World<C, O>,
+    seat: u32,
+    leaf: u32,
+    finder: u64,
+    row: u64,
+    key: C::Key,
+) -> Result<Moving<C::Key>, Refusal>
+    requires live { NamesLive world.old.commits row }
+    requires room { length world.old.commits < world.old.limit }
+    requires may { MayPlace C.rules.is_cover world.old.search leaf key }
+    ensures goes { IfOk result (λ moving. Relocates world.old seat row key moving world.new) }
+    ensures one_event { IsOneEvent C O O.End C.rules O.rule seat world.old world.new }
+    ensures sound { IsSoundWorld C.rules.is_cover world.new }
+    ensures mailboxes { KeepsMailboxes C.rules O.rule world.old world.new }
+    ensures unchanged { OnErr result (world.new ≡ world.old) }
+    ensures refusals { IfErr result (λ why. why ≡ Refusal.OutOfMemory) }
+{
+    match end_step(world, seat, finder, row, Ending::Move(u64::from(leaf), key))? {
+        Search::On => return Ok(Moving::On(leaf)),
+        Search::Lost => return Ok(Moving::Lost),
+        Search::Ended(stamp) => return Ok(Moving::Moved(stamp)),
+    }
+}

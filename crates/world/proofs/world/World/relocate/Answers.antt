@@ -1,0 +1,101 @@
+use Rattle.std.proofs.Common.{◌≡◌, ◌+◌, Some, None, refl, sym, ap, ◌∙◌, subst, arith, inl, inr, length, true}
+use Rattle.std.proofs.lemmas.Grind.{common_steps}
+use Rattle.change_list.specs.Changes.{row_at, status_of}
+use Rattle.change_list.specs.declared.write.Status.TheVariants.{Live}
+use Rattle.change_list.specs.declared.write.Write.TheVariants.{Move}
+use Rattle.row_version.specs.Entries.{Entry}
+use Rattle.split.specs.SearchTrees.{with_move}
+use Rattle.split.specs.Tests.{is_leaf}
+use Rattle.world.specs.States.{Meets}
+use Rattle.world.proofs.FinderSteps.{finder_of, meets_on, moves_sound, row_lives}
+use Rattle.world.proofs.Meeting.{finder_within, finder_is, meets_row, move_change, move_full, move_passes, move_unfit}
+use Rattle.world.proofs.world.World.relocate.Goals as goal
+
+pub returns-in-Some : goal.returns-in-Some
+returns-in-Some g c =
+    let m = subst (λ s. Meets s c.args.f c.args.at c.args.page) (sym c.self.view_is) c.requires in
+    rw (← c.self.view_is) (record {
+      cause = inl (move_unfit g.C.KeyClass.rules.is_cover _ c.self.invariant c.args.f c.args.at c.args.page m c.args.leaf c.args.key c.in-Some.refusal (sym c.place_refusal.ensures ∙ c.in-Some.is));
+      unchanged = refl;
+    })
+
+pub returns-then-len-self : goal.returns-then-len-self
+returns-then-len-self g c =
+    let m = subst (λ s. Meets s c.args.f c.args.at c.args.page) (sym c.self.view_is) c.requires in
+    rw (← c.self.view_is) (record {
+      cause = inl (move_full g.C.KeyClass.rules.is_cover _ c.self.invariant c.args.f c.args.at c.args.page m c.args.leaf c.args.key (sym c.place_refusal.ensures ∙ c.in_default.is) (omega (arith, c.if-len-self.true, c.len.ensures.len)));
+      unchanged = refl;
+    })
+
+pub index-requires : goal.index-requires
+index-requires g c =
+    let m = subst (λ s. Meets s c.args.f c.args.at c.args.page) (sym c.self.view_is) c.requires in
+    let l = finder_within g.C.KeyClass.rules.is_cover _ c.self.invariant c.args.f c.args.at m.here in
+    grind (arith, common_steps)
+
+pub unreachable-requires : goal.unreachable-requires
+unreachable-requires g c =
+    let m = subst (λ s. Meets s c.args.f c.args.at c.args.page) (sym c.self.view_is) c.requires in
+    let same = finder_is g.C.KeyClass.rules.is_cover _ c.self.invariant c.args.f c.args.at m.here c.index.result.now c.index.ensures in
+    let row : m.here.value.row ≡ c.from.result = ap (λ k. k.row) same ∙ sym c.row-row.ensures ∙ sym c.from.ensures in
+    let seeking = finder_of g.C.KeyClass.rules.is_cover _ c.self.invariant c.args.f m.here.value m.here.found in
+    c.in_default-row.not-Some _ (c.row.ensures ∙ ap (row_at c.self.inside.changes) (sym row) ∙ seeking.made.1)
+
+pub commit-requires-clause-follows : goal.commit-requires-clause-follows
+commit-requires-clause-follows g c =
+    let m = subst (λ s. Meets s c.args.f c.args.at c.args.page) (sym c.self.view_is) c.requires in
+    let same = finder_is g.C.KeyClass.rules.is_cover _ c.self.invariant c.args.f c.args.at m.here c.index.result.now c.index.ensures in
+    let row : m.here.value.row ≡ c.row-row.result = ap (λ k. k.row) same ∙ sym c.row-row.ensures in
+    let live = row_lives g.C.KeyClass.rules.is_cover _ c.self.invariant c.args.f m.here.value m.here.found m.alive in
+    subst (λ n. status_of c.self.inside.changes n ≡ Live) row live
+
+pub commit-requires-clause-takes : goal.commit-requires-clause-takes
+commit-requires-clause-takes g c =
+    let m = subst (λ s. Meets s c.args.f c.args.at c.args.page) (sym c.self.view_is) c.requires in
+    let there = (meets_on g.C.KeyClass.rules.is_cover _ c.self.invariant c.args.f m.here.value c.args.page m.here.found m.finds).leaf in
+    (subst (λ p. is_leaf c.self.inside.search.tree p ≡ true) (sym c.from-2.ensures) there, sym c.place_refusal.ensures ∙ c.in_default.is)
+
+pub remove-requires : goal.remove-requires
+remove-requires g c =
+    let m = subst (λ s. Meets s c.args.f c.args.at c.args.page) (sym c.self.view_is) c.requires in
+    let l = finder_within g.C.KeyClass.rules.is_cover _ c.self.invariant c.args.f c.args.at m.here in
+    grind (arith, common_steps)
+
+pub invariant_of-self : goal.invariant_of-self
+invariant_of-self g c =
+    let m = subst (λ s. Meets s c.args.f c.args.at c.args.page) (sym c.self.view_is) c.requires in
+    let same = finder_is g.C.KeyClass.rules.is_cover _ c.self.invariant c.args.f c.args.at m.here c.index.result.now c.index.ensures in
+    let row : m.here.value.row ≡ c.row-row.result = ap (λ k. k.row) same ∙ sym c.row-row.ensures in
+    let found : row_at c.self.inside.changes c.row-row.result ≡ Some c.in-Some-row.found = ap (row_at c.self.inside.changes) (sym c.from.ensures) ∙ sym c.row.ensures ∙ c.in-Some-row.is in
+    let passed = move_passes g.C.KeyClass.rules.is_cover _ c.self.invariant c.args.f c.args.at c.args.page m c.args.leaf c.args.key (sym c.place_refusal.ensures ∙ c.in_default.is) (omega (arith, c.if-len-self.false, c.len.ensures.len)) in
+    let entry : Entry _ = record { key = c.args.key; row = length c.self.inside.changes + 1; tag = c.in-Some-row.found.tag; died = None } in
+    let moved : c.commit.new.search ≡ with_move c.self.inside.search c.args.page c.row-row.result (length c.self.inside.changes + 1) c.args.leaf entry
+    = c.in-Ok.ensures.changed ∙ ap (λ p. with_move c.self.inside.search p c.row-row.result (length c.self.inside.changes + 1) c.args.leaf entry) c.from-2.ensures in
+    let change = move_change g.C.KeyClass.rules.is_cover _ c.self.invariant c.args.f c.args.at c.args.page m c.args.seat c.args.leaf c.args.key (record { number = length c.self.inside.changes + 1; seat = c.args.seat; write = Move c.row-row.result c.args.key })
+    c.commit.new.search c.commit.new.commits c.remove.new.self.items c.row-row.result (length c.self.inside.changes + 1) c.in-Some-row.found row refl found moved c.in-Ok.ensures.committed c.remove.ensures.items refl in
+    moves_sound g.C.KeyClass.rules.is_cover _ c.self.invariant c.args.seat c.args.f c.args.leaf c.args.key _ _ passed change
+
+pub returns-in-Ok : goal.returns-in-Ok
+returns-in-Ok g c =
+    let m = subst (λ s. Meets s c.args.f c.args.at c.args.page) (sym c.self.view_is) c.requires in
+    let same = finder_is g.C.KeyClass.rules.is_cover _ c.self.invariant c.args.f c.args.at m.here c.index.result.now c.index.ensures in
+    let row : m.here.value.row ≡ c.row-row.result = ap (λ k. k.row) same ∙ sym c.row-row.ensures in
+    let found : row_at c.self.inside.changes c.row-row.result ≡ Some c.in-Some-row.found = ap (row_at c.self.inside.changes) (sym c.from.ensures) ∙ sym c.row.ensures ∙ c.in-Some-row.is in
+    let entry : Entry _ = record { key = c.args.key; row = length c.self.inside.changes + 1; tag = c.in-Some-row.found.tag; died = None } in
+    let moved : c.commit.new.search ≡ with_move c.self.inside.search c.args.page c.row-row.result (length c.self.inside.changes + 1) c.args.leaf entry
+    = c.in-Ok.ensures.changed ∙ ap (λ p. with_move c.self.inside.search p c.row-row.result (length c.self.inside.changes + 1) c.args.leaf entry) c.from-2.ensures in
+    let stamped = c.new.ensures ∙ ap (λ n. record { number = n; seat = c.args.seat; write = c.write.result }) c.in-Ok.ensures.number ∙ ap (λ w. record { number = length c.self.inside.changes + 1; seat = c.args.seat; write = w }) c.write.ensures in
+    rw (← c.self.view_is) (record {
+      passed = move_passes g.C.KeyClass.rules.is_cover _ c.self.invariant c.args.f c.args.at c.args.page m c.args.leaf c.args.key (sym c.place_refusal.ensures ∙ c.in_default.is) (omega (arith, c.if-len-self.false, c.len.ensures.len));
+      change = move_change g.C.KeyClass.rules.is_cover _ c.self.invariant c.args.f c.args.at c.args.page m c.args.seat c.args.leaf c.args.key _
+          c.commit.new.search c.commit.new.commits c.remove.new.self.items c.row-row.result (length c.self.inside.changes + 1) c.in-Some-row.found row refl found moved c.in-Ok.ensures.committed c.remove.ensures.items stamped;
+    })
+
+pub returns-in-Err : goal.returns-in-Err
+returns-in-Err g c =
+    let m = subst (λ s. Meets s c.args.f c.args.at c.args.page) (sym c.self.view_is) c.requires in
+    let passed = move_passes g.C.KeyClass.rules.is_cover _ c.self.invariant c.args.f c.args.at c.args.page m c.args.leaf c.args.key (sym c.place_refusal.ensures ∙ c.in_default.is) (omega (arith, c.if-len-self.false, c.len.ensures.len)) in
+    rw (← c.self.view_is, c.in-Err.ensures.pages_kept, c.in-Err.ensures.commits_kept) (record {
+      cause = inr (passed, record { memory = c.in-Err.ensures.refused; finder = m.here.value; is_open = m.here.found; grows = inl (meets_row g.C.KeyClass.rules.is_cover _ c.self.invariant c.args.f c.args.at c.args.page m) });
+      unchanged = refl;
+    })
