@@ -259,11 +259,8 @@ impl<C: KeyClass, L: Ledger> Locked<World<C, Ring<C::Key>>, L> {
         let Locked { world, book } = self;
         book.audit(share);
         let opened = world.commits();
-        match world.step(Event::Open(query, room)) {
-            Reply::Opened(cursor, end) => Ok((cursor, opened, end)),
-            Reply::Refused(why) => Err(why),
-            _ => unreachable!(),
-        }
+        let (cursor, end) = world.open_cursor(query, room)?;
+        Ok((cursor, opened, end))
     }
 
     /// A cursor's turn.

@@ -3,10 +3,9 @@ ghost use Rattle.std.specs.Prelude.{◌≡◌, ◌<◌, length, IfOk, IfErr, OnO
 ghost use Rattle.change_list.specs.declared.write.Write.TheVariants.{Insert};
 ghost use Rattle.world.specs.Promises.{KeepsMailboxes};
 ghost use Rattle.world.specs.Resting.{Rests, deaths};
-ghost use Rattle.world.specs.States.{AddsCommit, IsSoundWorld};
+ghost use Rattle.world.specs.States.{AddsCommit, IsNextStamp, IsSoundWorld};
 ghost use Rattle.world.specs.Visits.{IsOneEvent};
 ghost use Rattle.insertion.specs.PageSteps.{MayMove, MayPlace, Moves, MovesPages, IsWanting};
-ghost use Rattle.insertion.specs.Visits.{IsNextStamp};
 
 use key_class::{KeyClass, Refusal};
 use mailbox::Outlet;
@@ -58,9 +57,6 @@ pub(crate) fn place<C: KeyClass, O: Outlet<C::Key>>(
     ensures refusals { IfErr result (λ why. why ≡ Refusal.OutOfMemory) }
 {
     world.recall_soundness();
-    match world.step_as(seat, Event::Place(u64::from(leaf), key, tag)) {
-        Reply::Committed(stamp) => Ok(stamp),
-        Reply::Refused(why) => Err(why),
-        _ => unreachable!(),
-    }
+    let stamp = world.place_row(seat, u64::from(leaf), key, tag)?;
+    Ok(stamp)
 }

@@ -5,7 +5,7 @@ use Rattle.key_class.specs.declared.refusal.Refusal.{Refusal}
 use Rattle.key_class.specs.declared.refusal.Refusal.TheVariants as refusal
 use Rattle.split.specs.SearchTrees.{SearchTree}
 use Rattle.descent.specs.NextSteps.{IsFull}
-use Rattle.world.specs.States.{State, AddsCommit}
+use Rattle.world.specs.States.{State, AddsCommit, IsNextStamp}
 use Rattle.removal.specs.Visits.{RefusesDelete}
 use Rattle.relocation.specs.declared.visiting.Moving.{Moving}
 use Rattle.relocation.specs.declared.visiting.Moving.TheVariants as moving
@@ -23,5 +23,4 @@ module _ {K A : Type 0} where
   Relocates old seat row key (moving.Split page) new = (new ≡ old) × IsFull old.search page
   Relocates old seat row key moving.Lost new = new ≡ old
   Relocates old seat row key (moving.Moved stamp) new =
-      AddsCommit old (Move row key) new
-      × (stamp ≡ record { number = length old.commits + 1; seat = seat; write = Move row key })
+      AddsCommit old (Move row key) new × IsNextStamp old seat (Move row key) stamp

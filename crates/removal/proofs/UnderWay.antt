@@ -26,7 +26,7 @@ use Rattle.split.specs.Tests.{PlacePasses, first_failing, place_tests}
 use Rattle.split.proofs.MoveDone.{leaf_within}
 use Rattle.split.proofs.RowsDone.{buried}
 use Rattle.std.proofs.lemmas.List.Sorted.{IsPermutation-trans}
-use Rattle.removal.specs.Ending.{AddsDeath, Ends, Leaves, Looks, MayEnd, event_of_ending, write_of_ending}
+use Rattle.removal.specs.Ending.{AddsDeath, Ends, Leaves, Looks, MayEnd, SeeksToEnd, event_of_ending, write_of_ending}
 use Rattle.removal.specs.declared.ending.Ending.{Ending}
 use Rattle.removal.specs.declared.ending.Ending.TheVariants as ending
 use Rattle.removal.specs.Visits.{IsFullOfFinders, RefusesFinder}
@@ -34,6 +34,7 @@ use Rattle.removal.proofs.Deaths.{buried_deaths}
 use Rattle.world.specs.declared.event.Event.TheVariants as event
 use Rattle.world.specs.declared.reply.Reply.{Reply}
 use Rattle.world.specs.declared.reply.Reply.TheVariants as reply
+use Rattle.world.specs.Calls.{IsOneStep}
 use Rattle.world.specs.Promises.{ServesAll}
 use Rattle.world.specs.Resting.{deaths, Rests}
 use Rattle.world.specs.Serials.{put, without}
@@ -332,19 +333,20 @@ module _ {K A : Type 0} (rules : Rules K A) (rule : Rule) (first : State K A) (r
           passed = rw its_finder refl
       done other d = absurd d.change
 
+-- a visit by its answer
+module _ {C O K A E : Type 0} (rules : Rules K A) (rule : Rule) (now : State K A) (f : ℕ) (how : Ending K) where
+  pub went_on : (made : Result (Option (Stamp K)) Refusal) (new : State K A) → made ≡ Ok None → SeeksToEnd C O E rules rule 0 now f how made new → IsOneStep C O E rules rule 0 now (event_of_ending f how) reply.Seeking new
+  went_on made new is visits = subst (λ m. SeeksToEnd C O E rules rule 0 now f how m new) is visits
+
+  pub met_row : (stamp : Stamp K) (made : Result (Option (Stamp K)) Refusal) (new : State K A) → made ≡ Ok (Some stamp) → SeeksToEnd C O E rules rule 0 now f how made new
+      → IsOneStep C O E rules rule 0 now (event_of_ending f how) (reply.Committed stamp) new
+  met_row stamp made new is visits = subst (λ m. SeeksToEnd C O E rules rule 0 now f how m new) is visits
+
 -- a visit by its reply: it goes on, or its row ends
 module _ {C O K A E : Type 0} (rules : Rules K A) (rule : Rule) where
   pub goes_on : (now : State K A) (f : ℕ) (how : Ending K) (new : State K A) → Step {C = C} {O = O} {E = E} rules rule 0 now (event_of_ending f how) reply.Seeking new → SeeksOn rules rule now f new
   goes_on now f ending.Delete new d = d.change
   goes_on now f (ending.Move leaf key) new d = d.change
-
-  pub no_other : (now : State K A) (f : ℕ) (how : Ending K) (r : Reply C O K A E) (new : State K A) → Step rules rule 0 now (event_of_ending f how) r new
-      → (r ≡ reply.Seeking → ⊥) → ((stamp : Stamp K) → r ≡ reply.Committed stamp → ⊥) → ((why : Refusal) → r ≡ reply.Refused why → ⊥) → ⊥
-  no_other now f how reply.Seeking new d s c w = s refl
-  no_other now f how (reply.Committed stamp) new d s c w = c stamp refl
-  no_other now f how (reply.Refused why) new d s c w = w why refl
-  no_other now f ending.Delete r new d s c w = d.change
-  no_other now f (ending.Move leaf key) r new d s c w = d.change
 
   pub ends_by : (first : State K A) (row f : ℕ) (now : State K A) → IsUnderWay rules rule first row f now → (how : Ending K) (stamp : Stamp K) (new : State K A) → status_of first.commits row ≡ Live → MayEnd rules.is_cover first.search how
       → ServesAll {C = C} {O = O} {E = E} rules rule now (event_of_ending f how) (reply.Committed stamp) new → Step {C = C} {O = O} {E = E} rules rule 0 now (event_of_ending f how) (reply.Committed stamp) new → Ends rules rule first row how stamp.number new

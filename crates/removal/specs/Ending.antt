@@ -1,6 +1,7 @@
 -- A finder under way for a row, and how its search ends: with the row's delete or its move.
-use Rattle.std.specs.Prelude.{◌≡◌, ℕ, ◌+◌, ◌≤◌, Bool, [], ◌∷◌, ◌++◌, length, IsPermutation}
+use Rattle.std.specs.Prelude.{◌≡◌, ℕ, ◌+◌, ◌≤◌, Bool, [], ◌∷◌, ◌++◌, length, IsPermutation, Option, Result}
 use Rattle.key_class.specs.Rules.{Rules}
+use Rattle.key_class.specs.declared.refusal.Refusal.{Refusal}
 use Rattle.mailbox.specs.Outlets.{Rule}
 use Rattle.change_list.specs.declared.write.Write.{Write}
 use Rattle.change_list.specs.declared.write.Write.TheVariants.{Delete, Move}
@@ -12,6 +13,8 @@ use Rattle.removal.specs.declared.ending.Ending.{Ending}
 use Rattle.removal.specs.declared.ending.Ending.TheVariants as ending
 use Rattle.descent.specs.Finders.{OpenFinder}
 use Rattle.world.specs.Resting.{deaths, Rests}
+use Rattle.world.specs.Calls.{IsOneStep, reply_of_visit}
+use Rattle.world.specs.Stamps.{Stamp}
 use Rattle.world.specs.States.{State, AddsCommit}
 
 module _ {K : Type 0} where
@@ -30,6 +33,11 @@ module _ {C K A : Type 0} where
   abbrev pub event_of_ending : ℕ → Ending K → Event C K A
   event_of_ending f ending.Delete = event.Seek f
   event_of_ending f (ending.Move leaf key) = event.Move f leaf key
+
+module _ (C O E : Type 0) {K A : Type 0} (rules : Rules K A) (rule : Rule) where
+  -- a finder visits a page, and ends its row so where it meets it
+  abbrev pub SeeksToEnd : ℕ → State K A → ℕ → Ending K → Result (Option (Stamp K)) Refusal → State K A → Type 0
+  SeeksToEnd seat old f how made new = IsOneStep C O E rules rule seat old (event_of_ending f how) (reply_of_visit C O E made) new
 
 module _ {K A : Type 0} where
   -- the next commit's death of the row is one more in the tree

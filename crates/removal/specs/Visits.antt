@@ -4,7 +4,7 @@ use Rattle.key_class.specs.Limits.{greatest_serial, most_finders}
 use Rattle.change_list.specs.Changes.{NamesNoRow, NamesLive, NamesDead}
 use Rattle.key_class.specs.declared.refusal.Refusal.{Refusal}
 use Rattle.key_class.specs.declared.refusal.Refusal.TheVariants as refusal
-use Rattle.world.specs.States.{State, AddsCommit, IsFullOfCommits}
+use Rattle.world.specs.States.{State, AddsCommit, IsFullOfCommits, IsNextStamp}
 use Rattle.removal.specs.Ending.{write_of_ending}
 use Rattle.removal.specs.declared.ending.Ending.{Ending}
 use Rattle.removal.specs.declared.visiting.Search.{Search}
@@ -56,5 +56,4 @@ module _ {K A : Type 0} where
   Seeks old seat row how search.On new = new.commits ≡ old.commits
   Seeks old seat row how search.Lost new = new ≡ old
   Seeks old seat row how (search.Ended stamp) new =
-      AddsCommit old (write_of_ending row how) new
-      × (stamp ≡ record { number = length old.commits + 1; seat = seat; write = write_of_ending row how })
+      AddsCommit old (write_of_ending row how) new × IsNextStamp old seat (write_of_ending row how) stamp

@@ -2,13 +2,13 @@
 ghost use Rattle.std.specs.Prelude.{◌≡◌, ◌≢◌, ◌↔◌, ◌<◌, length, Err, IfOk, IfErr, OnOk, OnErr};
 ghost use Rattle.key_class.specs.declared.refusal.Refusal.TheVariants.{NoSuchRow, AlreadyDeleted, CommitsFull, FindersFull, OutOfMemory};
 ghost use Rattle.change_list.specs.Changes.{NamesNoRow, NamesLive, NamesDead};
-ghost use Rattle.removal.specs.Ending.{Ends, Leaves, MayEnd, event_of_ending};
+ghost use Rattle.removal.specs.Ending.{Ends, Leaves, MayEnd, SeeksToEnd};
 ghost use Rattle.removal.specs.Visits.{IsFullOfFinders, LacksCommit, RefusesEnding, RefusesFinder};
 
 use change_list::Status;
 use key_class::{KeyClass, Refusal};
 use mailbox::Outlet;
-use world::{Event, Reply, World};
+use world::{Event, Stamped, World};
 
 /// What becomes of a row where a finder meets it.
 #[derive(Clone, Copy)]
@@ -19,13 +19,21 @@ pub enum Ending<K> {
     Move(u64, K),
 }
 
-/// A visit of a finder, which ends its row so where it meets it.
-pub(crate) fn visit<C: KeyClass>(finder: u64, ending: Ending<C::Key>) -> Event<C>
-    ensures { result ≡ event_of_ending finder ending }
+/// A visit of a finder for a seat, which ends its row so where it meets it.
+///
+/// # Errors
+/// Those of the events `Seek` and `Move`; nothing is changed then.
+pub(crate) fn visit<C: KeyClass, O: Outlet<C::Key>>(
+    world: &mut World<C, O>,
+    seat: u32,
+    finder: u64,
+    ending: Ending<C::Key>,
+) -> Result<Option<Stamped<C::Key>>, Refusal>
+    ensures { SeeksToEnd C O O.End C.rules O.rule seat world.old finder ending result world.new }
 {
     match ending {
-        Ending::Delete => Event::Seek(finder),
-        Ending::Move(leaf, key) => Event::Move(finder, leaf, key),
+        Ending::Delete => return world.seek_to_delete(seat, finder),
+        Ending::Move(leaf, key) => return world.seek_to_move(seat, finder, leaf, key),
     }
 }
 
@@ -75,20 +83,15 @@ pub fn end_row<C: KeyClass, O: Outlet<C::Key>>(
     ensures full { (result ≡ Err FindersFull) ↔ IsFullOfFinders world.old }
     ensures refusals { IfErr result (RefusesFinder world.old) }
 {
-    let finder = match world.step(Event::Find(row)) {
-        Reply::Finder(finder) => finder,
-        Reply::Refused(why) => return Err(why),
-        _ => unreachable!(),
-    };
+    let finder = world.open_finder(row)?;
     'seeking: loop {
-        match world.step(visit::<C>(finder, ending)) {
-            Reply::Seeking => {}
-            Reply::Committed(stamp) => return Ok(stamp.number()),
-            Reply::Refused(why) => {
+        match visit(world, 0, finder, ending) {
+            Ok(Some(stamp)) => return Ok(stamp.number()),
+            Ok(None) => {}
+            Err(why) => {
                 let _unfound = world.step(Event::Unfind(finder));
                 return Err(why);
             }
-            _ => unreachable!(),
         }
     }
 }

@@ -4,7 +4,7 @@ ghost use Rattle.world.specs.Resting.{Rests};
 
 use key_class::{KeyClass, Refusal};
 use mailbox::Outlet;
-use world::{Event, Reply, World};
+use world::World;
 
 /// Sweeps every leaf: removes the dead rows that no cursor with a scan in progress needs, and gives their number.
 ///
@@ -23,11 +23,7 @@ pub fn sweep_all<C: KeyClass, O: Outlet<C::Key>>(world: &mut World<C, O>) -> Res
     let mut number = 0;
     for page in 0..world.pages() {
         if world.search().is_leaf(page) {
-            match world.step(Event::Sweep(page)) {
-                Reply::Swept(count) => number += count,
-                Reply::Refused(why) => return Err(why),
-                _ => unreachable!(),
-            }
+            number += world.sweep_page(page)?;
         }
     }
     Ok(number)

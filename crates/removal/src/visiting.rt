@@ -13,7 +13,7 @@ use crate::ending::{Ending, visit};
 use change_list::Status;
 use key_class::{KeyClass, Refusal};
 use mailbox::Outlet;
-use world::{Event, Reply, Stamped, World};
+use world::{Stamped, World};
 
 /// How far the search for a row that is to end has come.
 #[derive(Clone, Copy)]
@@ -50,12 +50,12 @@ pub fn find_row<C: KeyClass, O: Outlet<C::Key>>(
     match world.status(row) {
         Status::NeverIssued => return Err(Refusal::NoSuchRow),
         Status::Dead => return Err(Refusal::AlreadyDeleted),
-        Status::Live => return open_finder(world, row),
+        Status::Live => return find_live_row(world, row),
     }
 }
 
 /// A finder of a live row, by its serial.
-fn open_finder<C: KeyClass, O: Outlet<C::Key>>(
+fn find_live_row<C: KeyClass, O: Outlet<C::Key>>(
     world: &mut World<C, O>,
     row: u64,
 ) -> Result<u64, Refusal>
@@ -69,11 +69,8 @@ fn open_finder<C: KeyClass, O: Outlet<C::Key>>(
     ensures full { (result ≡ Err FindersFull) ↔ IsFullOfFinders world.old }
     ensures refusals { IfErr result (RefusesFinder world.old) }
 {
-    match world.step(Event::Find(row)) {
-        Reply::Finder(finder) => Ok(finder),
-        Reply::Refused(why) => Err(why),
-        _ => unreachable!(),
-    }
+    let finder = world.open_finder(row)?;
+    Ok(finder)
 }
 
 /// A later visit of a deletion: the next step of a finder of the row, which deletes the row where it meets it.
@@ -87,7 +84,7 @@ pub fn seek_row<C: KeyClass, O: Outlet<C::Key>>(
     finder: u64,
     row: u64,
 ) -> Result<Search<C::Key>, Refusal>
-    ensures seeks { IfOk result (λ search. Seeks world.old seat row Ending.Delete search world.new) }
+    ensures seeks { IfOk result (λ found. Seeks world.old seat row Ending.Delete found world.new) }
     ensures one_event { IsOneEvent C O O.End C.rules O.rule seat world.old world.new }
     ensures sound { IsSoundWorld C.rules.is_cover world.new }
     ensures mailboxes { KeepsMailboxes C.rules O.rule world.old world.new }
@@ -133,9 +130,8 @@ pub fn end_step<C: KeyClass, O: Outlet<C::Key>>(
             }
         }
     }
-    match world.step_as(seat, visit::<C>(finder, ending)) {
-        Reply::Committed(stamp) => return Ok(Search::Ended(stamp)),
-        Reply::Refused(why) => return Err(why),
-        _ => return Ok(Search::On),
+    match visit(world, seat, finder, ending)? {
+        Some(stamp) => return Ok(Search::Ended(stamp)),
+        None => return Ok(Search::On),
     }
 }

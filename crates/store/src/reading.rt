@@ -5,9 +5,10 @@ ghost use Rattle.split.specs.Tests.{first_failing};
 ghost use Rattle.world.specs.Steps.{TakesItem, cursor_tests};
 
 use change_list::Item;
+use cursor::Turned;
 use key_class::{KeyClass, Refusal};
 use mailbox::Tray;
-use world::{Event, Reply, World};
+use world::World;
 
 /// Turns a cursor until it gives an item, or has nothing to give.
 pub fn next_item<C: KeyClass>(
@@ -21,15 +22,14 @@ pub fn next_item<C: KeyClass>(
 {
     world.recall_soundness();
     'turning: loop {
-        match world.step(Event::Turn(c)) {
-            Reply::Offered => return Ok(Some(take_item(world, c))),
-            Reply::Refused(refusal) => match refusal {
+        match world.turn_cursor(c) {
+            Ok(Turned::Offered) => return Ok(Some(take_item(world, c))),
+            Ok(Turned::Visited(_)) => {}
+            Ok(Turned::Passed(_)) => {}
+            Err(refusal) => match refusal {
                 Refusal::Idle => return Ok(None),
                 _ => return Err(refusal),
             },
-            Reply::Visited(_) => {}
-            Reply::Passed(_) => {}
-            _ => unreachable!(),
         }
     }
 }
@@ -40,7 +40,7 @@ fn take_item<C: KeyClass>(world: &mut World<C, Tray<C::Key>>, c: u64) -> Item<C:
     requires filled { IsFilled world.old c }
     ensures { TakesItem world.old c result world.new }
 {
-    let Reply::Taken(item) = world.step(Event::Take(c)) else {
+    let Ok(Some(item)) = world.take_front(c) else {
         unreachable!()
     };
     item

@@ -15,7 +15,7 @@ use key_class::{KeyClass, Pred, Refusal};
 use mailbox::Tray;
 use std::alloc::Global;
 use std::marker::Model;
-use world::{Event, Reply, World};
+use world::World;
 
 /// A store of rows over a tree of pages, with its commits and its open cursors.
 #[derive(Drop)]
@@ -170,11 +170,8 @@ impl<C: KeyClass> Store<C> {
         if room == 0 || room > MAX_ROOM {
             return Err(Refusal::BadConfig);
         }
-        match self.world.step(Event::Open(query, 1)) {
-            Reply::Opened(serial, ()) => return Ok(serial),
-            Reply::Refused(refusal) => return Err(refusal),
-            _ => unreachable!(),
-        }
+        let (serial, ()) = self.world.open_cursor(query, 1)?;
+        Ok(serial)
     }
 
     /// The next item of a cursor, or none where nothing is left and no mark is asked.
@@ -230,11 +227,8 @@ impl<C: KeyClass> Store<C> {
         ensures ok { OnOk result (ChangesCursor with_asking self.old c self.new) }
         ensures err { IfErr result (λ why. LacksCursor self.old c why self.new) }
     {
-        match self.world.step(Event::AskMark(c)) {
-            Reply::Asked => return Ok(()),
-            Reply::Refused(refusal) => return Err(refusal),
-            _ => unreachable!(),
-        }
+        self.world.ask_cursor(c)?;
+        Ok(())
     }
 
     /// Closes a cursor.
@@ -246,11 +240,8 @@ impl<C: KeyClass> Store<C> {
         ensures err { IfErr result (λ why. LacksCursor self.old c why self.new) }
     {
         self.world.recall_soundness();
-        match self.world.step(Event::Close(c)) {
-            Reply::Closed => return Ok(()),
-            Reply::Refused(refusal) => return Err(refusal),
-            _ => unreachable!(),
-        }
+        self.world.close_cursor(c)?;
+        Ok(())
     }
 
     /// The live rows that match, by rising number.

@@ -35,6 +35,28 @@ static DELIVERIES: [(u64, &str, bool); 24] = [
     (0, "AB", true),
 ];
 
+/// The same of six commits, of which four are moves: of row 1 to the same key, which is row 3 then, of row 2 to key 5, which
+/// is row 4, of row 3 away from it, and of row 4 to the same key, which is row 6.
+static WITH_MOVES: [(u64, &str, bool); 17] = [
+    (2, "1MIDN", true),
+    (2, "1MI", true),
+    (2, "1", true),
+    (2, "M", false),
+    (2, "1EJIDN", false),
+    (2, "1EI", false),
+    (2, "1O", false),
+    (2, "1I", false),
+    (2, "1MDI", false),
+    (2, "1MM", false),
+    (2, "1MIDNg", true),
+    (2, "1MIDg", false),
+    (3, "5IDN", true),
+    (3, "1", false),
+    (5, "4N", true),
+    (5, "45", false),
+    (6, "6", true),
+];
+
 fn row(row: u64, key: u8, tag: u64) -> Row<u8> {
     Row { row, key, tag }
 }
@@ -53,6 +75,16 @@ fn item(letter: u8) -> Item<u8> {
         b'Q' => Item::Inserted(row(5, 5, 50)),
         b'R' => Item::Deleted(7, 2),
         b'S' => Item::Deleted(4, 2),
+        b'4' => Item::Row(row(4, 5, 20)),
+        b'5' => Item::Row(row(3, 5, 10)),
+        b'6' => Item::Row(row(6, 5, 20)),
+        b'M' => Item::Moved(row(3, 5, 10), 1),
+        b'O' => Item::Moved(row(3, 5, 10), 2),
+        b'N' => Item::Moved(row(6, 5, 20), 4),
+        b'I' => Item::Inserted(row(4, 5, 20)),
+        b'J' => Item::Inserted(row(3, 5, 10)),
+        b'D' => Item::Deleted(5, 3),
+        b'E' => Item::Deleted(3, 1),
         mark => Item::Mark(u64::from(mark.wrapping_sub(b'a'))),
     }
 }
@@ -65,26 +97,36 @@ fn items(alloc: Global, letters: &[u8]) -> Result<Vec<Item<u8>>, Refusal> {
     Ok(items)
 }
 
-/// The commits.
-fn seven_commits(alloc: Global) -> Result<View<u8>, Refusal> {
+static SEVEN: [Write<u8>; 7] = [
+    Write::Insert(5, 10),
+    Write::Insert(5, 20),
+    Write::Insert(3, 30),
+    Write::Delete(1),
+    Write::Insert(5, 50),
+    Write::Insert(3, 60),
+    Write::Delete(2),
+];
+
+static SIX: [Write<u8>; 6] = [
+    Write::Insert(5, 10),
+    Write::Insert(3, 20),
+    Write::Move(1, 5),
+    Write::Move(2, 5),
+    Write::Move(3, 3),
+    Write::Move(4, 5),
+];
+
+fn commits(alloc: Global, writes: &[Write<u8>]) -> Result<View<u8>, Refusal> {
     let mut changes = ChangeList::new(alloc);
-    for write in [
-        Write::Insert(5, 10),
-        Write::Insert(5, 20),
-        Write::Insert(3, 30),
-        Write::Delete(1),
-        Write::Insert(5, 50),
-        Write::Insert(3, 60),
-        Write::Delete(2),
-    ] {
-        commit(&mut changes, write)?;
+    for write in writes {
+        commit(&mut changes, *write)?;
     }
     changes.view()
 }
 
 /// Whether a client may have been given the items of these letters.
-fn told(alloc: Global, opened: u64, letters: &str) -> Result<bool, Refusal> {
-    let commits = seven_commits(alloc)?;
+fn told(alloc: Global, writes: &[Write<u8>], opened: u64, letters: &str) -> Result<bool, Refusal> {
+    let commits = commits(alloc, writes)?;
     let items = items(alloc, letters.as_bytes())?;
     is_delivered::<Limits>(alloc, &commits, &Pred::Atom(5), opened, items.as_slice())
 }
@@ -92,7 +134,16 @@ fn told(alloc: Global, opened: u64, letters: &str) -> Result<bool, Refusal> {
 #[test]
 fn deliveries_are_told(rt: HostRuntime) -> Result<(), Fail> {
     for (opened, letters, delivered) in &DELIVERIES {
-        let told = told(rt.alloc(), *opened, letters)?;
+        let told = told(rt.alloc(), &SEVEN, *opened, letters)?;
+        assert!(rt; told == *delivered, "{opened} {letters}");
+    }
+    Ok(())
+}
+
+#[test]
+fn deliveries_with_moves_are_told(rt: HostRuntime) -> Result<(), Fail> {
+    for (opened, letters, delivered) in &WITH_MOVES {
+        let told = told(rt.alloc(), &SIX, *opened, letters)?;
         assert!(rt; told == *delivered, "{opened} {letters}");
     }
     Ok(())

@@ -13,8 +13,10 @@ use Rattle.world.specs.Serials.{without}
 use Rattle.world.specs.declared.event.Event.TheVariants as event
 use Rattle.world.specs.declared.reply.Reply.TheVariants as reply
 use Rattle.world.specs.States.{State, cursor_at, with_cursor, IsAtWork, IsSoundWorld, IsAt}
-use Rattle.world.specs.Steps.{cursor_tests, tests, IsRefused, IsCarriedOut, TurnsAt}
+use Rattle.world.specs.Calls.{reply_of_turn}
+use Rattle.world.specs.Steps.{cursor_tests, tests, IsRefused, IsCarriedOut, Step, TurnsAt}
 use Rattle.cursor.specs.declared.cursor.Turned.{Turned}
+use Rattle.cursor.specs.declared.cursor.Turned.TheVariants as turned
 use Rattle.world.proofs.Turning.{turn_unchanged, turn_serial, turn_work}
 use Rattle.std.proofs.Common.{Result}
 use Rattle.world.proofs.Serials.{member_all, member_within, put_at, without_at}
@@ -111,7 +113,7 @@ module _ {K A : Type 0} (rules : Rules K A) (rule : Rule) (old : State K A) (inv
   }
 
   -- a turn
-  pub turn_done_at : (how : Turned) → Turns rules rule old.search.tree old.commits before (Ok how) later → TurnsAt rules rule old c (Ok how) (record old { cursors = set old.cursors at later })
+  turn_done_at : (how : Turned) → Turns rules rule old.search.tree old.commits before (Ok how) later → TurnsAt rules rule old c (Ok how) (record old { cursors = set old.cursors at later })
   turn_done_at how t = record {
     before = before;
     later = later;
@@ -120,7 +122,7 @@ module _ {K A : Type 0} (rules : Rules K A) (rule : Rule) (old : State K A) (inv
     after = put_as rules.is_cover old inv c at a before is later (turn_serial rules rule old.search.tree old.commits before later (Ok how) t);
   }
 
-  pub turn_refused : (C : Type 0) (why : Refusal) → Turns rules rule old.search.tree old.commits before (Err why) later → IsRefused {C = C} rules rule old (event.Turn c) why (record old { cursors = set old.cursors at later })
+  turn_refused : (C : Type 0) (why : Refusal) → Turns rules rule old.search.tree old.commits before (Err why) later → IsRefused {C = C} rules rule old (event.Turn c) why (record old { cursors = set old.cursors at later })
   turn_refused C why t =
       let e = turn_unchanged rules rule old.search.tree old.commits before later why t in
       record {
@@ -134,6 +136,13 @@ module _ {K A : Type 0} (rules : Rules K A) (rule : Rule) (old : State K A) (inv
         );
         unchanged = same_put e;
       }
+
+  -- whatever the turn, the event is answered with it
+  pub turn_steps : (C O E : Type 0) (seat : ℕ) (how : Result Turned Refusal) → Turns rules rule old.search.tree old.commits before how later → Step {C = C} rules rule seat old (event.Turn c) (reply_of_turn C O E how) (record old { cursors = set old.cursors at later })
+  turn_steps C O E seat (Ok turned.Offered) t = record { passed = at_passes rules.is_cover old inv c at a; change = turn_done_at turned.Offered t }
+  turn_steps C O E seat (Ok (turned.Visited page)) t = record { passed = at_passes rules.is_cover old inv c at a; change = turn_done_at (turned.Visited page) t }
+  turn_steps C O E seat (Ok (turned.Passed n)) t = record { passed = at_passes rules.is_cover old inv c at a; change = turn_done_at (turned.Passed n) t }
+  turn_steps C O E seat (Err why) t = turn_refused C why t
 
   pub turn_sound : {same_key : K → K → Bool} {same_atom : A → A → Bool} → IsLawful rules same_key same_atom → (result : Result Turned Refusal) → Turns rules rule old.search.tree old.commits before result later → IsSoundWorld rules.is_cover (record old { cursors = set old.cursors at later })
   turn_sound lawful result t =

@@ -16,7 +16,7 @@ use Rattle.split.proofs.RowsDone.{placeable}
 use Rattle.world.specs.declared.event.Event.TheVariants as event
 use Rattle.world.specs.declared.reply.Reply.TheVariants as reply
 use Rattle.world.specs.Stamps.{Stamp}
-use Rattle.world.specs.States.{State, IsSoundWorld}
+use Rattle.world.specs.States.{State, IsNextStamp, IsSoundWorld}
 use Rattle.world.specs.Steps.{tests, IsRefused, IsCarriedOut}
 use Rattle.world.proofs.Sounding.{placed_sound}
 use Rattle.world.proofs.PageSteps.{placed_tree}
@@ -60,7 +60,7 @@ module _ {K A : Type 0} (rules : Rules K A) (rule : Rule) (old : State K A) (pag
     pub place_sound : IsSoundWorld rules.is_cover old → IsSoundWorld rules.is_cover (record { search = search'; limit = old.limit; commits = commits; cursors = old.cursors; last = old.last; finders = old.finders; last_finder = old.last_finder })
     place_sound s = rw (placed, pushed, is) (placed_sound rules.is_cover old s page page_exists key tag room (placed_tree rules.is_cover old.search s.tree page key passed _ refl))
 
-    pub place_done : (C O E : Type 0) (seat : ℕ) (stamp : Stamp K) → stamp ≡ record { number = length old.commits + 1; seat = seat; write = Insert key tag }
+    pub place_done : (C O E : Type 0) (seat : ℕ) (stamp : Stamp K) → IsNextStamp old seat (Insert key tag) stamp
         → IsCarriedOut {C = C} {O = O} {E = E} rules rule seat old (event.Place page key tag) (reply.Committed stamp) (record { search = search'; limit = old.limit; commits = commits; cursors = old.cursors; last = old.last; finders = old.finders; last_finder = old.last_finder })
     place_done C O E seat stamp stamped = record {
       passed = place_passed C rules rule old page key tag passed room;

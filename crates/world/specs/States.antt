@@ -12,6 +12,7 @@ use Rattle.scan.specs.Agreement.{Agrees}
 use Rattle.cursor.specs.OpenCursors.{OpenCursor}
 use Rattle.descent.specs.Finders.{OpenFinder, FindsRow, IsSeeking}
 use Rattle.world.specs.Serials.{member, put, Rise, IsMember}
+use Rattle.world.specs.Stamps.{Stamp}
 
 pub record State (K A : Type 0) : Type 0 where
   -- the pages with their limits
@@ -50,6 +51,10 @@ module _ {K : Type 0} where
     pub last_serial : last ≤ greatest_serial
 
 module _ {K A : Type 0} where
+  -- the stamp of the next commit
+  abbrev pub IsNextStamp : State K A → ℕ → Write K → Stamp K → Type 0
+  IsNextStamp s seat write stamp = stamp ≡ record { number = length s.commits + 1; seat = seat; write = write }
+
   -- the open cursor with a serial
   abbrev pub cursor_at : State K A → ℕ → Option (OpenCursor K A)
   cursor_at s c = member (λ k. k.serial) c s.cursors

@@ -30,7 +30,7 @@ use Rattle.world.specs.declared.reply.Reply.{Reply}
 use Rattle.world.specs.declared.reply.Reply.TheVariants as reply
 use Rattle.world.specs.Serials.{without}
 use Rattle.world.specs.Stamps.{Stamp}
-use Rattle.world.specs.States.{State, Meets, new_state, cursor_at, finder_at, with_pages, with_cursor, with_finder}
+use Rattle.world.specs.States.{State, IsNextStamp, Meets, new_state, cursor_at, finder_at, with_pages, with_cursor, with_finder}
 use Rattle.world.specs.Traces.{Trace}
 
 -- the first test that fails gives the refusal
@@ -98,7 +98,7 @@ module _ {K A : Type 0} where
 
   -- the commit is the next, and a leaf has its row at the end
   pub record Places (seat : ℕ) (old : State K A) (page : ℕ) (key : K) (tag : ℕ) (stamp : Stamp K) (new : State K A) : Type 0 where
-    pub stamped : stamp ≡ record { number = length old.commits + 1; seat = seat; write = Insert key tag }
+    pub stamped : IsNextStamp old seat (Insert key tag) stamp
     pub after : new ≡ record old {
       search = record old.search { tree = after_rows old.search.tree page ((page_at old.search.tree page).rows ++ (record { key = key; row = length old.commits + 1; tag = tag; died = None }) ∷ []) };
       commits = old.commits ++ Insert key tag ∷ [];
@@ -125,7 +125,7 @@ module _ {K A : Type 0} where
     pub is_open : finder_at old f ≡ Some finder
     pub page : ℕ
     pub finds : FindsRow old.search.tree finder page
-    pub stamped : stamp ≡ record { number = length old.commits + 1; seat = seat; write = Delete finder.row }
+    pub stamped : IsNextStamp old seat (Delete finder.row) stamp
     pub after : new ≡ record old {
       search = record old.search { tree = after_bury old.search.tree page finder.row (length old.commits + 1) };
       commits = old.commits ++ Delete finder.row ∷ [];
@@ -141,7 +141,7 @@ module _ {K A : Type 0} where
     pub finds : FindsRow old.search.tree finder page
     pub row : Row K
     pub is_row : row_at old.commits finder.row ≡ Some row
-    pub stamped : stamp ≡ record { number = length old.commits + 1; seat = seat; write = Move finder.row key }
+    pub stamped : IsNextStamp old seat (Move finder.row key) stamp
     pub after : new ≡ record old {
       search = record old.search { tree = after_move old.search.tree page finder.row (length old.commits + 1) leaf (record { key = key; row = length old.commits + 1; tag = row.tag; died = None }) };
       commits = old.commits ++ Move finder.row key ∷ [];

@@ -1,12 +1,12 @@
 //! Events of cursors.
-ghost use Rattle.std.specs.Prelude.{◌≡◌};
+ghost use Rattle.std.specs.Prelude.{◌≡◌, IfOk};
 ghost use Rattle.world.specs.declared.event.Event.TheVariants as event;
 ghost use Rattle.split.specs.Tests.{first_failing};
+ghost use Rattle.world.specs.Calls.{reply_of_asking, reply_of_closing, reply_of_opening, reply_of_taking, reply_of_turn};
 ghost use Rattle.world.specs.Steps.{Acts, open_tests};
-ghost use Rattle.world.specs.Promises.{HandsOut};
 
-use crate::reply::Reply;
 use crate::world::World;
+use change_list::Item;
 use cursor::{Cursor, Turned};
 use key_class::limits::{MAX_CURSORS, MAX_DEPTH, MAX_ROOM, MAX_SERIAL};
 use key_class::{KeyClass, Pred, Refusal};
@@ -27,82 +27,68 @@ impl<C: KeyClass, O: Outlet<C::Key>> World<C, O> {
         None
     }
 
-    pub(crate) fn open(&mut self, query: Pred<C::Atom>, room: u64) -> Reply<C, O>
-        ensures step { Acts C.rules O.rule self.old (event.Open query room) result self.new }
-        ensures fresh { HandsOut O.fresh result }
+    pub(crate) fn open(&mut self, query: Pred<C::Atom>, room: u64) -> Result<(u64, O::End), Refusal>
+        ensures step { Acts C.rules O.rule self.old (event.Open query room)
+            (reply_of_opening C O O.End result) self.new }
+        ensures fresh { IfOk result (λ made. O.fresh made.1) }
     {
         if let Some(refusal) = self.open_refusal(&query, room) {
-            return Reply::Refused(refusal);
+            return Err(refusal);
         }
         let alloc = self.allocator();
         let Ok((outlet, end)) = O::make(alloc, room as u32) else {
-            return Reply::Refused(Refusal::OutOfMemory);
+            return Err(Refusal::OutOfMemory);
         };
         let Ok(query) = Arc::new(alloc, query) else {
-            return Reply::Refused(Refusal::OutOfMemory);
+            return Err(Refusal::OutOfMemory);
         };
         let opened = self.changes.len() as u32;
         let counter = self.search.pages().counter();
         let serial = self.last + 1;
         let cursor = Cursor::new(alloc, serial, query, opened, counter, outlet);
         if self.cursors.push(cursor).is_err() {
-            return Reply::Refused(Refusal::OutOfMemory);
+            return Err(Refusal::OutOfMemory);
         }
         self.last = serial;
-        Reply::Opened(serial, end)
+        Ok((serial, end))
     }
 
-    pub(crate) fn turn(&mut self, c: u64) -> Reply<C, O>
-        ensures { Acts C.rules O.rule self.old (event.Turn c) result self.new }
+    pub(crate) fn turn(&mut self, c: u64) -> Result<Turned, Refusal>
+        ensures { Acts C.rules O.rule self.old (event.Turn c)
+            (reply_of_turn C O O.End result) self.new }
     {
-        let at = match self.place_of(c) {
-            Ok(at) => at,
-            Err(refusal) => return Reply::Refused(refusal),
-        };
+        let at = self.place_of(c)?;
         let alloc = self.allocator();
-        match self.cursors[at].turn(alloc, self.search.pages(), &self.changes) {
-            Ok(Turned::Offered) => return Reply::Offered,
-            Ok(Turned::Visited(page)) => return Reply::Visited(page),
-            Ok(Turned::Passed(commit)) => return Reply::Passed(commit),
-            Err(refusal) => return Reply::Refused(refusal),
-        }
+        self.cursors[at].turn(alloc, self.search.pages(), &self.changes)
     }
 
-    pub(crate) fn ask_mark(&mut self, c: u64) -> Reply<C, O>
-        ensures { Acts C.rules O.rule self.old (event.AskMark c) result self.new }
+    pub(crate) fn ask_mark(&mut self, c: u64) -> Result<(), Refusal>
+        ensures { Acts C.rules O.rule self.old (event.AskMark c)
+            (reply_of_asking C O O.End result) self.new }
     {
-        match self.place_of(c) {
-            Ok(at) => {
-                self.cursors[at].ask_mark();
-                return Reply::Asked;
-            }
-            Err(refusal) => return Reply::Refused(refusal),
-        }
+        let at = self.place_of(c)?;
+        self.cursors[at].ask_mark();
+        Ok(())
     }
 
-    pub(crate) fn take(&mut self, c: u64) -> Reply<C, O>
-        ensures { Acts C.rules O.rule self.old (event.Take c) result self.new }
+    pub(crate) fn take(&mut self, c: u64) -> Result<Option<Item<C::Key>>, Refusal>
+        ensures { Acts C.rules O.rule self.old (event.Take c)
+            (reply_of_taking C O O.End result) self.new }
     {
-        let at = match self.place_of(c) {
-            Ok(at) => at,
-            Err(refusal) => return Reply::Refused(refusal),
-        };
+        let at = self.place_of(c)?;
         match self.cursors[at].take() {
-            Taken::Item(item) => return Reply::Taken(item),
-            Taken::Nothing => return Reply::Nothing,
-            Taken::Elsewhere => return Reply::Refused(Refusal::NotHere),
+            Taken::Item(item) => return Ok(Some(item)),
+            Taken::Nothing => return Ok(None),
+            Taken::Elsewhere => return Err(Refusal::NotHere),
         }
     }
 
-    pub(crate) fn close(&mut self, c: u64) -> Reply<C, O>
-        ensures { Acts C.rules O.rule self.old (event.Close c) result self.new }
+    pub(crate) fn close(&mut self, c: u64) -> Result<(), Refusal>
+        ensures { Acts C.rules O.rule self.old (event.Close c)
+            (reply_of_closing C O O.End result) self.new }
     {
-        match self.place_of(c) {
-            Ok(at) => {
-                self.cursors.remove(at);
-                return Reply::Closed;
-            }
-            Err(refusal) => return Reply::Refused(refusal),
-        }
+        let at = self.place_of(c)?;
+        self.cursors.remove(at);
+        Ok(())
     }
 }

@@ -3,6 +3,7 @@ ghost use Rattle.std.specs.Prelude.{◌≡◌, None, IfOk, IfErr};
 ghost use Rattle.change_list.specs.Changes.{HasKey};
 ghost use Rattle.split.specs.Tests.{first_failing};
 ghost use Rattle.world.specs.declared.event.Event.TheVariants as event;
+ghost use Rattle.world.specs.Calls.{reply_of_commit, reply_of_finder, reply_of_visit};
 ghost use Rattle.world.specs.States.{Meets};
 ghost use Rattle.world.specs.Steps.{Acts, FirstFails, Step, VisitsFor, find_tests};
 
@@ -36,21 +37,19 @@ impl<C: KeyClass, O: Outlet<C::Key>> World<C, O> {
         Ok(found.key)
     }
 
-    pub(crate) fn find(&mut self, row: u64) -> Reply<C, O>
-        ensures { Acts C.rules O.rule self.old (event.Find row) result self.new }
+    pub(crate) fn find(&mut self, row: u64) -> Result<u64, Refusal>
+        ensures { Acts C.rules O.rule self.old (event.Find row)
+            (reply_of_finder C O O.End result) self.new }
     {
-        let key = match self.key_to_find(row) {
-            Ok(key) => key,
-            Err(refusal) => return Reply::Refused(refusal),
-        };
+        let key = self.key_to_find(row)?;
         let counter = self.search.pages().counter();
         let serial = self.last_finder + 1;
         let finder = Finder::new(self.allocator(), serial, row as u32, key, counter);
         if self.finders.push(finder).is_err() {
-            return Reply::Refused(Refusal::OutOfMemory);
+            return Err(Refusal::OutOfMemory);
         }
         self.last_finder = serial;
-        Reply::Finder(serial)
+        Ok(serial)
     }
 
     /// Lets a finder visit one page. Where that holds its row, gives the finder's place and the page; else the finder
@@ -71,42 +70,45 @@ impl<C: KeyClass, O: Outlet<C::Key>> World<C, O> {
         }
     }
 
-    pub(crate) fn seek(&mut self, seat: u32, f: u64) -> Reply<C, O>
-        ensures { Step C.rules O.rule seat self.old (event.Seek f) result self.new }
+    pub(crate) fn seek(&mut self, seat: u32, f: u64) -> Result<Option<Stamped<C::Key>>, Refusal>
+        ensures { Step C.rules O.rule seat self.old (event.Seek f)
+            (reply_of_visit C O O.End result) self.new }
     {
-        match self.visit_for(f) {
-            Ok(Some((at, page))) => return self.bury(seat, f, at, page),
-            Ok(None) => return Reply::Seeking,
-            Err(refusal) => return Reply::Refused(refusal),
+        match self.visit_for(f)? {
+            Some((at, page)) => Ok(Some(self.bury(seat, f, at, page)?)),
+            None => Ok(None),
         }
     }
 
     /// Deletes the row of a finder that has met it on a page.
-    fn bury(&mut self, seat: u32, f: u64, at: usize, page: u32) -> Reply<C, O>
+    fn bury(&mut self, seat: u32, f: u64, at: usize, page: u32) -> Result<Stamped<C::Key>, Refusal>
         requires { Meets self.old f at page }
-        ensures { Step C.rules O.rule seat self.old (event.Seek f) result self.new }
+        ensures { Step C.rules O.rule seat self.old (event.Seek f)
+            (reply_of_commit C O O.End result) self.new }
     {
         if self.changes.len() as u64 >= self.limit {
-            return Reply::Refused(Refusal::CommitsFull);
+            return Err(Refusal::CommitsFull);
         }
         let alloc = self.allocator();
         let change = LeafChange::Bury(u64::from(page), self.finders[at].row());
-        match commit(alloc, &mut self.search, &mut self.changes, change) {
-            Ok(number) => {
-                self.finders.remove(at);
-                return Reply::Committed(Stamped::new(number, seat, change.write()));
-            }
-            Err(refusal) => return Reply::Refused(refusal),
-        }
+        let number = commit(alloc, &mut self.search, &mut self.changes, change)?;
+        self.finders.remove(at);
+        Ok(Stamped::new(number, seat, change.write()))
     }
 
-    pub(crate) fn move_row(&mut self, seat: u32, f: u64, leaf: u64, key: C::Key) -> Reply<C, O>
-        ensures { Step C.rules O.rule seat self.old (event.Move f leaf key) result self.new }
+    pub(crate) fn move_row(
+        &mut self,
+        seat: u32,
+        f: u64,
+        leaf: u64,
+        key: C::Key,
+    ) -> Result<Option<Stamped<C::Key>>, Refusal>
+        ensures { Step C.rules O.rule seat self.old (event.Move f leaf key)
+            (reply_of_visit C O O.End result) self.new }
     {
-        match self.visit_for(f) {
-            Ok(Some((at, page))) => return self.relocate(seat, f, at, page, leaf, key),
-            Ok(None) => return Reply::Seeking,
-            Err(refusal) => return Reply::Refused(refusal),
+        match self.visit_for(f)? {
+            Some((at, page)) => Ok(Some(self.relocate(seat, f, at, page, leaf, key)?)),
+            None => Ok(None),
         }
     }
 
@@ -119,15 +121,16 @@ impl<C: KeyClass, O: Outlet<C::Key>> World<C, O> {
         page: u32,
         leaf: u64,
         key: C::Key,
-    ) -> Reply<C, O>
+    ) -> Result<Stamped<C::Key>, Refusal>
         requires { Meets self.old f at page }
-        ensures { Step C.rules O.rule seat self.old (event.Move f leaf key) result self.new }
+        ensures { Step C.rules O.rule seat self.old (event.Move f leaf key)
+            (reply_of_commit C O O.End result) self.new }
     {
         if let Some(refusal) = self.search.place_refusal(leaf, key) {
-            return Reply::Refused(refusal);
+            return Err(refusal);
         }
         if self.changes.len() as u64 >= self.limit {
-            return Reply::Refused(Refusal::CommitsFull);
+            return Err(Refusal::CommitsFull);
         }
         let alloc = self.allocator();
         let row = self.finders[at].row();
@@ -135,13 +138,9 @@ impl<C: KeyClass, O: Outlet<C::Key>> World<C, O> {
             unreachable!()
         };
         let change = LeafChange::Move(u64::from(page), row, leaf, key, found.tag);
-        match commit(alloc, &mut self.search, &mut self.changes, change) {
-            Ok(number) => {
-                self.finders.remove(at);
-                return Reply::Committed(Stamped::new(number, seat, change.write()));
-            }
-            Err(refusal) => return Reply::Refused(refusal),
-        }
+        let number = commit(alloc, &mut self.search, &mut self.changes, change)?;
+        self.finders.remove(at);
+        Ok(Stamped::new(number, seat, change.write()))
     }
 
     pub(crate) fn unfind(&mut self, f: u64) -> Reply<C, O>

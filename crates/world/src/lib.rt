@@ -1,6 +1,7 @@
 //! The state machine of a tree with cursors: one event, one atomic step.
 #![tactic(auto)]
 
+mod calls;
 mod commit;
 mod cursors;
 mod event;

@@ -1,5 +1,6 @@
 //! Events that change pages.
 ghost use Rattle.world.specs.declared.event.Event.TheVariants as event;
+ghost use Rattle.world.specs.Calls.{reply_of_commit, reply_of_sweep};
 ghost use Rattle.world.specs.Steps.{Acts, Step};
 
 use crate::commit::{LeafChange, commit};
@@ -46,30 +47,34 @@ impl<C: KeyClass, O: Outlet<C::Key>> World<C, O> {
         }
     }
 
-    pub(crate) fn place(&mut self, seat: u32, page: u64, key: C::Key, tag: u64) -> Reply<C, O>
-        ensures { Step C.rules O.rule seat self.old (event.Place page key tag) result self.new }
+    pub(crate) fn place(
+        &mut self,
+        seat: u32,
+        page: u64,
+        key: C::Key,
+        tag: u64,
+    ) -> Result<Stamped<C::Key>, Refusal>
+        ensures { Step C.rules O.rule seat self.old (event.Place page key tag)
+            (reply_of_commit C O O.End result) self.new }
     {
         if let Some(refusal) = self.search.place_refusal(page, key) {
-            return Reply::Refused(refusal);
+            return Err(refusal);
         }
         if self.changes.len() as u64 >= self.limit {
-            return Reply::Refused(Refusal::CommitsFull);
+            return Err(Refusal::CommitsFull);
         }
         let alloc = self.allocator();
         let change = LeafChange::Place(page, key, tag);
-        match commit(alloc, &mut self.search, &mut self.changes, change) {
-            Ok(number) => return Reply::Committed(Stamped::new(number, seat, change.write())),
-            Err(refusal) => return Reply::Refused(refusal),
-        }
+        let number = commit(alloc, &mut self.search, &mut self.changes, change)?;
+        Ok(Stamped::new(number, seat, change.write()))
     }
 
-    pub(crate) fn sweep(&mut self, page: u64) -> Reply<C, O>
-        ensures { Acts C.rules O.rule self.old (event.Sweep page) result self.new }
+    pub(crate) fn sweep(&mut self, page: u64) -> Result<u64, Refusal>
+        ensures { Acts C.rules O.rule self.old (event.Sweep page)
+            (reply_of_sweep C O O.End result) self.new }
     {
         let horizon = horizon(self.cursors.as_slice(), self.changes.len() as u32);
-        match self.search.sweep(page, horizon) {
-            Ok(count) => return Reply::Swept(count as u64),
-            Err(refusal) => return Reply::Refused(refusal),
-        }
+        let count = self.search.sweep(page, horizon)?;
+        Ok(count as u64)
     }
 }

@@ -1,7 +1,9 @@
 //! What a world answers to an event.
 ghost use Rattle.std.specs.Prelude.{◌≡◌};
+ghost use Rattle.world.specs.Calls as call;
 
 use change_list::{Item, Write};
+use cursor::Turned;
 use key_class::{KeyClass, Refusal};
 use mailbox::Outlet;
 use std::marker::Model;
@@ -90,4 +92,100 @@ pub enum Reply<C: KeyClass, O: Outlet<C::Key>> {
     Closed,
     /// Nothing was changed.
     Refused(Refusal),
+}
+
+impl<C: KeyClass, O: Outlet<C::Key>> Reply<C, O> {
+    /// To an event that commits.
+    pub(crate) fn of_commit(answer: Result<Stamped<C::Key>, Refusal>) -> Reply<C, O>
+        ensures { result ≡ call.reply_of_commit C O O.End answer }
+    {
+        match answer {
+            Ok(stamp) => Reply::Committed(stamp),
+            Err(refusal) => Reply::Refused(refusal),
+        }
+    }
+
+    /// To a visit of a finder, which commits where it meets its row.
+    pub(crate) fn of_visit(answer: Result<Option<Stamped<C::Key>>, Refusal>) -> Reply<C, O>
+        ensures { result ≡ call.reply_of_visit C O O.End answer }
+    {
+        match answer {
+            Ok(Some(stamp)) => Reply::Committed(stamp),
+            Ok(None) => Reply::Seeking,
+            Err(refusal) => Reply::Refused(refusal),
+        }
+    }
+
+    /// To an event that opens a finder.
+    pub(crate) fn of_finder(answer: Result<u64, Refusal>) -> Reply<C, O>
+        ensures { result ≡ call.reply_of_finder C O O.End answer }
+    {
+        match answer {
+            Ok(serial) => Reply::Finder(serial),
+            Err(refusal) => Reply::Refused(refusal),
+        }
+    }
+
+    /// To a sweep.
+    pub(crate) fn of_sweep(answer: Result<u64, Refusal>) -> Reply<C, O>
+        ensures { result ≡ call.reply_of_sweep C O O.End answer }
+    {
+        match answer {
+            Ok(count) => Reply::Swept(count),
+            Err(refusal) => Reply::Refused(refusal),
+        }
+    }
+
+    /// To an event that opens a cursor.
+    pub(crate) fn of_opening(answer: Result<(u64, O::End), Refusal>) -> Reply<C, O>
+        ensures { result ≡ call.reply_of_opening C O O.End answer }
+    {
+        match answer {
+            Ok((serial, end)) => Reply::Opened(serial, end),
+            Err(refusal) => Reply::Refused(refusal),
+        }
+    }
+
+    /// To a turn.
+    pub(crate) fn of_turn(answer: Result<Turned, Refusal>) -> Reply<C, O>
+        ensures { result ≡ call.reply_of_turn C O O.End answer }
+    {
+        match answer {
+            Ok(Turned::Offered) => Reply::Offered,
+            Ok(Turned::Visited(page)) => Reply::Visited(page),
+            Ok(Turned::Passed(commit)) => Reply::Passed(commit),
+            Err(refusal) => Reply::Refused(refusal),
+        }
+    }
+
+    /// To an event that asks for a mark.
+    pub(crate) fn of_asking(answer: Result<(), Refusal>) -> Reply<C, O>
+        ensures { result ≡ call.reply_of_asking C O O.End answer }
+    {
+        match answer {
+            Ok(()) => Reply::Asked,
+            Err(refusal) => Reply::Refused(refusal),
+        }
+    }
+
+    /// To an event that takes an item.
+    pub(crate) fn of_taking(answer: Result<Option<Item<C::Key>>, Refusal>) -> Reply<C, O>
+        ensures { result ≡ call.reply_of_taking C O O.End answer }
+    {
+        match answer {
+            Ok(Some(item)) => Reply::Taken(item),
+            Ok(None) => Reply::Nothing,
+            Err(refusal) => Reply::Refused(refusal),
+        }
+    }
+
+    /// To an event that closes a cursor.
+    pub(crate) fn of_closing(answer: Result<(), Refusal>) -> Reply<C, O>
+        ensures { result ≡ call.reply_of_closing C O O.End answer }
+    {
+        match answer {
+            Ok(()) => Reply::Closed,
+            Err(refusal) => Reply::Refused(refusal),
+        }
+    }
 }

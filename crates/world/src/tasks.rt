@@ -12,7 +12,6 @@ ghost use Rattle.world.specs.Tasks.{HasPage, HasVisit, IsLate, IsSplitOf, IsStal
 use crate::event::Event;
 use crate::reply::Reply;
 use crate::world::World;
-use cursor::Turned;
 use descent::keys_of;
 use key_class::{KeyClass, Refusal, Sides};
 use mailbox::Outlet;
@@ -206,12 +205,7 @@ impl<C: KeyClass, O: Outlet<C::Key>> World<C, O> {
         requires worked { visit.worked ≡ true }
         ensures { Acts C.rules O.rule self.old (event.Turn c) result self.new }
     {
-        match self.cursors[at].turn_prepared(self.search.pages(), visit) {
-            Ok(Turned::Offered) => return Reply::Offered,
-            Ok(Turned::Visited(page)) => return Reply::Visited(page),
-            Ok(Turned::Passed(commit)) => return Reply::Passed(commit),
-            Err(refusal) => return Reply::Refused(refusal),
-        }
+        Reply::of_turn(self.cursors[at].turn_prepared(self.search.pages(), visit))
     }
 
     /// Whether the cursor at a place is due to make the visit.

@@ -238,20 +238,24 @@ impl<C: KeyClass, O: Outlet<C::Key>> World<C, O> {
     {
         match event {
             Event::Enlarge(parent, child, key) => return self.enlarge(parent, child, key),
-            Event::Place(page, key, tag) => return self.place(seat, page, key, tag),
+            Event::Place(page, key, tag) => {
+                return Reply::of_commit(self.place(seat, page, key, tag));
+            }
             Event::Split(page, sides) => return self.split(page, &sides),
             Event::Post(parent, child) => return self.post(parent, child),
             Event::Grow(sides) => return self.grow(&sides),
-            Event::Find(row) => return self.find(row),
-            Event::Seek(finder) => return self.seek(seat, finder),
-            Event::Move(finder, leaf, key) => return self.move_row(seat, finder, leaf, key),
+            Event::Find(row) => return Reply::of_finder(self.find(row)),
+            Event::Seek(finder) => return Reply::of_visit(self.seek(seat, finder)),
+            Event::Move(finder, leaf, key) => {
+                return Reply::of_visit(self.move_row(seat, finder, leaf, key));
+            }
             Event::Unfind(finder) => return self.unfind(finder),
-            Event::Sweep(page) => return self.sweep(page),
-            Event::Open(query, room) => return self.open(query, room),
-            Event::Turn(cursor) => return self.turn(cursor),
-            Event::AskMark(cursor) => return self.ask_mark(cursor),
-            Event::Take(cursor) => return self.take(cursor),
-            Event::Close(cursor) => return self.close(cursor),
+            Event::Sweep(page) => return Reply::of_sweep(self.sweep(page)),
+            Event::Open(query, room) => return Reply::of_opening(self.open(query, room)),
+            Event::Turn(cursor) => return Reply::of_turn(self.turn(cursor)),
+            Event::AskMark(cursor) => return Reply::of_asking(self.ask_mark(cursor)),
+            Event::Take(cursor) => return Reply::of_taking(self.take(cursor)),
+            Event::Close(cursor) => return Reply::of_closing(self.close(cursor)),
         }
     }
 }

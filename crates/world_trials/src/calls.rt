@@ -1,11 +1,12 @@
 use super::steps::{Ask, Trial, new_world, trace_of};
-use change_list::{Config, Write};
+use change_list::{Config, Item, Write};
+use cursor::Turned;
 use interval_class::{Atom, Interval, Intervals};
 use key_class::{Pred, Refusal, Rel};
 use mailbox::Tray;
 use std::alloc::Global;
 use std::test::Fail;
-use world::{Event, Reply};
+use world::{Event, Reply, Stamped};
 
 const CONFIG: Config = Config {
     fan: 4,
@@ -76,6 +77,59 @@ fn rows(world: &Trial, page: u64) -> Option<usize> {
     Some(world.page(page)?.rows().len())
 }
 
+/// Whether a stamp is that of a commit with a number, for a seat.
+fn is_of(stamp: Option<Stamped<Interval>>, number: u64, seat: u32) -> bool {
+    match stamp {
+        Some(stamp) => stamp.number() == number && stamp.seat() == seat,
+        None => false,
+    }
+}
+
+/// Whether a row that is placed, moved and deleted by calls leaves two dead ones to a sweep.
+fn ends_rows(world: &mut Trial) -> Result<bool, Fail> {
+    let placed = world.place_row(7, 0, key()?, 5)?;
+    let first = world.open_finder(1)?;
+    let moved = world.seek_to_move(8, first, 0, key()?)?;
+    let second = world.open_finder(2)?;
+    let deleted = world.seek_to_delete(9, second)?;
+    let swept = world.sweep_page(0)?;
+    Ok(is_of(Some(placed), 1, 7) && is_of(moved, 2, 8) && is_of(deleted, 3, 9) && swept == 2)
+}
+
+/// Whether a new cursor, by calls, visits the root, offers the row that was placed before, which has the number, and then
+/// nothing.
+fn offers_row(alloc: Global, world: &mut Trial, number: u64) -> Result<bool, Fail> {
+    let placed = world.place_row(7, 0, key()?, 6)?;
+    let (cursor, ()) = world.open_cursor(nested(alloc, 0)?, 1)?;
+    let visited = world.turn_cursor(cursor)?;
+    let offered = world.turn_cursor(cursor)?;
+    let front = world.take_front(cursor)?;
+    let next = world.take_front(cursor)?;
+    Ok(
+        placed.number() == number
+            && matches!(&visited, Turned::Visited(0))
+            && matches!(&offered, Turned::Offered)
+            && matches!(&front, Some(Item::Row(row)) if row.row == number)
+            && next.is_none(),
+    )
+}
+
+/// Whether a cursor that has nothing to give, by calls, gives a mark, and nothing more once it is closed.
+fn marks_and_closes(world: &mut Trial, cursor: u64, commits: u64) -> Result<bool, Fail> {
+    let idle = world.turn_cursor(cursor).err();
+    world.ask_cursor(cursor)?;
+    let offered = world.turn_cursor(cursor)?;
+    let mark = world.take_front(cursor)?;
+    world.close_cursor(cursor)?;
+    let closed = world.take_front(cursor).err();
+    Ok(
+        idle == Some(Refusal::Idle)
+            && matches!(&offered, Turned::Offered)
+            && mark == Some(Item::Mark(commits))
+            && closed == Some(Refusal::CursorClosed),
+    )
+}
+
 /// A query with `count` times `not` before an atom.
 fn nested(alloc: Global, count: u32) -> Result<Pred<Atom>, Fail> {
     let mut query = Pred::Atom(Atom {
@@ -111,6 +165,12 @@ enum Deed {
     CountRows(u64, Option<usize>),
     /// A cursor of a query with so many times `not` is opened, or refused.
     Open(u32, Result<u64, Refusal>),
+    /// By calls: a row is placed, moved and deleted.
+    EndRows,
+    /// By calls: a row is placed, and a cursor opened, which offers it: the row with this number.
+    OfferRow(u64),
+    /// By calls: the cursor marks that so many commits were given, and is closed.
+    Mark(u64, u64),
 }
 
 fn is_done(alloc: Global, world: &mut Trial, deed: Deed) -> Result<bool, Fail> {
@@ -123,6 +183,9 @@ fn is_done(alloc: Global, world: &mut Trial, deed: Deed) -> Result<bool, Fail> {
         Deed::CountPages(count) => Ok(world.pages() == count),
         Deed::CountRows(page, count) => Ok(rows(world, page) == count),
         Deed::Open(nots, wanted) => Ok(opened(alloc, world, nots)? == wanted),
+        Deed::EndRows => ends_rows(world),
+        Deed::OfferRow(number) => offers_row(alloc, world, number),
+        Deed::Mark(cursor, commits) => marks_and_closes(world, cursor, commits),
     }
 }
 
@@ -156,6 +219,21 @@ static DEEDS: [Deed; 12] = [
 fn tells_commits_and_pages_and_opens_deep_queries(rt: HostRuntime) -> Result<(), Fail> {
     let mut world = new_world(rt.alloc(), CONFIG)?;
     let wrong = first_wrong(rt.alloc(), &mut world, &DEEDS)?;
+    assert!(rt; wrong.is_none(), "{wrong:?}");
+    Ok(())
+}
+
+static CALLS: [Deed; 4] = [
+    Deed::EndRows,
+    Deed::CountRows(0, Some(0)),
+    Deed::OfferRow(4),
+    Deed::Mark(1, 4),
+];
+
+#[test]
+fn calls_tell_what_their_events_do(rt: HostRuntime) -> Result<(), Fail> {
+    let mut world = new_world(rt.alloc(), CONFIG)?;
+    let wrong = first_wrong(rt.alloc(), &mut world, &CALLS)?;
     assert!(rt; wrong.is_none(), "{wrong:?}");
     Ok(())
 }

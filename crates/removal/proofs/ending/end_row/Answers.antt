@@ -1,68 +1,62 @@
-use Rattle.std.proofs.Common.{◌≡◌, Err, ap, inl, subst, sym}
+use Rattle.std.proofs.Common.{◌≡◌, ◌∙◌, Ok, Err, ap, inl, subst, sym}
+use Rattle.std.proofs.lemmas.Result.{err_from_is_err_and}
 use Rattle.key_class.specs.declared.refusal.Refusal.TheVariants as refusal
-use Rattle.world.specs.declared.reply.Reply.TheVariants as reply
-use Rattle.world.specs.Promises.{ServesAll}
-use Rattle.world.specs.Steps.{IsRefused, Step}
-use Rattle.removal.proofs.UnderWay.{has_place, refused_finder, refuses_finder, IsUnderWay, begun, ends_by, goes_on, gone_on, gone_less, no_other, refused, ended}
+use Rattle.removal.proofs.UnderWay.{has_place, refused_finder, refuses_finder, IsUnderWay, begun, ends_by, goes_on, gone_on, gone_less, went_on, met_row, refused, ended}
 use Rattle.removal.proofs.ending.end_row.Goals as goal
 
 pub seeking-init : goal.seeking-init
-seeking-init g c = begun g.C.KeyClass.rules g.O.Outlet.rule c.args.world.now c.args.row c.in-Finder.finder c.step.new.self c.in-Finder.ensures.serves c.in-Finder.ensures.step.change c.step.ensures.sound
+seeking-init g c = begun g.C.KeyClass.rules g.O.Outlet.rule c.args.world.now c.args.row c.in_ok-finder.finder c.open_finder.new.self c.in_ok-finder.ensures.serves c.in_ok-finder.ensures.step.change c.in_ok-finder.ensures.sound
 
 pub seeking-smaller : goal.seeking-smaller
 seeking-smaller g c =
-    let serves = subst (λ e. ServesAll g.C.KeyClass.rules g.O.Outlet.rule c.seeking.world e reply.Seeking c.step-in-seeking.new.self) c.visit.ensures c.in-Seeking.ensures.serves in
-    let step = subst (λ e. Step g.C.KeyClass.rules g.O.Outlet.rule 0 c.seeking.world e reply.Seeking c.step-in-seeking.new.self) c.visit.ensures c.in-Seeking.ensures.step in
-    gone_less g.C.KeyClass.rules g.O.Outlet.rule c.args.world.now c.args.row c.in-Finder.finder c.seeking.world c.seeking.invariant
-    c.args.ending c.step-in-seeking.new.self serves (goes_on g.C.KeyClass.rules g.O.Outlet.rule c.seeking.world c.in-Finder.finder c.args.ending c.step-in-seeking.new.self step) c.step-in-seeking.ensures.sound
+    let happened = went_on g.C.KeyClass.rules g.O.Outlet.rule c.seeking.world c.in_ok-finder.finder c.args.ending c.visit.result c.visit.new.world (c.in-Ok-None.is ∙ ap (λ x. Ok x) c.in-Ok-None.field-0-is) c.visit.ensures in
+    gone_less g.C.KeyClass.rules g.O.Outlet.rule c.args.world.now c.args.row c.in_ok-finder.finder c.seeking.world c.seeking.invariant
+    c.args.ending c.visit.new.world happened.serves (goes_on g.C.KeyClass.rules g.O.Outlet.rule c.seeking.world c.in_ok-finder.finder c.args.ending c.visit.new.world happened.step) happened.sound
 
 pub seeking-preserved : goal.seeking-preserved
 seeking-preserved g c =
-    let serves = subst (λ e. ServesAll g.C.KeyClass.rules g.O.Outlet.rule c.seeking.world e reply.Seeking c.step-in-seeking.new.self) c.visit.ensures c.in-Seeking.ensures.serves in
-    let step = subst (λ e. Step g.C.KeyClass.rules g.O.Outlet.rule 0 c.seeking.world e reply.Seeking c.step-in-seeking.new.self) c.visit.ensures c.in-Seeking.ensures.step in
-    gone_on g.C.KeyClass.rules g.O.Outlet.rule c.args.world.now c.args.row c.in-Finder.finder c.seeking.world c.seeking.invariant
-    c.args.ending c.step-in-seeking.new.self serves (goes_on g.C.KeyClass.rules g.O.Outlet.rule c.seeking.world c.in-Finder.finder c.args.ending c.step-in-seeking.new.self step) c.step-in-seeking.ensures.sound
+    let happened = went_on g.C.KeyClass.rules g.O.Outlet.rule c.seeking.world c.in_ok-finder.finder c.args.ending c.visit.result c.visit.new.world (c.in-Ok-None.is ∙ ap (λ x. Ok x) c.in-Ok-None.field-0-is) c.visit.ensures in
+    gone_on g.C.KeyClass.rules g.O.Outlet.rule c.args.world.now c.args.row c.in_ok-finder.finder c.seeking.world c.seeking.invariant
+    c.args.ending c.visit.new.world happened.serves (goes_on g.C.KeyClass.rules g.O.Outlet.rule c.seeking.world c.in_ok-finder.finder c.args.ending c.visit.new.world happened.step) happened.sound
 
-pub returns-in-Committed-clause-ended : goal.returns-in-Committed-clause-ended
-returns-in-Committed-clause-ended g c =
-    let serves = subst (λ e. ServesAll g.C.KeyClass.rules g.O.Outlet.rule c.seeking.world e (reply.Committed c.in-Committed.stamp) c.step-in-seeking.new.self) c.visit.ensures c.in-Committed.ensures.serves in
-    let step = subst (λ e. Step g.C.KeyClass.rules g.O.Outlet.rule 0 c.seeking.world e (reply.Committed c.in-Committed.stamp) c.step-in-seeking.new.self) c.visit.ensures c.in-Committed.ensures.step in
+pub returns-in-Ok-Some-clause-ended : goal.returns-in-Ok-Some-clause-ended
+returns-in-Ok-Some-clause-ended g c =
+    let happened = met_row g.C.KeyClass.rules g.O.Outlet.rule c.seeking.world c.in_ok-finder.finder c.args.ending c.in-Ok-Some.stamp c.visit.result c.visit.new.world (c.in-Ok-Some.is ∙ ap (λ x. Ok x) c.in-Ok-Some.field-0-is) c.visit.ensures in
     rw c.number.ensures
-    (ends_by g.C.KeyClass.rules g.O.Outlet.rule c.args.world.now c.args.row c.in-Finder.finder c.seeking.world c.seeking.invariant
-    c.args.ending c.in-Committed.stamp c.step-in-seeking.new.self c.requires.live c.requires.may serves step)
+    (ends_by g.C.KeyClass.rules g.O.Outlet.rule c.args.world.now c.args.row c.in_ok-finder.finder c.seeking.world c.seeking.invariant
+    c.args.ending c.in-Ok-Some.stamp c.visit.new.world c.requires.live c.requires.may happened.serves happened.step)
 
-pub returns-in-Refused-step-clause-left : goal.returns-in-Refused-step-clause-left
-returns-in-Refused-step-clause-left g c =
-    let step = subst (λ e. IsRefused g.C.KeyClass.rules g.O.Outlet.rule c.seeking.world e c.in-Refused-step.why c.step-in-seeking.new.self) c.visit.ensures c.in-Refused-step.ensures.step in
-    let because = refused g.C.KeyClass.rules g.O.Outlet.rule c.args.world.now c.args.row c.in-Finder.finder c.seeking.world c.seeking.invariant
-    c.args.ending c.in-Refused-step.why c.step-in-seeking.new.self c.requires.live c.requires.room c.requires.may step in
-    let under_way = subst (λ s. IsUnderWay g.C.KeyClass.rules g.O.Outlet.rule c.args.world.now c.args.row c.in-Finder.finder s) (sym because.1) c.seeking.invariant in
-    ended g.C.KeyClass.rules g.O.Outlet.rule c.args.world.now c.args.row c.in-Finder.finder c.step-in-seeking.new.self under_way
+pub returns-in-Err-clause-left : goal.returns-in-Err-clause-left
+returns-in-Err-clause-left g c =
+    let because = refused g.C.KeyClass.rules g.O.Outlet.rule c.args.world.now c.args.row c.in_ok-finder.finder c.seeking.world c.seeking.invariant
+    c.args.ending c.in-Err.why c.visit.new.world c.requires.live c.requires.room c.requires.may c.in-Err.ensures.step in
+    let under_way = subst (λ s. IsUnderWay g.C.KeyClass.rules g.O.Outlet.rule c.args.world.now c.args.row c.in_ok-finder.finder s) (sym because.1) c.seeking.invariant in
+    ended g.C.KeyClass.rules g.O.Outlet.rule c.args.world.now c.args.row c.in_ok-finder.finder c.visit.new.world under_way
     c.step-unfound.new.self c.step-unfound.result c.step-unfound.ensures.step
 
-pub returns-in-Refused-step-clause-refusals : goal.returns-in-Refused-step-clause-refusals
-returns-in-Refused-step-clause-refusals g c =
-    let step = subst (λ e. IsRefused g.C.KeyClass.rules g.O.Outlet.rule c.seeking.world e c.in-Refused-step.why c.step-in-seeking.new.self) c.visit.ensures c.in-Refused-step.ensures.step in
-    inl (refused g.C.KeyClass.rules g.O.Outlet.rule c.args.world.now c.args.row c.in-Finder.finder c.seeking.world c.seeking.invariant
-    c.args.ending c.in-Refused-step.why c.step-in-seeking.new.self c.requires.live c.requires.room c.requires.may step).0
+pub returns-in-Err-clause-refusals : goal.returns-in-Err-clause-refusals
+returns-in-Err-clause-refusals g c =
+    inl (refused g.C.KeyClass.rules g.O.Outlet.rule c.args.world.now c.args.row c.in_ok-finder.finder c.seeking.world c.seeking.invariant
+    c.args.ending c.in-Err.why c.visit.new.world c.requires.live c.requires.room c.requires.may c.in-Err.ensures.step).0
 
-pub returns-in-Refused-step-clause-unfound : goal.returns-in-Refused-step-clause-unfound
-returns-in-Refused-step-clause-unfound g c other =
-    let step = subst (λ e. IsRefused g.C.KeyClass.rules g.O.Outlet.rule c.seeking.world e c.in-Refused-step.why c.step-in-seeking.new.self) c.visit.ensures c.in-Refused-step.ensures.step in
-    absurd (other (refused g.C.KeyClass.rules g.O.Outlet.rule c.args.world.now c.args.row c.in-Finder.finder c.seeking.world c.seeking.invariant
-    c.args.ending c.in-Refused-step.why c.step-in-seeking.new.self c.requires.live c.requires.room c.requires.may step).0)
+pub returns-in-Err-clause-unfound : goal.returns-in-Err-clause-unfound
+returns-in-Err-clause-unfound g c other =
+    absurd (other (refused g.C.KeyClass.rules g.O.Outlet.rule c.args.world.now c.args.row c.in_ok-finder.finder c.seeking.world c.seeking.invariant
+    c.args.ending c.in-Err.why c.visit.new.world c.requires.live c.requires.room c.requires.may c.in-Err.ensures.step).0)
 
-pub returns-in-Refused-clause-full : goal.returns-in-Refused-clause-full
-returns-in-Refused-clause-full g c =
-    let why = refused_finder g.C.KeyClass.rules g.O.Outlet.rule c.args.world.now c.args.row c.in-Refused.why c.step.new.self c.in-Refused.ensures.sound.legal c.requires.live c.in-Refused.ensures.step in
-    (λ e. why.0 (cc), λ full. ap (λ w. Err w) (why.1 full))
+pub returns-in-Err-clause-full : goal.returns-in-Err-clause-full
+returns-in-Err-clause-full g c =
+    let because = refused g.C.KeyClass.rules g.O.Outlet.rule c.args.world.now c.args.row c.in_ok-finder.finder c.seeking.world c.seeking.invariant
+    c.args.ending c.in-Err.why c.visit.new.world c.requires.live c.requires.room c.requires.may c.in-Err.ensures.step in
+    (λ e. absurd (let memory : c.in-Err.why ≡ refusal.OutOfMemory = because.0 in cc), λ full. absurd (has_place c.args.world.now c.args.row c.in_ok-finder.ensures.step.passed full))
 
-pub returns-in-Refused-clause-refusals : goal.returns-in-Refused-clause-refusals
-returns-in-Refused-clause-refusals g c = refuses_finder g.C.KeyClass.rules g.O.Outlet.rule c.args.world.now c.args.row c.in-Refused.why c.step.new.self c.in-Refused.ensures.sound.legal c.requires.live c.in-Refused.ensures.step
+pub returns-in_err-finder-clause-full : goal.returns-in_err-finder-clause-full
+returns-in_err-finder-clause-full g c =
+    let why = refused_finder g.C.KeyClass.rules g.O.Outlet.rule c.args.world.now c.args.row _ c.open_finder.new.self c.in_err-finder.ensures.sound.legal c.requires.live c.in_err-finder.ensures.step in
+    let p = err_from_is_err_and c.from_residual.result c.from_residual.ensures.1 in
+    rw (p.1, p.2) (λ e. why.0 (cc), λ full. ap (λ w. Err w) (why.1 full))
 
-pub returns-in-Refused-step-clause-full : goal.returns-in-Refused-step-clause-full
-returns-in-Refused-step-clause-full g c =
-    let step = subst (λ e. IsRefused g.C.KeyClass.rules g.O.Outlet.rule c.seeking.world e c.in-Refused-step.why c.step-in-seeking.new.self) c.visit.ensures c.in-Refused-step.ensures.step in
-    let because = refused g.C.KeyClass.rules g.O.Outlet.rule c.args.world.now c.args.row c.in-Finder.finder c.seeking.world c.seeking.invariant
-    c.args.ending c.in-Refused-step.why c.step-in-seeking.new.self c.requires.live c.requires.room c.requires.may step in
-    (λ e. absurd (let memory : c.in-Refused-step.why ≡ refusal.OutOfMemory = because.0 in cc), λ full. absurd (has_place c.args.world.now c.args.row c.in-Finder.ensures.step.passed full))
+pub returns-in_err-finder-clause-refusals : goal.returns-in_err-finder-clause-refusals
+returns-in_err-finder-clause-refusals g c =
+    let p = err_from_is_err_and c.from_residual.result c.from_residual.ensures.1 in
+    rw (p.1, p.2) (refuses_finder g.C.KeyClass.rules g.O.Outlet.rule c.args.world.now c.args.row _ c.open_finder.new.self c.in_err-finder.ensures.sound.legal c.requires.live c.in_err-finder.ensures.step)

@@ -9,60 +9,60 @@ turning-init g c = (c.recall_soundness.ensures, first_on_way g.C.KeyClass.rules 
 
 pub take_item-requires-clause-open : goal.take_item-requires-clause-open
 take_item-requires-clause-open g c =
-    let on = open_on_way g.C.KeyClass.rules tray_rule c.args.world.now c.turning.world c.args.c c.turning.invariant.1 c.in-Offered.ensures.step.passed in
-    new_passes g.C.KeyClass.rules tray_rule c.args.world.now c.turning.world c.args.c on g.met.C.KeyClass.lawful c.turning.invariant.0 c.step.new.self (moves g.C.KeyClass.rules tray_rule c.args.world.now c.turning.world c.args.c on g.met.C.KeyClass.lawful c.turning.invariant.0 turned.Offered c.step.new.self c.in-Offered.ensures.step.change)
+    let on = open_on_way g.C.KeyClass.rules tray_rule c.args.world.now c.turning.world c.args.c c.turning.invariant.1 c.in-Ok-Offered.ensures.step.passed in
+    new_passes g.C.KeyClass.rules tray_rule c.args.world.now c.turning.world c.args.c on g.met.C.KeyClass.lawful c.turning.invariant.0 c.turn_cursor.new.self (moves g.C.KeyClass.rules tray_rule c.args.world.now c.turning.world c.args.c on g.met.C.KeyClass.lawful c.turning.invariant.0 turned.Offered c.turn_cursor.new.self c.in-Ok-Offered.ensures.step.change)
 
 pub take_item-requires-clause-filled : goal.take_item-requires-clause-filled
 take_item-requires-clause-filled g c =
-    let on = open_on_way g.C.KeyClass.rules tray_rule c.args.world.now c.turning.world c.args.c c.turning.invariant.1 c.in-Offered.ensures.step.passed in
-    new_filled g.C.KeyClass.rules tray_rule c.args.world.now c.turning.world c.args.c on g.met.C.KeyClass.lawful c.turning.invariant.0 c.step.new.self (moves g.C.KeyClass.rules tray_rule c.args.world.now c.turning.world c.args.c on g.met.C.KeyClass.lawful c.turning.invariant.0 turned.Offered c.step.new.self c.in-Offered.ensures.step.change)
+    let on = open_on_way g.C.KeyClass.rules tray_rule c.args.world.now c.turning.world c.args.c c.turning.invariant.1 c.in-Ok-Offered.ensures.step.passed in
+    new_filled g.C.KeyClass.rules tray_rule c.args.world.now c.turning.world c.args.c on g.met.C.KeyClass.lawful c.turning.invariant.0 c.turn_cursor.new.self (moves g.C.KeyClass.rules tray_rule c.args.world.now c.turning.world c.args.c on g.met.C.KeyClass.lawful c.turning.invariant.0 turned.Offered c.turn_cursor.new.self c.in-Ok-Offered.ensures.step.change)
 
-pub returns-in-Offered-clause-quiet : goal.returns-in-Offered-clause-quiet
-returns-in-Offered-clause-quiet g c =
-    let on = open_on_way g.C.KeyClass.rules tray_rule c.args.world.now c.turning.world c.args.c c.turning.invariant.1 c.in-Offered.ensures.step.passed in
-    last_quiet g.C.KeyClass.rules tray_rule c.args.world.now c.turning.world c.args.c on g.met.C.KeyClass.lawful c.turning.invariant.0 c.step.new.self (moves g.C.KeyClass.rules tray_rule c.args.world.now c.turning.world c.args.c on g.met.C.KeyClass.lawful c.turning.invariant.0 turned.Offered c.step.new.self c.in-Offered.ensures.step.change) c.take_item.result c.take_item.new.world c.take_item.ensures
+pub returns-in-Ok-Offered-clause-quiet : goal.returns-in-Ok-Offered-clause-quiet
+returns-in-Ok-Offered-clause-quiet g c =
+    let on = open_on_way g.C.KeyClass.rules tray_rule c.args.world.now c.turning.world c.args.c c.turning.invariant.1 c.in-Ok-Offered.ensures.step.passed in
+    last_quiet g.C.KeyClass.rules tray_rule c.args.world.now c.turning.world c.args.c on g.met.C.KeyClass.lawful c.turning.invariant.0 c.turn_cursor.new.self (moves g.C.KeyClass.rules tray_rule c.args.world.now c.turning.world c.args.c on g.met.C.KeyClass.lawful c.turning.invariant.0 turned.Offered c.turn_cursor.new.self c.in-Ok-Offered.ensures.step.change) c.take_item.result c.take_item.new.world c.take_item.ensures
 
-pub returns-in-Offered-clause-ok : goal.returns-in-Offered-clause-ok
-returns-in-Offered-clause-ok g c =
-    let on = open_on_way g.C.KeyClass.rules tray_rule c.args.world.now c.turning.world c.args.c c.turning.invariant.1 c.in-Offered.ensures.step.passed in
-    gives_next g.C.KeyClass.rules tray_rule c.args.world.now c.turning.world c.args.c on g.met.C.KeyClass.lawful c.turning.invariant.0 c.step.new.self (moves g.C.KeyClass.rules tray_rule c.args.world.now c.turning.world c.args.c on g.met.C.KeyClass.lawful c.turning.invariant.0 turned.Offered c.step.new.self c.in-Offered.ensures.step.change) c.take_item.result c.take_item.new.world c.take_item.ensures
+pub returns-in-Ok-Offered-clause-ok : goal.returns-in-Ok-Offered-clause-ok
+returns-in-Ok-Offered-clause-ok g c =
+    let on = open_on_way g.C.KeyClass.rules tray_rule c.args.world.now c.turning.world c.args.c c.turning.invariant.1 c.in-Ok-Offered.ensures.step.passed in
+    gives_next g.C.KeyClass.rules tray_rule c.args.world.now c.turning.world c.args.c on g.met.C.KeyClass.lawful c.turning.invariant.0 c.turn_cursor.new.self (moves g.C.KeyClass.rules tray_rule c.args.world.now c.turning.world c.args.c on g.met.C.KeyClass.lawful c.turning.invariant.0 turned.Offered c.turn_cursor.new.self c.in-Ok-Offered.ensures.step.change) c.take_item.result c.take_item.new.world c.take_item.ensures
 
 pub returns-in-Idle-clause-quiet : goal.returns-in-Idle-clause-quiet
 returns-in-Idle-clause-quiet g c =
-    let on = idle_on_way g.C.KeyClass.rules tray_rule c.args.world.now c.turning.world c.args.c c.turning.invariant.1 (rw c.in-Idle.is at c.in-Refused.ensures.step.cause) in
-    rw (c.in-Refused.ensures.step.unchanged) (now_quiet g.C.KeyClass.rules tray_rule c.args.world.now c.turning.world c.args.c on)
+    let on = idle_on_way g.C.KeyClass.rules tray_rule c.args.world.now c.turning.world c.args.c c.turning.invariant.1 (rw c.in-Idle.is at c.in-Err.ensures.step.cause) in
+    rw (c.in-Err.ensures.step.unchanged) (now_quiet g.C.KeyClass.rules tray_rule c.args.world.now c.turning.world c.args.c on)
 
 pub returns-in-Idle-clause-ok : goal.returns-in-Idle-clause-ok
 returns-in-Idle-clause-ok g c =
-    let on = idle_on_way g.C.KeyClass.rules tray_rule c.args.world.now c.turning.world c.args.c c.turning.invariant.1 (rw c.in-Idle.is at c.in-Refused.ensures.step.cause) in
-    let refused = refused_turn g.C.KeyClass.rules tray_rule c.args.world.now c.turning.world c.args.c on c.in-Refused.refusal c.in-Refused.ensures.step.cause in
-    rw (c.in-Refused.ensures.step.unchanged) (gives_nothing g.C.KeyClass.rules tray_rule c.args.world.now c.turning.world c.args.c on (rw c.in-Idle.is at refused))
+    let on = idle_on_way g.C.KeyClass.rules tray_rule c.args.world.now c.turning.world c.args.c c.turning.invariant.1 (rw c.in-Idle.is at c.in-Err.ensures.step.cause) in
+    let refused = refused_turn g.C.KeyClass.rules tray_rule c.args.world.now c.turning.world c.args.c on c.in-Err.refusal c.in-Err.ensures.step.cause in
+    rw (c.in-Err.ensures.step.unchanged) (gives_nothing g.C.KeyClass.rules tray_rule c.args.world.now c.turning.world c.args.c on (rw c.in-Idle.is at refused))
 
 pub returns-in_default-refusal : goal.returns-in_default-refusal
 returns-in_default-refusal g c =
-    let r = other_on_way g.C.KeyClass.rules tray_rule c.args.world.now c.turning.world c.args.c c.turning.invariant.1 c.requires.quiet (λ room count h. search (arith, h)) c.in-Refused.refusal c.in_default-refusal.not-Idle c.in-Refused.ensures.step.cause in
-    rw (c.in-Refused.ensures.step.unchanged) (record { quiet = r.quiet; ok = tt; err = r.refuses })
+    let r = other_on_way g.C.KeyClass.rules tray_rule c.args.world.now c.turning.world c.args.c c.turning.invariant.1 c.requires.quiet (λ room count h. search (arith, h)) c.in-Err.refusal c.in_default-refusal.not-Idle c.in-Err.ensures.step.cause in
+    rw (c.in-Err.ensures.step.unchanged) (record { quiet = r.quiet; ok = tt; err = r.refuses })
 
-pub turning-smaller-in-Visited : goal.turning-smaller-in-Visited
-turning-smaller-in-Visited g c =
-    let on = open_on_way g.C.KeyClass.rules tray_rule c.args.world.now c.turning.world c.args.c c.turning.invariant.1 c.in-Visited.ensures.step.passed in
-    let m = moves g.C.KeyClass.rules tray_rule c.args.world.now c.turning.world c.args.c on g.met.C.KeyClass.lawful c.turning.invariant.0 (turned.Visited c.in-Visited.field-0) c.step.new.self c.in-Visited.ensures.step.change in
-    less_work g.C.KeyClass.rules tray_rule c.args.world.now c.turning.world c.args.c on g.met.C.KeyClass.lawful c.turning.invariant.0 (turned.Visited c.in-Visited.field-0) c.step.new.self m (ap (λ k. k.unread) m.turns.1.after)
+pub turning-smaller-in-Ok-Visited : goal.turning-smaller-in-Ok-Visited
+turning-smaller-in-Ok-Visited g c =
+    let on = open_on_way g.C.KeyClass.rules tray_rule c.args.world.now c.turning.world c.args.c c.turning.invariant.1 c.in-Ok-Visited.ensures.step.passed in
+    let m = moves g.C.KeyClass.rules tray_rule c.args.world.now c.turning.world c.args.c on g.met.C.KeyClass.lawful c.turning.invariant.0 (turned.Visited c.in-Ok-Visited.field-0-0) c.turn_cursor.new.self c.in-Ok-Visited.ensures.step.change in
+    less_work g.C.KeyClass.rules tray_rule c.args.world.now c.turning.world c.args.c on g.met.C.KeyClass.lawful c.turning.invariant.0 (turned.Visited c.in-Ok-Visited.field-0-0) c.turn_cursor.new.self m (ap (λ k. k.unread) m.turns.1.after)
 
-pub turning-preserved-in-Visited : goal.turning-preserved-in-Visited
-turning-preserved-in-Visited g c =
-    let on = open_on_way g.C.KeyClass.rules tray_rule c.args.world.now c.turning.world c.args.c c.turning.invariant.1 c.in-Visited.ensures.step.passed in
-    let m = moves g.C.KeyClass.rules tray_rule c.args.world.now c.turning.world c.args.c on g.met.C.KeyClass.lawful c.turning.invariant.0 (turned.Visited c.in-Visited.field-0) c.step.new.self c.in-Visited.ensures.step.change in
-    (c.in-Visited.ensures.sound, still_on_way g.C.KeyClass.rules tray_rule c.args.world.now c.step.new.self c.args.c (got_on g.C.KeyClass.rules tray_rule c.args.world.now c.turning.world c.args.c on g.met.C.KeyClass.lawful c.turning.invariant.0 (turned.Visited c.in-Visited.field-0) c.step.new.self m (ap (λ k. k.unread) m.turns.1.after)))
+pub turning-preserved-in-Ok-Visited : goal.turning-preserved-in-Ok-Visited
+turning-preserved-in-Ok-Visited g c =
+    let on = open_on_way g.C.KeyClass.rules tray_rule c.args.world.now c.turning.world c.args.c c.turning.invariant.1 c.in-Ok-Visited.ensures.step.passed in
+    let m = moves g.C.KeyClass.rules tray_rule c.args.world.now c.turning.world c.args.c on g.met.C.KeyClass.lawful c.turning.invariant.0 (turned.Visited c.in-Ok-Visited.field-0-0) c.turn_cursor.new.self c.in-Ok-Visited.ensures.step.change in
+    (c.in-Ok-Visited.ensures.sound, still_on_way g.C.KeyClass.rules tray_rule c.args.world.now c.turn_cursor.new.self c.args.c (got_on g.C.KeyClass.rules tray_rule c.args.world.now c.turning.world c.args.c on g.met.C.KeyClass.lawful c.turning.invariant.0 (turned.Visited c.in-Ok-Visited.field-0-0) c.turn_cursor.new.self m (ap (λ k. k.unread) m.turns.1.after)))
 
 pub turning-smaller : goal.turning-smaller
 turning-smaller g c =
-    let on = open_on_way g.C.KeyClass.rules tray_rule c.args.world.now c.turning.world c.args.c c.turning.invariant.1 c.in-Passed.ensures.step.passed in
-    let m = moves g.C.KeyClass.rules tray_rule c.args.world.now c.turning.world c.args.c on g.met.C.KeyClass.lawful c.turning.invariant.0 (turned.Passed c.in-Passed.field-0) c.step.new.self c.in-Passed.ensures.step.change in
-    less_work g.C.KeyClass.rules tray_rule c.args.world.now c.turning.world c.args.c on g.met.C.KeyClass.lawful c.turning.invariant.0 (turned.Passed c.in-Passed.field-0) c.step.new.self m (ap (λ k. k.unread) m.turns.2)
+    let on = open_on_way g.C.KeyClass.rules tray_rule c.args.world.now c.turning.world c.args.c c.turning.invariant.1 c.in-Ok-Passed.ensures.step.passed in
+    let m = moves g.C.KeyClass.rules tray_rule c.args.world.now c.turning.world c.args.c on g.met.C.KeyClass.lawful c.turning.invariant.0 (turned.Passed c.in-Ok-Passed.field-0-0) c.turn_cursor.new.self c.in-Ok-Passed.ensures.step.change in
+    less_work g.C.KeyClass.rules tray_rule c.args.world.now c.turning.world c.args.c on g.met.C.KeyClass.lawful c.turning.invariant.0 (turned.Passed c.in-Ok-Passed.field-0-0) c.turn_cursor.new.self m (ap (λ k. k.unread) m.turns.2)
 
 pub turning-preserved : goal.turning-preserved
 turning-preserved g c =
-    let on = open_on_way g.C.KeyClass.rules tray_rule c.args.world.now c.turning.world c.args.c c.turning.invariant.1 c.in-Passed.ensures.step.passed in
-    let m = moves g.C.KeyClass.rules tray_rule c.args.world.now c.turning.world c.args.c on g.met.C.KeyClass.lawful c.turning.invariant.0 (turned.Passed c.in-Passed.field-0) c.step.new.self c.in-Passed.ensures.step.change in
-    (c.in-Passed.ensures.sound, still_on_way g.C.KeyClass.rules tray_rule c.args.world.now c.step.new.self c.args.c (got_on g.C.KeyClass.rules tray_rule c.args.world.now c.turning.world c.args.c on g.met.C.KeyClass.lawful c.turning.invariant.0 (turned.Passed c.in-Passed.field-0) c.step.new.self m (ap (λ k. k.unread) m.turns.2)))
+    let on = open_on_way g.C.KeyClass.rules tray_rule c.args.world.now c.turning.world c.args.c c.turning.invariant.1 c.in-Ok-Passed.ensures.step.passed in
+    let m = moves g.C.KeyClass.rules tray_rule c.args.world.now c.turning.world c.args.c on g.met.C.KeyClass.lawful c.turning.invariant.0 (turned.Passed c.in-Ok-Passed.field-0-0) c.turn_cursor.new.self c.in-Ok-Passed.ensures.step.change in
+    (c.in-Ok-Passed.ensures.sound, still_on_way g.C.KeyClass.rules tray_rule c.args.world.now c.turn_cursor.new.self c.args.c (got_on g.C.KeyClass.rules tray_rule c.args.world.now c.turning.world c.args.c on g.met.C.KeyClass.lawful c.turning.invariant.0 (turned.Passed c.in-Ok-Passed.field-0-0) c.turn_cursor.new.self m (ap (λ k. k.unread) m.turns.2)))

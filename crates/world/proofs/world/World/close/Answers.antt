@@ -6,16 +6,16 @@ use Rattle.world.proofs.world.World.close.Goals as goal
 
 pub remove-requires : goal.remove-requires
 remove-requires g c =
-    let a = subst (λ s. IsAt s c.args.c c.in-Ok.at) (sym c.self.view_is) c.in-Ok.ensures.found in
-    let l = at_within g.C.KeyClass.rules.is_cover _ c.self.invariant c.args.c c.in-Ok.at a in
+    let a = subst (λ s. IsAt s c.args.c c.in_ok-at.at) (sym c.self.view_is) c.in_ok-at.ensures.found in
+    let l = at_within g.C.KeyClass.rules.is_cover _ c.self.invariant c.args.c c.in_ok-at.at a in
     grind (arith, common_steps)
 
 pub invariant_of-self : goal.invariant_of-self
 invariant_of-self g c =
-    let a = subst (λ s. IsAt s c.args.c c.in-Ok.at) (sym c.self.view_is) c.in-Ok.ensures.found in
-    close_sound g.C.KeyClass.rules g.O.Outlet.rule _ c.self.invariant c.args.c c.in-Ok.at a c.remove.new.self.items c.remove.ensures.items
+    let a = subst (λ s. IsAt s c.args.c c.in_ok-at.at) (sym c.self.view_is) c.in_ok-at.ensures.found in
+    close_sound g.C.KeyClass.rules g.O.Outlet.rule _ c.self.invariant c.args.c c.in_ok-at.at a c.remove.new.self.items c.remove.ensures.items
 
-pub returns-in-Ok : goal.returns-in-Ok
-returns-in-Ok g c = λ seat.
-    let a = subst (λ s. IsAt s c.args.c c.in-Ok.at) (sym c.self.view_is) c.in-Ok.ensures.found in
-    rw (← c.self.view_is) (close_done _ _ _ c.self.invariant c.args.c c.in-Ok.at a c.remove.new.self.items c.remove.ensures.items _ _ _ seat)
+pub returns : goal.returns
+returns g c = λ seat.
+    let a = subst (λ s. IsAt s c.args.c c.in_ok-at.at) (sym c.self.view_is) c.in_ok-at.ensures.found in
+    rw (← c.self.view_is) (close_done _ _ _ c.self.invariant c.args.c c.in_ok-at.at a c.remove.new.self.items c.remove.ensures.items _ _ _ seat)

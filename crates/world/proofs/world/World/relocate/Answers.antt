@@ -1,4 +1,5 @@
-use Rattle.std.proofs.Common.{◌≡◌, ◌+◌, Some, None, refl, sym, ap, ◌∙◌, subst, arith, inl, inr, length, true}
+use Rattle.std.proofs.Common.{◌≡◌, ◌+◌, Some, None, refl, sym, ap, ◌∙◌, subst, arith, inl, inr, length, true, Err}
+use Rattle.std.proofs.lemmas.Result.{err_from_is_err_and}
 use Rattle.std.proofs.lemmas.Grind.{common_steps}
 use Rattle.change_list.specs.Changes.{row_at, status_of}
 use Rattle.change_list.specs.declared.write.Status.TheVariants.{Live}
@@ -61,8 +62,8 @@ remove-requires g c =
     let l = finder_within g.C.KeyClass.rules.is_cover _ c.self.invariant c.args.f c.args.at m.here in
     grind (arith, common_steps)
 
-pub invariant_of-self : goal.invariant_of-self
-invariant_of-self g c =
+pub invariant_of-self-2 : goal.invariant_of-self-2
+invariant_of-self-2 g c =
     let m = subst (λ s. Meets s c.args.f c.args.at c.args.page) (sym c.self.view_is) c.requires in
     let same = finder_is g.C.KeyClass.rules.is_cover _ c.self.invariant c.args.f c.args.at m.here c.index.result.now c.index.ensures in
     let row : m.here.value.row ≡ c.row-row.result = ap (λ k. k.row) same ∙ sym c.row-row.ensures in
@@ -70,32 +71,33 @@ invariant_of-self g c =
     let passed = move_passes g.C.KeyClass.rules.is_cover _ c.self.invariant c.args.f c.args.at c.args.page m c.args.leaf c.args.key (sym c.place_refusal.ensures ∙ c.in_default.is) (omega (arith, c.if-len-self.false, c.len.ensures.len)) in
     let entry : Entry _ = record { key = c.args.key; row = length c.self.inside.changes + 1; tag = c.in-Some-row.found.tag; died = None } in
     let moved : c.commit.new.search ≡ with_move c.self.inside.search c.args.page c.row-row.result (length c.self.inside.changes + 1) c.args.leaf entry
-    = c.in-Ok.ensures.changed ∙ ap (λ p. with_move c.self.inside.search p c.row-row.result (length c.self.inside.changes + 1) c.args.leaf entry) c.from-2.ensures in
+    = c.in_ok-number.ensures.changed ∙ ap (λ p. with_move c.self.inside.search p c.row-row.result (length c.self.inside.changes + 1) c.args.leaf entry) c.from-2.ensures in
     let change = move_change g.C.KeyClass.rules.is_cover _ c.self.invariant c.args.f c.args.at c.args.page m c.args.seat c.args.leaf c.args.key (record { number = length c.self.inside.changes + 1; seat = c.args.seat; write = Move c.row-row.result c.args.key })
-    c.commit.new.search c.commit.new.commits c.remove.new.self.items c.row-row.result (length c.self.inside.changes + 1) c.in-Some-row.found row refl found moved c.in-Ok.ensures.committed c.remove.ensures.items refl in
+    c.commit.new.search c.commit.new.commits c.remove.new.self.items c.row-row.result (length c.self.inside.changes + 1) c.in-Some-row.found row refl found moved c.in_ok-number.ensures.committed c.remove.ensures.items refl in
     moves_sound g.C.KeyClass.rules.is_cover _ c.self.invariant c.args.seat c.args.f c.args.leaf c.args.key _ _ passed change
 
-pub returns-in-Ok : goal.returns-in-Ok
-returns-in-Ok g c =
+pub returns : goal.returns
+returns g c =
     let m = subst (λ s. Meets s c.args.f c.args.at c.args.page) (sym c.self.view_is) c.requires in
     let same = finder_is g.C.KeyClass.rules.is_cover _ c.self.invariant c.args.f c.args.at m.here c.index.result.now c.index.ensures in
     let row : m.here.value.row ≡ c.row-row.result = ap (λ k. k.row) same ∙ sym c.row-row.ensures in
     let found : row_at c.self.inside.changes c.row-row.result ≡ Some c.in-Some-row.found = ap (row_at c.self.inside.changes) (sym c.from.ensures) ∙ sym c.row.ensures ∙ c.in-Some-row.is in
     let entry : Entry _ = record { key = c.args.key; row = length c.self.inside.changes + 1; tag = c.in-Some-row.found.tag; died = None } in
     let moved : c.commit.new.search ≡ with_move c.self.inside.search c.args.page c.row-row.result (length c.self.inside.changes + 1) c.args.leaf entry
-    = c.in-Ok.ensures.changed ∙ ap (λ p. with_move c.self.inside.search p c.row-row.result (length c.self.inside.changes + 1) c.args.leaf entry) c.from-2.ensures in
-    let stamped = c.new.ensures ∙ ap (λ n. record { number = n; seat = c.args.seat; write = c.write.result }) c.in-Ok.ensures.number ∙ ap (λ w. record { number = length c.self.inside.changes + 1; seat = c.args.seat; write = w }) c.write.ensures in
+    = c.in_ok-number.ensures.changed ∙ ap (λ p. with_move c.self.inside.search p c.row-row.result (length c.self.inside.changes + 1) c.args.leaf entry) c.from-2.ensures in
+    let stamped = c.new.ensures ∙ ap (λ n. record { number = n; seat = c.args.seat; write = c.write.result }) c.in_ok-number.ensures.number ∙ ap (λ w. record { number = length c.self.inside.changes + 1; seat = c.args.seat; write = w }) c.write.ensures in
     rw (← c.self.view_is) (record {
       passed = move_passes g.C.KeyClass.rules.is_cover _ c.self.invariant c.args.f c.args.at c.args.page m c.args.leaf c.args.key (sym c.place_refusal.ensures ∙ c.in_default.is) (omega (arith, c.if-len-self.false, c.len.ensures.len));
       change = move_change g.C.KeyClass.rules.is_cover _ c.self.invariant c.args.f c.args.at c.args.page m c.args.seat c.args.leaf c.args.key _
-          c.commit.new.search c.commit.new.commits c.remove.new.self.items c.row-row.result (length c.self.inside.changes + 1) c.in-Some-row.found row refl found moved c.in-Ok.ensures.committed c.remove.ensures.items stamped;
+          c.commit.new.search c.commit.new.commits c.remove.new.self.items c.row-row.result (length c.self.inside.changes + 1) c.in-Some-row.found row refl found moved c.in_ok-number.ensures.committed c.remove.ensures.items stamped;
     })
 
-pub returns-in-Err : goal.returns-in-Err
-returns-in-Err g c =
+pub returns-in_err-number : goal.returns-in_err-number
+returns-in_err-number g c =
     let m = subst (λ s. Meets s c.args.f c.args.at c.args.page) (sym c.self.view_is) c.requires in
     let passed = move_passes g.C.KeyClass.rules.is_cover _ c.self.invariant c.args.f c.args.at c.args.page m c.args.leaf c.args.key (sym c.place_refusal.ensures ∙ c.in_default.is) (omega (arith, c.if-len-self.false, c.len.ensures.len)) in
-    rw (← c.self.view_is, c.in-Err.ensures.pages_kept, c.in-Err.ensures.commits_kept) (record {
-      cause = inr (passed, record { memory = c.in-Err.ensures.refused; finder = m.here.value; is_open = m.here.found; grows = inl (meets_row g.C.KeyClass.rules.is_cover _ c.self.invariant c.args.f c.args.at c.args.page m) });
+    let p = err_from_is_err_and c.from_residual.result c.from_residual.ensures.1 in
+    rw (← c.self.view_is, p.1, p.2, c.in_err-number.ensures.pages_kept, c.in_err-number.ensures.commits_kept) (record {
+      cause = inr (passed, record { memory = c.in_err-number.ensures.refused; finder = m.here.value; is_open = m.here.found; grows = inl (meets_row g.C.KeyClass.rules.is_cover _ c.self.invariant c.args.f c.args.at c.args.page m) });
       unchanged = refl;
     })

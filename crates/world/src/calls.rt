@@ -1,0 +1,140 @@
+//! Events as calls, each with an answer of its own type: for those who know which event they make.
+ghost use Rattle.std.specs.Prelude.{IfOk};
+ghost use Rattle.world.specs.Calls.{AsksCursor, ClosesCursor, OpensCursor, OpensFinder, PlacesRow, DeletesMet, MovesMet, SweepsPage, TakesFront, TurnsCursor};
+
+use crate::reply::Stamped;
+use crate::world::World;
+use change_list::Item;
+use cursor::Turned;
+use key_class::{KeyClass, Pred, Refusal};
+use mailbox::Outlet;
+
+impl<C: KeyClass, O: Outlet<C::Key>> World<C, O> {
+    /// Adds a row to a leaf, for a seat.
+    ///
+    /// # Errors
+    /// Those of the event `Place`; nothing is changed then.
+    pub fn place_row(
+        &mut self,
+        seat: u32,
+        leaf: u64,
+        key: C::Key,
+        tag: u64,
+    ) -> Result<Stamped<C::Key>, Refusal>
+        ensures { PlacesRow C O O.End C.rules O.rule seat self.old leaf key tag result self.new }
+    {
+        self.recall_soundness();
+        self.place(seat, leaf, key, tag)
+    }
+
+    /// A finder of a row; its serial.
+    ///
+    /// # Errors
+    /// Those of the event `Find`; nothing is changed then.
+    pub fn open_finder(&mut self, row: u64) -> Result<u64, Refusal>
+        ensures { OpensFinder C O O.End C.rules O.rule self.old row result self.new }
+    {
+        self.recall_soundness();
+        self.find(row)
+    }
+
+    /// Lets a finder visit a page, for a seat: where that holds its row, it is deleted, and the finder ends. Else none.
+    ///
+    /// # Errors
+    /// Those of the event `Seek`; nothing is changed then.
+    pub fn seek_to_delete(
+        &mut self,
+        seat: u32,
+        finder: u64,
+    ) -> Result<Option<Stamped<C::Key>>, Refusal>
+        ensures { DeletesMet C O O.End C.rules O.rule seat self.old finder result self.new }
+    {
+        self.recall_soundness();
+        self.seek(seat, finder)
+    }
+
+    /// Lets a finder visit a page, for a seat: where that holds its row, it is moved to the leaf, and the finder ends. Else
+    /// none.
+    ///
+    /// # Errors
+    /// Those of the event `Move`; nothing is changed then.
+    pub fn seek_to_move(
+        &mut self,
+        seat: u32,
+        finder: u64,
+        leaf: u64,
+        key: C::Key,
+    ) -> Result<Option<Stamped<C::Key>>, Refusal>
+        ensures { MovesMet C O O.End C.rules O.rule seat self.old finder leaf key result self.new }
+    {
+        self.recall_soundness();
+        self.move_row(seat, finder, leaf, key)
+    }
+
+    /// Sweeps a leaf: how many dead rows went.
+    ///
+    /// # Errors
+    /// Those of the event `Sweep`; nothing is changed then.
+    pub fn sweep_page(&mut self, page: u64) -> Result<u64, Refusal>
+        ensures { SweepsPage C O O.End C.rules O.rule self.old page result self.new }
+    {
+        self.recall_soundness();
+        self.sweep(page)
+    }
+
+    /// Opens a cursor: its serial, and the other end of its mailbox, out of which nothing came yet.
+    ///
+    /// # Errors
+    /// Those of the event `Open`; nothing is changed then.
+    pub fn open_cursor(&mut self, query: Pred<C::Atom>, room: u64) -> Result<(u64, O::End), Refusal>
+        ensures opens { OpensCursor C O O.End C.rules O.rule self.old query room result self.new }
+        ensures fresh { IfOk result (λ made. O.fresh made.1) }
+    {
+        self.recall_soundness();
+        self.open(query, room)
+    }
+
+    /// Turns a cursor once.
+    ///
+    /// # Errors
+    /// Those of the event `Turn`; nothing is changed then.
+    pub fn turn_cursor(&mut self, c: u64) -> Result<Turned, Refusal>
+        ensures { TurnsCursor C O O.End C.rules O.rule self.old c result self.new }
+    {
+        self.recall_soundness();
+        self.turn(c)
+    }
+
+    /// Asks a cursor for a mark.
+    ///
+    /// # Errors
+    /// Those of the event `AskMark`; nothing is changed then.
+    pub fn ask_cursor(&mut self, c: u64) -> Result<(), Refusal>
+        ensures { AsksCursor C O O.End C.rules O.rule self.old c result self.new }
+    {
+        self.recall_soundness();
+        self.ask_mark(c)
+    }
+
+    /// Takes the front of a cursor's mailbox, where this side empties it. None where it is empty.
+    ///
+    /// # Errors
+    /// Those of the event `Take`; nothing is changed then.
+    pub fn take_front(&mut self, c: u64) -> Result<Option<Item<C::Key>>, Refusal>
+        ensures { TakesFront C O O.End C.rules O.rule self.old c result self.new }
+    {
+        self.recall_soundness();
+        self.take(c)
+    }
+
+    /// Closes a cursor.
+    ///
+    /// # Errors
+    /// Those of the event `Close`; nothing is changed then.
+    pub fn close_cursor(&mut self, c: u64) -> Result<(), Refusal>
+        ensures { ClosesCursor C O O.End C.rules O.rule self.old c result self.new }
+    {
+        self.recall_soundness();
+        self.close(c)
+    }
+}
