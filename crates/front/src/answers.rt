@@ -99,7 +99,8 @@ pub fn append_pair(gathered: &mut Gathered, words: &[u8], first: u64, second: u6
 /// Appends a row's key and tag.
 fn append_content<C: ClassText>(gathered: &mut Gathered, row: &Row<C::Key>)
     requires room { length gathered.old.items + 424 ≤ 1024 }
-    ensures text { gathered.new.items ≡ gathered.old.items ++ content_text C.texts.key_text row.now }
+    ensures text { gathered.new.items
+        ≡ gathered.old.items ++ content_text C.texts.key_text row.now }
     ensures short { length gathered.new.items ≤ length gathered.old.items + 424 }
 {
     append(gathered, C::text(row.key).as_slice());

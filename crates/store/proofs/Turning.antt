@@ -1,5 +1,5 @@
 -- Turns of a cursor, one after the other, until it offers an item.
-use Rattle.std.proofs.Common.{◌≡◌, ◌<◌, ◌≤◌, ℕ, Bool, true, false, List, [], ◌∷◌, ◌++◌, length, Option, Some, None, Ok, Err, ◌⊎◌, inl, inr, refl, sym, ap, ◌∙◌, arith, subst}
+use Rattle.std.proofs.Common.{◌≡◌, ◌<◌, ◌≤◌, ℕ, Bool, true, false, List, [], ◌∷◌, ◌++◌, length, Option, Some, None, Result, Ok, Err, ◌⊎◌, inl, inr, refl, sym, ap, ◌∙◌, arith, subst}
 use Rattle.std.proofs.lemmas.List.{append-nil, length-append}
 use Rattle.std.specs.Prelude.{nat_eq}
 use Rattle.mailbox.specs.Outlets.{Rule}
@@ -23,6 +23,7 @@ use Rattle.world.proofs.Refusing.{open_from_tests, open_passes}
 use Rattle.world.proofs.Serials.{put_same, all_put, member_all, member_serial}
 use Rattle.world.proofs.Serving.{at_work_of}
 use Rattle.world.specs.Serials.{put}
+use Rattle.world.specs.Calls.{TurnsCursor}
 use Rattle.world.specs.States as world
 use Rattle.world.specs.Steps.{TurnsAt, RefusesTurn, TakesItem, cursor_tests}
 use Rattle.store.specs.States.{Strives, GivesNext, Answers, Nexts, RefusesNext, with_open_cursor}
@@ -395,3 +396,8 @@ module _ {K A : Type 0} (rules : Rules K A) (rule : Rule) where
     other_on_way quiet full why busy (inr r) =
         let g = open_on_way r.0 in
         record { quiet = now_quiet old now c g; refuses = wants_memory old now c g full why busy r.1 }
+
+-- a turn by its answer
+pub turned_so : {C O K A E : Type 0} (rules : Rules K A) (rule : Rule) (now : world.State K A) (c : ℕ) (how : Turned) (made : Result Turned Refusal) (new : world.State K A) → made ≡ Ok how → TurnsCursor C O E rules rule now c made new
+    → TurnsCursor C O E rules rule now c (Ok how) new
+turned_so {C} {O} {K} {A} {E} rules rule now c how made new is turns = subst (λ m. TurnsCursor C O E rules rule now c m new) is turns

@@ -170,8 +170,10 @@ impl<C: KeyClass> Store<C> {
         if room == 0 || room > MAX_ROOM {
             return Err(Refusal::BadConfig);
         }
-        let (serial, ()) = self.world.open_cursor(query, 1)?;
-        Ok(serial)
+        match self.world.open_cursor(query, 1) {
+            Ok((serial, ())) => return Ok(serial),
+            Err(refusal) => return Err(refusal),
+        }
     }
 
     /// The next item of a cursor, or none where nothing is left and no mark is asked.
@@ -214,7 +216,7 @@ impl<C: KeyClass> Store<C> {
     /// # Errors
     /// Want of memory; some of those rows may be removed then.
     pub fn sweep_all(&mut self) -> Result<u64, Refusal>
-        ensures ok { IfOk result (λ number. SweepsStore C.rules.is_match self.old number self.new) }
+        ensures ok { IfOk result (λ n. SweepsStore C.rules.is_match self.old n self.new) }
         ensures err { OnErr result (SweepsStorePart C.rules.is_match self.old self.new) }
         ensures refusals { IfErr result (λ e. e ≡ OutOfMemory) }
     {
