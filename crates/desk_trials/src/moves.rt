@@ -80,61 +80,6 @@ fn insert_rows<L: Ledger, R: Wait + Abort>(
     }
 }
 
-/// A desk whose clients are after the same rows.
-trait Race<W> {
-    /// Moves each of the rows that another may move first.
-    fn race<R: Wait + Abort>(&self, rt: &R, seat: &mut W);
-}
-
-impl<L: Ledger> Race<Seat<Intervals, L>> for Desk<Intervals, L> {
-    fn race<R: Wait + Abort>(&self, rt: &R, seat: &mut Seat<Intervals, L>) {
-        for row in 1..=ROWS {
-            let moved = match key(seat.number(), row) {
-                Ok(key) => self.move_row(rt, seat, u64::from(row), key),
-                Err(why) => Err(why),
-            };
-            assert!(rt; matches!(&moved, Ok(_) | Err(Refusal::AlreadyDeleted)));
-        }
-    }
-}
-
-/// Lets two clients race, each in a thread of its own.
-fn race_at_once<D, W, R>(rt: &R, desk: &D, seats: &mut [W])
-where
-    D: Race<W> + Sync,
-    W: Send,
-    R: Threads + Wait + Abort + Sync,
-{
-    thread::for_each_mut(rt, seats, 2, &|_, seat| desk.race(rt, seat));
-}
-
-/// A desk whose two seats race for each of a hundred rows: one of the two moves it.
-fn two_racers<L: Ledger + Send + Sync, R: Threads + Wait + Abort + Sync>(
-    rt: &R,
-    alloc: Global,
-    blank: Blank,
-) -> Result<(), Fail>
-    requires name { blank.name ≡ L.name }
-    requires parts { blank.parts ≡ L.parts }
-    requires two { blank.parts ≡ 2 }
-{
-    let (desk, mut seats) = Desk::<Intervals, L>::new(alloc, blank, CONFIG, 2)?;
-    insert_rows(rt, &desk, &mut seats[0]);
-    race_at_once(rt, &desk, seats.as_mut_slice());
-    let moved = seats[0].share() + seats[1].share() - u64::from(ROWS);
-    assert_eq!(rt; moved, u64::from(ROWS));
-    match desk.finish(seats) {
-        Finished::Closing(closing) => assert_eq!(rt; closing.sum(), 2 * u64::from(ROWS)),
-        _ => assert!(rt; false, "the seats fit"),
-    }
-    Ok(())
-}
-
-#[test]
-fn each_row_is_moved_by_one_of_two_threads(rt: HostRuntime) -> Result<(), Fail> {
-    two_racers::<Brand, _>(&rt, rt.alloc(), Blank::new(2))
-}
-
 /// Moves each row that a seat inserted, and then each that it moved.
 fn move_rows<L: Ledger, R: Wait + Abort>(
     rt: &R,
