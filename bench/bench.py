@@ -3,10 +3,11 @@
 
 The lines of one fixed seed are written to a file. The program reads prefixes of that file, each up to the end of a
 phase; what a phase costs is the difference of two runs. The child's own processor time is measured (`os.wait4`), so
-the harness costs nothing.
+the harness costs nothing. With `--peer` a program over Boost's R-tree gets the same lines in the same run.
 """
 
 import argparse
+import itertools
 import os
 import random
 import shutil
@@ -14,6 +15,15 @@ import subprocess
 import sys
 import tempfile
 import time
+
+HERE = os.path.dirname(os.path.abspath(__file__))
+PEER_SOURCE = os.path.join(HERE, "peer", "peer.cpp")
+PEER = os.path.join(HERE, "out", "peer")
+
+# The instructions that gist's code uses too, and not those of the processor that measures. Boost's headers include some
+# that it calls deprecated; peer.cpp tells what has to wrap.
+PEER_FLAGS = ["-std=c++17", "-O2", "-march=x86-64-v2", "-DNDEBUG", "-DBOOST_ALLOW_DEPRECATED_HEADERS", "-fwrapv"]
+PEER_HEADER = "boost/geometry/index/rtree.hpp"
 
 SEED = 20_240_607
 MOST_COMMITS = 16_777_216
@@ -66,6 +76,14 @@ class Boxes:
 CLASSES = {kind.name: kind for kind in (Intervals, Boxes)}
 
 
+class Program:
+    """What answers lines, and the words that start it."""
+
+    def __init__(self, name, words):
+        self.name = name
+        self.words = words
+
+
 class Phase:
     """Lines of one kind, and where they end in the file."""
 
@@ -76,7 +94,7 @@ class Phase:
 
 
 def write_lines(path, kind, rows, finds, cursors, items):
-    """Writes the lines, and tells the phases."""
+    """Writes the lines, and tells the phases. Without cursors there is nothing of following either."""
     generator = random.Random(SEED)
     keys = kind(rows, generator)
     phases = []
@@ -95,11 +113,12 @@ def write_lines(path, kind, rows, finds, cursors, items):
         phase("delete", (f"delete {row}" for row in deleted))
         phase("sweep", iter(["sweep"]))
         phase("find of five", (f"find {keys.query(10)}" for _ in range(finds)))
-        phase("open", (f"open 64 {keys.query(2 * items)}" for _ in range(cursors)))
-        phase("next", (f"next {c + 1}" for _ in range(items) for c in range(cursors)))
-        phase("insert, followed", (f"insert {keys.key()} 7" for _ in range(rows // 10)))
-        phase("next, following", (f"next {c + 1}" for _ in range(4) for c in range(cursors)))
-        phase("close", (f"close {c + 1}" for c in range(cursors)))
+        if cursors:
+            phase("open", (f"open 64 {keys.query(2 * items)}" for _ in range(cursors)))
+            phase("next", (f"next {c + 1}" for _ in range(items) for c in range(cursors)))
+            phase("insert, followed", (f"insert {keys.key()} 7" for _ in range(rows // 10)))
+            phase("next, following", (f"next {c + 1}" for _ in range(4) for c in range(cursors)))
+            phase("close", (f"close {c + 1}" for c in range(cursors)))
         kept = sorted(set(range(1, rows + 1)) - set(deleted))
         phase("move", (f"move {row} {keys.key()}" for row in generator.sample(kept, rows // 4)))
     return phases
@@ -128,13 +147,14 @@ def run(words, input_path, output_path):
     return usage.ru_utime + usage.ru_stime
 
 
-def prefix_costs(ends, turns, lines_path, prefix_path, measured):
-    """The least cost of each prefix: a busy machine adds time and never takes any."""
-    least = [float("inf")] * len(ends)
+def prefix_costs(ends, turns, lines_path, prefix_path, measures):
+    """For each measure the least cost of each prefix: a busy machine adds time and never takes any."""
+    least = [[float("inf")] * len(ends) for _ in measures]
     for _ in range(turns):
         for place, end in enumerate(ends):
             copy_prefix(lines_path, end, prefix_path)
-            least[place] = min(least[place], measured())
+            for costs, measured in zip(least, measures):
+                costs[place] = min(costs[place], measured())
     return least
 
 
@@ -206,43 +226,105 @@ def bytes_a_row(words, inserts_path, rows, answers_path):
     return (many - few) / rows
 
 
-def measure(words, kind, rows, options, folder):
-    """Prints and gives what each phase costs: microseconds a line, and bytes a row."""
-    lines_path = os.path.join(folder, "lines")
+def line_costs(programs, phases, rows, options, lines_path, folder):
+    """What each program takes for a line of each phase, in seconds or instructions."""
     prefix_path = os.path.join(folder, "prefix")
-    answers_path = os.path.join(folder, "answers")
-    phases = write_lines(lines_path, kind, rows, options.finds, options.cursors, options.items)
     ends = [0] + [phase.end for phase in phases]
     if options.callgrind:
-        totals = prefix_costs(ends, 1, lines_path, prefix_path, lambda: instructions(words, prefix_path, folder))
+        turns = 1
+        measures = [lambda words=program.words: instructions(words, prefix_path, folder) for program in programs]
     else:
         # Short runs are turned more often.
         turns = options.turns * min(1 + 100_000 // rows, 5)
-        totals = prefix_costs(ends, turns, lines_path, prefix_path, lambda: run(words, prefix_path, os.devnull))
+        measures = [lambda words=program.words: run(words, prefix_path, os.devnull) for program in programs]
+    return [
+        {phase.name: (after - before) / phase.lines for phase, before, after in zip(phases, totals, totals[1:])}
+        for totals in prefix_costs(ends, turns, lines_path, prefix_path, measures)
+    ]
 
-    costs = {}
-    print(f"{kind.name}, {rows:,} rows")
-    for phase, before, after in zip(phases, totals, totals[1:]):
-        cost = (after - before) / phase.lines
+
+def print_costs(phases, costs, memory, callgrind):
+    """Prints what each phase costs, and beside the inserts the bytes a row."""
+    for phase in phases:
+        cost = costs[phase.name]
         print(f"  {phase.name:<17}{phase.lines:>9,} lines", end="")
-        if options.callgrind:
+        if callgrind:
             print(f" {cost:>12,.0f} instructions a line", end="")
         elif cost > 0:
             print(f" {cost * 1e6:>11.3f} us a line {1 / cost:>13,.0f} lines a second", end="")
         else:
             print(" below the noise", end="")
-        costs[phase.name] = cost * 1e6
         if phase.name == "insert":
-            copy_prefix(lines_path, phase.end, prefix_path)
-            costs["bytes"] = bytes_a_row(words, prefix_path, rows, answers_path)
-            print(f"  {costs['bytes']:.1f} bytes a row", end="")
+            print(f"  {memory:.1f} bytes a row", end="")
         print()
+
+
+def shown_cost(cost, callgrind):
+    """A cost in the unit that is told."""
+    if callgrind:
+        return f"{cost:,.0f}"
+    return f"{cost * 1e6:.3f}" if cost > 0 else "noise"
+
+
+def ratio(ours, peers):
+    """How many times as much the peer takes, where neither is below the noise."""
+    return f"{peers / ours:.2f}" if ours > 0 and peers > 0 else "-"
+
+
+def print_beside(phases, costs, memory, callgrind):
+    """Prints what each phase costs both programs, the bytes a row, and how many times as much the peer takes."""
+    unit = "instructions a line" if callgrind else "us a line"
+    print(f"  {unit:<32}{'gist':>12}{'peer':>12}{'peer/gist':>11}")
+    for phase in phases:
+        both = [cost[phase.name] for cost in costs]
+        ours, peers = (shown_cost(cost, callgrind) for cost in both)
+        print(f"  {phase.name:<17}{phase.lines:>9,} lines{ours:>12}{peers:>12}{ratio(*both):>11}")
+    print(f"  {'bytes a row':<32}{memory[0]:>12.1f}{memory[1]:>12.1f}{ratio(*memory):>11}")
+
+
+def first_difference(ours_path, peers_path):
+    """The first line in which two files differ, if there is one: its number, and what stands there in each."""
+    with open(ours_path, "rb") as ours, open(peers_path, "rb") as peers:
+        for number, (our, peer) in enumerate(itertools.zip_longest(ours, peers, fillvalue=b""), 1):
+            if our != peer:
+                return number, our, peer
+    return None
+
+
+def require_equal_answers(programs, lines_path, folder):
+    """Ends the measurement where two programs don't give the same bytes for all lines."""
+    paths = [os.path.join(folder, program.name) for program in programs]
+    for program, path in zip(programs, paths):
+        run(program.words, lines_path, path)
+    different = first_difference(*paths)
+    if different:
+        number, our, peer = different
+        raise SystemExit(f"bench: line {number} of the answers is {our!r} of gist, and {peer!r} of the peer")
+
+
+def measure(programs, kind, rows, options, folder):
+    """Prints and gives what the first program takes: microseconds a line by phase, and bytes a row."""
+    lines_path = os.path.join(folder, "lines")
+    answers_path = os.path.join(folder, "answers")
+    cursors = 0 if options.peer else options.cursors
+    phases = write_lines(lines_path, kind, rows, options.finds, cursors, options.items)
+    print(f"{kind.name}, {rows:,} rows", flush=True)
+    if options.peer:
+        require_equal_answers(programs, lines_path, folder)
+    costs = line_costs(programs, phases, rows, options, lines_path, folder)
+    inserts_path = os.path.join(folder, "inserts")
+    copy_prefix(lines_path, phases[0].end, inserts_path)
+    memory = [bytes_a_row(program.words, inserts_path, rows, answers_path) for program in programs]
+    if options.peer:
+        print_beside(phases, costs, memory, options.callgrind)
+    else:
+        print_costs(phases, costs[0], memory[0], options.callgrind)
     sys.stdout.flush()
     if not options.callgrind:
-        run(words, lines_path, answers_path)
+        run(programs[0].words, lines_path, answers_path)
         refused, found = refused_answers(answers_path)
         print(f"  refusals: {refused or 'none'}; a find has {found:.1f} rows on the average")
-    return costs
+    return {name: cost * 1e6 for name, cost in costs[0].items()} | {"bytes": memory[0]}
 
 
 def told(aim, value, unit):
@@ -266,6 +348,34 @@ def compare(kind, costs):
             print(f"  memory at {rows:,} rows:", told(BYTES_AIM, cost["bytes"], "bytes a row"))
 
 
+def has_header(compiler, header):
+    """Whether a C++ compiler finds a header."""
+    text = f"#if !__has_include(<{header}>)\n#error missing\n#endif\n"
+    words = [compiler, *PEER_FLAGS, "-E", "-x", "c++", "-"]
+    return subprocess.run(words, input=text, text=True, capture_output=True).returncode == 0
+
+
+def build_peer():
+    """Builds the peer, or tells what is missing and ends with status 1."""
+    compiler = shutil.which("c++")
+    if compiler is None:
+        raise SystemExit("bench: --peer needs a C++ compiler, and there is no c++")
+    if not has_header(compiler, PEER_HEADER):
+        raise SystemExit(f"bench: --peer needs Boost's headers, and c++ finds no {PEER_HEADER}")
+    os.makedirs(os.path.dirname(PEER), exist_ok=True)
+    if subprocess.run([compiler, *PEER_FLAGS, "-o", PEER, PEER_SOURCE]).returncode != 0:
+        raise SystemExit("bench: the peer can't be built")
+
+
+def programs_of(options, name):
+    """What is measured with keys of a class: gist, and behind it the peer where it is asked for."""
+    words = [options.program, "serve", "--class", name, "--fan", str(options.fan), "--least", str(options.least)]
+    programs = [Program("gist", words + options.option)]
+    if options.peer:
+        programs.append(Program("peer", [PEER, "--class", name]))
+    return programs
+
+
 def main():
     parser = argparse.ArgumentParser(description="Measures `gist serve` by lines of a fixed seed.")
     parser.add_argument("program", help="the built program, as crates/gist/out/gist")
@@ -278,6 +388,7 @@ def main():
     parser.add_argument("--items", type=int, default=100, help="items that each cursor is first asked for")
     parser.add_argument("--turns", type=int, default=3, help="runs, the least of which counts; up to five times as many of short ones")
     parser.add_argument("--callgrind", action="store_true", help="instructions in place of time, by valgrind")
+    parser.add_argument("--peer", action="store_true", help="beside a peer over Boost's R-tree, without cursors")
     parser.add_argument("--option", action="append", default=[], help="a further word for `gist serve`, as --option=--pages=65536")
     options = parser.parse_args()
     if options.callgrind and shutil.which("valgrind") is None:
@@ -287,15 +398,16 @@ def main():
     rows_of_runs = options.rows or ([10_000] if options.callgrind else [10_000, 100_000, 1_000_000])
     if any(rows * 5 // 2 > MOST_COMMITS or rows < 2 for rows in rows_of_runs):
         parser.error("--rows is 2 to 6,710,886")
+    if options.peer:
+        build_peer()
     for name in options.kinds or sorted(CLASSES, reverse=True):
         kind = CLASSES[name]
-        words = [options.program, "serve", "--class", name, "--fan", str(options.fan), "--least", str(options.least)]
-        words += options.option
+        programs = programs_of(options, name)
         costs = {}
         for rows in rows_of_runs:
             with tempfile.TemporaryDirectory(prefix="gist-bench-") as folder:
-                costs[rows] = measure(words, kind, rows, options, folder)
-        if not options.callgrind:
+                costs[rows] = measure(programs, kind, rows, options, folder)
+        if not options.callgrind and not options.peer:
             compare(kind, costs)
 
 

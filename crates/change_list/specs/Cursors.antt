@@ -1,22 +1,24 @@
 -- What contracts see of a cursor, and which lists of given items fit it.
-use Rattle.std.specs.Prelude.{◌≡◌, ℕ, ◌+◌, ◌-◌, ◌≤◌, Bool, false, cond, List, [], ◌∷◌, ◌++◌, length, map, ◌⊎◌, IsPermutation}
+use Rattle.std.specs.Prelude.{◌≡◌, ℕ, ◌+◌, ◌-◌, ◌≤◌, Bool, true, false, cond, List, [], ◌∷◌, ◌++◌, length, map, ◌⊎◌, IsPermutation}
 use Rattle.change_list.specs.declared.write.Write.{Write}
 use Rattle.change_list.specs.declared.item.Row.{Row}
 use Rattle.change_list.specs.declared.item.Item.{Item}
 use Rattle.change_list.specs.declared.item.Item.TheVariants as item
-use Rattle.change_list.specs.Changes.{snapshot, changes}
-use Rattle.change_list.specs.Listings.{IsListing, without_marks}
+use Rattle.change_list.specs.Changes.{changes}
+use Rattle.change_list.specs.Listings.{IsListingFor, first_rows, without_marks}
 use Rattle.key_class.specs.Queries.{Query, matches_query}
 
 -- an open cursor
 pub record CursorState (K A : Type 0) : Type 0 where
   pub serial : ℕ
   pub query : Query A
-  -- the number of commits at its opening
+  -- it follows a commit: it was opened without a snapshot
+  pub follows : Bool
+  -- the number of commits at its opening, or of the commit that it follows
   pub opened : ℕ
   -- its scan isn't over
   pub scanning : Bool
-  -- a collection: the rows of its snapshot that it has still to give
+  -- a collection: the rows of its snapshot that it has still to give; none where it follows a commit
   pub remaining : List (Row K)
   -- the changes up to this commit were given
   pub position : ℕ
@@ -28,25 +30,27 @@ module _ {K A : Type 0} (matching : A → K → Bool) where
   wanted_by cursor = matches_query matching cursor.query
 
   -- the scan is over and its rows are given
-  pub record IsFollowing (cursor : CursorState K A) : Type 0 where
+  pub record IsPastRows (cursor : CursorState K A) : Type 0 where
     pub scanned : cursor.scanning ≡ false
     pub none_remaining : cursor.remaining ≡ []
 
   -- The cursor may have given these items. Marks left out they are rows, then the changes up to its position; those
-  -- rows with what remains are the snapshot; no change is given before the last row; and at each mark all was given.
+  -- rows with what remains are the snapshot, or none where it follows a commit, which has no scan; no change is given
+  -- before the last row; and at each mark all was given.
   pub record Fits (commits : List (Write K)) (cursor : CursorState K A) (items : List (Item K)) : Type 0 where
     pub rows : List (Row K)
     pub is : without_marks items ≡ map item.Row rows ++ changes (wanted_by cursor) cursor.opened cursor.position commits
-    pub each_once : IsPermutation (snapshot (wanted_by cursor) cursor.opened commits) (rows ++ cursor.remaining)
-    pub in_order : IsFollowing cursor ⊎ (cursor.position ≡ cursor.opened)
+    pub each_once : IsPermutation (first_rows cursor.follows (wanted_by cursor) cursor.opened commits) (rows ++ cursor.remaining)
+    pub follower : cursor.follows ≡ true → IsPastRows cursor
+    pub in_order : IsPastRows cursor ⊎ (cursor.position ≡ cursor.opened)
     pub from_opening : cursor.opened ≤ cursor.position
     pub within : cursor.position ≤ length commits
     pub marks : (before after : List (Item K)) (n : ℕ) → items ≡ before ++ item.Mark n ∷ after
-        → IsListing (wanted_by cursor) cursor.opened n commits (without_marks before)
+        → IsListingFor cursor.follows (wanted_by cursor) cursor.opened n commits (without_marks before)
 
   -- neither a row nor a change nor a mark is to come
   pub record HasNothingToCome (commits : List (Write K)) (cursor : CursorState K A) : Type 0 where
-    pub following : IsFollowing cursor
+    pub past_rows : IsPastRows cursor
     pub at_end : length commits ≤ cursor.position
     pub unasked : cursor.asked ≡ false
 

@@ -6,3 +6,4 @@ pub mod Listings
 pub mod Records
 pub mod Roomy
 pub mod Segments
+pub mod Resuming

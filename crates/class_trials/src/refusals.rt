@@ -3,7 +3,7 @@ use std::alloc::{AllocError, AllocFailed, Global};
 use std::test::Fail;
 
 /// A refusal, its number, its name and its text.
-static REFUSALS: [(Refusal, u8, &str, &str); 22] = [
+static REFUSALS: [(Refusal, u8, &str, &str); 23] = [
     (Refusal::OutOfMemory, 1, "OutOfMemory", "1 OutOfMemory"),
     (Refusal::BadConfig, 2, "BadConfig", "2 BadConfig"),
     (Refusal::PagesFull, 3, "PagesFull", "3 PagesFull"),
@@ -31,6 +31,7 @@ static REFUSALS: [(Refusal, u8, &str, &str); 22] = [
     (Refusal::NoSuchFinder, 20, "NoSuchFinder", "20 NoSuchFinder"),
     (Refusal::QueryText(13), 21, "QueryText", "21 QueryText 13"),
     (Refusal::Line(4096), 22, "Line", "22 Line 4096"),
+    (Refusal::FromFuture, 23, "FromFuture", "23 FromFuture"),
 ];
 
 /// Whether a refusal has this number, name and text.

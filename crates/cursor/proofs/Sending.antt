@@ -25,6 +25,7 @@ module _ {K A : Type 0} (rules : Rules K A) (rule : Rule) (commits : List (Write
     stays = record {
       serial = refl;
       query = refl;
+      follows = refl;
       opened = refl;
       room = refl;
       offered = [];
@@ -38,6 +39,7 @@ module _ {K A : Type 0} (rules : Rules K A) (rule : Rule) (commits : List (Write
     sends_row row = record {
       serial = refl;
       query = refl;
+      follows = refl;
       opened = refl;
       room = refl;
       offered = item.Row row ∷ [];
@@ -58,6 +60,7 @@ module _ {K A : Type 0} (rules : Rules K A) (rule : Rule) (commits : List (Write
     sends_change x l i = record {
       serial = refl;
       query = refl;
+      follows = refl;
       opened = refl;
       room = refl;
       offered = x ∷ [];
@@ -71,6 +74,7 @@ module _ {K A : Type 0} (rules : Rules K A) (rule : Rule) (commits : List (Write
     passes l = record {
       serial = refl;
       query = refl;
+      follows = refl;
       opened = refl;
       room = refl;
       offered = [];
@@ -84,6 +88,7 @@ module _ {K A : Type 0} (rules : Rules K A) (rule : Rule) (commits : List (Write
     sends_mark a l = record {
       serial = refl;
       query = refl;
+      follows = refl;
       opened = refl;
       room = refl;
       offered = item.Mark old.position ∷ [];
@@ -97,6 +102,7 @@ module _ {K A : Type 0} (rules : Rules K A) (rule : Rule) (commits : List (Write
     visits stack noted = record {
       serial = refl;
       query = refl;
+      follows = refl;
       opened = refl;
       room = refl;
       offered = [];

@@ -13,8 +13,8 @@ use Rattle.change_list.specs.declared.item.Row.{Row}
 use Rattle.change_list.specs.declared.item.Item.{Item}
 use Rattle.change_list.specs.declared.item.Item.TheVariants as item
 use Rattle.change_list.specs.Changes.{snapshot}
-use Rattle.change_list.specs.Cursors.{IsFollowing, Fits, work}
-use Rattle.change_list.specs.Listings.{is_mark}
+use Rattle.change_list.specs.Cursors.{IsPastRows, Fits, work}
+use Rattle.change_list.specs.Listings.{first_rows, is_mark}
 use Rattle.change_list.proofs.Fitting.{fits_row, fits_changes, fits_mark, fits_push, fits_new}
 use Rattle.change_list.proofs.Lists.{slice_get_drop}
 use Rattle.page_table.specs.Weights.{Same}
@@ -26,6 +26,7 @@ use Rattle.scan.proofs.Visiting.{visit_stack, visit_pages, visit_find}
 use Rattle.cursor.specs.declared.cursor.Turned.{Turned}
 use Rattle.cursor.specs.declared.cursor.Turned.TheVariants as turned
 use Rattle.cursor.specs.OpenCursors.{OpenCursor, is_scanning, sent, wants, admits, VisitsPage, Turns, shown, tree_work}
+use Rattle.cursor.specs.Fitting.{BeginsFitting, FollowsFitting}
 use Rattle.cursor.specs.Offering.{IsOffered}
 use Rattle.change_list.proofs.Items.{IsChange, one_change}
 use Rattle.cursor.proofs.Lawful.{prunes, rows_arranged}
@@ -48,7 +49,7 @@ module _ {K A : Type 0} (rules : Rules K A) (rule : Rule) where
     pub fits : (items : List (Item K)) → Fits rules.is_match commits (shown rules rule t old) items → Fits rules.is_match commits (shown rules rule t new) (items ++ offered)
 
   module _ (t : Tree K) (commits : List (Write K)) (old : OpenCursor K A) where
-    following : HasScanned rules rule commits old → IsFollowing rules.is_match (shown rules rule t old)
+    following : HasScanned rules rule commits old → IsPastRows rules.is_match (shown rules rule t old)
     following h = record {
       scanned = ap is_scanning h.none_left;
       none_remaining = ap (λ p. p ++ to_find (wants rules rule old) old.opened t old.stack) h.none_pending ∙ ap (to_find (wants rules rule old) old.opened t) h.none_left;
@@ -238,8 +239,9 @@ module _ {K A : Type 0} (rules : Rules K A) (rule : Rule) where
     rows = f.rows;
     is = f.is;
     each_once = f.each_once;
+    follower = λ h. let p = f.follower h in record { scanned = p.scanned; none_remaining = p.none_remaining };
     in_order = ⊎_elim
-        (λ (h : IsFollowing rules.is_match (shown rules rule t k)). inl (record { scanned = h.scanned; none_remaining = h.none_remaining }))
+        (λ (h : IsPastRows rules.is_match (shown rules rule t k)). inl (record { scanned = h.scanned; none_remaining = h.none_remaining }))
         (λ (h : k.position ≡ k.opened). inr h)
         f.in_order;
     from_opening = f.from_opening;
@@ -265,11 +267,37 @@ module _ {K A : Type 0} (rules : Rules K A) (rule : Rule) where
       → Fits rules.is_match commits (shown rules rule t k) items → Fits rules.is_match (commits ++ write ∷ []) (shown rules rule t k) items
   commit_fits t commits write k items f = fits_push rules.is_match commits (shown rules rule t k) items f write _ (IsPermutation-refl _)
 
-  -- nothing given fits a new cursor
-  pub open_fits : {same_key : K → K → Bool} {same_atom : A → A → Bool} → IsLawful rules same_key same_atom → (t : Tree K) (commits : List (Write K)) (k : OpenCursor K A) → k.opened ≡ length commits → k.position ≡ length commits → k.pending ≡ []
+  -- nothing given fits a new cursor with a snapshot,
+  pub open_fits : {same_key : K → K → Bool} {same_atom : A → A → Bool} → IsLawful rules same_key same_atom → (t : Tree K) (commits : List (Write K)) (k : OpenCursor K A) → k.follows ≡ false → k.opened ≡ length commits → k.position ≡ k.opened → k.pending ≡ []
       → Same (to_find (wants rules rule k) k.opened t k.stack) (snapshot (wants rules rule k) (length commits) commits)
       → Fits rules.is_match commits (shown rules rule t k) []
-  open_fits lawful t commits k o p n s =
-      let all : IsPermutation (snapshot (wants rules rule k) (length commits) commits) (to_find (wants rules rule k) k.opened t k.stack) = IsPermutation-sym _ _ (rows_arranged rules rule lawful _ _ s) in
+  open_fits lawful t commits k w o p n s =
+      let q = wants rules rule k in
+      let all : IsPermutation (snapshot q (length commits) commits) (to_find q k.opened t k.stack) = IsPermutation-sym _ _ (rows_arranged rules rule lawful _ _ s) in
+      let first : first_rows k.follows q k.opened commits ≡ snapshot q (length commits) commits = ap (λ b. first_rows b q k.opened commits) w ∙ ap (λ m. snapshot q m commits) o in
+      fits_new rules.is_match commits (shown rules rule t k) (omega (arith, o)) p
+      (subst (λ l. IsPermutation l (k.pending ++ to_find q k.opened t k.stack)) (sym first)
+      (subst (λ l. IsPermutation (snapshot q (length commits) commits) (l ++ to_find q k.opened t k.stack)) (sym n) all))
+      (λ h. let g : true ≡ false = sym h ∙ w in absurd (cc))
+
+  -- nor one that follows a commit
+  pub follow_fits : (t : Tree K) (commits : List (Write K)) (k : OpenCursor K A) → k.follows ≡ true → k.opened ≤ length commits → k.position ≡ k.opened → k.pending ≡ [] → k.stack ≡ []
+      → Fits rules.is_match commits (shown rules rule t k) []
+  follow_fits t commits k w o p n e =
+      let q = wants rules rule k in
+      let none : k.pending ++ to_find q k.opened t k.stack ≡ [] = ap (λ l. l ++ to_find q k.opened t k.stack) n ∙ ap (to_find q k.opened t) e in
       fits_new rules.is_match commits (shown rules rule t k) o p
-      (subst (λ l. IsPermutation (snapshot (wants rules rule k) (length commits) commits) (l ++ to_find (wants rules rule k) k.opened t k.stack)) (sym n) all)
+      (subst (λ l. IsPermutation l (k.pending ++ to_find q k.opened t k.stack)) (sym (ap (λ b. first_rows b q k.opened commits) w))
+      (subst (λ l. IsPermutation [] l) (sym none) (IsPermutation-refl [])))
+      (λ h. record { scanned = ap is_scanning e; none_remaining = none })
+
+  -- so it is with a cursor as it is made
+  pub new_fits : {same_key : K → K → Bool} {same_atom : A → A → Bool} → IsLawful rules same_key same_atom → (k made : OpenCursor K A) → k ≡ made → made.follows ≡ false → made.position ≡ made.opened → made.pending ≡ [] → BeginsFitting rules rule made.opened k
+  new_fits lawful k made is w p n t commits e same =
+      let found = subst (λ x. Same (to_find (wants rules rule x) made.opened t x.stack) (snapshot (wants rules rule x) made.opened commits)) is same in
+      subst (λ x. Fits rules.is_match commits (shown rules rule t x) []) (sym is)
+      (open_fits lawful t commits made w e p n (subst (λ m. Same (to_find (wants rules rule made) made.opened t made.stack) (snapshot (wants rules rule made) m commits)) e found))
+
+  pub new_follower_fits : (k made : OpenCursor K A) → k ≡ made → made.follows ≡ true → made.position ≡ made.opened → made.pending ≡ [] → made.stack ≡ [] → FollowsFitting rules rule made.opened k
+  new_follower_fits k made is w p n e t commits within =
+      subst (λ x. Fits rules.is_match commits (shown rules rule t x) []) (sym is) (follow_fits t commits made w within p n e)

@@ -1,5 +1,5 @@
 -- What fits a cursor over a tree, before and after a step.
-use Rattle.std.specs.Prelude.{◌≡◌, ℕ, List, [], ◌∷◌, ◌++◌, length}
+use Rattle.std.specs.Prelude.{◌≡◌, ℕ, ◌≤◌, List, [], ◌∷◌, ◌++◌, length}
 use Rattle.key_class.specs.Rules.{Rules}
 use Rattle.mailbox.specs.Outlets.{Rule}
 use Rattle.change_list.specs.declared.write.Write.{Write}
@@ -33,6 +33,10 @@ module _ {K A : Type 0} (rules : Rules K A) (rule : Rule) where
   abbrev pub BeginsFitting : ℕ → OpenCursor K A → Type 0
   BeginsFitting opened k = (t : Tree K) (commits : List (Write K)) → opened ≡ length commits
       → Same (to_find (wants rules rule k) opened t k.stack) (snapshot (wants rules rule k) opened commits) → FitsOver t commits k []
+
+  -- behind a commit that there is, the empty list fits what follows it
+  abbrev pub FollowsFitting : ℕ → OpenCursor K A → Type 0
+  FollowsFitting from k = (t : Tree K) (commits : List (Write K)) → from ≤ length commits → FitsOver t commits k []
 
   -- in a sound tree a turn gives what fits
   abbrev pub TurnFits : Tree K → List (Write K) → OpenCursor K A → OpenCursor K A → Type 0

@@ -16,7 +16,7 @@ use Rattle.change_list.specs.Cursors.{CursorState, work}
 use Rattle.mailbox.specs.Outlets.{Rule}
 use Rattle.page_table.specs.Soundness.{IsSound}
 use Rattle.page_table.specs.Trees.{Tree}
-use Rattle.page_table.specs.Stacks.{StackItem, root_stack, pages_left}
+use Rattle.page_table.specs.Stacks.{StackItem, pages_left}
 use Rattle.scan.specs.Scanning.{Visits, VisitGrows, to_find}
 use Rattle.cursor.specs.declared.cursor.Turned.{Turned}
 use Rattle.cursor.specs.declared.cursor.Turned.TheVariants as turned
@@ -25,7 +25,9 @@ use Rattle.cursor.specs.declared.cursor.Turned.TheVariants as turned
 pub record OpenCursor (K A : Type 0) : Type 0 where
   pub serial : ℕ
   pub query : Query A
-  -- the number of commits at its opening
+  -- it follows a commit: it was opened without a snapshot
+  pub follows : Bool
+  -- the number of commits at its opening, or of the commit that it follows
   pub opened : ℕ
   -- the pages that its scan has still to visit, the last first
   pub stack : List StackItem
@@ -61,13 +63,14 @@ module _ {K : Type 0} where
   task_of None false None false position = rest
 
 module _ {K A : Type 0} where
-  -- a cursor that begins, after the commits at its opening and at a tree's root with the counter
-  abbrev pub new_cursor : {O Z : Type 0} → (O → ℕ) → (O → List (Item K)) → ℕ → Arc (Pred A) Z → ℕ → ℕ → O → OpenCursor K A
-  new_cursor room_of unread serial query opened counter outlet = record {
+  -- a cursor that begins behind a commit, with these pages to visit; it follows the commit, or has a snapshot
+  abbrev pub new_cursor : {O Z : Type 0} → (O → ℕ) → (O → List (Item K)) → ℕ → Arc (Pred A) Z → Bool → ℕ → List StackItem → O → OpenCursor K A
+  new_cursor room_of unread serial query follows opened stack outlet = record {
     serial = serial;
     query = query_of (arc_value query);
+    follows = follows;
     opened = opened;
-    stack = root_stack counter;
+    stack = stack;
     pending = [];
     position = opened;
     asked = false;
@@ -144,6 +147,7 @@ module _ {K A : Type 0} (rules : Rules K A) (rule : Rule) where
   shown t k = record {
     serial = k.serial;
     query = k.query;
+    follows = k.follows;
     opened = k.opened;
     scanning = is_scanning k.stack;
     remaining = k.pending ++ to_find (wants k) k.opened t k.stack;

@@ -21,6 +21,7 @@ module _ {K A : Type 0} (commits : List (Write K)) where
   pub record TurnsTo (old new : OpenCursor K A) : Type 0 where
     pub serial : new.serial ≡ old.serial
     pub query : new.query ≡ old.query
+    pub follows : new.follows ≡ old.follows
     pub opened : new.opened ≡ old.opened
     pub room : new.room ≡ old.room
     pub offered : List (Item K)

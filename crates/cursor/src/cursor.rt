@@ -3,10 +3,10 @@ ghost use Rattle.cursor.specs.Preparing.{IsPrepared, IsDue, RefusesVisit};
 ghost use Rattle.std.specs.Arc.{arc_value};
 ghost use Rattle.key_class.specs.Queries.{query_of};
 ghost use Rattle.change_list.specs.declared.item.Item.{Item};
-ghost use Rattle.page_table.specs.Stacks.{IsStack};
+ghost use Rattle.page_table.specs.Stacks.{IsStack, root_stack};
 ghost use Rattle.mailbox.specs.Outlets.{Takes};
 ghost use Rattle.cursor.specs.OpenCursors.{Turns, is_scanning, TurnsPastEnd, TurnsByTree, Lessens, new_cursor, TurnsByCommits};
-ghost use Rattle.cursor.specs.Fitting.{KeepsAllFitting, TurnFits, BeginsFitting};
+ghost use Rattle.cursor.specs.Fitting.{KeepsAllFitting, TurnFits, BeginsFitting, FollowsFitting};
 ghost use Rattle.cursor.specs.Offering.{IsOffered};
 ghost use Rattle.cursor.specs.Sending.{TurnsTo};
 ghost use Rattle.page_table.specs.TraversalLaws.{IfSound};
@@ -37,6 +37,7 @@ pub enum Turned {
 pub struct Cursor<C: KeyClass, O: Outlet<C::Key>> {
     serial: u64,
     query: Arc<Pred<C::Atom>>,
+    follows: bool,
     opened: u32,
     stack: Stack,
     pending: VecDeque<Row<C::Key>>,
@@ -56,7 +57,7 @@ impl<C: KeyClass, O: Outlet<C::Key>> Model for Cursor<C, O> {
 
     ghost coded = { Prim.hlevel (codes, query_code) };
 
-    ghost view = { λ c. record { serial = c.serial; query = query_of (arc_value c.query); opened = c.opened; stack = c.stack; pending = c.pending.items; position = c.position; asked = c.asked; room = O.room_of c.outlet; unread = O.unread c.outlet } };
+    ghost view = { λ c. record { serial = c.serial; query = query_of (arc_value c.query); follows = c.follows; opened = c.opened; stack = c.stack; pending = c.pending.items; position = c.position; asked = c.asked; room = O.room_of c.outlet; unread = O.unread c.outlet } };
 }
 
 impl<C: KeyClass, O: Outlet<C::Key>> Cursor<C, O> {
@@ -70,14 +71,55 @@ impl<C: KeyClass, O: Outlet<C::Key>> Cursor<C, O> {
         counter: u32,
         outlet: O,
     ) -> Self
-        ensures new { result ≡ new_cursor O.room_of O.unread serial query opened counter outlet }
+        ensures new { result ≡ new_cursor O.room_of O.unread
+            serial query false opened (root_stack counter) outlet }
         ensures fits { BeginsFitting C.rules O.rule opened result }
+    {
+        let stack = Stack::at_root(alloc, counter);
+        Cursor::begin(alloc, serial, query, false, opened, stack, outlet)
+    }
+
+    /// A cursor that follows commit `from`: it gives the changes after it, and no row of a snapshot. It takes no memory.
+    pub fn following(
+        alloc: Global,
+        serial: u64,
+        query: Arc<Pred<C::Atom>>,
+        from: u32,
+        outlet: O,
+    ) -> Self
+        ensures new { result ≡ new_cursor O.room_of O.unread serial query true from [] outlet }
+        ensures fits { FollowsFitting C.rules O.rule from result }
+    {
+        Cursor::begin(
+            alloc,
+            serial,
+            query,
+            true,
+            from,
+            Stack::empty(alloc),
+            outlet,
+        )
+    }
+
+    /// A cursor that begins behind a commit, with these pages to visit.
+    fn begin(
+        alloc: Global,
+        serial: u64,
+        query: Arc<Pred<C::Atom>>,
+        follows: bool,
+        opened: u32,
+        stack: Stack,
+        outlet: O,
+    ) -> Self
+        ensures { result ≡ new_cursor O.room_of O.unread
+            serial query follows opened stack outlet }
     {
         Cursor {
             serial,
             query,
+            follows,
             opened,
-            stack: Stack::at_root(alloc, counter),
+            stack,
             pending: VecDeque::new(alloc),
             position: u64::from(opened),
             asked: false,
@@ -91,7 +133,14 @@ impl<C: KeyClass, O: Outlet<C::Key>> Cursor<C, O> {
         self.serial
     }
 
-    /// The number of commits at its opening.
+    /// Whether it follows a commit: it was opened without a snapshot.
+    pub fn follows(&self) -> bool
+        ensures { result ≡ self.now.follows }
+    {
+        self.follows
+    }
+
+    /// The number of commits at its opening, or of the commit that it follows.
     pub fn opened(&self) -> u32
         ensures { result ≡ self.now.opened }
     {

@@ -1,5 +1,5 @@
 -- A visit that makes a commit.
-use Rattle.std.proofs.Common.{◌≡◌, ◌+◌, ℕ, [], ◌∷◌, ◌++◌, length, length-append, sym, ap, ◌∙◌}
+use Rattle.std.proofs.Common.{◌≡◌, ◌+◌, ℕ, [], ◌∷◌, ◌++◌, length, List, length-append, sym, ap, ◌∙◌, arith}
 use Rattle.key_class.specs.Rules.{Rules}
 use Rattle.change_list.specs.declared.write.Write.{Write}
 use Rattle.world.specs.Stamps.{Stamp}
@@ -18,3 +18,7 @@ module _ {K A : Type 0} (rules : Rules K A) (old new : State K A) (seat : ℕ) (
     );
     left = after;
   }
+
+-- the book rises by one with a commit
+pub counted : {X : Type 0} (x : X) (old new : List X) (t u v : ℕ) → new ≡ old ++ x ∷ [] → length old ≡ t → u ≡ t + 1 → v ≡ u → length new ≡ v
+counted x old new t u v adds before more same = omega (arith, ap length adds, length-append old (x ∷ []), before, more, same)

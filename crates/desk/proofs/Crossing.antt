@@ -36,8 +36,11 @@ module _ (ℓ : NamedLft) (C L K A : RattleType) (c : class.Ghosts C.Denot K.Den
             (
               search sendable depth 20,
               (
-                search (consumer.the_field_send, item.the_send, heap.the_send, std.crosses, sendable) depth 20,
-                tt,
+                search sendable depth 20,
+                (
+                  search (consumer.the_field_send, item.the_send, heap.the_send, std.crosses, sendable) depth 20,
+                  tt,
+                ),
               ),
             ),
           ),

@@ -1,12 +1,12 @@
 //! The desk: a world under a lock, and the calls of its clients. Each call visits the lock once or more; a visit makes one
 //! event or none.
 ghost use Rattle.key_class.specs.Limits.{most_seats};
-ghost use Rattle.std.specs.Prelude.{◌≡◌, ◌↔◌, ◌<◌, ◌≤◌, ◌+◌, ℕ, [], ◌∷◌, ◌++◌, length, Some, Err, IfSome, IfOk, IfErr, OnErr};
+ghost use Rattle.std.specs.Prelude.{◌≡◌, ◌↔◌, ◌<◌, ◌≤◌, ◌+◌, ℕ, [], ◌∷◌, ◌++◌, length, Some, Err, true, false, IfSome, IfOk, IfErr, OnErr};
 ghost use Rattle.key_class.specs.Queries.{query_of};
 ghost use Rattle.change_list.specs.declared.write.Write.TheVariants.{Insert, Delete, Move};
 ghost use Rattle.world.specs.declared.event.Event.TheVariants as event;
 ghost use Rattle.desk.specs.Seats.{AreFresh, IsStampOf};
-ghost use Rattle.desk.specs.Visits.{CountsMoving, CountsSearch, IsDelete, IsMove, IsVisit, IsCommitted, IsMovingCommitted, IsSearchCommitted, CountsOne, IsBadDesk, OutOfMemoryOr, OpensFor, IsReplied, ClosesWithView, IsInsertRefused, IsDeleteRefused, IsMoveRefused, IsOpeningRefused};
+ghost use Rattle.desk.specs.Visits.{CountsMoving, CountsSearch, IsDelete, IsMove, IsVisit, IsCommitted, IsMovingCommitted, IsSearchCommitted, CountsOne, IsBadDesk, OutOfMemoryOr, OpensFor, IsReplied, FollowsFor, ClosesWithView, IsInsertRefused, IsDeleteRefused, IsMoveRefused, IsOpeningRefused, IsFollowingRefused};
 ghost use Rattle.key_class.specs.Refusals.{IsEither};
 
 use crate::latches::Latches;
@@ -424,6 +424,7 @@ impl<C: KeyClass, L: Ledger> DeskOver<World<C, Ring<C::Key>>, L> {
     ) -> Result<Taker<'d, C, L>, Refusal>
         ensures seat { seat.new ≡ seat.old }
         ensures query { IfOk result (λ t. t.query ≡ query_of query) }
+        ensures follows { IfOk result (λ t. t.follows ≡ false) }
         ensures opened { IfOk result (λ t. length seat.old.stamps ≤ t.opened) }
         ensures taken { IfOk result (λ t. t.taken ≡ []) }
         ensures opens { IfOk result (λ t. IsVisit C.rules (OpensFor query room t)) }
@@ -434,7 +435,46 @@ impl<C: KeyClass, L: Ledger> DeskOver<World<C, Ring<C::Key>>, L> {
         };
         match self.locked.lock(rt).open(&mut seat.share, copy, room) {
             Ok((cursor, opened, items)) => {
-                return Ok(Taker::new(self, cursor, query, opened, items));
+                return Ok(Taker::new(self, cursor, query, false, opened, items));
+            }
+            Err(why) => return Err(why),
+        }
+    }
+
+    /// Opens a cursor that follows a commit, and gives the end from which its items are taken: the changes after that
+    /// commit, and no row of a snapshot.
+    ///
+    /// # Errors
+    /// `BadConfig` as by `open_cursor`, `FromFuture` where there are fewer commits than that, `CursorsFull`, or want of
+    /// memory.
+    pub fn open_from<'d, R: Wait>(
+        &'d self,
+        rt: &R,
+        seat: &mut Seat<C, L>,
+        query: Pred<C::Atom>,
+        room: u64,
+        commit: u64,
+    ) -> Result<Taker<'d, C, L>, Refusal>
+        ensures seat { seat.new ≡ seat.old }
+        ensures query { IfOk result (λ t. t.query ≡ query_of query) }
+        ensures follows { IfOk result (λ t. t.follows ≡ true) }
+        ensures opened { IfOk result (λ t. t.opened ≡ commit) }
+        ensures taken { IfOk result (λ t. t.taken ≡ []) }
+        ensures opens { IfOk result (λ t. IsVisit C.rules (FollowsFor query room commit t)) }
+        ensures future { (result ≡ Err Refusal.FromFuture) → length seat.old.stamps < commit }
+        ensures refusals { IfErr result
+            (OutOfMemoryOr (IsFollowingRefused C.rules query room commit)) }
+    {
+        let Ok(copy) = query.copy(self.alloc) else {
+            return Err(Refusal::OutOfMemory);
+        };
+        match self
+            .locked
+            .lock(rt)
+            .follow(&mut seat.share, copy, room, commit)
+        {
+            Ok((cursor, items)) => {
+                return Ok(Taker::new(self, cursor, query, true, commit, items));
             }
             Err(why) => return Err(why),
         }

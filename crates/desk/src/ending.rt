@@ -22,28 +22,31 @@ pub enum Ended<K> {
     NoReceipt,
 }
 
-/// A receipt, where what a client took of a query since an opening is a delivery of the commits, and where the seat's
-/// stamps stand in them.
+/// A receipt, where what a client took of a query since an opening, or behind the commit that it follows, is a delivery of
+/// the commits, and where the seat's stamps stand in them.
 pub(crate) fn checked<C: KeyClass, L: Ledger>(
     alloc: Global,
     commits: View<C::Key>,
     seat: &Seat<C, L>,
     query: &Pred<C::Atom>,
+    follows: bool,
     opened: u64,
     taken: &[Item<C::Key>],
 ) -> Ended<C::Key>
+    ensures follows { IfReceipt result (λ r. r.follows ≡ follows) }
     ensures opened { IfReceipt result (λ r. r.opened ≡ opened) }
     ensures list { IfReceipt result (λ r. r.commits ≡ commits) }
     ensures legal { IfReceipt result (λ r. IsLegal r.commits) }
     ensures stamps { IfReceipt result (λ r. SeatStands r.commits seat.now) }
-    ensures taken { IfReceipt result (ShowsDelivery C.rules (query_of query.now) opened taken.now) }
+    ensures taken { IfReceipt result
+        (ShowsDelivery C.rules (query_of query.now) follows opened taken.now) }
 {
     let _count = commits.len();
     if !seat_stands(&commits, seat) {
         return Ended::NoReceipt;
     }
-    match is_delivered::<C>(alloc, &commits, query, opened, taken) {
-        Ok(true) => return Ended::Receipt(Receipt::new(opened, commits)),
+    match is_delivered::<C>(alloc, &commits, query, follows, opened, taken) {
+        Ok(true) => return Ended::Receipt(Receipt::new(follows, opened, commits)),
         _ => return Ended::NoReceipt,
     }
 }

@@ -1,15 +1,16 @@
 //! What lies under the lock, and the visits to it. Each makes one event or none.
 ghost use Rattle.std.specs.Prelude.{ℕ, ◌≡◌, ◌↔◌, ◌<◌, ◌≤◌, ◌+◌, [], length, Err, IfSome, IfNone, IfOk, IfErr, OnOk, OnErr};
 ghost use Rattle.rtrb.specs.Ring.{received};
+ghost use Rattle.mailbox.specs.Rings.{ring_rule};
 ghost use Rattle.world.specs.declared.event.Event.TheVariants as event;
 ghost use Rattle.world.specs.States.{IsFullOfCommits};
-ghost use Rattle.world.specs.Steps.{Opens};
+ghost use Rattle.world.specs.Steps.{Opens, opened_cursor, following_cursor};
 ghost use Rattle.insertion.specs.Visits.{Goes};
 ghost use Rattle.removal.specs.Ending.{Looks};
 ghost use Rattle.removal.specs.Visits.{Seeks};
 ghost use Rattle.removal.specs.declared.ending.Ending.TheVariants as Ending;
 ghost use Rattle.relocation.specs.Moves.{Relocates};
-ghost use Rattle.desk.specs.Visits.{MakesClose, Counts, CountsMoving, CountsSearch, IsHeld, IsMovingCommitted, IsSearchCommitted, IsSplitAtMost, IsSplitInTime, IsWayCommitted, MakesOneEvent, IsReplyTo, IsInsertRefused, IsDeleteRefused, IsMoveRefused, IsOpeningRefused};
+ghost use Rattle.desk.specs.Visits.{MakesClose, Counts, CountsMoving, CountsSearch, IsHeld, IsMovingCommitted, IsSearchCommitted, IsSplitAtMost, IsSplitInTime, IsWayCommitted, MakesOneEvent, IsReplyTo, IsInsertRefused, IsDeleteRefused, IsMoveRefused, IsOpeningRefused, IsFollowingRefused};
 
 use change_list::{Item, View};
 use insertion::{Way, insert_step, split_at_once, split_prepared};
@@ -95,7 +96,8 @@ impl<C: KeyClass, L: Ledger> Locked<World<C, Ring<C::Key>>, L> {
         tag: u64,
     ) -> Result<Way<C::Key>, Refusal>
         requires { 0 < share.old.parts }
-        ensures goes { IfOk result (λ way. Goes self.old seat key tag way self.new) }
+        ensures goes { IfOk result (λ way.
+            Goes C C.rules self.old seat page key tag way self.new) }
         ensures share { IfOk result (Counts share.old.amount share.new.amount) }
         ensures parts { share.new.parts ≡ share.old.parts }
         ensures one_event { MakesOneEvent C.rules C seat self.old self.new }
@@ -173,7 +175,7 @@ impl<C: KeyClass, L: Ledger> Locked<World<C, Ring<C::Key>>, L> {
     ) -> Result<Search<C::Key>, Refusal>
         requires { 0 < share.old.parts }
         ensures seeks { IfOk result (λ search.
-            Seeks self.old seat row Ending.Delete search self.new) }
+            Seeks C.rules ring_rule self.old seat finder row Ending.Delete search self.new) }
         ensures share { IfOk result (CountsSearch share.old.amount share.new.amount) }
         ensures parts { share.new.parts ≡ share.old.parts }
         ensures one_event { MakesOneEvent C.rules C seat self.old self.new }
@@ -207,7 +209,8 @@ impl<C: KeyClass, L: Ledger> Locked<World<C, Ring<C::Key>>, L> {
         key: C::Key,
     ) -> Result<Moving<C::Key>, Refusal>
         requires { 0 < share.old.parts }
-        ensures moves { IfOk result (λ moving. Relocates self.old seat row key moving self.new) }
+        ensures moves { IfOk result (λ moving.
+            Relocates C C.rules ring_rule self.old seat page finder row key moving self.new) }
         ensures share { IfOk result (CountsMoving share.old.amount share.new.amount) }
         ensures parts { share.new.parts ≡ share.old.parts }
         ensures one_event { MakesOneEvent C.rules C seat self.old self.new }
@@ -245,7 +248,8 @@ impl<C: KeyClass, L: Ledger> Locked<World<C, Ring<C::Key>>, L> {
         query: Pred<C::Atom>,
         room: u64,
     ) -> Result<(u64, u64, Consumer<Item<C::Key>>), Refusal>
-        ensures opens { IfOk result (λ made. Opens self.old query room made.0 self.new) }
+        ensures opens { IfOk result
+            (λ made. Opens self.old (opened_cursor self.old query room) made.0 self.new) }
         ensures opened { IfOk result (λ made. made.1 ≡ length self.old.commits) }
         ensures audited { IfOk result (λ made. share.new.amount ≤ made.1) }
         ensures fresh { IfOk result (λ made. received made.2 ≡ []) }
@@ -261,6 +265,34 @@ impl<C: KeyClass, L: Ledger> Locked<World<C, Ring<C::Key>>, L> {
         let opened = world.commits();
         let (cursor, end) = world.open_cursor(query, room)?;
         Ok((cursor, opened, end))
+    }
+
+    /// Opens a cursor that follows a commit: its serial, and the end of its ring. The share is at most the number of
+    /// commits.
+    pub(crate) fn follow(
+        &mut self,
+        share: &mut Share<L>,
+        query: Pred<C::Atom>,
+        room: u64,
+        commit: u64,
+    ) -> Result<(u64, Consumer<Item<C::Key>>), Refusal>
+        ensures opens { IfOk result
+            (λ made. Opens self.old (following_cursor self.old query room commit) made.0 self.new) }
+        ensures there { OnOk result (commit ≤ length self.old.commits) }
+        ensures future { (result ≡ Err Refusal.FromFuture) → length self.old.commits < commit }
+        ensures audited { share.new.amount ≤ length self.old.commits }
+        ensures fresh { IfOk result (λ made. received made.1 ≡ []) }
+        ensures share { share.new.amount ≡ share.old.amount }
+        ensures parts { share.new.parts ≡ share.old.parts }
+        ensures one_event { MakesOneEvent C.rules C 0 self.old self.new }
+        ensures held { IsHeld C.rules self.old × IsHeld C.rules self.new }
+        ensures unchanged { OnErr result (self.new ≡ self.old) }
+        ensures refusals { IfErr result (IsFollowingRefused C.rules query room commit) }
+    {
+        let Locked { world, book } = self;
+        book.audit(share);
+        let (cursor, end) = world.follow_commit(query, room, commit)?;
+        Ok((cursor, end))
     }
 
     /// A cursor's turn.

@@ -4,9 +4,11 @@ ghost use Rattle.change_list.specs.Changes.{commit_at, IsLegal};
 use change_list::{View, Write};
 use std::marker::Model;
 
-/// The commits as they stood when a cursor was closed. What its client took begins a listing of them.
+/// The commits as they stood when a cursor was closed. What its client took begins a listing of them, or the changes after
+/// the commit that it follows.
 #[derive(Drop)]
 pub struct Receipt<K> {
+    follows: bool,
     opened: u64,
     commits: View<K>,
 }
@@ -16,17 +18,28 @@ impl<K> Model for Receipt<K> {
 
     ghost Value = { Received K };
 
-    ghost view = { λ r. record { opened = r.opened; commits = r.commits } };
+    ghost view = { λ r. record { follows = r.follows; opened = r.opened; commits = r.commits } };
 }
 
 impl<K: Copy> Receipt<K> {
-    pub(crate) fn new(opened: u64, commits: View<K>) -> Receipt<K>
-        ensures { result ≡ record { opened = opened; commits = commits } }
+    pub(crate) fn new(follows: bool, opened: u64, commits: View<K>) -> Receipt<K>
+        ensures { result ≡ record { follows = follows; opened = opened; commits = commits } }
     {
-        Receipt { opened, commits }
+        Receipt {
+            follows,
+            opened,
+            commits,
+        }
     }
 
-    /// The number of commits at the cursor's opening.
+    /// Whether the cursor followed a commit, and so gave no rows.
+    pub fn follows(&self) -> bool
+        ensures { result ≡ self.now.follows }
+    {
+        self.follows
+    }
+
+    /// The number of commits at the cursor's opening, or of the commit that it followed.
     pub fn opened(&self) -> u64
         ensures { result ≡ self.now.opened }
     {

@@ -18,7 +18,11 @@ mod pumped;
 #[cfg(test)]
 mod queries;
 #[cfg(test)]
+mod races;
+#[cfg(test)]
 mod receipts;
+#[cfg(test)]
+mod resumed;
 #[cfg(test)]
 mod seats;
 #[cfg(test)]

@@ -16,7 +16,7 @@ use std::thread::Threads;
 use storm::{Reading, Verdict, judged};
 use world::Reply;
 
-const CONFIG: Config = Config {
+pub const CONFIG: Config = Config {
     fan: 8,
     least: 3,
     pages: 65_536,
@@ -103,7 +103,7 @@ fn move_rows<L: Ledger, R: Wait + Abort>(
 }
 
 /// What the clients of a desk do: writers `W`, and readers that have cursors `T` and what they took of them, `I`.
-trait Clients<W, T, I> {
+pub trait Clients<W, T, I> {
     /// Inserts rows and moves them.
     fn write<R: Wait + Abort>(&self, rt: &R, seat: &mut W);
 
@@ -134,7 +134,7 @@ impl<'d, L: Ledger> Clients<Seat<Intervals, L>, Taker<'d, Intervals, L>, Vec<Ite
 }
 
 /// Lets writers write, each in a thread of its own, while two readers follow, each in a thread of its own.
-fn at_once<D, W, T, I, R>(
+pub fn at_once<D, W, T, I, R>(
     rt: &R,
     desk: &D,
     seats: &mut [W],
@@ -165,7 +165,7 @@ where
 }
 
 /// What a reader took, up to a mark, and what closing its cursor gives.
-fn reading<'d, L: Ledger, R: Wait>(
+pub fn reading<'d, L: Ledger, R: Wait>(
     rt: &R,
     desk: &'d Desk<Intervals, L>,
     seat: &mut Seat<Intervals, L>,
@@ -213,7 +213,7 @@ fn write_and_follow<L: Ledger + Send + Sync, R: Threads + Wait + Abort + Sync>(
 }
 
 /// Whether a reader took a listing of all commits.
-fn is_whole(
+pub fn is_whole(
     alloc: Global,
     commits: &ChangeList<Interval>,
     reading: &Reading<Interval>,

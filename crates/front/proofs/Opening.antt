@@ -1,14 +1,14 @@
 -- A cursor opened or closed, told to its client.
-use Rattle.std.proofs.Common.{◌≡◌, ◌≢◌, ◌+◌, ◌-◌, ◌<◌, ◌≤◌, ℕ, Bool, true, false, not, cond, ◌||◌, List, [], ◌∷◌, ◌++◌, length, filter, Some, None, Ok, Err, refl, sym, ap, ◌∙◌, arith, subst, length-append}
+use Rattle.std.proofs.Common.{◌≡◌, ◌≢◌, ◌+◌, ◌-◌, ◌<◌, ◌≤◌, ℕ, Bool, true, false, not, cond, ◌||◌, List, [], ◌∷◌, ◌++◌, length, filter, Option, Some, None, Ok, Err, refl, sym, ap, ◌∙◌, arith, subst, length-append}
 use Rattle.std.specs.Prelude.{nat_eq, nat_lt, IsPermutation, if◌then◌else◌}
 use Rattle.key_class.specs.Queries.{Query}
 use Rattle.key_class.specs.declared.refusal.Refusal.TheVariants as refusal
 use Rattle.key_class.specs.Rules.{Rules}
-use Rattle.change_list.specs.Cursors.{CursorState}
+use Rattle.change_list.specs.Cursors.{CursorState, Fits}
 use Rattle.store.specs.States.{StoreState, cursor_of, open_or_closed, find_cursor, IsOpened, Closes, without_cursor}
 use Rattle.store.proofs.Cursors.{found_as}
-use Rattle.front.specs.Told.{ClientCursor, Told, with_client_cursor}
-use Rattle.front.specs.AsTold.{AreSame, IsAsTold}
+use Rattle.front.specs.Told.{ClientCursor, Told, client_cursor, with_client_cursor}
+use Rattle.front.specs.AsTold.{AreSame, IsSameCursor, IsAsTold}
 use Rattle.front.proofs.Telling.{told_cursor}
 
 given_later : (last d : ℕ) → d ≢ last + 1 → nat_lt (last + 1) d ≡ nat_lt last d
@@ -50,13 +50,24 @@ module _ {K A : Type 0} where
       go false e r = rw e (ap (λ o. cond (nat_eq k.serial d) (Some k) o) r)
 
   module _ (rules : Rules K A) (old : StoreState K A) (told : Told K A) (t : IsAsTold rules old told) where
-    pub told_opened : (query : Query A) (c : ℕ) (new : StoreState K A) → IsOpened rules.is_match old query c new
+    -- the client's new cursor is as the store's, which follows a commit or has a snapshot
+    pub record IsBegun (from : Option ℕ) (follows : Bool) (opened : ℕ) : Type 0 where
+      pub follows_is : (query : Query A) → (client_cursor told query from).follows ≡ follows
+      pub opened_is : (query : Query A) → (client_cursor told query from).opened ≡ opened
+
+    pub begun_now : IsBegun None false (length old.commits)
+    begun_now = record { follows_is = λ query. refl; opened_is = λ query. ap length t.commits }
+
+    pub begun_behind : (commit : ℕ) → IsBegun (Some commit) true commit
+    begun_behind commit = record { follows_is = λ query. refl; opened_is = λ query. refl }
+
+    pub told_opened : (query : Query A) (from : Option ℕ) (follows : Bool) (opened c : ℕ) (new : StoreState K A) → IsBegun from follows opened → IsOpened rules.is_match old query follows opened c new
         → IsAsTold rules new (record told {
-          cursors = with_client_cursor told.cursors c (Ok (record { query = query; opened = length told.commits; given = []; asked = false }));
+          cursors = with_client_cursor told.cursors c (Ok (client_cursor told query from));
           open_cursors = told.open_cursors + 1;
           last = c;
         })
-    told_opened query c new o = record {
+    told_opened query from follows opened c new begun o = record {
       limit = t.limit ∙ sym (ap (λ (s : StoreState K A). s.limit) o.after);
       commits = t.commits ∙ sym commits;
       page_limit = t.page_limit ∙ sym (ap (λ (s : StoreState K A). s.page_limit) o.after);
@@ -71,13 +82,34 @@ module _ {K A : Type 0} where
         commits = ap (λ (s : StoreState K A). s.commits) o.after
 
         f : ClientCursor K A
-        f = record { query = query; opened = length told.commits; given = []; asked = false }
+        f = client_cursor told query from
+
+        asks : (from : Option ℕ) → (client_cursor told query from).query ≡ query
+        asks None = refl
+        asks (Some commit) = refl
+
+        unasked : (from : Option ℕ) → (client_cursor told query from).asked ≡ false
+        unasked None = refl
+        unasked (Some commit) = refl
+
+        nothing : (from : Option ℕ) → (client_cursor told query from).given ≡ []
+        nothing None = refl
+        nothing (Some commit) = refl
+
+        same : IsSameCursor rules old.commits o.cursor f
+        same = record {
+          query = asks from ∙ sym o.query;
+          follows = begun.follows_is query ∙ sym o.follows_is;
+          opened = begun.opened_is query ∙ sym o.opened_is;
+          asked = unasked from ∙ sym o.unasked;
+          fits = subst (λ l. Fits rules.is_match old.commits o.cursor l) (sym (nothing from)) o.fits;
+        }
 
         go : (d : ℕ) (b : Bool) → nat_eq d c ≡ b → AreSame rules new.commits (cursor_of new d) (if b then Ok f else told.cursors d)
         go d true e =
             let n : d ≡ c = search (arith, e) in
             let w : cursor_of new d ≡ Ok o.cursor = ap (cursor_of new) n ∙ o.is_open in
-            rw commits (subst (λ x. AreSame rules old.commits x (Ok f)) (sym w) (record { query = sym o.query; opened = ap length t.commits ∙ sym o.opened; asked = sym o.unasked; fits = o.fits }))
+            rw commits (subst (λ x. AreSame rules old.commits x (Ok f)) (sym w) same)
         go d false e =
             let n : d ≢ c = search (arith, e) in
             rw commits (subst (λ x. AreSame rules old.commits x (told.cursors d)) (sym (opened_other old new o.cursor c d o.serial o.number o.after n)) (t.cursors d))

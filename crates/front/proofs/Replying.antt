@@ -1,6 +1,6 @@
 -- Replies of the store's calls that commit, open and sweep.
-use Rattle.std.proofs.Common.{◌≡◌, ◌≢◌, ◌+◌, ◌-◌, ◌<◌, ◌≤◌, ℕ, true, not, List, [], ◌∷◌, ◌++◌, length, filter, Some, None, Result, Ok, Err, ◌⊎◌, inl, inr, ⊎_elim, refl, sym, ap, ◌∙◌, arith, subst, length-append}
-use Rattle.std.specs.Prelude.{◌↔◌, IsPermutation}
+use Rattle.std.proofs.Common.{◌≡◌, ◌≢◌, ◌+◌, ◌-◌, ◌<◌, ◌≤◌, ℕ, Bool, true, false, not, List, [], ◌∷◌, ◌++◌, length, filter, Option, Some, None, Result, Ok, Err, ◌⊎◌, inl, inr, ⊎_elim, refl, sym, ap, ◌∙◌, arith, subst, length-append}
+use Rattle.std.specs.Prelude.{◌↔◌, nat_lt, IsPermutation}
 use Rattle.std.proofs.lemmas.List.Sorted.{IsPermutation-trans, IsPermutation-append_comm, IsPermutation-append_right, IsPermutation-filter_both, length_permutation}
 use Rattle.key_class.specs.Queries.{Query, depth_of}
 use Rattle.key_class.specs.declared.refusal.Refusal.{Refusal}
@@ -11,17 +11,24 @@ use Rattle.change_list.specs.declared.item.Item.{Item}
 use Rattle.change_list.specs.declared.write.Status.{Status}
 use Rattle.change_list.specs.declared.write.Status.TheVariants.{NeverIssued, Live, Dead}
 use Rattle.change_list.specs.Changes.{status_of}
-use Rattle.store.specs.States.{StoreState, DeadRow, Commits, Keeps, IsOpened, IsBadOpening, IsFullOf, MayRefuseDelete, MayRefuseMove, SweepsStore, SweepsStorePart, is_dead_needed, Nexts, RefusesNext, ChangesCursor, with_asking, Closes}
+use Rattle.store.specs.States.{StoreState, DeadRow, Commits, Keeps, IsOpened, IsBadOpening, IsFromFuture, HasNoFollowerFor, RefusesFollower, IsFullOf, MayRefuseDelete, MayRefuseMove, SweepsStore, SweepsStorePart, is_dead_needed, Nexts, RefusesNext, ChangesCursor, with_asking, Closes}
 use Rattle.query_text.specs.Tokens.{Placed}
 use Rattle.query_text.specs.ClassTexts.{Texts}
 use Rattle.query_text.specs.Grammar.{RefusesTokens, IsParseRefusal}
 use Rattle.front.specs.declared.reply.Reply.{Reply}
 use Rattle.front.specs.declared.reply.Reply.TheVariants as reply
-use Rattle.front.specs.Told.{Told, with_client_cursor, IsFullAsTold, HasNoCursorLeft, MayLackPages, IsBadRoom, RefusesToEnd, RepliesInsert, RepliesDelete, RepliesMove, RepliesOpen, RepliesNext, RepliesMark, RepliesSweep, RepliesClose}
+use Rattle.front.specs.Told.{Told, with_client_cursor, IsFullAsTold, HasNoCursorLeft, MayLackPages, IsBadRoom, IsAhead, MayBegin, RefusesToEnd, RepliesInsert, RepliesDelete, RepliesMove, RepliesOpen, RepliesNext, RepliesMark, RepliesSweep, RepliesClose}
 use Rattle.front.specs.AsTold.{IsAsTold}
 use Rattle.front.specs.Sessions.{WithQuery}
 use Rattle.front.proofs.Telling.{told_insert, told_end, told_kept, told_swept, told_given, told_empty, told_wanting, told_asked, told_refusal, each_needed}
-use Rattle.front.proofs.Opening.{told_opened, told_closed}
+use Rattle.front.proofs.Opening.{IsBegun, begun_now, begun_behind, told_opened, told_closed}
+
+not_less : (a b : ℕ) → (a < b → ⊥) → b ≤ a
+not_less a b h = go (nat_lt a b) refl
+  where
+    go : (c : Bool) → nat_lt a b ≡ c → b ≤ a
+    go true e = absurd (h (search (arith, e)))
+    go false e = search (arith, e)
 
 module _ {K A : Type 0} (rules : Rules K A) (old new : StoreState K A) (told : Told K A) (t : IsAsTold rules old told) where
   full_told : (old.limit ≤ length old.commits) ↔ IsFullAsTold told
@@ -149,31 +156,105 @@ module _ {K A : Type 0} (rules : Rules K A) (old new : StoreState K A) (told : T
     λ h. ⊎_elim (λ (a : 256 ≤ told.open_cursors). inl (omega (arith, a, t.open_cursors))) (λ (b : 4294967295 ≤ told.last). inr (omega (arith, b, t.last))) h,
   )
 
+  -- when a cursor's opening is refused, by what was told: by the room, then by the commit that it follows, if any
+  record IsRefusedBy (room : ℕ) (from : Option ℕ) (query : Query A) (r : Result ℕ Refusal) : Type 0 where
+    pub shallow : depth_of query ≤ 32
+    pub bad : (r ≡ Err refusal.BadConfig) ↔ IsBadOpening query room
+    pub future : (r ≡ Err refusal.FromFuture) ↔ ((¬ IsBadOpening query room) × IsAhead told from)
+    pub full : (r ≡ Err refusal.CursorsFull) ↔ ((¬ IsBadOpening query room) × (¬ IsAhead told from) × IsFullOf old)
+
+  module _ (room : ℕ) (from : Option ℕ) (query : Query A) (r : Result ℕ Refusal) (by : IsRefusedBy room from query r) where
+    -- with another answer than these refusals the cursor may begin, and one is left
+    may_begin : (r ≡ Err refusal.BadConfig → ⊥) → (r ≡ Err refusal.FromFuture → ⊥) → MayBegin told room from
+    may_begin b f =
+        let good : IsBadOpening query room → ⊥ = λ h. b (by.bad.1 h) in
+        record { room_is_good = λ h. good ((bad_room query room by.shallow).1 h); is_there = λ h. f (by.future.1 (good, h)) }
+
+    is_left : (r ≡ Err refusal.BadConfig → ⊥) → (r ≡ Err refusal.FromFuture → ⊥) → (r ≡ Err refusal.CursorsFull → ⊥) → HasNoCursorLeft told → ⊥
+    is_left b f c h = c (by.full.1 (λ g. b (by.bad.1 g), (may_begin b f).is_there, none_left.1 h))
+
+    opens_at : (follows : Bool) (opened c : ℕ) → r ≡ Ok c → IsBegun rules old told t from follows opened → IsOpened rules.is_match old query follows opened c new
+        → (after : Told K A) × RepliesOpen room from query (reply.Opened c) told after × IsAsTold rules new after
+    opens_at follows opened c e begun o =
+        let b : r ≡ Err refusal.BadConfig → ⊥ = λ x. (let y : Ok c ≡ Err refusal.BadConfig = sym e ∙ x in cc) in
+        let f : r ≡ Err refusal.FromFuture → ⊥ = λ x. (let y : Ok c ≡ Err refusal.FromFuture = sym e ∙ x in cc) in
+        let n : r ≡ Err refusal.CursorsFull → ⊥ = λ x. (let y : Ok c ≡ Err refusal.CursorsFull = sym e ∙ x in cc) in (
+          record told { cursors = _; open_cursors = told.open_cursors + 1; last = c },
+          (may_begin b f, is_left b f n, omega (arith, o.serial, t.last), refl),
+          told_opened rules old told t query from follows opened c new begun o,
+        )
+
+    refuses_opening : (why : Refusal) → r ≡ Err why → (why ≡ refusal.FromFuture) ⊎ (why ≡ refusal.BadConfig) ⊎ (why ≡ refusal.CursorsFull) ⊎ (why ≡ refusal.OutOfMemory) → new ≡ old
+        → (after : Told K A) × RepliesOpen room from query (reply.Refused why) told after × IsAsTold rules new after
+    refuses_opening why e w n = (told, says why e w, subst (λ (x : StoreState K A). IsAsTold rules x told) (sym n) t)
+      where
+        says : (x : Refusal) → r ≡ Err x → (x ≡ refusal.FromFuture) ⊎ (x ≡ refusal.BadConfig) ⊎ (x ≡ refusal.CursorsFull) ⊎ (x ≡ refusal.OutOfMemory) → RepliesOpen room from query (reply.Refused x) told told
+        says x p (inl a) =
+            let h = by.future.0 (p ∙ ap Err a) in
+            subst (λ y. RepliesOpen room from query (reply.Refused y) told told) (sym a) (λ g. h.0 ((bad_room query room by.shallow).1 g), h.1, refl)
+        says x p (inr (inl a)) = subst (λ y. RepliesOpen room from query (reply.Refused y) told told) (sym a) ((bad_room query room by.shallow).0 (by.bad.0 (p ∙ ap Err a)), refl)
+        says x p (inr (inr (inl a))) =
+            let h = by.full.0 (p ∙ ap Err a) in
+            subst (λ y. RepliesOpen room from query (reply.Refused y) told told) (sym a)
+            (record { room_is_good = λ g. h.0 ((bad_room query room by.shallow).1 g); is_there = h.1 }, none_left.0 h.2, refl)
+        says x p (inr (inr (inr a))) =
+            let q : r ≡ Err refusal.OutOfMemory = p ∙ ap Err a in
+            let b : r ≡ Err refusal.BadConfig → ⊥ = λ x. (let y : Err refusal.OutOfMemory ≡ Err refusal.BadConfig = sym q ∙ x in cc) in
+            let f : r ≡ Err refusal.FromFuture → ⊥ = λ x. (let y : Err refusal.OutOfMemory ≡ Err refusal.FromFuture = sym q ∙ x in cc) in
+            let c : r ≡ Err refusal.CursorsFull → ⊥ = λ x. (let y : Err refusal.OutOfMemory ≡ Err refusal.CursorsFull = sym q ∙ x in cc) in
+            subst (λ y. RepliesOpen room from query (reply.Refused y) told told) (sym a) (may_begin b f, is_left b f c, refl)
+
+  -- at the present commits
+  by_now : (room : ℕ) (query : Query A) (r : Result ℕ Refusal) → depth_of query ≤ 32 → ((r ≡ Err refusal.BadConfig) ↔ IsBadOpening query room)
+      → ((r ≡ Err refusal.CursorsFull) ↔ ((¬ IsBadOpening query room) × IsFullOf old)) → (r ≡ Err refusal.FromFuture → ⊥) → IsRefusedBy room None query r
+  by_now room query r s b f n = record {
+    shallow = s;
+    bad = b;
+    future = (λ e. absurd (n e), λ h. absurd h.1);
+    full = (λ e. let h = f.0 e in (h.0, λ a. a, h.1), λ h. f.1 (h.0, h.2));
+  }
+
   pub opens : (room c : ℕ) (query : Query A) (r : Result ℕ Refusal) → r ≡ Ok c → depth_of query ≤ 32 → ((r ≡ Err refusal.BadConfig) ↔ IsBadOpening query room)
-      → ((r ≡ Err refusal.CursorsFull) ↔ ((¬ IsBadOpening query room) × IsFullOf old)) → IsOpened rules.is_match old query c new
-      → (after : Told K A) × RepliesOpen room query (reply.Opened c) told after × IsAsTold rules new after
+      → ((r ≡ Err refusal.CursorsFull) ↔ ((¬ IsBadOpening query room) × IsFullOf old)) → IsOpened rules.is_match old query false (length old.commits) c new
+      → (after : Told K A) × RepliesOpen room None query (reply.Opened c) told after × IsAsTold rules new after
   opens room c query r e s b f o =
-      let good : IsBadOpening query room → ⊥ = λ h. (let x = b.1 h in let y : Ok c ≡ Err refusal.BadConfig = sym e ∙ x in cc) in (
-        record told { cursors = _; open_cursors = told.open_cursors + 1; last = c },
-        (λ h. good ((bad_room query room s).1 h), λ h. (let x = f.1 (good, none_left.1 h) in let y : Ok c ≡ Err refusal.CursorsFull = sym e ∙ x in cc), omega (arith, o.serial, t.last), refl),
-        told_opened rules old told t query c new o,
-      )
+      opens_at room None query r (by_now room query r s b f (λ x. (let y : Ok c ≡ Err refusal.FromFuture = sym e ∙ x in cc))) false (length old.commits) c e (begun_now rules old told t) o
 
   pub open_refused : (room : ℕ) (query : Query A) (why : Refusal) (r : Result ℕ Refusal) → r ≡ Err why → depth_of query ≤ 32 → ((r ≡ Err refusal.BadConfig) ↔ IsBadOpening query room)
       → ((r ≡ Err refusal.CursorsFull) ↔ ((¬ IsBadOpening query room) × IsFullOf old)) → (why ≡ refusal.BadConfig) ⊎ (why ≡ refusal.CursorsFull) ⊎ (why ≡ refusal.OutOfMemory) → new ≡ old
-      → (after : Told K A) × RepliesOpen room query (reply.Refused why) told after × IsAsTold rules new after
-  open_refused room query why r e s b f w n = (told, says why e w, subst (λ (x : StoreState K A). IsAsTold rules x told) (sym n) t)
+      → (after : Told K A) × RepliesOpen room None query (reply.Refused why) told after × IsAsTold rules new after
+  open_refused room query why r e s b f w n =
+      refuses_opening room None query r (by_now room query r s b f (λ x. never why w (let y : Err why ≡ Err refusal.FromFuture = sym e ∙ x in cc))) why e (inr w) n
     where
-      says : (x : Refusal) → r ≡ Err x → (x ≡ refusal.BadConfig) ⊎ (x ≡ refusal.CursorsFull) ⊎ (x ≡ refusal.OutOfMemory) → RepliesOpen room query (reply.Refused x) told told
-      says x p (inl a) = subst (λ y. RepliesOpen room query (reply.Refused y) told told) (sym a) ((bad_room query room s).0 (b.0 (p ∙ ap Err a)), refl)
-      says x p (inr (inl a)) =
-          let h = f.0 (p ∙ ap Err a) in
-          subst (λ y. RepliesOpen room query (reply.Refused y) told told) (sym a) (λ g. h.0 ((bad_room query room s).1 g), none_left.0 h.1, refl)
-      says x p (inr (inr a)) =
-          let q : r ≡ Err refusal.OutOfMemory = p ∙ ap Err a in
-          let good : IsBadOpening query room → ⊥ = λ h. (let x = b.1 h in let y : Err refusal.OutOfMemory ≡ Err refusal.BadConfig = sym q ∙ x in cc) in
-          subst (λ y. RepliesOpen room query (reply.Refused y) told told) (sym a)
-          (λ h. good ((bad_room query room s).1 h), λ h. (let x = f.1 (good, none_left.1 h) in let y : Err refusal.OutOfMemory ≡ Err refusal.CursorsFull = sym q ∙ x in cc), refl)
+      never : (x : Refusal) → (x ≡ refusal.BadConfig) ⊎ (x ≡ refusal.CursorsFull) ⊎ (x ≡ refusal.OutOfMemory) → x ≡ refusal.FromFuture → ⊥
+      never x (inl a) h = let z : refusal.BadConfig ≡ refusal.FromFuture = sym a ∙ h in cc
+      never x (inr (inl a)) h = let z : refusal.CursorsFull ≡ refusal.FromFuture = sym a ∙ h in cc
+      never x (inr (inr a)) h = let z : refusal.OutOfMemory ≡ refusal.FromFuture = sym a ∙ h in cc
+
+  -- behind a commit
+  by_commit : (room commit : ℕ) (query : Query A) (r : Result ℕ Refusal) → depth_of query ≤ 32 → ((r ≡ Err refusal.BadConfig) ↔ IsBadOpening query room)
+      → ((r ≡ Err refusal.FromFuture) ↔ IsFromFuture old query room commit) → ((r ≡ Err refusal.CursorsFull) ↔ HasNoFollowerFor old query room commit) → IsRefusedBy room (Some commit) query r
+  by_commit room commit query r s b f c =
+      let many : length told.commits ≡ length old.commits = ap length t.commits in
+      record {
+        shallow = s;
+        bad = b;
+        future = (λ e. let h = f.0 e in (h.0, omega (arith, h.1, many)), λ h. f.1 (h.0, omega (arith, h.1, many)));
+        full = (λ e. let h = c.0 e in (h.0, λ a. omega (arith, a, h.1, many), h.2), λ h. c.1 (h.0, there h.1 many, h.2));
+      }
+    where
+      there : ((length told.commits < commit) → ⊥) → length told.commits ≡ length old.commits → commit ≤ length old.commits
+      there h many = subst (λ n. commit ≤ n) many (not_less (length told.commits) commit h)
+
+  pub follows : (room commit c : ℕ) (query : Query A) (r : Result ℕ Refusal) → r ≡ Ok c → depth_of query ≤ 32 → ((r ≡ Err refusal.BadConfig) ↔ IsBadOpening query room)
+      → ((r ≡ Err refusal.FromFuture) ↔ IsFromFuture old query room commit) → ((r ≡ Err refusal.CursorsFull) ↔ HasNoFollowerFor old query room commit) → IsOpened rules.is_match old query true commit c new
+      → (after : Told K A) × RepliesOpen room (Some commit) query (reply.Opened c) told after × IsAsTold rules new after
+  follows room commit c query r e s b f n o = opens_at room (Some commit) query r (by_commit room commit query r s b f n) true commit c e (begun_behind rules old told t commit) o
+
+  pub follow_refused : (room commit : ℕ) (query : Query A) (why : Refusal) (r : Result ℕ Refusal) → r ≡ Err why → depth_of query ≤ 32 → ((r ≡ Err refusal.BadConfig) ↔ IsBadOpening query room)
+      → ((r ≡ Err refusal.FromFuture) ↔ IsFromFuture old query room commit) → ((r ≡ Err refusal.CursorsFull) ↔ HasNoFollowerFor old query room commit) → RefusesFollower why → new ≡ old
+      → (after : Told K A) × RepliesOpen room (Some commit) query (reply.Refused why) told after × IsAsTold rules new after
+  follow_refused room commit query why r e s b f n w same = refuses_opening room (Some commit) query r (by_commit room commit query r s b f n) why e w same
 
   pub swept : (n : ℕ) → SweepsStore rules.is_match old n new → (after : Told K A) × RepliesSweep (reply.Swept n) told after × IsAsTold rules new after
   swept n s =

@@ -11,8 +11,8 @@ use Rattle.change_list.specs.declared.write.Write.{Write}
 use Rattle.change_list.specs.declared.write.Write.TheVariants.{Insert}
 use Rattle.change_list.specs.declared.item.Item.{Item}
 use Rattle.change_list.specs.declared.item.Item.TheVariants as item
-use Rattle.change_list.specs.Listings.{IsListing, BeginsListing, without_marks}
-use Rattle.change_list.specs.Cursors.{CursorState, Fits, IsFollowing}
+use Rattle.change_list.specs.Listings.{IsListingFor, BeginsListingFor, without_marks}
+use Rattle.change_list.specs.Cursors.{CursorState, Fits, IsPastRows}
 use Rattle.change_list.proofs.Fitting.{fits_begins, fits_done}
 use Rattle.store.specs.States.{StoreState, DeadRow, cursor_of, SameOrStays, Commits, Keeps, KeepsLiving, ChangesCursor, with_asking, Nexts, Wants, Answers, IsNeededBy}
 use Rattle.store.specs.States as states
@@ -24,7 +24,7 @@ module _ {K A : Type 0} (rules : Rules K A) where
   -- a cursor that a call left alone is still as told
   stays_same : (commits later : List (Write K)) (x y : Result (CursorState K A) Refusal) (f : Result (ClientCursor K A) Refusal)
       → SameOrStays rules.is_match commits later x y → AreSame rules commits x f → AreSame rules later y f
-  stays_same commits later (Ok before) (Ok after) (Ok f) s a = record { query = a.query ∙ sym s.query; opened = a.opened ∙ sym s.opened; asked = a.asked ∙ sym s.asked; fits = s.fits f.given a.fits }
+  stays_same commits later (Ok before) (Ok after) (Ok f) s a = record { query = a.query ∙ sym s.query; follows = a.follows ∙ sym s.follows; opened = a.opened ∙ sym s.opened; asked = a.asked ∙ sym s.asked; fits = s.fits f.given a.fits }
   stays_same commits later (Ok before) (Ok after) (Err why) s a = absurd a
   stays_same commits later (Ok before) (Err why) f s a = absurd s
   stays_same commits later (Err why) (Ok after) f s a = absurd s
@@ -90,7 +90,11 @@ module _ {K A : Type 0} (rules : Rules K A) where
     needed_told d n = go (told.cursors n.serial) refl (subst (λ x. AreSame rules old.commits x (told.cursors n.serial)) n.is_open (t.cursors n.serial))
       where
         go : (f : Result (ClientCursor K A) Refusal) → told.cursors n.serial ≡ f → AreSame rules old.commits (Ok n.cursor) f → DiedAfterOpening told d
-        go (Ok f) e a = record { serial = n.serial; cursor = f; is_open = e; opened = omega (arith, a.opened, n.opened) }
+        go (Ok f) e a = record { serial = n.serial; cursor = f; is_open = e; has_rows = a.follows ∙ no_follower n.cursor.follows refl a.fits; opened = omega (arith, a.opened, n.opened) }
+          where
+            no_follower : (b : Bool) → n.cursor.follows ≡ b → Fits rules.is_match old.commits n.cursor f.given → n.cursor.follows ≡ false
+            no_follower false w fits = w
+            no_follower true w fits = absurd (let z : true ≡ false = sym n.scanning ∙ (fits.follower w).scanned in cc)
         go (Err why) e a = absurd a
 
     pub each_needed : (ds : List DeadRow) → AllByRecursion (IsNeededBy old) ds → AllByRecursion (DiedAfterOpening told) ds
@@ -167,33 +171,38 @@ module _ {K A : Type 0} (rules : Rules K A) where
         back d false e h = subst (λ x. AreSame rules new.commits (cursor_of new d) x) (rw e refl) h
 
     -- a cursor that got on, and its client, which was told this
-    same_after : (k after : CursorState K A) (f : ClientCursor K A) (items : List (Item K)) → after.query ≡ k.query → after.opened ≡ k.opened → IsSameCursor rules old.commits k f → Fits rules.is_match old.commits after items
+    same_after : (k after : CursorState K A) (f : ClientCursor K A) (items : List (Item K)) → after.query ≡ k.query → after.follows ≡ k.follows → after.opened ≡ k.opened → IsSameCursor rules old.commits k f → Fits rules.is_match old.commits after items
         → IsSameCursor rules old.commits after (record f { given = items; asked = after.asked })
-    same_after k after f items q o a fits = record { query = a.query ∙ sym q; opened = a.opened ∙ sym o; asked = refl; fits = fits }
+    same_after k after f items q w o a fits = record { query = a.query ∙ sym q; follows = a.follows ∙ sym w; opened = a.opened ∙ sym o; asked = refl; fits = fits }
 
     -- what a listing of the cursor is, is one for the client
-    module _ (k after : CursorState K A) (f : ClientCursor K A) (a : IsSameCursor rules old.commits k f) (q : after.query ≡ k.query) (o : after.opened ≡ k.opened) where
-      client_begins : (items : List (Item K)) → Fits rules.is_match old.commits after items → BeginsListing (client_wants rules f) f.opened (length told.commits) told.commits (without_marks items)
+    module _ (k after : CursorState K A) (f : ClientCursor K A) (a : IsSameCursor rules old.commits k f) (q : after.query ≡ k.query) (w : after.follows ≡ k.follows) (o : after.opened ≡ k.opened) where
+      client_begins : (items : List (Item K)) → Fits rules.is_match old.commits after items → BeginsListingFor f.follows (client_wants rules f) f.opened (length told.commits) told.commits (without_marks items)
       client_begins items fits =
           let e : after.query ≡ f.query = q ∙ sym a.query in
+          let b : after.follows ≡ f.follows = w ∙ sym a.follows in
           let p : after.opened ≡ f.opened = o ∙ sym a.opened in
-          rw t.commits (subst (λ n. BeginsListing (matches_query rules.is_match f.query) n (length old.commits) old.commits (without_marks items)) p
-          (subst (λ x. BeginsListing (matches_query rules.is_match x) after.opened (length old.commits) old.commits (without_marks items)) e (fits_begins rules.is_match old.commits after items fits)))
+          rw t.commits (subst (λ n. BeginsListingFor f.follows (matches_query rules.is_match f.query) n (length old.commits) old.commits (without_marks items)) p
+          (subst (λ x. BeginsListingFor f.follows (matches_query rules.is_match x) after.opened (length old.commits) old.commits (without_marks items)) e
+          (subst (λ x. BeginsListingFor x (matches_query rules.is_match after.query) after.opened (length old.commits) old.commits (without_marks items)) b (fits_begins rules.is_match old.commits after items fits))))
 
-      client_listing : (n : ℕ) (items : List (Item K)) → IsListing (matches_query rules.is_match after.query) after.opened n old.commits items → IsListing (client_wants rules f) f.opened n told.commits items
+      client_listing : (n : ℕ) (items : List (Item K)) → IsListingFor after.follows (matches_query rules.is_match after.query) after.opened n old.commits items → IsListingFor f.follows (client_wants rules f) f.opened n told.commits items
       client_listing n items l =
           let e : after.query ≡ f.query = q ∙ sym a.query in
+          let b : after.follows ≡ f.follows = w ∙ sym a.follows in
           let p : after.opened ≡ f.opened = o ∙ sym a.opened in
-          rw t.commits (subst (λ m. IsListing (matches_query rules.is_match f.query) m n old.commits items) p (subst (λ x. IsListing (matches_query rules.is_match x) after.opened n old.commits items) e l))
+          rw t.commits (subst (λ m. IsListingFor f.follows (matches_query rules.is_match f.query) m n old.commits items) p
+          (subst (λ x. IsListingFor f.follows (matches_query rules.is_match x) after.opened n old.commits items) e
+          (subst (λ x. IsListingFor x (matches_query rules.is_match after.query) after.opened n old.commits items) b l)))
 
-    gives_to : (k after : CursorState K A) (f : ClientCursor K A) (given : Item K) → IsSameCursor rules old.commits k f → after.query ≡ k.query → after.opened ≡ k.opened
+    gives_to : (k after : CursorState K A) (f : ClientCursor K A) (given : Item K) → IsSameCursor rules old.commits k f → after.query ≡ k.query → after.follows ≡ k.follows → after.opened ≡ k.opened
         → Answers rules.is_match old.commits k (Some given) after → Fits rules.is_match old.commits after (f.given ++ given ∷ []) → GivesTo rules told.commits f given after.asked
-    gives_to k after f (item.Mark n) a q o w fits =
-        (a.asked ∙ w.0, w.1 ∙ ap length (sym t.commits), w.2, client_listing k after f a q o n (without_marks f.given) (fits.marks f.given [] n refl))
-    gives_to k after f (item.Row row) a q o w fits = w ∙ sym a.asked
-    gives_to k after f (item.Inserted row) a q o w fits = w ∙ sym a.asked
-    gives_to k after f (item.Deleted n row) a q o w fits = w ∙ sym a.asked
-    gives_to k after f (item.Moved row ended) a q o w fits = w ∙ sym a.asked
+    gives_to k after f (item.Mark n) a q b o w fits =
+        (a.asked ∙ w.0, w.1 ∙ ap length (sym t.commits), w.2, client_listing k after f a q b o n (without_marks f.given) (fits.marks f.given [] n refl))
+    gives_to k after f (item.Row row) a q b o w fits = w ∙ sym a.asked
+    gives_to k after f (item.Inserted row) a q b o w fits = w ∙ sym a.asked
+    gives_to k after f (item.Deleted n row) a q b o w fits = w ∙ sym a.asked
+    gives_to k after f (item.Moved row ended) a q b o w fits = w ∙ sym a.asked
 
     -- what the client of a cursor is told with an item
     pub record IsGiven (c : ℕ) (given : Item K) (new : StoreState K A) : Type 0 where
@@ -201,7 +210,7 @@ module _ {K A : Type 0} (rules : Rules K A) where
       pub asked : Bool
       pub is : told.cursors c ≡ Ok f
       pub gives : GivesTo rules told.commits f given asked
-      pub begins : BeginsListing (client_wants rules f) f.opened (length told.commits) told.commits (without_marks (f.given ++ given ∷ []))
+      pub begins : BeginsListingFor f.follows (client_wants rules f) f.opened (length told.commits) told.commits (without_marks (f.given ++ given ∷ []))
       pub after : IsAsTold rules new (record told { cursors = with_client_cursor told.cursors c (Ok (record f { given = f.given ++ given ∷ []; asked = asked })) })
 
     pub told_given : (c : ℕ) (given : Item K) (new : StoreState K A) → Nexts rules.is_match old c (Some given) new → IsGiven c given new
@@ -212,10 +221,10 @@ module _ {K A : Type 0} (rules : Rules K A) where
           f = k.f;
           asked = n.after.asked;
           is = k.is;
-          gives = gives_to n.before n.after k.f given k.same n.gives.query n.gives.opened n.gives.answer fits;
-          begins = client_begins n.before n.after k.f k.same n.gives.query n.gives.opened (k.f.given ++ given ∷ []) fits;
+          gives = gives_to n.before n.after k.f given k.same n.gives.query n.gives.follows n.gives.opened n.gives.answer fits;
+          begins = client_begins n.before n.after k.f k.same n.gives.query n.gives.follows n.gives.opened (k.f.given ++ given ∷ []) fits;
           after = told_changed c n.before n.after (record k.f { given = k.f.given ++ given ∷ []; asked = n.after.asked }) new n.is_open n.gives.serial
-              (same_after n.before n.after k.f (k.f.given ++ given ∷ []) n.gives.query n.gives.opened k.same fits) n.is;
+              (same_after n.before n.after k.f (k.f.given ++ given ∷ []) n.gives.query n.gives.follows n.gives.opened k.same fits) n.is;
         }
 
     -- what the client is told where nothing is left to give
@@ -223,7 +232,7 @@ module _ {K A : Type 0} (rules : Rules K A) where
       pub f : ClientCursor K A
       pub is : told.cursors c ≡ Ok f
       pub unasked : f.asked ≡ false
-      pub listing : IsListing (client_wants rules f) f.opened (length told.commits) told.commits (without_marks f.given)
+      pub listing : IsListingFor f.follows (client_wants rules f) f.opened (length told.commits) told.commits (without_marks f.given)
       pub after : IsAsTold rules new told
 
     pub told_empty : (c : ℕ) (new : StoreState K A) → Nexts rules.is_match old c None new → IsEmptied c new
@@ -231,14 +240,14 @@ module _ {K A : Type 0} (rules : Rules K A) where
         let k = told_cursor c n.before n.is_open in
         let fits : Fits rules.is_match old.commits n.after k.f.given = subst (λ l. Fits rules.is_match old.commits n.after l) (append-nil k.f.given) (n.gives.fits k.f.given k.same.fits) in
         let d = n.gives.answer.1 in
-        let l = fits_done rules.is_match old.commits n.after k.f.given fits d.following d.at_end in
+        let l = fits_done rules.is_match old.commits n.after k.f.given fits d.past_rows d.at_end in
         record {
           f = k.f;
           is = k.is;
           unasked = k.same.asked ∙ sym n.gives.answer.0 ∙ d.unasked;
-          listing = subst (λ m. IsListing (client_wants rules k.f) k.f.opened m told.commits (without_marks k.f.given)) (ap length (sym t.commits)) (client_listing n.before n.after k.f k.same n.gives.query n.gives.opened (length old.commits) (without_marks k.f.given) l);
+          listing = subst (λ m. IsListingFor k.f.follows (client_wants rules k.f) k.f.opened m told.commits (without_marks k.f.given)) (ap length (sym t.commits)) (client_listing n.before n.after k.f k.same n.gives.query n.gives.follows n.gives.opened (length old.commits) (without_marks k.f.given) l);
           after = told_unchanged c n.before n.after k.f new n.is_open n.gives.serial
-              (record { query = k.same.query ∙ sym n.gives.query; opened = k.same.opened ∙ sym n.gives.opened; asked = k.same.asked ∙ sym n.gives.answer.0; fits = fits }) k.is n.is;
+              (record { query = k.same.query ∙ sym n.gives.query; follows = k.same.follows ∙ sym n.gives.follows; opened = k.same.opened ∙ sym n.gives.opened; asked = k.same.asked ∙ sym n.gives.answer.0; fits = fits }) k.is n.is;
         }
 
     -- a cursor got no memory
@@ -247,19 +256,19 @@ module _ {K A : Type 0} (rules : Rules K A) where
         let k = told_cursor c n.before n.is_open in (
           (k.f, k.is),
           told_unchanged c n.before n.after k.f new n.is_open n.strives.serial
-              (record { query = k.same.query ∙ sym n.strives.query; opened = k.same.opened ∙ sym n.strives.opened; asked = k.same.asked ∙ sym n.strives.asked; fits = n.strives.fits k.f.given k.same.fits }) k.is n.is,
+              (record { query = k.same.query ∙ sym n.strives.query; follows = k.same.follows ∙ sym n.strives.follows; opened = k.same.opened ∙ sym n.strives.opened; asked = k.same.asked ∙ sym n.strives.asked; fits = n.strives.fits k.f.given k.same.fits }) k.is n.is,
         )
 
     pub told_asked : (c : ℕ) (new : StoreState K A) → ChangesCursor with_asking old c new
         → (f : ClientCursor K A) × (told.cursors c ≡ Ok f) × IsAsTold rules new (record told { cursors = with_client_cursor told.cursors c (Ok (record f { asked = true })) })
     told_asked c new n =
         let k = told_cursor c n.before n.is_open in
-        let fits : Fits rules.is_match old.commits (with_asking n.before) k.f.given = record { rows = k.same.fits.rows; is = k.same.fits.is; each_once = k.same.fits.each_once; in_order = order k.same.fits.in_order; from_opening = k.same.fits.from_opening; within = k.same.fits.within; marks = k.same.fits.marks } in (
+        let fits : Fits rules.is_match old.commits (with_asking n.before) k.f.given = record { rows = k.same.fits.rows; is = k.same.fits.is; each_once = k.same.fits.each_once; follower = λ h. let p = k.same.fits.follower h in record { scanned = p.scanned; none_remaining = p.none_remaining }; in_order = order k.same.fits.in_order; from_opening = k.same.fits.from_opening; within = k.same.fits.within; marks = k.same.fits.marks } in (
           k.f,
           k.is,
           told_changed c n.before (with_asking n.before) (record k.f { asked = true }) new n.is_open refl
-              (record { query = k.same.query; opened = k.same.opened; asked = refl; fits = fits }) n.is,
+              (record { query = k.same.query; follows = k.same.follows; opened = k.same.opened; asked = refl; fits = fits }) n.is,
         )
       where
-        order : {k : CursorState K A} → (IsFollowing rules.is_match k) ⊎ (k.position ≡ k.opened) → (IsFollowing rules.is_match (with_asking k)) ⊎ (k.position ≡ k.opened)
-        order {k} h = ⊎_elim (λ (p : IsFollowing rules.is_match k). inl (record { scanned = p.scanned; none_remaining = p.none_remaining })) (λ (p : k.position ≡ k.opened). inr p) h
+        order : {k : CursorState K A} → (IsPastRows rules.is_match k) ⊎ (k.position ≡ k.opened) → (IsPastRows rules.is_match (with_asking k)) ⊎ (k.position ≡ k.opened)
+        order {k} h = ⊎_elim (λ (p : IsPastRows rules.is_match k). inl (record { scanned = p.scanned; none_remaining = p.none_remaining })) (λ (p : k.position ≡ k.opened). inr p) h

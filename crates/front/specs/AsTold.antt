@@ -11,6 +11,7 @@ module _ {K A : Type 0} (rules : Rules K A) where
   -- the open cursor of the store is the client's, and what it was given fits it
   pub record IsSameCursor (commits : List (Write K)) (cursor : CursorState K A) (f : ClientCursor K A) : Type 0 where
     pub query : f.query ≡ cursor.query
+    pub follows : f.follows ≡ cursor.follows
     pub opened : f.opened ≡ cursor.opened
     pub asked : f.asked ≡ cursor.asked
     pub fits : Fits rules.is_match commits cursor f.given

@@ -20,7 +20,7 @@ use Rattle.front.specs.declared.event_request.EventVerb.{EventVerb}
 use Rattle.front.specs.declared.event_request.EventVerb.TheVariants as verb
 use Rattle.front.specs.declared.event_request.EventRequest.{EventRequest}
 use Rattle.front.specs.declared.event_request.EventRequest.TheVariants as request
-use Rattle.front.specs.Requests.{natural_at, alone, one_number}
+use Rattle.front.specs.Requests.{natural_at, start_at, alone, one_number}
 
 -- what a word is at the front of an event line
 abbrev pub event_verb_of_word : List ℕ → EventVerb
@@ -46,10 +46,11 @@ abbrev pub event_verb_of : Token → EventVerb
 event_verb_of (word w) = event_verb_of_word w
 event_verb_of _ = verb.Other
 
--- What is asked: an event, or a cursor with that room on the query of these tokens, which are those up to the line's end.
+-- What is asked: an event, or a cursor with that room, which follows a commit or none, on the query of these tokens, which
+-- are those up to the line's end.
 pub data Asked (C K A : Type 0) : Type 0 where
   one_event : Event C K A → Asked C K A
-  cursor_on : ℕ → List Placed → Asked C K A
+  cursor_on : ℕ → Option ℕ → List Placed → Asked C K A
 
 -- the letters of sides are l and r
 abbrev pub is_side : ℕ → Bool
@@ -73,16 +74,21 @@ HasSides (event.Split page sides) = Unit
 HasSides (event.Grow sides) = Unit
 HasSides _ = ⊥
 
+-- the event that opens a cursor: at the present commits, or behind one that it follows
+abbrev pub opening_of : {C K A : Type 0} → Pred A → ℕ → Option ℕ → Event C K A
+opening_of query room None = event.Open query room
+opening_of query room (Some commit) = event.Follow query room commit
+
 module _ {C K A : Type 0} (texts : Texts K A) where
   -- of a line with so many bytes this is the event
   abbrev pub IsEvent : ℕ → Asked C K A → Event C K A → Type 0
   IsEvent len (one_event asked) e = e ≡ asked
-  IsEvent len (cursor_on room ts) e = (query : Pred A) × SpellsQuery texts len ts (query_of query) × (e ≡ event.Open query room)
+  IsEvent len (cursor_on room from ts) e = (query : Pred A) × SpellsQuery texts len ts (query_of query) × (e ≡ opening_of query room from)
 
   -- there is no event: the query's tokens are refused at a place, or memory was wanting for sides or a query
   abbrev pub IsNoEvent : ℕ → Asked C K A → Refusal → Type 0
   IsNoEvent len (one_event asked) why = HasSides asked × (why ≡ refusal.OutOfMemory)
-  IsNoEvent len (cursor_on room ts) why =
+  IsNoEvent len (cursor_on room from ts) why =
       ((place : ℕ) × RefusesTokens texts len ts place × (why ≡ refusal.QueryText place))
       ⊎ (why ≡ refusal.OutOfMemory)
 
@@ -122,7 +128,8 @@ only_sides len ts = do
 abbrev pub cursor_asked : {C K A : Type 0} → ℕ → List Placed → Result (Asked C K A) ℕ
 cursor_asked len ts = do
   room ← natural_at len ts
-  Ok (cursor_on room.0 room.1)
+  start ← start_at len room.1
+  Ok (cursor_on room.0 start.0 start.1)
 
 -- what the tokens behind a verb ask, or the place of the first fault; any other first token is one
 abbrev pub event_asked_by : {C K A : Type 0} → (ℕ → List Placed → Reading K) → ℕ → ℕ → EventVerb → List Placed → Result (Asked C K A) ℕ
@@ -155,7 +162,7 @@ asked_of text (request.Seek f) = one_event (event.Seek f)
 asked_of text (request.Move f leaf key) = one_event (event.Move f leaf key)
 asked_of text (request.Unfind f) = one_event (event.Unfind f)
 asked_of text (request.Sweep page) = one_event (event.Sweep page)
-asked_of text (request.Open room lexemes) = cursor_on room (placed text lexemes.now)
+asked_of text (request.Open room from lexemes) = cursor_on room from (placed text lexemes.now)
 asked_of text (request.Turn c) = one_event (event.Turn c)
 asked_of text (request.AskMark c) = one_event (event.AskMark c)
 asked_of text (request.Take c) = one_event (event.Take c)

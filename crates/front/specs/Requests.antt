@@ -1,5 +1,5 @@
 -- What a line of a session asks.
-use Rattle.std.specs.Prelude.{◌≡◌, ℕ, pos, unsigned_abs, List, [], ◌∷◌, length, Result, Ok, Err, MatchResult, if◌then◌else◌, codes}
+use Rattle.std.specs.Prelude.{◌≡◌, ℕ, pos, unsigned_abs, Bool, true, false, Option, Some, None, List, [], ◌∷◌, length, Result, Ok, Err, MatchResult, if◌then◌else◌, codes}
 use Rattle.std.specs.Str.{bytes_eq}
 use Rattle.query_text.specs.declared.lexeme.Lexeme.{Lexeme}
 use Rattle.query_text.specs.Tokens.{Token, word, Placed, placed, token_in, most_u64}
@@ -28,12 +28,13 @@ abbrev pub verb_of : Token → Verb
 verb_of (word w) = verb_of_word w
 verb_of _ = verb.Other
 
--- What is asked; of a query the tokens, which are those up to the line's end.
+-- What is asked; of a query the tokens, which are those up to the line's end; of a cursor its room, and which commit it
+-- follows, if any.
 pub data Command (K : Type 0) : Type 0 where
   insert_row : K → ℕ → Command K
   delete_row next_item ask_mark close_cursor : ℕ → Command K
   move_row : ℕ → K → Command K
-  open_cursor : ℕ → List Placed → Command K
+  open_cursor : ℕ → Option ℕ → List Placed → Command K
   find_rows : List Placed → Command K
   sweep_all : Command K
 
@@ -66,10 +67,27 @@ number_and_key key_at len ts = do
   key ← key_at len row.1
   alone (move_row row.0 key.0) key.1
 
+-- the token is the word `from`
+abbrev pub is_from : Token → Bool
+is_from (word w) = bytes_eq w (codes "from")
+is_from _ = false
+
+abbrev pub start_by : Bool → ℕ → Placed → List Placed → Reading (Option ℕ)
+start_by true len t ts = do
+  commit ← natural_at len ts
+  Ok (Some commit.0, commit.1)
+start_by false len t ts = Ok (None, t ∷ ts)
+
+-- the commit that is followed, where the word `from` and its number are in front
+abbrev pub start_at : ℕ → List Placed → Reading (Option ℕ)
+start_at len [] = Ok (None, [])
+start_at len (t ∷ ts) = start_by (is_from t.token) len t ts
+
 abbrev pub room_and_query : {K : Type 0} → ℕ → List Placed → Result (Command K) ℕ
 room_and_query len ts = do
   room ← natural_at len ts
-  Ok (open_cursor room.0 room.1)
+  start ← start_at len room.1
+  Ok (open_cursor room.0 start.0 start.1)
 
 -- what the tokens behind a verb ask, or the place of the first fault; any other first token is one
 abbrev pub asked_by : {K : Type 0} → (ℕ → List Placed → Reading K) → ℕ → ℕ → Verb → List Placed → Result (Command K) ℕ
@@ -89,7 +107,7 @@ abbrev pub command_of : {K : Type 0} → List ℕ → Request K → Command K
 command_of text (request.Insert key tag) = insert_row key tag
 command_of text (request.Delete row) = delete_row row
 command_of text (request.Move row key) = move_row row key
-command_of text (request.Open room lexemes) = open_cursor room (placed text lexemes.now)
+command_of text (request.Open room from lexemes) = open_cursor room from (placed text lexemes.now)
 command_of text (request.Next cursor) = next_item cursor
 command_of text (request.Mark cursor) = ask_mark cursor
 command_of text (request.Find lexemes) = find_rows (placed text lexemes.now)

@@ -36,7 +36,7 @@ module _ {K A : Type 0} (texts : Texts K A) where
     RepliesTo len (insert_row key tag) said old new = RepliesInsert key tag said old new
     RepliesTo len (delete_row row) said old new = RepliesDelete row said old new
     RepliesTo len (move_row row key) said old new = RepliesMove row key said old new
-    RepliesTo len (open_cursor room ts) said old new = WithQuery len ts (RepliesOpen room) said old new
+    RepliesTo len (open_cursor room from ts) said old new = WithQuery len ts (RepliesOpen room from) said old new
     RepliesTo len (next_item c) said old new = RepliesNext rules c said old new
     RepliesTo len (ask_mark c) said old new = RepliesMark c said old new
     RepliesTo len (find_rows ts) said old new = WithQuery len ts (RepliesFind rules) said old new
@@ -66,8 +66,8 @@ module _ {K A : Type 0} (texts : Texts K A) where
     abbrev pub TellsTokens : StoreState K A → StoreState K A → List ℕ → List Lexeme → Option (Reply K) → Type 0
     TellsTokens old new text lexemes said = Tells rules old new (RepliesTokens (length text) (placed text lexemes) said)
 
-    abbrev pub TellsOpening : StoreState K A → StoreState K A → List ℕ → List Lexeme → ℕ → Reply K → Type 0
-    TellsOpening old new text lexemes room said = Tells rules old new (WithQuery (length text) (placed text lexemes) (RepliesOpen room) said)
+    abbrev pub TellsOpening : StoreState K A → StoreState K A → List ℕ → List Lexeme → ℕ → Option ℕ → Reply K → Type 0
+    TellsOpening old new text lexemes room from said = Tells rules old new (WithQuery (length text) (placed text lexemes) (RepliesOpen room from) said)
 
     abbrev pub TellsFinding : StoreState K A → StoreState K A → List ℕ → List Lexeme → Reply K → Type 0
     TellsFinding old new text lexemes said = Tells rules old new (WithQuery (length text) (placed text lexemes) (RepliesFind rules) said)

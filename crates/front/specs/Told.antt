@@ -1,5 +1,5 @@
 -- What a client of a session was told, and which replies may answer which requests.
-use Rattle.std.specs.Prelude.{◌≡◌, ℕ, ◌+◌, ◌-◌, ◌<◌, ◌≤◌, Bool, true, false, List, [], ◌∷◌, ◌++◌, length, Result, Ok, Err, ◌⊎◌, IsPermutation, nat_eq, if◌then◌else◌}
+use Rattle.std.specs.Prelude.{◌≡◌, ℕ, ◌+◌, ◌-◌, ◌<◌, ◌≤◌, Bool, true, false, List, [], ◌∷◌, ◌++◌, length, Option, Some, None, Result, Ok, Err, ◌⊎◌, IsPermutation, nat_eq, if◌then◌else◌}
 use Rattle.std.specs.List.{AllByRecursion}
 use Rattle.key_class.specs.declared.refusal.Refusal.{Refusal}
 use Rattle.key_class.specs.declared.refusal.Refusal.TheVariants as refusal
@@ -12,7 +12,7 @@ use Rattle.change_list.specs.declared.write.Status.TheVariants as status
 use Rattle.change_list.specs.declared.item.Item.{Item}
 use Rattle.change_list.specs.declared.item.Item.TheVariants as item
 use Rattle.change_list.specs.Changes.{status_of, snapshot}
-use Rattle.change_list.specs.Listings.{IsListing, BeginsListing, without_marks}
+use Rattle.change_list.specs.Listings.{IsListingFor, BeginsListingFor, without_marks}
 use Rattle.store.specs.States.{DeadRow}
 use Rattle.front.specs.declared.reply.Reply.{Reply}
 use Rattle.front.specs.declared.reply.Reply.TheVariants as reply
@@ -20,7 +20,9 @@ use Rattle.front.specs.declared.reply.Reply.TheVariants as reply
 -- an open cursor, as its client sees it
 pub record ClientCursor (K A : Type 0) : Type 0 where
   pub query : Query A
-  -- the number of commits at its opening
+  -- it follows a commit: it was opened without a snapshot
+  pub follows : Bool
+  -- the number of commits at its opening, or of the commit that it follows
   pub opened : ℕ
   -- what it was given, marks among it
   pub given : List (Item K)
@@ -105,18 +107,34 @@ module _ {K A : Type 0} where
   RepliesMove row key (reply.Refused why) old new = RefusesToEnd row why old new ⊎ LacksPagesFor row why old new
   RepliesMove row key _ old new = ⊥
 
-  abbrev pub RepliesOpen : ℕ → Query A → Reply K → Told K A → Told K A → Type 0
-  RepliesOpen room query (reply.Opened c) old new =
-      (¬ IsBadRoom room) × (¬ HasNoCursorLeft old) × (c ≡ old.last + 1)
+  -- a client's new cursor: at the present commits, or behind one that it follows
+  abbrev pub client_cursor : Told K A → Query A → Option ℕ → ClientCursor K A
+  client_cursor told query None = record { query = query; follows = false; opened = length told.commits; given = []; asked = false }
+  client_cursor told query (Some commit) = record { query = query; follows = true; opened = commit; given = []; asked = false }
+
+  -- the commit that is to be followed isn't there yet
+  abbrev pub IsAhead : Told K A → Option ℕ → Type 0
+  IsAhead told None = ⊥
+  IsAhead told (Some commit) = length told.commits < commit
+
+  -- the room is in range, and the commit that is to be followed is there
+  pub record MayBegin (told : Told K A) (room : ℕ) (from : Option ℕ) : Type 0 where
+    pub room_is_good : ¬ IsBadRoom room
+    pub is_there : ¬ IsAhead told from
+
+  abbrev pub RepliesOpen : ℕ → Option ℕ → Query A → Reply K → Told K A → Told K A → Type 0
+  RepliesOpen room from query (reply.Opened c) old new =
+      MayBegin old room from × (¬ HasNoCursorLeft old) × (c ≡ old.last + 1)
       × (new ≡ record old {
-        cursors = with_client_cursor old.cursors c (Ok (record { query = query; opened = length old.commits; given = []; asked = false }));
+        cursors = with_client_cursor old.cursors c (Ok (client_cursor old query from));
         open_cursors = old.open_cursors + 1;
         last = c;
       })
-  RepliesOpen room query (reply.Refused refusal.BadConfig) old new = IsBadRoom room × (new ≡ old)
-  RepliesOpen room query (reply.Refused refusal.CursorsFull) old new = (¬ IsBadRoom room) × HasNoCursorLeft old × (new ≡ old)
-  RepliesOpen room query (reply.Refused refusal.OutOfMemory) old new = (¬ IsBadRoom room) × (¬ HasNoCursorLeft old) × (new ≡ old)
-  RepliesOpen room query _ old new = ⊥
+  RepliesOpen room from query (reply.Refused refusal.BadConfig) old new = IsBadRoom room × (new ≡ old)
+  RepliesOpen room from query (reply.Refused refusal.FromFuture) old new = (¬ IsBadRoom room) × IsAhead old from × (new ≡ old)
+  RepliesOpen room from query (reply.Refused refusal.CursorsFull) old new = MayBegin old room from × HasNoCursorLeft old × (new ≡ old)
+  RepliesOpen room from query (reply.Refused refusal.OutOfMemory) old new = MayBegin old room from × (¬ HasNoCursorLeft old) × (new ≡ old)
+  RepliesOpen room from query _ old new = ⊥
 
   abbrev pub RepliesMark : ℕ → Reply K → Told K A → Told K A → Type 0
   RepliesMark c reply.Asked old new = (f : ClientCursor K A) × (old.cursors c ≡ Ok f) × (new ≡ record old { cursors = with_client_cursor old.cursors c (Ok (record f { asked = true })) })
@@ -130,11 +148,12 @@ module _ {K A : Type 0} where
   RepliesClose c (reply.Refused why) old new = (old.cursors c ≡ Err why) × (new ≡ old)
   RepliesClose c _ old new = ⊥
 
-  -- each dead row that a sweep leaves died after the opening of some open cursor
+  -- each dead row that a sweep leaves died after the opening of some open cursor that has a snapshot
   pub record DiedAfterOpening (told : Told K A) (dead : DeadRow) : Type 0 where
     pub serial : ℕ
     pub cursor : ClientCursor K A
     pub is_open : told.cursors serial ≡ Ok cursor
+    pub has_rows : cursor.follows ≡ false
     pub opened : cursor.opened < dead.died
 
   abbrev pub RepliesSweep : Reply K → Told K A → Told K A → Type 0
@@ -156,15 +175,15 @@ module _ {K A : Type 0} (rules : Rules K A) where
 
   -- A mark comes only where one is asked for, tells the number of commits, and ends the asking; then all up to it was given.
   abbrev pub GivesTo : List (Write K) → ClientCursor K A → Item K → Bool → Type 0
-  GivesTo commits f (item.Mark n) asked = (f.asked ≡ true) × (n ≡ length commits) × (asked ≡ false) × IsListing (client_wants f) f.opened n commits (without_marks f.given)
+  GivesTo commits f (item.Mark n) asked = (f.asked ≡ true) × (n ≡ length commits) × (asked ≡ false) × IsListingFor f.follows (client_wants f) f.opened n commits (without_marks f.given)
   GivesTo commits f other asked = asked ≡ f.asked
 
   abbrev pub RepliesNext : ℕ → Reply K → Told K A → Told K A → Type 0
   RepliesNext c (reply.Given given) old new =
       (f : ClientCursor K A) × (asked : Bool) × (old.cursors c ≡ Ok f) × GivesTo old.commits f given asked
-      × BeginsListing (client_wants f) f.opened (length old.commits) old.commits (without_marks (f.given ++ given ∷ []))
+      × BeginsListingFor f.follows (client_wants f) f.opened (length old.commits) old.commits (without_marks (f.given ++ given ∷ []))
       × (new ≡ record old { cursors = with_client_cursor old.cursors c (Ok (record f { given = f.given ++ given ∷ []; asked = asked })) })
   RepliesNext c reply.Empty old new =
-      (f : ClientCursor K A) × (old.cursors c ≡ Ok f) × (f.asked ≡ false) × IsListing (client_wants f) f.opened (length old.commits) old.commits (without_marks f.given) × (new ≡ old)
+      (f : ClientCursor K A) × (old.cursors c ≡ Ok f) × (f.asked ≡ false) × IsListingFor f.follows (client_wants f) f.opened (length old.commits) old.commits (without_marks f.given) × (new ≡ old)
   RepliesNext c (reply.Refused why) old new = ((old.cursors c ≡ Err why) ⊎ ((why ≡ refusal.OutOfMemory) × (f : ClientCursor K A) × (old.cursors c ≡ Ok f))) × (new ≡ old)
   RepliesNext c _ old new = ⊥

@@ -1,4 +1,4 @@
-ghost use Rattle.std.specs.Prelude.{◌≤◌};
+ghost use Rattle.std.specs.Prelude.{◌≤◌, None, Some};
 ghost use Rattle.key_class.specs.Limits.{most_depth};
 ghost use Rattle.key_class.specs.Queries.{query_of, depth_of};
 ghost use Rattle.front.specs.Told.{RepliesInsert, RepliesDelete, RepliesMove, RepliesOpen, RepliesNext, RepliesMark, RepliesFind, RepliesSweep, RepliesClose};
@@ -38,12 +38,29 @@ pub fn move_row<C: KeyClass>(store: &mut Store<C>, row: u64, key: C::Key) -> Rep
     }
 }
 
-/// Opens a cursor.
+/// Opens a cursor at the present commits.
 pub fn open<C: KeyClass>(store: &mut Store<C>, room: u64, query: Pred<C::Atom>) -> Reply<C::Key>
     requires { depth_of (query_of query) ≤ most_depth }
-    ensures { Tells C.rules store.old store.new (RepliesOpen room (query_of query) result) }
+    ensures { Tells C.rules store.old store.new (RepliesOpen room None (query_of query) result) }
 {
     match store.open(query, room) {
+        Ok(cursor) => Reply::Opened(cursor),
+        Err(why) => Reply::Refused(why),
+    }
+}
+
+/// Opens a cursor that follows a commit.
+pub fn open_from<C: KeyClass>(
+    store: &mut Store<C>,
+    room: u64,
+    commit: u64,
+    query: Pred<C::Atom>,
+) -> Reply<C::Key>
+    requires { depth_of (query_of query) ≤ most_depth }
+    ensures { Tells C.rules store.old store.new
+        (RepliesOpen room (Some commit) (query_of query) result) }
+{
+    match store.open_from(query, room, commit) {
         Ok(cursor) => Reply::Opened(cursor),
         Err(why) => Reply::Refused(why),
     }

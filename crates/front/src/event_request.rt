@@ -5,7 +5,7 @@ ghost use Rattle.query_text.specs.Tokens.{token_in};
 ghost use Rattle.world.specs.declared.event.Event.TheVariants as event;
 ghost use Rattle.front.specs.EventLines.{event_verb_of, event_verb_of_word, is_side, two_numbers_and_key, page_key_and_tag, page_and_sides, two_pages, only_sides, cursor_asked, event_from, IsEventAsked, GivesSides};
 
-use crate::tokens::{end, lone_number, natural};
+use crate::tokens::{end, lone_number, natural, start};
 use query_text::{ClassText, Kind, Lexeme};
 
 /// The word that an event line begins with.
@@ -43,7 +43,8 @@ pub enum EventRequest<'a, K> {
     Move(u64, u64, K),
     Unfind(u64),
     Sweep(u64),
-    Open(u64, &'a [Lexeme]),
+    /// Its room, which commit it follows, if any, and its query.
+    Open(u64, Option<u64>, &'a [Lexeme]),
     Turn(u64),
     AskMark(u64),
     Take(u64),
@@ -211,7 +212,8 @@ fn open<'a, C: ClassText>(
     ensures { IsEventAsked C C.Atom cursor_asked text.now lexemes.now result }
 {
     let room = natural(text, lexemes)?;
-    Ok(EventRequest::Open(room.0, room.1))
+    let start = start(text, room.1)?;
+    Ok(EventRequest::Open(room.0, start.0, start.1))
 }
 
 /// What the lexemes behind a verb ask.

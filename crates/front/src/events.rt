@@ -1,6 +1,6 @@
 //! Events of a world from lines.
 ghost use Rattle.std.specs.Prelude.{◌≡◌, map, IfOk, IfErr, OnOk, Err};
-ghost use Rattle.front.specs.EventLines.{side_of, AsksEvent, AsksNoEvent};
+ghost use Rattle.front.specs.EventLines.{side_of, opening_of, AsksEvent, AsksNoEvent};
 ghost use Rattle.front.specs.Replays.{AnswersEventTokens, CarriesOut, ReplayedAll, ReplayedFirst, ReplayedWhole};
 ghost use Rattle.front.specs.Conversations.{IfOutOfMemory, IfReadFails, IfWriteFails, IsConversationFault, Kept, exchange};
 
@@ -9,7 +9,7 @@ use crate::conversation::{Responder, converse};
 use crate::event_answers::write_event_reply;
 use crate::event_request::{EventRequest, read_event};
 use crate::tokens::first_of;
-use key_class::{Fault, Refusal, Side, Sides};
+use key_class::{Fault, Pred, Refusal, Side, Sides};
 use mailbox::Tray;
 use query_text::{ClassText, Lexeme, parse_tokens};
 use std::alloc::Global;
@@ -39,6 +39,16 @@ fn collect_sides(alloc: Global, letters: &[u8]) -> Result<Sides, Refusal>
     Ok(sides)
 }
 
+/// The event that opens a cursor, at the present commits or behind one that it follows.
+fn opening<C: ClassText>(query: Pred<C::Atom>, room: u64, from: Option<u64>) -> Event<C>
+    ensures { result ≡ opening_of query room from }
+{
+    match from {
+        None => Event::Open(query, room),
+        Some(commit) => Event::Follow(query, room, commit),
+    }
+}
+
 /// The event that is asked.
 ///
 /// # Errors
@@ -65,8 +75,9 @@ fn event_of<C: ClassText>(
         EventRequest::Move(finder, leaf, key) => Ok(Event::Move(finder, leaf, key)),
         EventRequest::Unfind(finder) => Ok(Event::Unfind(finder)),
         EventRequest::Sweep(page) => Ok(Event::Sweep(page)),
-        EventRequest::Open(room, lexemes) => {
-            Ok(Event::Open(parse_tokens::<C>(alloc, text, lexemes)?, room))
+        EventRequest::Open(room, from, lexemes) => {
+            let query = parse_tokens::<C>(alloc, text, lexemes)?;
+            Ok(opening(query, room, from))
         }
         EventRequest::Turn(cursor) => Ok(Event::Turn(cursor)),
         EventRequest::AskMark(cursor) => Ok(Event::AskMark(cursor)),

@@ -2,7 +2,7 @@ ghost use Rattle.std.specs.Prelude.{◌≡◌};
 ghost use Rattle.query_text.specs.Tokens.{token_in};
 ghost use Rattle.front.specs.Requests.{verb_of, verb_of_word, key_and_tag, number_and_key, room_and_query, asked_from, IsAsked};
 
-use crate::tokens::{end, lone_number, natural};
+use crate::tokens::{end, lone_number, natural, start};
 use query_text::{ClassText, Kind, Lexeme};
 
 /// The word that a command begins with.
@@ -27,7 +27,8 @@ pub enum Request<'a, K> {
     Insert(K, u64),
     Delete(u64),
     Move(u64, K),
-    Open(u64, &'a [Lexeme]),
+    /// Its room, which commit it follows, if any, and its query.
+    Open(u64, Option<u64>, &'a [Lexeme]),
     Next(u64),
     Mark(u64),
     Find(&'a [Lexeme]),
@@ -99,7 +100,8 @@ fn open<'a, K: Copy>(text: &[u8], lexemes: &'a [Lexeme]) -> Result<Request<'a, K
     ensures { IsAsked room_and_query text.now lexemes.now result }
 {
     let room = natural(text, lexemes)?;
-    Ok(Request::Open(room.0, room.1))
+    let start = start(text, room.1)?;
+    Ok(Request::Open(room.0, start.0, start.1))
 }
 
 /// What the lexemes behind a verb ask.

@@ -1,20 +1,40 @@
-ghost use Rattle.std.specs.Prelude.{◌≡◌, Err, OnOk, IfErr};
+ghost use Rattle.std.specs.Prelude.{◌≡◌, ◌≤◌, Err, OnOk, IfErr};
+ghost use Rattle.key_class.specs.Limits.{most_depth};
+ghost use Rattle.key_class.specs.Queries.{query_of, depth_of};
+ghost use Rattle.front.specs.AsTold.{Tells};
+ghost use Rattle.front.specs.Told.{RepliesOpen};
 ghost use Rattle.front.specs.Sessions.{AnswersTokens, TellsFinding, TellsOpening, TellsRequest, TellsTokens, ToldAll, ToldFirst, ToldWhole};
 ghost use Rattle.store.specs.States.{new_store};
 ghost use Rattle.change_list.specs.declared.config.Config.{Config};
 ghost use Rattle.front.specs.Conversations.{IfOutOfMemory, IfReadFails, IfWriteFails, IsConversationFault, Kept, exchange};
 
 use crate::answers::{Gathered, write_reply};
-use crate::commands::{close, delete, find, insert, mark, move_row, next, open, sweep};
+use crate::commands::{close, delete, find, insert, mark, move_row, next, open, open_from, sweep};
 use crate::conversation::{Responder, converse};
 use crate::reply::Reply;
 use crate::request::{Request, read_request};
 use crate::tokens::first_of;
-use key_class::{Fault, Refusal};
+use key_class::{Fault, KeyClass, Pred, Refusal};
 use query_text::{ClassText, Lexeme, parse_tokens};
 use std::alloc::Global;
 use std::io::{Read, Write};
 use store::Store;
+
+/// Opens a cursor, at the present commits or behind one that it follows.
+fn open_at<C: KeyClass>(
+    store: &mut Store<C>,
+    room: u64,
+    from: Option<u64>,
+    query: Pred<C::Atom>,
+) -> Reply<C::Key>
+    requires { depth_of (query_of query) ≤ most_depth }
+    ensures { Tells C.rules store.old store.new (RepliesOpen room from (query_of query) result) }
+{
+    match from {
+        None => open(store, room, query),
+        Some(commit) => open_from(store, room, commit, query),
+    }
+}
 
 /// Opens a cursor on the query that lexemes spell.
 fn open_query<C: ClassText>(
@@ -22,12 +42,14 @@ fn open_query<C: ClassText>(
     store: &mut Store<C>,
     text: &[u8],
     room: u64,
+    from: Option<u64>,
     lexemes: &[Lexeme],
 ) -> Reply<C::Key>
-    ensures { TellsOpening C.texts C.rules store.old store.new text.now lexemes.now room result }
+    ensures { TellsOpening C.texts C.rules
+        store.old store.new text.now lexemes.now room from result }
 {
     match parse_tokens::<C>(alloc, text, lexemes) {
-        Ok(query) => open(store, room, query),
+        Ok(query) => open_at(store, room, from, query),
         Err(why) => Reply::Refused(why),
     }
 }
@@ -60,7 +82,9 @@ fn carry_out<C: ClassText>(
         Request::Insert(key, tag) => insert(store, key, tag),
         Request::Delete(row) => delete(store, row),
         Request::Move(row, key) => move_row(store, row, key),
-        Request::Open(room, lexemes) => open_query(alloc, store, text, room, lexemes),
+        Request::Open(room, from, lexemes) => {
+            open_query(alloc, store, text, room, from, lexemes)
+        }
         Request::Next(cursor) => next(store, cursor),
         Request::Mark(cursor) => mark(store, cursor),
         Request::Find(lexemes) => find_query(alloc, store, text, lexemes),

@@ -2,9 +2,10 @@
 ghost use Rattle.std.specs.Prelude.{◌≡◌, [], ◌∷◌, Ok, Err, OnOk, IfErr, MatchOption};
 ghost use Rattle.query_text.specs.Keys.{GivesRead};
 ghost use Rattle.query_text.specs.declared.lexeme.Lexeme.{Lexeme};
-ghost use Rattle.front.specs.Requests.{natural_at, one_number, BeginAt, IsRead};
+ghost use Rattle.query_text.specs.Tokens.{token_in};
+ghost use Rattle.front.specs.Requests.{is_from, natural_at, one_number, start_at, BeginAt, IsRead};
 
-use query_text::Lexeme;
+use query_text::{Kind, Lexeme};
 
 /// The first lexeme and the others, if there is one.
 pub fn first_of(lexemes: &[Lexeme]) -> Option<(Lexeme, &[Lexeme])>
@@ -29,6 +30,36 @@ pub fn natural<'a>(text: &[u8], lexemes: &'a [Lexeme]) -> Result<(u64, &'a [Lexe
             Some(number) => Ok((number, rest)),
             None => Err(first.place),
         },
+    }
+}
+
+/// Whether a lexeme is the word `from`.
+fn is_from(text: &[u8], lexeme: Lexeme) -> bool
+    ensures { result ≡ is_from (token_in text.now lexeme) }
+{
+    match lexeme.kind {
+        Kind::Word => lexeme.bytes(text) == b"from".as_slice(),
+        _ => false,
+    }
+}
+
+/// The commit that a cursor follows, where the word `from` and its number are in front, and the lexemes behind.
+///
+/// # Errors
+/// The place of the fault, which is the text's length at its end.
+pub fn start<'a>(text: &[u8], lexemes: &'a [Lexeme]) -> Result<(Option<u64>, &'a [Lexeme]), usize>
+    ensures { GivesRead start_at text.now lexemes.now result }
+{
+    match lexemes {
+        [] => Ok((None, lexemes)),
+        [first, rest @ ..] => {
+            if is_from(text, *first) {
+                let commit = natural(text, rest)?;
+                Ok((Some(commit.0), commit.1))
+            } else {
+                Ok((None, lexemes))
+            }
+        }
     }
 }
 

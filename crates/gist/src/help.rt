@@ -25,10 +25,11 @@ Commands, one a line, with what answers them:
   find QUERY       rows that match now    found COUNT, and a line for each
                                           row ROW KEY TAG
   open ROOM QUERY  opens a cursor         opened CURSOR (ROOM is 1 to 4096)
+  open ROOM from COMMIT QUERY             the same, for what comes after COMMIT
   next CURSOR      a cursor's next item   row ROW KEY TAG   there at its opening
-                                          inserted ROW KEY TAG    a later insert
-                                          deleted COMMIT ROW      a later delete
-                                          moved NEW ROW KEY TAG   a later move
+                                          inserted ROW KEY TAG   came to match
+                                          deleted COMMIT ROW     matches no more
+                                          moved NEW ROW KEY TAG  has a new key
                                           mark COMMIT  all up to it was given
                                           empty        nothing is left for now
   mark CURSOR      asks for a mark        asked
@@ -80,6 +81,7 @@ Events, one a line, with what answers them:
                                                               or seeking
   unfind FINDER          closes a finder                      unfound
   open ROOM QUERY        opens a cursor with room for ROOM    opened CURSOR
+  open ROOM from COMMIT QUERY  for what comes after COMMIT    opened CURSOR
   turn CURSOR            the next piece of a cursor's work    visited PAGE
                          an item went to the mailbox          offered
                          a commit that doesn't match          passed COMMIT

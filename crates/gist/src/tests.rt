@@ -466,7 +466,12 @@ static DOCUMENTED: [(&[&str], &[(&str, &str)]); 2] = [
             ("insert (6 6) 7", "committed 2"),
             ("next 1", "row 1 (5 5) 0"),
             ("next 1", "inserted 2 (6 6) 7"),
-            ("next 1", "empty"),
+            ("mark 1", "asked"),
+            ("next 1", "mark 2"),
+            ("close 1", "closed"),
+            ("insert (7 7) 7", "committed 3"),
+            ("open 4 from 2 overlaps(0 9)", "opened 2"),
+            ("next 2", "inserted 3 (7 7) 7"),
         ],
     ),
     (

@@ -1,3 +1,4 @@
 pub mod Moving
 pub mod OnWay
 pub mod Visiting
+pub mod Nearing

@@ -11,21 +11,25 @@ use key_class::{KeyClass, Refusal};
 use mailbox::Outlet;
 use world::{Event, Reply, Stamped, World};
 
-/// Carries out a step that changes pages alone.
+/// Carries out a step that changes pages alone, for a seat.
 ///
 /// # Errors
 /// `PagesFull` where fewer than two pages are left, and want of memory. Nothing is changed then.
 pub(crate) fn move_pages<C: KeyClass, O: Outlet<C::Key>>(
     world: &mut World<C, O>,
+    seat: u32,
     event: Event<C>,
 ) -> Result<(), Refusal>
     requires may { MayMove C.rules.is_cover world.old event }
     ensures moved { OnOk result (Moves C.rules.union_of world.old event world.new) }
+    ensures unchanged { OnErr result (world.new ≡ world.old) }
     ensures kept { MovesPages C.rules O.rule world.old world.new }
+    ensures one_event { IsOneEvent C O O.End C.rules O.rule seat world.old world.new }
     ensures sound { IsSoundWorld C.rules.is_cover world.new }
+    ensures mailboxes { KeepsMailboxes C.rules O.rule world.old world.new }
     ensures refusals { IfErr result (IsWanting world.new.search) }
 {
-    match world.step(event) {
+    match world.step_as(seat, event) {
         Reply::Refused(why) => return Err(why),
         _ => return Ok(()),
     }

@@ -1,14 +1,50 @@
 //! Splits of an insertion by visits: their sides may be worked out beside the world.
 ghost use Rattle.std.specs.Prelude.{◌≡◌, IfErr, OnErr};
+ghost use Rattle.key_class.specs.Refusals.{IsEither};
 ghost use Rattle.world.specs.Promises.{KeepsMailboxes};
 ghost use Rattle.world.specs.States.{IsSoundWorld};
+ghost use Rattle.world.specs.Visits.{Makes};
 ghost use Rattle.insertion.specs.PageSteps.{IsWanting};
-ghost use Rattle.insertion.specs.Visits.{SplitsAtMost, TellsInTime};
+ghost use Rattle.insertion.specs.Visits.{IsOfPages, SplitsAtMost, TellsInTime};
 
-use crate::approach::make;
 use key_class::{KeyClass, Refusal};
 use mailbox::Outlet;
-use world::{SplitTask, World};
+use world::{Event, Reply, SplitTask, World};
+
+/// Tells a refusal by want of pages or memory; after any other the split is given up.
+fn tell_want(why: Refusal) -> Result<(), Refusal>
+    ensures told { IfErr result (λ told. told ≡ why) }
+    ensures refusals { IfErr result (IsEither Refusal.OutOfMemory Refusal.PagesFull) }
+{
+    match why {
+        Refusal::OutOfMemory => Err(Refusal::OutOfMemory),
+        Refusal::PagesFull => Err(Refusal::PagesFull),
+        _ => Ok(()),
+    }
+}
+
+/// Makes an event that changes pages alone. Where the state of the pages refuses it, nothing is done.
+///
+/// # Errors
+/// `PagesFull`, and want of memory. Nothing is changed then.
+fn make<C: KeyClass, O: Outlet<C::Key>>(
+    world: &mut World<C, O>,
+    seat: u32,
+    event: Event<C>,
+) -> Result<(), Refusal>
+    requires pages { IsOfPages event }
+    ensures makes { Makes C O O.End C.rules O.rule seat world.old event world.new }
+    ensures commits { world.new.commits ≡ world.old.commits }
+    ensures sound { IsSoundWorld C.rules.is_cover world.new }
+    ensures mailboxes { KeepsMailboxes C.rules O.rule world.old world.new }
+    ensures unchanged { OnErr result (world.new ≡ world.old) }
+    ensures refusals { IfErr result (IsWanting world.old.search) }
+{
+    match world.step_as(seat, event) {
+        Reply::Refused(why) => return tell_want(why),
+        _ => return Ok(()),
+    }
+}
 
 /// Splits a page by a task that was worked on beside the world. Whether it came in time: where the page is no more as the
 /// task has it, nothing is changed. A split that the state of the pages refuses is given up.
@@ -31,7 +67,7 @@ pub fn split_prepared<C: KeyClass, O: Outlet<C::Key>>(
     match world.split_of(task) {
         None => Ok(false),
         Some(split) => {
-            make(world, seat, split, 0)?;
+            make(world, seat, split)?;
             Ok(true)
         }
     }

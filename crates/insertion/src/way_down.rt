@@ -64,20 +64,20 @@ pub fn make_way<C: KeyClass, O: Outlet<C::Key>>(
     'descending: loop {
         match next_step(alloc, world.search(), page, key)? {
             Step::Grow(sides) => {
-                move_pages(world, Event::Grow(sides))?;
+                move_pages(world, 0, Event::Grow(sides))?;
                 page = 0;
             }
             Step::Post(parent, child) => {
-                move_pages(world, Event::Post(u64::from(parent), u64::from(child)))?;
+                move_pages(world, 0, Event::Post(u64::from(parent), u64::from(child)))?;
                 page = resumed(world, page, key);
             }
             Step::Split(child, sides) => {
-                move_pages(world, Event::Split(u64::from(child), sides))?;
+                move_pages(world, 0, Event::Split(u64::from(child), sides))?;
                 page = resumed(world, page, key);
             }
             Step::Enlarge(parent, child) => {
                 let wider = Event::Enlarge(u64::from(parent), u64::from(child), key);
-                move_pages(world, wider)?;
+                move_pages(world, 0, wider)?;
                 page = child;
             }
             Step::Down(child) => page = child,

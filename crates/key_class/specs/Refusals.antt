@@ -2,7 +2,7 @@
 use Rattle.std.specs.Prelude.{◌≡◌, ◌⊎◌, ℕ, List, ◌++◌, codes}
 use Rattle.std.specs.Fmt.{decimal}
 use Rattle.key_class.specs.declared.refusal.Refusal.{Refusal}
-use Rattle.key_class.specs.declared.refusal.Refusal.TheVariants.{OutOfMemory, BadConfig, PagesFull, CommitsFull, CursorsFull, FindersFull, NotHere, NodeFull, TooFew, Uncovered, Owed, Unhung, BadSides, NoSuchRow, AlreadyDeleted, NoSuchCursor, CursorClosed, NoRoom, Idle, NoSuchFinder, QueryText, Line}
+use Rattle.key_class.specs.declared.refusal.Refusal.TheVariants.{OutOfMemory, BadConfig, PagesFull, CommitsFull, CursorsFull, FindersFull, NotHere, NodeFull, TooFew, Uncovered, Owed, Unhung, BadSides, NoSuchRow, AlreadyDeleted, NoSuchCursor, CursorClosed, NoRoom, Idle, NoSuchFinder, QueryText, Line, FromFuture}
 
 -- the number of a refusal
 abbrev pub number_of : Refusal → ℕ
@@ -28,6 +28,7 @@ number_of Idle = 19
 number_of NoSuchFinder = 20
 number_of (QueryText place) = 21
 number_of (Line place) = 22
+number_of FromFuture = 23
 
 -- the name of a refusal
 abbrev pub name_of : Refusal → List ℕ
@@ -53,6 +54,7 @@ name_of Idle = codes "Idle"
 name_of NoSuchFinder = codes "NoSuchFinder"
 name_of (QueryText place) = codes "QueryText"
 name_of (Line place) = codes "Line"
+name_of FromFuture = codes "FromFuture"
 
 -- the number and the name, with one space between
 abbrev pub number_and_name : Refusal → List ℕ

@@ -53,6 +53,8 @@ pub enum Refusal {
     QueryText(u64),
     /// The line is refused at that byte.
     Line(u64),
+    /// The number to be followed from is greater than the number of commits.
+    FromFuture,
 }
 
 impl<T: Drop> From<AllocFailed<T>> for Refusal {
@@ -99,6 +101,7 @@ impl Refusal {
             Refusal::NoSuchFinder => 20,
             Refusal::QueryText(_) => 21,
             Refusal::Line(_) => 22,
+            Refusal::FromFuture => 23,
         }
     }
 
@@ -129,6 +132,7 @@ impl Refusal {
             Refusal::NoSuchFinder => "NoSuchFinder",
             Refusal::QueryText(_) => "QueryText",
             Refusal::Line(_) => "Line",
+            Refusal::FromFuture => "FromFuture",
         }
     }
 }

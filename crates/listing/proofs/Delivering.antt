@@ -26,7 +26,7 @@ module _ {K : Type 0} (wanted : K → Bool) (s : ℕ) (commits : List (Write K))
   no_row : (n : ℕ) → NoRowFirst (changes wanted s n commits)
   no_row n = changes_no_row wanted s n commits
 
-  pub none_wrong : HasWrongRow all items → IsDelivered wanted s commits items → ⊥
+  pub none_wrong : HasWrongRow all items → IsDelivered false wanted s commits items → ⊥
   none_wrong w d =
       let l = d.begins.listing in
       let e : map item.Row w.given ++ item.Row w.row ∷ (without_marks w.rest ++ d.begins.rest) ≡ map item.Row l.rows ++ changes wanted s (length commits) commits =
@@ -45,7 +45,7 @@ module _ {K : Type 0} (wanted : K → Bool) (s : ℕ) (commits : List (Write K))
     unmarked rest = append_marks (map item.Row t.given) rest ∙ ap (λ l. l ++ without_marks rest) (rows_no_marks t.given)
 
     -- rows alone
-    pub rows_alone : s ≤ length commits → length items ≤ n → IsDelivered wanted s commits items
+    pub rows_alone : s ≤ length commits → length items ≤ n → IsDelivered false wanted s commits items
     rows_alone b l = record {
       begins = record {
         rest = map item.Row left ++ changes wanted s (length commits) commits;
@@ -76,7 +76,7 @@ module _ {K : Type 0} (wanted : K → Bool) (s : ℕ) (commits : List (Write K))
         no_mark (r ∷ rows) (x ∷ before) after m e = no_mark rows before after m (cc)
 
     -- all rows and what may follow them
-    pub delivered_from : s ≤ length commits → left ≡ [] → IsFollowed wanted s commits (drop n items) → IsDelivered wanted s commits items
+    pub delivered_from : s ≤ length commits → left ≡ [] → IsFollowed wanted s commits (drop n items) → IsDelivered false wanted s commits items
     delivered_from b none f = record {
       begins = record {
         rest = f.rest;
@@ -107,7 +107,7 @@ module _ {K : Type 0} (wanted : K → Bool) (s : ℕ) (commits : List (Write K))
               is = ap without_marks k.front ∙ unmarked k.between ∙ ap (λ i. map item.Row t.given ++ i) a.is;
             }
 
-    module _ (ends : (row : Row K) (rest : List (Item K)) → drop n items ≡ item.Row row ∷ rest → ⊥) (d : IsDelivered wanted s commits items) where
+    module _ (ends : (row : Row K) (rest : List (Item K)) → drop n items ≡ item.Row row ∷ rest → ⊥) (d : IsDelivered false wanted s commits items) where
       listing : map item.Row t.given ++ (without_marks (drop n items) ++ d.begins.rest) ≡ map item.Row d.begins.listing.rows ++ changes wanted s (length commits) commits
       listing =
           sym (append_assoc (map item.Row t.given) (without_marks (drop n items)) d.begins.rest)

@@ -6,11 +6,11 @@ use Rattle.change_list.specs.declared.write.Write.{Write}
 use Rattle.change_list.specs.declared.item.Item.{Item}
 use Rattle.change_list.specs.declared.item.Item.TheVariants as item
 use Rattle.change_list.specs.Changes.{item_at, item_of, changes}
-use Rattle.change_list.specs.Listings.{is_mark, without_marks}
+use Rattle.change_list.specs.Listings.{AreChanges, is_mark, without_marks}
 use Rattle.change_list.proofs.Lists.{slice_get_within}
 use Rattle.change_list.proofs.Pushing.{changes_more, changes_next, changes_split}
 use Rattle.listing.proofs.Cuts.{drop_next, drop_past}
-use Rattle.listing.specs.Following.{AreChanges, IsFollowed, IsNextPlace}
+use Rattle.listing.specs.Following.{IsFollowed, IsNextPlace}
 
 module _ {K : Type 0} (wanted : K → Bool) (commits : List (Write K)) where
   -- changes up to a number and those behind it

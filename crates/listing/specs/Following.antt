@@ -1,4 +1,4 @@
--- What a client may be given behind the rows of its snapshot.
+-- What a client may be given behind the rows of its snapshot, or behind the commit that it follows.
 use Rattle.std.specs.Prelude.{◌≡◌, ℕ, ◌≤◌, Bool, List, [], ◌∷◌, ◌++◌, length, Some, None}
 use Rattle.key_class.specs.declared.pred.Pred.{Pred}
 use Rattle.key_class.specs.Queries.{query_of}
@@ -7,15 +7,9 @@ use Rattle.change_list.specs.declared.write.Write.{Write}
 use Rattle.change_list.specs.declared.item.Item.{Item}
 use Rattle.change_list.specs.declared.item.Item.TheVariants as item
 use Rattle.change_list.specs.Changes.{item_at, changes}
-use Rattle.change_list.specs.Listings.{without_marks}
+use Rattle.change_list.specs.Listings.{AreChanges, without_marks}
 
 module _ {K : Type 0} where
-  -- the items are all changes after s up to n
-  pub record AreChanges (wanted : K → Bool) (s n : ℕ) (commits : List (Write K)) (items : List (Item K)) : Type 0 where
-    pub from_before : s ≤ n
-    pub within : n ≤ length commits
-    pub is : items ≡ changes wanted s n commits
-
   -- the items, marks left out, are the first changes after s, and what stands before each mark is all of them up to it
   pub record IsFollowed (wanted : K → Bool) (s : ℕ) (commits : List (Write K)) (items : List (Item K)) : Type 0 where
     pub rest : List (Item K)
@@ -35,6 +29,6 @@ module _ {K A : Type 0} (rules : Rules K A) (query : Pred A) where
   abbrev pub IsItemFor : List (Write K) → ℕ → Item K → Type 0
   IsItemFor commits place item = item_at (satisfies rules (query_of query)) commits place ≡ Some item
 
-  -- the items may follow the rows of its snapshot
+  -- the items may be given behind commit s
   abbrev pub IsFollowedFor : ℕ → List (Write K) → List (Item K) → Type 0
   IsFollowedFor s commits items = IsFollowed (satisfies rules (query_of query)) s commits items

@@ -1,6 +1,6 @@
 -- The dead of a tree where a row was moved.
-use Rattle.std.proofs.Common.{◌≡◌, ℕ, ◌+◌, [], ◌∷◌, length, Result, Ok, Err, ap, subst}
-use Rattle.std.specs.Prelude.{IsPermutation, IfOk, OnOk, OnErr}
+use Rattle.std.proofs.Common.{◌≡◌, ℕ, ◌+◌, ◌∷◌, length, Result, Ok, Err, ap, subst}
+use Rattle.std.specs.Prelude.{IsPermutation, IfOk, OnOk}
 use Rattle.std.proofs.lemmas.List.Sorted.{IsPermutation-cons, IsPermutation-trans}
 use Rattle.key_class.specs.Rules.{Rules}
 use Rattle.mailbox.specs.Outlets.{Rule}

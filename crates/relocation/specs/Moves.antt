@@ -1,26 +1,44 @@
 -- Moves of a row, whole and by visits.
-use Rattle.std.specs.Prelude.{◌≡◌, ◌⊎◌, ℕ, ◌+◌, ◌<◌, length}
-use Rattle.change_list.specs.declared.write.Write.TheVariants.{Move}
+use Rattle.std.specs.Prelude.{◌≡◌, ◌⊎◌, ℕ}
+use Rattle.key_class.specs.Rules.{Rules}
+use Rattle.mailbox.specs.Outlets.{Rule}
 use Rattle.key_class.specs.declared.refusal.Refusal.{Refusal}
-use Rattle.key_class.specs.declared.refusal.Refusal.TheVariants as refusal
 use Rattle.split.specs.SearchTrees.{SearchTree}
-use Rattle.descent.specs.NextSteps.{IsFull}
-use Rattle.world.specs.States.{State, AddsCommit, IsNextStamp}
-use Rattle.removal.specs.Visits.{RefusesDelete}
+use Rattle.world.specs.States.{State}
+use Rattle.insertion.specs.PageSteps.{IsWanting}
+use Rattle.insertion.specs.Visits.{Nears}
+use Rattle.insertion.specs.declared.approach.Approach.TheVariants as approach
+use Rattle.removal.specs.Visits.{RefusesDelete, RefusesEnding, Seeks}
+use Rattle.removal.specs.declared.ending.Ending.TheVariants as ending
+use Rattle.removal.specs.declared.visiting.Search.TheVariants as search
 use Rattle.relocation.specs.declared.visiting.Moving.{Moving}
 use Rattle.relocation.specs.declared.visiting.Moving.TheVariants as moving
 
 module _ {K A : Type 0} where
   -- why the row isn't moved, and what is left of the pages then
   abbrev pub RefusesMove : State K A → SearchTree K → ℕ → Refusal → Type 0
-  RefusesMove old search row why =
-      RefusesDelete old row why
-      ⊎ ((why ≡ refusal.PagesFull) × (search.limit < length search.tree.pages + 2))
+  RefusesMove old search row why = RefusesDelete old row why ⊎ IsWanting search why
 
-  -- the row is moved by the next commit, or none is made; a page that has to be split is full
-  abbrev pub Relocates : State K A → ℕ → ℕ → K → Moving K → State K A → Type 0
-  Relocates old seat row key (moving.On page) new = new.commits ≡ old.commits
-  Relocates old seat row key (moving.Split page) new = (new ≡ old) × IsFull old.search page
-  Relocates old seat row key moving.Lost new = new ≡ old
-  Relocates old seat row key (moving.Moved stamp) new =
-      AddsCommit old (Move row key) new × IsNextStamp old seat (Move row key) stamp
+  -- why a visit of a move is refused
+  abbrev pub RefusesMoving : State K A → ℕ → Refusal → Type 0
+  RefusesMoving s row why = RefusesEnding s row why ⊎ IsWanting s.search why
+
+module _ {K A : Type 0} (rules : Rules K A) (rule : Rule) where
+  -- what a visit of the row's finder tells, where the leaf takes the key
+  abbrev pub SeeksFrom : State K A → ℕ → ℕ → ℕ → ℕ → K → Moving K → State K A → Type 0
+  SeeksFrom old seat leaf f row key (moving.On page) new = (page ≡ leaf) × Seeks rules rule old seat f row (ending.Move leaf key) search.On new
+  SeeksFrom old seat leaf f row key (moving.Split page) new = ⊥
+  SeeksFrom old seat leaf f row key moving.Lost new = Seeks rules rule old seat f row (ending.Move leaf key) search.Lost new
+  SeeksFrom old seat leaf f row key (moving.Moved stamp) new = Seeks rules rule old seat f row (ending.Move leaf key) (search.Ended stamp) new
+
+module _ (C : Type 0) {K A : Type 0} (rules : Rules K A) (rule : Rule) where
+  -- the way of the key has come to a leaf that takes it, and the row's finder is visited
+  abbrev pub SeeksAtLeaf : State K A → ℕ → ℕ → ℕ → ℕ → K → Moving K → State K A → Type 0
+  SeeksAtLeaf old seat page f row key moving new = (leaf : ℕ) × Nears C rules old page key (approach.At leaf) old × SeeksFrom rules rule old seat leaf f row key moving new
+
+  -- what a visit of a move tells whose way has come to the page: the way goes on, or the finder does or ends the row
+  abbrev pub Relocates : State K A → ℕ → ℕ → ℕ → ℕ → K → Moving K → State K A → Type 0
+  Relocates old seat page f row key (moving.On next) new = Nears C rules old page key (approach.On next) new ⊎ SeeksAtLeaf old seat page f row key (moving.On next) new
+  Relocates old seat page f row key (moving.Split full) new = Nears C rules old page key (approach.Split full) new
+  Relocates old seat page f row key moving.Lost new = SeeksAtLeaf old seat page f row key moving.Lost new
+  Relocates old seat page f row key (moving.Moved stamp) new = SeeksAtLeaf old seat page f row key (moving.Moved stamp) new

@@ -7,7 +7,7 @@ ghost use Rattle.removal.specs.Visits.{LacksCommit};
 ghost use Rattle.world.specs.Promises.{KeepsMailboxes};
 ghost use Rattle.world.specs.States.{IsSoundWorld};
 ghost use Rattle.world.specs.Visits.{IsOneEvent};
-ghost use Rattle.relocation.specs.Moves.{Relocates, RefusesMove};
+ghost use Rattle.relocation.specs.Moves.{RefusesMoving, Relocates, SeeksFrom};
 
 use insertion::{Approach, approach_leaf};
 use key_class::{KeyClass, Refusal};
@@ -45,7 +45,8 @@ pub fn move_step<C: KeyClass, O: Outlet<C::Key>>(
     row: u64,
     key: C::Key,
 ) -> Result<Moving<C::Key>, Refusal>
-    ensures goes { IfOk result (λ moving. Relocates world.old seat row key moving world.new) }
+    ensures goes { IfOk result (λ moving.
+        Relocates C C.rules O.rule world.old seat page finder row key moving world.new) }
     ensures one_event { IsOneEvent C O O.End C.rules O.rule seat world.old world.new }
     ensures sound { IsSoundWorld C.rules.is_cover world.new }
     ensures mailboxes { KeepsMailboxes C.rules O.rule world.old world.new }
@@ -53,7 +54,7 @@ pub fn move_step<C: KeyClass, O: Outlet<C::Key>>(
     ensures no_such_row { (result ≡ Err NoSuchRow) ↔ NamesNoRow world.old.commits row }
     ensures already_deleted { (result ≡ Err AlreadyDeleted) ↔ NamesDead world.old.commits row }
     ensures full { (result ≡ Err CommitsFull) ↔ LacksCommit world.old row }
-    ensures refusals { IfErr result (RefusesMove world.old world.old.search row) }
+    ensures refusals { IfErr result (RefusesMoving world.old row) }
 {
     world.recall_soundness();
     check_ending(world, row)?;
@@ -76,7 +77,8 @@ fn seek_from<C: KeyClass, O: Outlet<C::Key>>(
     requires live { NamesLive world.old.commits row }
     requires room { length world.old.commits < world.old.limit }
     requires may { MayPlace C.rules.is_cover world.old.search leaf key }
-    ensures goes { IfOk result (λ moving. Relocates world.old seat row key moving world.new) }
+    ensures seeks { IfOk result (λ moving.
+        SeeksFrom C.rules O.rule world.old seat leaf finder row key moving world.new) }
     ensures one_event { IsOneEvent C O O.End C.rules O.rule seat world.old world.new }
     ensures sound { IsSoundWorld C.rules.is_cover world.new }
     ensures mailboxes { KeepsMailboxes C.rules O.rule world.old world.new }

@@ -3,3 +3,4 @@ pub mod HorizonFacts
 pub mod Swept
 pub mod UnderWay
 pub mod Refusing
+pub mod Visited

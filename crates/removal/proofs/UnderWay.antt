@@ -1,5 +1,5 @@
 -- A finder of a live row: how it begins, each visit, and its end.
-use Rattle.std.proofs.Common.{◌≡◌, ◌+◌, ◌<◌, ◌≤◌, inl, inr, ℕ, suc, Bool, true, false, ◌&&◌, List, [], ◌∷◌, ◌++◌, length, take, drop, Option, Some, None, refl, sym, ap, ◌∙◌, arith, subst, ◌↔◌, ◌||◌}
+use Rattle.std.proofs.Common.{◌≡◌, ◌+◌, ◌<◌, inl, inr, ℕ, suc, Bool, true, false, List, [], ◌∷◌, ◌++◌, length, take, drop, Option, Some, None, refl, sym, ap, ◌∙◌, arith, subst, ◌↔◌, ◌||◌}
 use Rattle.std.proofs.Common.{Result, Ok, Err}
 use Rattle.std.specs.Prelude.{nat_le, slice_set, IsPermutation, map, IfOk, OnErr}
 use Rattle.key_class.specs.Rules.{Rules}
@@ -10,16 +10,13 @@ use Rattle.change_list.proofs.Lists.{slice_get_end}
 use Rattle.change_list.proofs.Tracking.{live_kept, live_row}
 use Rattle.change_list.specs.Changes.{IsLegal, is_ended, status_of}
 use Rattle.change_list.specs.declared.write.Status.TheVariants.{Live}
-use Rattle.change_list.specs.declared.write.Write.{Write}
 use Rattle.descent.proofs.Seeking.{finds_page, finds_weigh}
-use Rattle.descent.specs.Finders.{OpenFinder, FindsRow, IsSeeking, is_at_row}
+use Rattle.descent.specs.Finders.{OpenFinder, FindsRow, is_at_row}
 use Rattle.page_table.proofs.PageLists.{replaced-length}
 use Rattle.node.specs.Changes.{with_rows}
 use Rattle.page_table.specs.Stacks.{pages_left}
 use Rattle.page_table.specs.Trees.{Tree, after_rows, page_at}
-use Rattle.page_table.specs.Weights.{weigh}
 use Rattle.row_version.specs.Entries.{Entry, marked}
-use Rattle.scan.specs.Agreement.{is_row}
 use Rattle.scan.proofs.Finders.{seek_pages}
 use Rattle.page_table.specs.LeafChanges.{after_bury}
 use Rattle.split.specs.Tests.{PlacePasses, first_failing, place_tests}

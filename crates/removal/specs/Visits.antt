@@ -1,10 +1,15 @@
 -- One visit to a world of what ends a row.
-use Rattle.std.specs.Prelude.{◌≡◌, ◌⊎◌, ℕ, ◌+◌, ◌<◌, ◌≤◌, length}
+use Rattle.std.specs.Prelude.{◌≡◌, ◌⊎◌, ℕ, ◌<◌, ◌≤◌, length}
 use Rattle.key_class.specs.Limits.{greatest_serial, most_finders}
+use Rattle.key_class.specs.Rules.{Rules}
+use Rattle.mailbox.specs.Outlets.{Rule}
 use Rattle.change_list.specs.Changes.{NamesNoRow, NamesLive, NamesDead}
 use Rattle.key_class.specs.declared.refusal.Refusal.{Refusal}
 use Rattle.key_class.specs.declared.refusal.Refusal.TheVariants as refusal
-use Rattle.world.specs.States.{State, AddsCommit, IsFullOfCommits, IsNextStamp}
+use Rattle.world.specs.Serials.{without}
+use Rattle.world.specs.Stamps.{Stamp}
+use Rattle.world.specs.States.{State, AddsCommit, IsFinderOf, IsFullOfCommits, IsNextStamp}
+use Rattle.world.specs.Steps.{SeeksOn}
 use Rattle.removal.specs.Ending.{write_of_ending}
 use Rattle.removal.specs.declared.ending.Ending.{Ending}
 use Rattle.removal.specs.declared.visiting.Search.{Search}
@@ -35,25 +40,35 @@ module _ {K A : Type 0} where
   abbrev pub LacksOnlyFinder : State K A → ℕ → Type 0
   LacksOnlyFinder s row = NamesLive s.commits row × (length s.commits < s.limit) × IsFullOfFinders s
 
+  -- the row isn't live
+  abbrev pub RefusesNotLive : State K A → ℕ → Refusal → Type 0
+  RefusesNotLive s row why = ((why ≡ refusal.NoSuchRow) × NamesNoRow s.commits row) ⊎ ((why ≡ refusal.AlreadyDeleted) × NamesDead s.commits row)
+
+  -- why no finder of the row is opened
+  abbrev pub RefusesFinding : State K A → ℕ → Refusal → Type 0
+  RefusesFinding s row why = RefusesNotLive s row why ⊎ RefusesFinder s why
+
+  -- why a finder of the row doesn't go on
+  abbrev pub RefusesSeeking : State K A → ℕ → Refusal → Type 0
+  RefusesSeeking s row why = RefusesNotLive s row why ⊎ RefusesCommit s why
+
   -- why a deletion of the row is refused
   abbrev pub RefusesDelete : State K A → ℕ → Refusal → Type 0
-  RefusesDelete s row why =
-      (why ≡ refusal.OutOfMemory)
-      ⊎ ((why ≡ refusal.NoSuchRow) × NamesNoRow s.commits row)
-      ⊎ ((why ≡ refusal.AlreadyDeleted) × NamesDead s.commits row)
-      ⊎ ((why ≡ refusal.CommitsFull) × IsFullOfCommits s)
-      ⊎ ((why ≡ refusal.FindersFull) × IsFullOfFinders s)
+  RefusesDelete s row why = RefusesFinding s row why ⊎ RefusesSeeking s row why
 
   -- why the row may not end
   abbrev pub RefusesEnding : State K A → ℕ → Refusal → Type 0
-  RefusesEnding s row why =
-      ((why ≡ refusal.NoSuchRow) × NamesNoRow s.commits row)
-      ⊎ ((why ≡ refusal.AlreadyDeleted) × NamesDead s.commits row)
-      ⊎ ((why ≡ refusal.CommitsFull) × LacksCommit s row)
+  RefusesEnding s row why = RefusesNotLive s row why ⊎ ((why ≡ refusal.CommitsFull) × LacksCommit s row)
 
-  -- the row is ended so by the next commit, or none is made
-  abbrev pub Seeks : State K A → ℕ → ℕ → Ending K → Search K → State K A → Type 0
-  Seeks old seat row how search.On new = new.commits ≡ old.commits
-  Seeks old seat row how search.Lost new = new ≡ old
-  Seeks old seat row how (search.Ended stamp) new =
-      AddsCommit old (write_of_ending row how) new × IsNextStamp old seat (write_of_ending row how) stamp
+  -- the next commit ends the row so, for the seat, and the finder is gone
+  pub record EndsMet (old : State K A) (seat f row : ℕ) (how : Ending K) (stamp : Stamp K) (new : State K A) : Type 0 where
+    pub commits : AddsCommit old (write_of_ending row how) new
+    pub stamped : IsNextStamp old seat (write_of_ending row how) stamp
+    pub finders : new.finders ≡ without (λ k. k.serial) f old.finders
+
+module _ {K A : Type 0} (rules : Rules K A) (rule : Rule) where
+  -- a visit of a finder of the row: it goes on, or ends the row so; or there is no such finder, and nothing is done
+  abbrev pub Seeks : State K A → ℕ → ℕ → ℕ → Ending K → Search K → State K A → Type 0
+  Seeks old seat f row how search.On new = IsFinderOf old f row × SeeksOn rules rule old f new
+  Seeks old seat f row how search.Lost new = (¬ IsFinderOf old f row) × (new ≡ old)
+  Seeks old seat f row how (search.Ended stamp) new = IsFinderOf old f row × EndsMet old seat f row how stamp new

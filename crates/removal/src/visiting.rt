@@ -4,7 +4,7 @@ ghost use Rattle.key_class.specs.declared.refusal.Refusal.TheVariants.{NoSuchRow
 ghost use Rattle.change_list.specs.Changes.{NamesNoRow, NamesLive, NamesDead};
 ghost use Rattle.removal.specs.Ending.{Looks, MayEnd};
 ghost use Rattle.removal.specs.declared.ending.Ending.TheVariants as Ending;
-ghost use Rattle.removal.specs.Visits.{IsFullOfFinders, LacksFinder, RefusesCommit, RefusesDelete, RefusesFinder, Seeks};
+ghost use Rattle.removal.specs.Visits.{IsFullOfFinders, LacksFinder, RefusesCommit, RefusesFinder, RefusesFinding, RefusesSeeking, Seeks};
 ghost use Rattle.world.specs.Promises.{KeepsMailboxes};
 ghost use Rattle.world.specs.States.{IsSoundWorld};
 ghost use Rattle.world.specs.Visits.{IsOneEvent};
@@ -44,7 +44,7 @@ pub fn find_row<C: KeyClass, O: Outlet<C::Key>>(
     ensures no_such_row { (result ≡ Err NoSuchRow) ↔ NamesNoRow world.old.commits row }
     ensures already_deleted { (result ≡ Err AlreadyDeleted) ↔ NamesDead world.old.commits row }
     ensures finders_full { (result ≡ Err FindersFull) ↔ LacksFinder world.old row }
-    ensures refusals { IfErr result (RefusesDelete world.old row) }
+    ensures refusals { IfErr result (RefusesFinding world.old row) }
 {
     world.recall_soundness();
     match world.status(row) {
@@ -84,14 +84,15 @@ pub fn seek_row<C: KeyClass, O: Outlet<C::Key>>(
     finder: u64,
     row: u64,
 ) -> Result<Search<C::Key>, Refusal>
-    ensures seeks { IfOk result (λ found. Seeks world.old seat row Ending.Delete found world.new) }
+    ensures seeks { IfOk result (λ search.
+        Seeks C.rules O.rule world.old seat finder row Ending.Delete search world.new) }
     ensures one_event { IsOneEvent C O O.End C.rules O.rule seat world.old world.new }
     ensures sound { IsSoundWorld C.rules.is_cover world.new }
     ensures mailboxes { KeepsMailboxes C.rules O.rule world.old world.new }
     ensures unchanged { OnErr result (world.new ≡ world.old) }
     ensures no_such_row { (result ≡ Err NoSuchRow) ↔ NamesNoRow world.old.commits row }
     ensures already_deleted { (result ≡ Err AlreadyDeleted) ↔ NamesDead world.old.commits row }
-    ensures refusals { IfErr result (RefusesDelete world.old row) }
+    ensures refusals { IfErr result (RefusesSeeking world.old row) }
 {
     world.recall_soundness();
     match world.status(row) {
@@ -114,7 +115,8 @@ pub fn end_step<C: KeyClass, O: Outlet<C::Key>>(
 ) -> Result<Search<C::Key>, Refusal>
     requires live { NamesLive world.old.commits row }
     requires may { MayEnd C.rules.is_cover world.old.search ending }
-    ensures seeks { IfOk result (λ search. Seeks world.old seat row ending search world.new) }
+    ensures seeks { IfOk result (λ search.
+        Seeks C.rules O.rule world.old seat finder row ending search world.new) }
     ensures one_event { IsOneEvent C O O.End C.rules O.rule seat world.old world.new }
     ensures sound { IsSoundWorld C.rules.is_cover world.new }
     ensures mailboxes { KeepsMailboxes C.rules O.rule world.old world.new }

@@ -81,6 +81,15 @@ impl Stack {
         Stack { items }
     }
 
+    /// A traversal that visits nothing. It takes no memory.
+    pub fn empty(alloc: Global) -> Stack
+        ensures { result ≡ [] }
+    {
+        Stack {
+            items: SmallVec::new(alloc),
+        }
+    }
+
     /// Whether nothing is left to be visited.
     pub fn is_empty(&self) -> bool
         ensures { IsTrue result ↔ (self.now ≡ []) }

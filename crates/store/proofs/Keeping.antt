@@ -72,7 +72,7 @@ dead_rows_permuted xs ys p =
 
 module _ {K A : Type 0} (rules : Rules K A) (rule : Rule) (old new : world.State K A) (rests : Rests rules rule old new) where
   stays : (c : ℕ) (k : OpenCursor K A) → world.cursor_at old c ≡ Some k → Stays rules.is_match old.commits new.commits (shown rules rule old.search.tree k) (shown rules rule new.search.tree k)
-  stays c k h = record { query = refl; opened = refl; scanning = refl; asked = refl; fits = rests.fits c k h }
+  stays c k h = record { query = refl; follows = refl; opened = refl; scanning = refl; asked = refl; fits = rests.fits c k h }
 
   by_test : (c : ℕ) (b : Bool) (o : Option (OpenCursor K A)) → world.cursor_at old c ≡ o
       → SameOrStays rules.is_match old.commits new.commits

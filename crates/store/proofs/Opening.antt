@@ -11,19 +11,20 @@ use Rattle.change_list.specs.Cursors.{CursorState, Fits}
 use Rattle.cursor.specs.OpenCursors.{OpenCursor, shown}
 use Rattle.split.specs.Tests.{first_failing}
 use Rattle.world.proofs.Refusing.{open_from_tests, open_passes}
-use Rattle.world.proofs.Serials.{member_at, all_push, all_put, all_without, member_all}
+use Rattle.world.proofs.Serials.{member_at, all_put, all_without, member_all}
 use Rattle.world.specs.Serials.{member, without, Rise}
 use Rattle.world.specs.States as world
-use Rattle.world.specs.Steps.{Opens, Asks, opened_cursor, cursor_tests}
+use Rattle.page_table.specs.Stacks.{StackItem}
+use Rattle.world.specs.Steps.{Opens, Asks, begun_cursor, cursor_tests}
 use Rattle.store.specs.States.{StoreState, IsOpened, ChangesCursor, Closes, with_asking}
 use Rattle.store.specs.Worlds.{store_state, IsQuiet, IsEmptied}
 use Rattle.store.proofs.Worlds.{open_as, with_as, without_shown}
 
 module _ {K A : Type 0} (rules : Rules K A) (rule : Rule) (old new : world.State K A) where
-  module _ (sound : world.IsSoundWorld rules.is_cover new) (query : Pred A) (c : ℕ) (o : Opens old query 1 c new)
+  module _ (sound : world.IsSoundWorld rules.is_cover new) (query : Pred A) (follows : Bool) (n : ℕ) (stack : List StackItem) (c : ℕ) (o : Opens old (begun_cursor old query 1 follows n stack) c new)
       (opening : (k : OpenCursor K A) → world.cursor_at new c ≡ Some k → Fits rules.is_match new.commits (shown rules rule new.search.tree k) []) where
     abbrev opened : OpenCursor K A
-    opened = opened_cursor old query 1
+    opened = begun_cursor old query 1 follows n stack
 
     new_open : world.cursor_at new c ≡ Some opened
     new_open = member_at (λ k. k.serial) c 0 new.last (length old.cursors) new.cursors opened sound.serials
@@ -35,7 +36,7 @@ module _ {K A : Type 0} (rules : Rules K A) (rule : Rule) (old new : world.State
     abbrev appended : ℕ → List (CursorState K A) → StoreState K A
     appended last cursors = record (store_state rules rule old) { last = last; cursors = cursors }
 
-    pub is_opened : IsOpened rules.is_match (store_state rules rule old) (query_of query) c (store_state rules rule new)
+    pub is_opened : IsOpened rules.is_match (store_state rules rule old) (query_of query) follows n c (store_state rules rule new)
     is_opened = record {
       serial = o.serial;
       cursor = shown rules rule old.search.tree opened;
@@ -46,17 +47,11 @@ module _ {K A : Type 0} (rules : Rules K A) (rule : Rule) (old new : world.State
       number = sym o.serial;
       is_open = open_as rules rule new c opened new_passes new_open ∙ ap (λ (s : world.State K A). Ok (shown rules rule s.search.tree opened)) o.after;
       query = refl;
-      opened = refl;
+      follows_is = refl;
+      opened_is = refl;
       unasked = refl;
       fits = subst (λ (s : world.State K A). Fits rules.is_match s.commits (shown rules rule s.search.tree opened) []) o.after (opening opened new_open);
     }
-
-    pub opened_quiet : IsQuiet old → IsQuiet new
-    opened_quiet quiet =
-        subst IsQuiet (sym o.after) (record {
-          no_finder = quiet.no_finder;
-          emptied = all_push (λ k. k.serial) IsEmptied opened old.cursors (record { empty = refl; place = omega arith }) quiet.emptied;
-        })
 
   module _ (c : ℕ) (passed : first_failing (cursor_tests old c) ≡ None) where
     pub asks : Asks old c new → ChangesCursor with_asking (store_state rules rule old) c (store_state rules rule new)

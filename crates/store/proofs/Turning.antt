@@ -8,7 +8,7 @@ use Rattle.key_class.specs.declared.refusal.Refusal.{Refusal}
 use Rattle.key_class.specs.declared.refusal.Refusal.TheVariants as refusal
 use Rattle.change_list.specs.declared.item.Item.{Item}
 use Rattle.change_list.specs.declared.item.Item.TheVariants as item
-use Rattle.change_list.specs.Cursors.{Fits, IsFollowing, work}
+use Rattle.change_list.specs.Cursors.{Fits, IsPastRows, work}
 use Rattle.page_table.specs.Stacks.{IsStack}
 use Rattle.split.specs.Tests.{first_failing}
 use Rattle.cursor.specs.declared.cursor.Turned.{Turned}
@@ -93,7 +93,7 @@ module _ {K A : Type 0} (rules : Rules K A) (rule : Rule) where
         was_open = o.is_open;
         is = ap (λ ks. record old { cursors = ks }) (sym (put_found c old.cursors o.cursor n o.is_open));
         serial = n;
-        strives = record { serial = refl; query = refl; opened = refl; asked = refl; fits = λ items f. f };
+        strives = record { serial = refl; query = refl; follows = refl; opened = refl; asked = refl; fits = λ items f. f };
         work_left = omega arith;
         emptied = member_all (λ k. k.serial) IsEmptied c old.cursors o.cursor o.is_open quiet.emptied;
         quiet = quiet;
@@ -178,6 +178,7 @@ module _ {K A : Type 0} (rules : Rules K A) (rule : Rule) where
             strives = record {
               serial = m.to.serial ∙ g.strives.serial;
               query = m.to.query ∙ g.strives.query;
+              follows = m.to.follows ∙ g.strives.follows;
               opened = m.to.opened ∙ g.strives.opened;
               asked = subst (λ l. SendsItems old.commits g.later l m.next) none m.to.one ∙ g.strives.asked;
               fits = λ items f. subst (λ l. Fits rules.is_match old.commits (shown rules rule old.search.tree m.next) l) (append-nil items) (moved_fits how new m items [] (u ∙ sym (append-nil g.later.unread)) f);
@@ -252,6 +253,7 @@ module _ {K A : Type 0} (rules : Rules K A) (rule : Rule) where
           gives = record {
             serial = m.to.serial ∙ g.strives.serial;
             query = m.to.query ∙ g.strives.query;
+            follows = m.to.follows ∙ g.strives.follows;
             opened = m.to.opened ∙ g.strives.opened;
             fits = λ items f. moved_fits turned.Offered new m items (taken ∷ []) (m.to.unread ∙ ap (λ l. g.later.unread ++ l) just) f;
             answer = answers taken (subst (λ l. SendsItems old.commits g.later (taken ∷ l) m.next) none_left sends);
@@ -292,7 +294,7 @@ module _ {K A : Type 0} (rules : Rules K A) (rule : Rule) where
     now_as : store_state rules rule now ≡ with_open_cursor (store_state rules rule old) (shown rules rule old.search.tree g.later)
     now_as = ap (store_state rules rule) g.is ∙ with_as rules rule old g.later
 
-    following : (k : OpenCursor K A) → HasScanned rules rule old.commits k → IsFollowing rules.is_match (shown rules rule old.search.tree k)
+    following : (k : OpenCursor K A) → HasScanned rules rule old.commits k → IsPastRows rules.is_match (shown rules rule old.search.tree k)
     following k h = record {
       scanned = ap is_scanning h.none_left;
       none_remaining = ap (λ p. p ++ to_find (wants rules rule k) k.opened old.search.tree k.stack) h.none_pending ∙ ap (to_find (wants rules rule k) k.opened old.search.tree) h.none_left;
@@ -309,9 +311,10 @@ module _ {K A : Type 0} (rules : Rules K A) (rule : Rule) where
           gives = record {
             serial = g.strives.serial;
             query = g.strives.query;
+            follows = g.strives.follows;
             opened = g.strives.opened;
             fits = λ items f. subst (λ l. Fits rules.is_match old.commits (shown rules rule old.search.tree g.later) l) (sym (append-nil items)) (g.strives.fits items f);
-            answer = (g.strives.asked, record { following = following g.later rest.0.scanned; at_end = rest.0.at_end; unasked = rest.1 });
+            answer = (g.strives.asked, record { past_rows = following g.later rest.0.scanned; at_end = rest.0.at_end; unasked = rest.1 });
             less_work = tt;
           };
           is = now_as;

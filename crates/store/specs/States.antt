@@ -105,6 +105,7 @@ module _ {K A : Type 0} (matching : A → K → Bool) where
   -- a cursor after a call that doesn't ask it: all that fits it before fits it after
   pub record Stays (commits later : List (Write K)) (before after : CursorState K A) : Type 0 where
     pub query : after.query ≡ before.query
+    pub follows : after.follows ≡ before.follows
     pub opened : after.opened ≡ before.opened
     pub scanning : after.scanning ≡ before.scanning
     pub asked : after.asked ≡ before.asked
@@ -150,6 +151,7 @@ module _ {K A : Type 0} (matching : A → K → Bool) where
   pub record GivesNext (commits : List (Write K)) (before : CursorState K A) (given : Option (Item K)) (after : CursorState K A) : Type 0 where
     pub serial : after.serial ≡ before.serial
     pub query : after.query ≡ before.query
+    pub follows : after.follows ≡ before.follows
     pub opened : after.opened ≡ before.opened
     pub fits : (items : List (Item K)) → Fits matching commits before items → Fits matching commits after (items ++ option_to_list given)
     pub answer : Answers commits before given after
@@ -159,25 +161,31 @@ module _ {K A : Type 0} (matching : A → K → Bool) where
   pub record Strives (commits : List (Write K)) (before after : CursorState K A) : Type 0 where
     pub serial : after.serial ≡ before.serial
     pub query : after.query ≡ before.query
+    pub follows : after.follows ≡ before.follows
     pub opened : after.opened ≡ before.opened
     pub asked : after.asked ≡ before.asked
     pub fits : (items : List (Item K)) → Fits matching commits before items → Fits matching commits after items
 
-  -- a new cursor stands at the present commits, and has given nothing
-  pub record IsOpened (old : StoreState K A) (asked_for : Query A) (c : ℕ) (new : StoreState K A) : Type 0 where
+  -- a new cursor stands behind a commit, which it follows or at which it has a snapshot, and has given nothing
+  pub record IsOpened (old : StoreState K A) (asked_for : Query A) (follows : Bool) (opened c : ℕ) (new : StoreState K A) : Type 0 where
     pub serial : c ≡ old.last + 1
     pub cursor : CursorState K A
     pub after : new ≡ record old { last = c; cursors = old.cursors ++ cursor ∷ [] }
     pub number : cursor.serial ≡ c
     pub is_open : cursor_of new c ≡ Ok cursor
     pub query : cursor.query ≡ asked_for
-    pub opened : cursor.opened ≡ length old.commits
+    pub follows_is : cursor.follows ≡ follows
+    pub opened_is : cursor.opened ≡ opened
     pub unasked : cursor.asked ≡ false
     pub fits : Fits matching old.commits cursor []
 
-  -- the same, of a query as a program holds it
+  -- a cursor at the present commits, on a query as a program holds it
   abbrev pub IsOpenedFor : StoreState K A → Pred A → ℕ → StoreState K A → Type 0
-  IsOpenedFor old query c new = IsOpened old (query_of query) c new
+  IsOpenedFor old query c new = IsOpened old (query_of query) false (length old.commits) c new
+
+  -- and one that follows commit n
+  abbrev pub IsFollowerFor : StoreState K A → Pred A → ℕ → ℕ → StoreState K A → Type 0
+  IsFollowerFor old query n c new = IsOpened old (query_of query) true n c new
 
   -- an open cursor gives its next item, or nothing; all else stays
   pub record Nexts (old : StoreState K A) (c : ℕ) (given : Option (Item K)) (new : StoreState K A) : Type 0 where
@@ -309,6 +317,18 @@ IsFullOf state = (most_cursors ≤ length state.cursors) ⊎ (greatest_serial �
 -- the query and the room are in range, but no cursor can be opened
 abbrev pub HasNoCursorFor : {K A : Type 0} → StoreState K A → Query A → ℕ → Type 0
 HasNoCursorFor state query room = (¬ IsBadOpening query room) × IsFullOf state
+
+-- the query and the room are in range, but there are fewer commits than that
+abbrev pub IsFromFuture : {K A : Type 0} → StoreState K A → Query A → ℕ → ℕ → Type 0
+IsFromFuture state query room n = (¬ IsBadOpening query room) × (length state.commits < n)
+
+-- the query, the room and the commit are there, but no cursor can be opened
+abbrev pub HasNoFollowerFor : {K A : Type 0} → StoreState K A → Query A → ℕ → ℕ → Type 0
+HasNoFollowerFor state query room n = (¬ IsBadOpening query room) × (n ≤ length state.commits) × IsFullOf state
+
+-- why no cursor that follows a commit is opened
+abbrev pub RefusesFollower : Refusal → Type 0
+RefusesFollower why = (why ≡ refusal.FromFuture) ⊎ RefusesCursor why
 
 -- a list got the items that a cursor gave until nothing was left or it was refused
 abbrev pub DrainsInto : {K A : Type 0} → Rules K A → StoreState K A → ℕ → List (Item K) → List (Item K) → Result (Unit {0}) Refusal → StoreState K A → Type 0

@@ -1,12 +1,12 @@
 ghost use Rattle.std.specs.Prelude.{◌≡◌, ◌≢◌, ◌+◌, ◌≤◌, ◌<◌, ◌↔◌, length, IfOk, IfErr, OnOk, OnErr, Err, IsPermutation};
-ghost use Rattle.key_class.specs.declared.refusal.Refusal.TheVariants.{BadConfig, OutOfMemory, CommitsFull, NoSuchRow, AlreadyDeleted, FindersFull, CursorsFull};
+ghost use Rattle.key_class.specs.declared.refusal.Refusal.TheVariants.{BadConfig, FromFuture, OutOfMemory, CommitsFull, NoSuchRow, AlreadyDeleted, FindersFull, CursorsFull};
 ghost use Rattle.key_class.specs.Refusals.{IsEither};
 ghost use Rattle.key_class.specs.Queries.{query_of, depth_of};
 ghost use Rattle.change_list.specs.Configs.{IsWithinLimits};
 ghost use Rattle.change_list.specs.declared.write.Write.TheVariants.{Insert, Delete, Move};
 ghost use Rattle.change_list.specs.Changes.{IsLegal, NamesNoRow, NamesDead, commit_at};
 ghost use Rattle.store.specs.Worlds.{HasCursor};
-ghost use Rattle.store.specs.States.{new_store, Commits, Keeps, cursor_of, IsOpenedFor, IsBadOpening, HasFewPages, HasNoCommitLeft, HasNoCommitFor, HasNoFinderFor, HasNoCursorFor, RefusesRow, RefusesCursor, AddsDead, IsListed, MayRefuseDelete, MayRefuseMove, LacksCursor, Closes, DrainsInto, SweepsStore, SweepsStorePart, Nexts, RefusesNext, ChangesCursor, with_asking, matching_rows};
+ghost use Rattle.store.specs.States.{new_store, Commits, Keeps, cursor_of, IsOpenedFor, IsFollowerFor, IsBadOpening, IsFromFuture, HasNoFollowerFor, HasFewPages, HasNoCommitLeft, HasNoCommitFor, HasNoFinderFor, HasNoCursorFor, RefusesRow, RefusesCursor, RefusesFollower, AddsDead, IsListed, MayRefuseDelete, MayRefuseMove, LacksCursor, Closes, DrainsInto, SweepsStore, SweepsStorePart, Nexts, RefusesNext, ChangesCursor, with_asking, matching_rows};
 
 use crate::reading::next_item;
 use change_list::{Config, Item, Row, Status, Write};
@@ -171,6 +171,37 @@ impl<C: KeyClass> Store<C> {
             return Err(Refusal::BadConfig);
         }
         match self.world.open_cursor(query, 1) {
+            Ok((serial, ())) => return Ok(serial),
+            Err(refusal) => return Err(refusal),
+        }
+    }
+
+    /// Opens a cursor that follows a commit: it gives the changes after it, and no row of a snapshot. Of a mark's number,
+    /// it goes on where that mark was given.
+    ///
+    /// # Errors
+    /// `BadConfig` where the room isn't from 1 to 4,096 or the query is deeper than 32, else `FromFuture` where there are
+    /// fewer commits than that, else `CursorsFull`, else want of memory.
+    pub fn open_from(
+        &mut self,
+        query: Pred<C::Atom>,
+        room: u64,
+        commit: u64,
+    ) -> Result<u64, Refusal>
+        ensures ok { IfOk result
+            (λ c. IsFollowerFor C.rules.is_match self.old query commit c self.new) }
+        ensures err { OnErr result (self.new ≡ self.old) }
+        ensures bad { (result ≡ Err BadConfig) ↔ IsBadOpening (query_of query) room }
+        ensures future { (result ≡ Err FromFuture)
+            ↔ IsFromFuture self.old (query_of query) room commit }
+        ensures full { (result ≡ Err CursorsFull)
+            ↔ HasNoFollowerFor self.old (query_of query) room commit }
+        ensures refusals { IfErr result RefusesFollower }
+    {
+        if room == 0 || room > MAX_ROOM {
+            return Err(Refusal::BadConfig);
+        }
+        match self.world.follow_commit(query, 1, commit) {
             Ok((serial, ())) => return Ok(serial),
             Err(refusal) => return Err(refusal),
         }

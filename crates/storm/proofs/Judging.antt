@@ -57,11 +57,11 @@ module _ {K : Type 0} where
       (cc (g, r.0), r.1)
 
 module _ {K : Type 0} (wanted : K → Bool) (s : ℕ) (commits : List (Write K)) (items : List (Item K)) where
-  from_delivered : IsDelivered wanted s commits (without_marks items ++ item.Mark (length commits) ∷ []) → IsListing wanted s (length commits) commits (without_marks items)
+  from_delivered : IsDelivered false wanted s commits (without_marks items ++ item.Mark (length commits) ∷ []) → IsListing wanted s (length commits) commits (without_marks items)
   from_delivered d =
       subst (λ l. IsListing wanted s (length commits) commits l) (no_marks_twice items) (d.marks (without_marks items) [] (length commits) refl)
 
-  to_delivered : IsListing wanted s (length commits) commits (without_marks items) → IsDelivered wanted s commits (without_marks items ++ item.Mark (length commits) ∷ [])
+  to_delivered : IsListing wanted s (length commits) commits (without_marks items) → IsDelivered false wanted s commits (without_marks items ++ item.Mark (length commits) ∷ [])
   to_delivered l =
       let left = without_marks items in
       let whole : without_marks (left ++ item.Mark (length commits) ∷ []) ++ [] ≡ left =
@@ -75,7 +75,7 @@ module _ {K : Type 0} (wanted : K → Bool) (s : ℕ) (commits : List (Write K))
       }
 
   -- a mark of all commits behind the items tells that they are a listing
-  pub by_mark : IsDelivered wanted s commits (without_marks items ++ item.Mark (length commits) ∷ []) ↔ IsListing wanted s (length commits) commits (without_marks items)
+  pub by_mark : IsDelivered false wanted s commits (without_marks items ++ item.Mark (length commits) ∷ []) ↔ IsListing wanted s (length commits) commits (without_marks items)
   by_mark = (from_delivered, to_delivered)
 
 -- what is told of one statement is told of another that says the same

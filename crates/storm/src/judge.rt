@@ -78,7 +78,7 @@ pub fn is_listing<C: KeyClass>(
     if left.push(Item::Mark(commits.len() as u64)).is_err() {
         return Err(Refusal::OutOfMemory);
     }
-    is_delivered::<C>(alloc, commits, query, opened, left.as_slice())
+    is_delivered::<C>(alloc, commits, query, false, opened, left.as_slice())
 }
 
 fn is_same_commit<C: KeyClass>(a: Option<Write<C::Key>>, b: Option<Write<C::Key>>) -> bool

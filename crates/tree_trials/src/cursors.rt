@@ -2,7 +2,7 @@ ghost use Rattle.std.specs.Prelude.{◌≡◌, [], ◌∷◌, IfOk};
 
 use crate::commits::commit;
 use crate::limits::Limits;
-use change_list::{ChangeList, Item, Row, Write, change_item};
+use change_list::{ChangeList, Item, Row, Write, change_item, listings_go_on};
 use cursor::{Cursor, Turned, cursors_survive_steps};
 use key_class::{Pred, Refusal};
 use mailbox::{Outlet, Taken, Tray};
@@ -60,7 +60,7 @@ fn opened(alloc: Global, counter: u32) -> Result<Open<Tray<u8>>, Fail>
 fn tells_its_opening(rt: HostRuntime) -> Result<(), Fail> {
     let cursor = opened(rt.alloc(), 0)?;
     assert!(rt; cursor.serial() == 4 && cursor.opened() == 3);
-    assert!(rt; cursor.is_scanning());
+    assert!(rt; cursor.is_scanning() && !cursor.follows());
     Ok(())
 }
 
@@ -202,4 +202,5 @@ fn items_of_moves_tell_which_keys_match(rt: HostRuntime) -> Result<(), Fail> {
 #[test]
 fn keeps_laws_of_cursors() {
     cursors_survive_steps::<Limits, Tray<u8>>();
+    listings_go_on::<u8>();
 }

@@ -124,17 +124,25 @@ fn commits(alloc: Global, writes: &[Write<u8>]) -> Result<View<u8>, Refusal> {
     changes.view()
 }
 
-/// Whether a client may have been given the items of these letters.
-fn told(alloc: Global, writes: &[Write<u8>], opened: u64, letters: &str) -> Result<bool, Refusal> {
+/// Whether a client may have been given the items of these letters, which follows that many commits or was opened after
+/// them.
+fn told(
+    alloc: Global,
+    writes: &[Write<u8>],
+    follows: bool,
+    opened: u64,
+    letters: &str,
+) -> Result<bool, Refusal> {
     let commits = commits(alloc, writes)?;
     let items = items(alloc, letters.as_bytes())?;
-    is_delivered::<Limits>(alloc, &commits, &Pred::Atom(5), opened, items.as_slice())
+    let query = Pred::Atom(5);
+    is_delivered::<Limits>(alloc, &commits, &query, follows, opened, items.as_slice())
 }
 
 #[test]
 fn deliveries_are_told(rt: HostRuntime) -> Result<(), Fail> {
     for (opened, letters, delivered) in &DELIVERIES {
-        let told = told(rt.alloc(), &SEVEN, *opened, letters)?;
+        let told = told(rt.alloc(), &SEVEN, false, *opened, letters)?;
         assert!(rt; told == *delivered, "{opened} {letters}");
     }
     Ok(())
@@ -143,7 +151,33 @@ fn deliveries_are_told(rt: HostRuntime) -> Result<(), Fail> {
 #[test]
 fn deliveries_with_moves_are_told(rt: HostRuntime) -> Result<(), Fail> {
     for (opened, letters, delivered) in &WITH_MOVES {
-        let told = told(rt.alloc(), &SIX, *opened, letters)?;
+        let told = told(rt.alloc(), &SIX, false, *opened, letters)?;
+        assert!(rt; told == *delivered, "{opened} {letters}");
+    }
+    Ok(())
+}
+
+/// Clients that follow a commit: its number, the items, and whether they may have been given.
+static FOLLOWED: [(u64, &str, bool); 13] = [
+    (0, "", true),
+    (0, "ABPQR", true),
+    (0, "aABcPQR", true),
+    (0, "1ABPQR", false),
+    (1, "BPQR", true),
+    (1, "bBPQR", true),
+    (1, "ABPQR", false),
+    (1, "PQR", false),
+    (3, "PQ", true),
+    (3, "2PQ", false),
+    (7, "h", true),
+    (7, "R", false),
+    (8, "", false),
+];
+
+#[test]
+fn deliveries_of_those_that_follow_are_told(rt: HostRuntime) -> Result<(), Fail> {
+    for (opened, letters, delivered) in &FOLLOWED {
+        let told = told(rt.alloc(), &SEVEN, true, *opened, letters)?;
         assert!(rt; told == *delivered, "{opened} {letters}");
     }
     Ok(())

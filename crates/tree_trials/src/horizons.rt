@@ -37,6 +37,29 @@ fn over(alloc: Global) -> Result<Open, Fail> {
     Ok(over)
 }
 
+/// A cursor that follows a commit.
+fn following(alloc: Global, commit: u32) -> Result<Open, Fail> {
+    let query = Pred::Atom(Atom {
+        rel: Rel::Overlaps,
+        operand: Interval::new(0, 9)?,
+    });
+    let (tray, ()) = <Tray<Interval> as Outlet<Interval>>::make(alloc, 1)?;
+    let query = Arc::new(alloc, query)?;
+    Ok(Cursor::following(alloc, 1, query, commit, tray))
+}
+
+/// Whether a cursor that follows a commit tells so, and isn't scanning.
+fn only_follows(alloc: Global, commit: u32) -> Result<bool, Fail> {
+    let cursor = following(alloc, commit)?;
+    Ok(cursor.follows() && cursor.opened() == commit && !cursor.is_scanning())
+}
+
+#[test]
+fn what_follows_a_commit_is_not_scanning(rt: HostRuntime) -> Result<(), Fail> {
+    assert!(rt; only_follows(rt.alloc(), 3)?);
+    Ok(())
+}
+
 #[test]
 fn horizon_is_the_least_opening_of_those_that_scan(rt: HostRuntime) -> Result<(), Fail> {
     let mut cursors = Vec::new(rt.alloc());
@@ -44,6 +67,7 @@ fn horizon_is_the_least_opening_of_those_that_scan(rt: HostRuntime) -> Result<()
     let over = over(rt.alloc())?;
     assert!(rt; !over.is_scanning());
     cursors.push(over)?;
+    cursors.push(following(rt.alloc(), 1)?)?;
     assert!(rt; horizon(&cursors, 7) == 7);
     for (opened, least) in [(6, 6), (5, 5), (6, 5)] {
         cursors.push(opened_after(rt.alloc(), opened)?)?;

@@ -273,6 +273,10 @@ impl<C: Drawn> Bare<C> {
         self.store.open(query, room)
     }
 
+    fn open_from(&mut self, query: Pred<C::Atom>, room: u64, commit: u64) -> Result<u64, Refusal> {
+        self.store.open_from(query, room, commit)
+    }
+
     fn next(&mut self, cursor: u64) -> Result<Option<Item<C::Key>>, Refusal> {
         self.store.next(cursor)
     }
@@ -412,24 +416,48 @@ impl<C: Drawn> Pair<C> {
         }
     }
 
-    fn open(&mut self) -> Result<bool, Fail> {
-        let asked = self.query()?;
-        let room = match self.source.below(64) {
+    /// A room, which seldom is out of range.
+    fn room(&mut self) -> u64 {
+        match self.source.below(64) {
             0 => 0,
             1 => 4_097,
             2 => 4_096,
             _ => 4,
-        };
+        }
+    }
+
+    /// Notes a cursor that was opened.
+    fn note(&mut self, serial: u64) -> Result<(), Refusal> {
+        self.last = serial;
+        self.open.push(Given {
+            serial,
+            begun: false,
+            by_store: Vec::new(self.alloc),
+            by_plain: Vec::new(self.alloc),
+        })?;
+        Ok(())
+    }
+
+    fn open(&mut self) -> Result<bool, Fail> {
+        let asked = self.query()?;
+        let room = self.room();
         let store = self.store.open(asked.copy(self.alloc)?, room);
         let plain = self.plain.open(asked, room);
         if let Ok(serial) = store {
-            self.last = serial;
-            self.open.push(Given {
-                serial,
-                begun: false,
-                by_store: Vec::new(self.alloc),
-                by_plain: Vec::new(self.alloc),
-            })?;
+            self.note(serial)?;
+        }
+        Ok(self.agree(store, plain)?)
+    }
+
+    fn open_from(&mut self) -> Result<bool, Fail> {
+        let asked = self.query()?;
+        let room = self.room();
+        let commits = self.store.commits();
+        let commit = self.source.below(commits.wrapping_add(4));
+        let store = self.store.open_from(asked.copy(self.alloc)?, room, commit);
+        let plain = self.plain.open_from(asked, room, commit);
+        if let Ok(serial) = store {
+            self.note(serial)?;
         }
         Ok(self.agree(store, plain)?)
     }
@@ -579,7 +607,8 @@ impl<C: Drawn> Pair<C> {
             450..550 => self.delete(),
             550..650 => self.move_row(),
             650..750 => self.find(),
-            750..780 => self.open(),
+            750..775 => self.open(),
+            775..780 => self.open_from(),
             780..930 => self.next(),
             930..950 => self.ask_mark(),
             950..975 => self.close(),

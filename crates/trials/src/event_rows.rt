@@ -819,6 +819,59 @@ fn rows_move(rt: HostRuntime) -> Result<(), Fail> {
     Ok(())
 }
 
+static FOLLOWS: [List; 1] = [(
+    "cursors that follow a commit: marks, moves and sweeps",
+    PAGES_OF_EIGHT,
+    &[
+        ("place 0 (5 5) 0", "committed 1"),
+        ("open 4 overlaps(0 9)", "opened 1"),
+        ("turn 1", "visited 0"),
+        ("turn 1", "offered"),
+        ("take 1", "row 1 (5 5) 0"),
+        ("askmark 1", "asked"),
+        ("turn 1", "offered"),
+        ("take 1", "mark 1"),
+        ("close 1", "closed"),
+        ("place 0 (6 6) 0", "committed 2"),
+        ("find 1", "finder 1"),
+        ("seek 1", "committed 3"),
+        ("sweep 0", "swept 1"),
+        ("open 4 from 1 overlaps(0 9)", "opened 2"),
+        ("turn 2", "offered"),
+        ("turn 2", "offered"),
+        ("turn 2", "refused 19 Idle"),
+        ("take 2", "inserted 2 (6 6) 0"),
+        ("take 2", "deleted 3 1"),
+        ("take 2", "nothing"),
+        ("askmark 2", "asked"),
+        ("turn 2", "offered"),
+        ("take 2", "mark 3"),
+        ("open 4 from 4 overlaps(0 9)", "refused 23 FromFuture"),
+        ("open 4 from 3 overlaps(0 9)", "opened 3"),
+        ("turn 3", "refused 19 Idle"),
+        ("open 4 from 0 overlaps(0 9)", "opened 4"),
+        ("turn 4", "offered"),
+        ("take 4", "inserted 1 (5 5) 0"),
+        ("find 2", "finder 2"),
+        ("move 2 0 (25 25)", "committed 4"),
+        ("turn 2", "offered"),
+        ("take 2", "deleted 4 2"),
+        ("turn 3", "offered"),
+        ("take 3", "deleted 4 2"),
+        ("sweep 0", "swept 1"),
+        ("open 0 from 0 overlaps(0 9)", "refused 2 BadConfig"),
+        ("open 4 from 0", "refused 21 QueryText 13"),
+        ("open 4 from", "refused 22 Line 11"),
+    ],
+)];
+
+#[test]
+fn cursors_follow_a_commit(rt: HostRuntime) -> Result<(), Fail> {
+    let wrong = first_wrong(rt, &FOLLOWS)?;
+    assert!(rt; wrong.is_none(), "{wrong:?}");
+    Ok(())
+}
+
 static ITEMS: [List; 1] = [
     // A delete is an item where the query asks for the row's key, and is passed where it doesn't. A row that was
     // swept before a cursor came to its insert is inserted and deleted for it.

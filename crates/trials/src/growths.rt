@@ -1,6 +1,6 @@
 use super::memory::REFUSED;
 use super::rows::{
-    CURSORS_AND_SWEEPS, INSERTS_AND_FINDS, MOVES, Options, REFUSED_LINES, SETS, end_of,
+    CURSORS_AND_SWEEPS, FOLLOWS, INSERTS_AND_FINDS, MOVES, Options, REFUSED_LINES, SETS, end_of,
 };
 use key_class::Fault;
 use std::fmt::Write;
@@ -88,6 +88,7 @@ fn refused_memory_changes_one_line_of_a_session(rt: HostRuntime) -> Result<(), F
         INSERTS_AND_FINDS.as_slice(),
         REFUSED_LINES.as_slice(),
         MOVES.as_slice(),
+        FOLLOWS.as_slice(),
         CURSORS_AND_SWEEPS.as_slice(),
     ] {
         for lines in rows {

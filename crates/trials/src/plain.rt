@@ -15,7 +15,7 @@ struct Cursor<C: KeyClass> {
     serial: u64,
     query: Pred<C::Atom>,
     opened: u64,
-    /// It was asked for an item.
+    /// It was asked for an item, or follows a commit: it needs no dead row.
     begun: bool,
     snapshot: Vec<Row<C::Key>>,
     /// How many rows of the snapshot it gave.
@@ -235,6 +235,36 @@ impl<C: KeyClass> Plain<C> {
             snapshot,
             given: 0,
             position: self.commits.len(),
+            asked: false,
+        })?;
+        Ok(self.last)
+    }
+
+    /// A cursor that follows a commit.
+    pub fn open_from(
+        &mut self,
+        query: Pred<C::Atom>,
+        room: u64,
+        commit: u64,
+    ) -> Result<u64, Refusal> {
+        if room == 0 || room > 4_096 || !query.is_within_depth(32) {
+            return Err(Refusal::BadConfig);
+        }
+        if commit > self.commits.len() as u64 {
+            return Err(Refusal::FromFuture);
+        }
+        if self.cursors.len() >= 256 {
+            return Err(Refusal::CursorsFull);
+        }
+        self.last = self.last.wrapping_add(1);
+        self.cursors.push(Cursor {
+            serial: self.last,
+            query,
+            opened: commit,
+            begun: true,
+            snapshot: Vec::new(self.alloc),
+            given: 0,
+            position: commit as usize,
             asked: false,
         })?;
         Ok(self.last)

@@ -293,6 +293,45 @@ fn moves(rt: HostRuntime) -> Result<(), Fail> {
     Ok(())
 }
 
+pub static FOLLOWS: [Lines; 5] = [
+    (
+        INTERVALS,
+        "insert (5 5) 0\nopen 4 overlaps(0 9)\nnext 1\nmark 1\nnext 1\nclose 1\ninsert (6 6) 0\ndelete 1\nsweep\nopen 4 from 1 overlaps(0 9)\nnext 2\nnext 2\nnext 2\nopen 4 from 4 overlaps(0 9)\nopen 4 from 3 overlaps(0 9)\nnext 3\nopen 4 from 0 overlaps(0 9)\nnext 4\n",
+        "committed 1\nopened 1\nrow 1 (5 5) 0\nasked\nmark 1\nclosed\ncommitted 2\ncommitted 3\nswept 1\nopened 2\ninserted 2 (6 6) 0\ndeleted 3 1\nempty\nrefused 23 FromFuture\nopened 3\nempty\nopened 4\ninserted 1 (5 5) 0\n",
+    ),
+    (
+        INTERVALS,
+        "insert (5 5) 7\nmove 1 (6 6)\nmove 2 (25 25)\nmove 3 (7 7)\nopen 4 from 1 overlaps(0 9)\nsweep\nnext 1\nnext 1\nnext 1\nnext 1\nmark 1\nnext 1\n",
+        "committed 1\ncommitted 2\ncommitted 3\ncommitted 4\nopened 1\nswept 3\nmoved 2 1 (6 6) 7\ndeleted 3 2\ninserted 4 (7 7) 7\nempty\nasked\nmark 4\n",
+    ),
+    (
+        BOXES,
+        "insert (0 0 1 1) 3\ninsert (5 5 6 6) 4\nopen 1 from 1 not holds(0 0 0 0)\nopen 1 from 0 holds(0 0 0 0)\ndelete 1\nnext 1\nnext 1\nnext 2\nnext 2\nnext 2\n",
+        "committed 1\ncommitted 2\nopened 1\nopened 2\ncommitted 3\ninserted 2 (5 5 6 6) 4\nempty\ninserted 1 (0 0 1 1) 3\ndeleted 3 1\nempty\n",
+    ),
+    (
+        SETS,
+        "insert {1 2} 3\ninsert {} 4\nopen 1 from 1 within{1}\nmove 1 {1}\nmark 1\nnext 1\nnext 1\nnext 1\n",
+        "committed 1\ncommitted 2\nopened 1\ncommitted 3\nasked\ninserted 2 {} 4\ninserted 3 {1} 3\nmark 3\n",
+    ),
+    (
+        INTERVALS,
+        "open 4 from\nopen 4 from x\nopen 4 from 1\nopen 4 from 1 xor\nopen from 1 overlaps(0 9)\nopen 4from 1 overlaps(0 9)\nopen 4 from1 overlaps(0 9)\nfind from 1 overlaps(0 9)\nopen 4 overlaps(0 9) from 1\nopen 4 from -1 overlaps(0 9)\nopen 4 from 0 overlaps(9 0)\nopen 0 from 9 overlaps(0 9)\nopen 4 from 1 overlaps(0 9)\nopen 4 from 18446744073709551615 overlaps(0 9)\nopen 4 from 18446744073709551616 overlaps(0 9)\nopen 4 from from 1 overlaps(0 9)\n",
+        "refused 22 Line 11\nrefused 22 Line 12\nrefused 21 QueryText 13\nrefused 21 QueryText 14\nrefused 22 Line 5\nrefused 21 QueryText 6\nrefused 22 Line 11\nrefused 21 QueryText 5\nrefused 21 QueryText 21\nrefused 22 Line 12\nrefused 21 QueryText 22\nrefused 2 BadConfig\nrefused 23 FromFuture\nrefused 23 FromFuture\nrefused 22 Line 12\nrefused 22 Line 12\n",
+    ),
+];
+
+#[test]
+fn follows(rt: HostRuntime) -> Result<(), Fail> {
+    for (options, input, output) in &FOLLOWS {
+        assert!(rt;
+            is_answered(rt, *options, input.as_bytes(), output)?,
+            "{input}"
+        );
+    }
+    Ok(())
+}
+
 pub static CURSORS_AND_SWEEPS: [Lines; 8] = [
     (
         INTERVALS,

@@ -29,16 +29,19 @@ module _ (C O K A E : RattleType) (c : class.Ghosts C.Denot K.Denot A.Denot) (k 
           (
             search sendable depth 20,
             (
-              search (stack.the_send, sendable) depth 20,
+              search sendable depth 20,
               (
-                search (crosses, sendable) depth 20,
+                search (stack.the_send, sendable) depth 20,
                 (
-                  search sendable depth 20,
+                  search (crosses, sendable) depth 20,
                   (
                     search sendable depth 20,
                     (
                       search sendable depth 20,
-                      tt,
+                      (
+                        search sendable depth 20,
+                        tt,
+                      ),
                     ),
                   ),
                 ),

@@ -1,5 +1,5 @@
 -- What a trace needs to know of a step.
-use Rattle.std.proofs.Common.{◌≡◌, ◌+◌, ◌<◌, ◌≤◌, ℕ, false, List, [], ◌∷◌, ◌++◌, length, Some, None, ◌⊎◌}
+use Rattle.std.proofs.Common.{◌≡◌, ◌+◌, ◌<◌, ◌≤◌, ℕ, Bool, true, false, List, [], ◌∷◌, ◌++◌, length, Some, None, ◌⊎◌}
 use Rattle.std.specs.Prelude.{option_to_list}
 use Rattle.key_class.specs.Rules.{Rules}
 use Rattle.mailbox.specs.Outlets.{Rule}
@@ -38,14 +38,15 @@ module _ {K A : Type 0} where
     pub closed : cursor_at s c ≡ None
 
 module _ {K A : Type 0} (rules : Rules K A) (rule : Rule) where
-  -- a cursor that wasn't there before
-  pub record IsFresh (old new : State K A) (query : Pred A) (c : ℕ) : Type 0 where
+  -- a cursor that wasn't there before, and begins behind commit s
+  pub record IsFresh (old new : State K A) (follows : Bool) (s : ℕ) (query : Pred A) (c : ℕ) : Type 0 where
     pub serial : old.last < c
     pub given : c ≤ new.last
     pub cursor : OpenCursor K A
     pub is_open : cursor_at new c ≡ Some cursor
     pub query_is : cursor.query ≡ query_of query
-    pub opened : cursor.opened ≡ length old.commits
+    pub follows_is : cursor.follows ≡ follows
+    pub opened : cursor.opened ≡ s
     pub unread : cursor.unread ≡ []
     pub fits : Fits rules.is_match new.commits (shown rules rule new.search.tree cursor) []
 
@@ -59,15 +60,15 @@ module _ {C K A : Type 0} where
 
 module _ {C O K A E : Type 0} (rules : Rules K A) (rule : Rule) where
   abbrev pub Opening : State K A → State K A → Event C K A → Reply C O K A E → Type 0
-  Opening old new (event.Open query room) (reply.Opened c end) = IsFresh rules rule old new query c
+  Opening old new (event.Open query room) (reply.Opened c end) = IsFresh rules rule old new false (length old.commits) query c
+  Opening old new (event.Follow query room n) (reply.Opened c end) = IsFresh rules rule old new true n query c
+  Opening old new e (reply.Opened c end) = ⊥
   Opening old new e r = Unit {0}
 
-  -- the event is the opening of cursor c
-  pub record OpensIt (e : Event C K A) (r : Reply C O K A E) (c : ℕ) : Type 0 where
-    pub query : Pred A
-    pub room : ℕ
+  -- the reply tells the opening of cursor c
+  pub record OpensIt (r : Reply C O K A E) (c : ℕ) : Type 0 where
     pub end : E
-    pub is : ◌≡◌ {A = Event C K A × Reply C O K A E} (e, r) (event.Open query room, reply.Opened c end)
+    pub is : r ≡ reply.Opened c end
 
   abbrev pub Closing : State K A → Event C K A → Reply C O K A E → Type 0
   Closing new (event.Close c) reply.Closed = IsShut new c
@@ -105,10 +106,17 @@ module _ {C O K A E : Type 0} (rules : Rules K A) (rule : Rule) where
     -- a closed serial stays closed
     pub shut : (c : ℕ) → c ≤ old.last → cursor_at old c ≡ None → cursor_at new c ≡ None
     -- a cursor that appears has a new serial, holds nothing, is asked for no mark, is opened by the event, and nothing given fits it
-    pub appears : (c : ℕ) (k : OpenCursor K A) → cursor_at old c ≡ None → cursor_at new c ≡ Some k → (old.last < c) × (k.unread ≡ []) × (k.asked ≡ false) × OpensIt e r c × Fits rules.is_match new.commits (shown rules rule new.search.tree k) []
+    pub appears : (c : ℕ) (k : OpenCursor K A) → cursor_at old c ≡ None → cursor_at new c ≡ Some k → (old.last < c) × (k.unread ≡ []) × (k.asked ≡ false) × OpensIt r c × Fits rules.is_match new.commits (shown rules rule new.search.tree k) []
     pub takes : (c : ℕ) (item : Item K) → taken_by c (e, r) ≡ Some item → Taking old c item new
     pub opening : Opening old new e r
     pub closing : Closing new e r
     pub silent : (c : ℕ) → IsShut old c → asks e c → r ≡ reply.Refused refusal.CursorClosed
     pub numbering : Numbering old r
     pub finders : FinderEffect old e r new
+
+-- a serial that is answered is a new one
+pub opening_serial : {C K A E : Type 0} (O : Type 0) (rules : Rules K A) (rule : Rule) (old new : State K A) (e : Event C K A) (c : ℕ) (end : E) → Opening {C = C} {O = O} {E = E} rules rule old new e (reply.Opened c end)
+    → (old.last < c) × (c ≤ new.last)
+opening_serial O rules rule old new (event.Open query room) c end f = (f.serial, f.given)
+opening_serial O rules rule old new (event.Follow query room n) c end f = (f.serial, f.given)
+opening_serial O rules rule old new e c end f = absurd f

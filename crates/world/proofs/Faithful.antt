@@ -1,5 +1,5 @@
 -- Chains of steps are faithful.
-use Rattle.std.proofs.Common.{◌≡◌, ◌+◌, ◌<◌, ◌≤◌, ℕ, Bool, not, map, List, [], ◌∷◌, ◌++◌, length, take, Option, Some, None, ◌⊎◌, inl, inr, refl, sym, ap, ◌∙◌, arith, subst, append_assoc, length-append}
+use Rattle.std.proofs.Common.{◌≡◌, ◌+◌, ◌<◌, ◌≤◌, ℕ, Bool, true, false, not, map, List, [], ◌∷◌, ◌++◌, length, take, Option, Some, None, ◌⊎◌, inl, inr, refl, sym, ap, ◌∙◌, arith, subst, append_assoc, length-append}
 use Rattle.std.specs.Prelude.{slice_get, option_to_list}
 use Rattle.std.proofs.lemmas.List.{append-nil}
 use Rattle.std.proofs.lemmas.List.Elements.{filter-append}
@@ -12,11 +12,11 @@ use Rattle.change_list.specs.declared.write.Write.{Write}
 use Rattle.change_list.specs.declared.item.Item.{Item}
 use Rattle.change_list.specs.declared.item.Item.TheVariants as item
 use Rattle.change_list.specs.Changes.{IsLegal, item_at, changes}
-use Rattle.change_list.specs.Listings.{IsListing, BeginsListing, is_mark, without_marks}
+use Rattle.change_list.specs.Listings.{IsListing, AreChanges, IsListingFor, BeginsListingFor, is_mark, without_marks}
 use Rattle.change_list.specs.Cursors.{Fits}
 use Rattle.change_list.proofs.Lists.{slice_get_push, slice_get_before, slice_get_end, slice_get_within}
 use Rattle.change_list.proofs.Pushing.{changes_more, changes_push, snapshot_push}
-use Rattle.change_list.proofs.Fitting.{listing_push, fits_begins}
+use Rattle.change_list.proofs.Fitting.{listing_push, begins_less, fits_begins}
 use Rattle.cursor.specs.OpenCursors.{OpenCursor, shown}
 use Rattle.world.specs.declared.event.Event.{Event}
 use Rattle.world.specs.declared.event.Event.TheVariants as event
@@ -24,15 +24,23 @@ use Rattle.world.specs.declared.reply.Reply.{Reply}
 use Rattle.world.specs.declared.reply.Reply.TheVariants as reply
 use Rattle.world.specs.Stamps.{Stamp}
 use Rattle.world.specs.States.{State, cursor_at}
-use Rattle.world.specs.Traces.{Moment, Trace, written, commits_of, taken_by, taken, delivered, asks, marks_of, HasAskings, IsOpening, WasOpened, IsFaithful}
+use Rattle.world.specs.Traces.{Moment, Trace, written, commits_of, taken_by, taken, delivered, asks, marks_of, HasAskings, IsOpening, IsFollowing, WasOpened, IsFaithful, commits_before}
 use Rattle.world.proofs.Founds.{Founds, founds_push}
-use Rattle.world.proofs.Effects.{Effect, IsFresh, IsShut, Opening, Closing, Numbering}
+use Rattle.world.proofs.Effects.{Effect, IsFresh, IsShut, Opening, Closing, Numbering, opening_serial}
 use Rattle.world.proofs.Askings.{commits_push, take_push, take_end, has_push, FullAskings, taken_push, taken_same, given_push, serve_askings}
 
+-- the changes after a commit are those before it and its own
+changes_later : {K : Type 0} (wanted : K → Bool) (s : ℕ) (commits : List (Write K)) (write : Write K) → s ≤ length commits
+    → changes wanted s (length commits) commits ++ option_to_list (item_at wanted (commits ++ write ∷ []) (length commits)) ≡ changes wanted s (length (commits ++ write ∷ [])) (commits ++ write ∷ [])
+changes_later wanted s commits write b =
+    let later = commits ++ write ∷ [] in
+    ap (λ t. t ++ option_to_list (item_at wanted later (length commits))) (sym (changes_push wanted s (length commits) commits write b (omega arith)))
+    ∙ sym (changes_more wanted s (length commits) later b) ∙ ap (λ k. changes wanted s k later) (sym (length-append commits (write ∷ [])))
+
 -- a beginning of a listing is one of the longer listing after a commit
-begins_push : {K : Type 0} (wanted : K → Bool) (s : ℕ) (commits : List (Write K)) (write : Write K) (items : List (Item K)) → BeginsListing wanted s (length commits) commits items
-    → BeginsListing wanted s (length (commits ++ write ∷ [])) (commits ++ write ∷ []) items
-begins_push wanted s commits write items b =
+begins_push : {K : Type 0} (wanted : K → Bool) (follows : Bool) (s : ℕ) (commits : List (Write K)) (write : Write K) (items : List (Item K)) → BeginsListingFor follows wanted s (length commits) commits items
+    → BeginsListingFor follows wanted s (length (commits ++ write ∷ [])) (commits ++ write ∷ []) items
+begins_push wanted false s commits write items b =
     let l = b.listing in
     let n : length (commits ++ write ∷ []) ≡ length commits + 1 = length-append commits (write ∷ []) in
     let later = commits ++ write ∷ [] in
@@ -45,45 +53,62 @@ begins_push wanted s commits write items b =
         each_once = rw (snapshot_push wanted s commits write (l.from_before)) l.each_once;
         is = sym (append_assoc items b.rest (option_to_list (item_at wanted later (length commits)))) ∙ ap (λ t. t ++ option_to_list (item_at wanted later (length commits))) l.is
             ∙ append_assoc (map item.Row l.rows) (changes wanted s (length commits) commits) (option_to_list (item_at wanted later (length commits)))
-            ∙ ap (λ t. map item.Row l.rows ++ t) (ap (λ t. t ++ option_to_list (item_at wanted later (length commits))) (sym (changes_push wanted s (length commits) commits write l.from_before (omega arith)))
-            ∙ sym (changes_more wanted s (length commits) later l.from_before) ∙ ap (λ k. changes wanted s k later) (sym n));
+            ∙ ap (λ t. map item.Row l.rows ++ t) (changes_later wanted s commits write l.from_before);
+      };
+    }
+begins_push wanted true s commits write items b =
+    let l = b.changes in
+    let n : length (commits ++ write ∷ []) ≡ length commits + 1 = length-append commits (write ∷ []) in
+    let later = commits ++ write ∷ [] in
+    record {
+      rest = b.rest ++ option_to_list (item_at wanted later (length commits));
+      changes = record {
+        from_before = omega (arith, l.from_before, n);
+        within = omega arith;
+        is = sym (append_assoc items b.rest (option_to_list (item_at wanted later (length commits)))) ∙ ap (λ t. t ++ option_to_list (item_at wanted later (length commits))) l.is
+            ∙ changes_later wanted s commits write l.from_before;
       };
     }
 
-begins_grow : {K : Type 0} (wanted : K → Bool) (s : ℕ) (commits later : List (Write K)) (write : Option (Write K)) (items : List (Item K)) → later ≡ commits ++ option_to_list write
-    → BeginsListing wanted s (length commits) commits items → BeginsListing wanted s (length later) later items
-begins_grow wanted s commits later None items h b = rw (h, append-nil commits) b
-begins_grow wanted s commits later (Some write) items h b = rw h (begins_push wanted s commits write items b)
+begins_grow : {K : Type 0} (wanted : K → Bool) (follows : Bool) (s : ℕ) (commits later : List (Write K)) (write : Option (Write K)) (items : List (Item K)) → later ≡ commits ++ option_to_list write
+    → BeginsListingFor follows wanted s (length commits) commits items → BeginsListingFor follows wanted s (length later) later items
+begins_grow wanted follows s commits later None items h b = rw (h, append-nil commits) b
+begins_grow wanted follows s commits later (Some write) items h b = rw h (begins_push wanted follows s commits write items b)
 
-listing_grow : {K : Type 0} (wanted : K → Bool) (s n : ℕ) (commits later : List (Write K)) (write : Option (Write K)) (items : List (Item K)) → later ≡ commits ++ option_to_list write
-    → IsListing wanted s n commits items → IsListing wanted s n later items
-listing_grow wanted s n commits later None items h b = rw (h, append-nil commits) b
-listing_grow wanted s n commits later (Some write) items h b = rw h (listing_push wanted s n commits write items b)
+listing_grow : {K : Type 0} (wanted : K → Bool) (follows : Bool) (s n : ℕ) (commits later : List (Write K)) (write : Option (Write K)) (items : List (Item K)) → later ≡ commits ++ option_to_list write
+    → IsListingFor follows wanted s n commits items → IsListingFor follows wanted s n later items
+listing_grow wanted follows s n commits later None items h b = rw (h, append-nil commits) b
+listing_grow wanted follows s n commits later (Some write) items h b = rw h (listing_push wanted follows s n commits write items b)
 
 module _ {K A : Type 0} (rules : Rules K A) (rule : Rule) where
   -- an open cursor with this query and opening number, which these items fit, what its mailbox holds included
-  pub record OpenFits (s : State K A) (q : Query A) (n : ℕ) (items : List (Item K)) (k : OpenCursor K A) : Type 0 where
+  pub record OpenFits (s : State K A) (q : Query A) (follows : Bool) (n : ℕ) (items : List (Item K)) (k : OpenCursor K A) : Type 0 where
     pub query : k.query ≡ q
+    pub follows_is : k.follows ≡ follows
     pub opened : k.opened ≡ n
     pub fits : Fits rules.is_match s.commits (shown rules rule s.search.tree k) (items ++ k.unread)
 
-  abbrev pub SlotFits : State K A → Query A → ℕ → List (Item K) → Option (OpenCursor K A) → Type 0
-  SlotFits s q n items (Some k) = OpenFits s q n items k
-  SlotFits s q n items None = BeginsListing (matches_query rules.is_match q) n (length s.commits) s.commits (without_marks items)
+  abbrev pub SlotFits : State K A → Query A → Bool → ℕ → List (Item K) → Option (OpenCursor K A) → Type 0
+  SlotFits s q follows n items (Some k) = OpenFits s q follows n items k
+  SlotFits s q follows n items None = BeginsListingFor follows (matches_query rules.is_match q) n (length s.commits) s.commits (without_marks items)
 
-  open_begins : (s : State K A) (q : Query A) (n : ℕ) (items : List (Item K)) (k : OpenCursor K A) → OpenFits s q n items k → BeginsListing (matches_query rules.is_match q) n (length s.commits) s.commits (without_marks items)
-  open_begins s q n items k f =
+  open_begins : (s : State K A) (q : Query A) (follows : Bool) (n : ℕ) (items : List (Item K)) (k : OpenCursor K A) → OpenFits s q follows n items k → BeginsListingFor follows (matches_query rules.is_match q) n (length s.commits) s.commits (without_marks items)
+  open_begins s q follows n items k f =
       let b = fits_begins rules.is_match s.commits (shown rules rule s.search.tree k) (items ++ k.unread) f.fits in
       let whole : without_marks (items ++ k.unread) ≡ without_marks items ++ without_marks k.unread = filter-append (λ i. not (is_mark i)) items k.unread in
-      rw (← f.query, ← f.opened) (record {
-        rest = without_marks k.unread ++ b.rest;
-        listing = subst (λ l. IsListing (matches_query rules.is_match k.query) k.opened (length s.commits) s.commits l)
-            (ap (λ l. l ++ b.rest) whole ∙ append_assoc (without_marks items) (without_marks k.unread) b.rest) b.listing;
-      })
+      rw (← f.query, ← f.follows_is, ← f.opened)
+      (begins_less (matches_query rules.is_match k.query) k.follows k.opened (length s.commits) s.commits (without_marks items) (without_marks k.unread)
+      (subst (λ l. BeginsListingFor k.follows (matches_query rules.is_match k.query) k.opened (length s.commits) s.commits l) whole b))
 
-  pub slot_begins : (s : State K A) (q : Query A) (n : ℕ) (items : List (Item K)) (o : Option (OpenCursor K A)) → SlotFits s q n items o → BeginsListing (matches_query rules.is_match q) n (length s.commits) s.commits (without_marks items)
-  slot_begins s q n items (Some k) f = open_begins s q n items k f
-  slot_begins s q n items None f = f
+  pub slot_begins : (s : State K A) (q : Query A) (follows : Bool) (n : ℕ) (items : List (Item K)) (o : Option (OpenCursor K A)) → SlotFits s q follows n items o → BeginsListingFor follows (matches_query rules.is_match q) n (length s.commits) s.commits (without_marks items)
+  slot_begins s q follows n items (Some k) f = open_begins s q follows n items k f
+  slot_begins s q follows n items None f = f
+
+module _ {C O K A E : Type 0} where
+  -- a cursor was opened at the place: at the present commits, with its snapshot, or behind commit n, which it follows
+  abbrev pub IsBeginning : Trace C O K A E → ℕ → ℕ → Bool → ℕ → Pred A → Type 0
+  IsBeginning trace i c false n query = IsOpening trace i c query × (n ≡ commits_before i trace)
+  IsBeginning trace i c true n query = IsFollowing trace i c n query
 
 module _ {C O K A E : Type 0} (rules : Rules K A) (rule : Rule) where
   abbrev pub AskingsOf : Trace C O K A E → State K A → ℕ → Option (OpenCursor K A) → Type 0
@@ -96,14 +121,15 @@ module _ {C O K A E : Type 0} (rules : Rules K A) (rule : Rule) where
     pub legal : IsLegal s.commits
     -- an open cursor was opened, by one opening
     pub seen : (c : ℕ) (k : OpenCursor K A) → cursor_at s c ≡ Some k → WasOpened trace c
-    pub once : (i j c : ℕ) (query other : Pred A) → IsOpening trace i c query → IsOpening trace j c other → i ≡ j
+    pub once : (i j c : ℕ) (a b : Event C K A) (end other : E) → slice_get trace i ≡ Some (a, reply.Opened c end) → slice_get trace j ≡ Some (b, reply.Opened c other) → i ≡ j
+    pub issued : (i c : ℕ) (a : Event C K A) (end : E) → slice_get trace i ≡ Some (a, reply.Opened c end) → c ≤ s.last
     pub known : (j c : ℕ) (x : Item K) → slice_get trace j ≡ Some (event.Take c, reply.Taken x) → WasOpened (take j trace) c
-    pub opened : (i c : ℕ) (query : Pred A) → IsOpening trace i c query → (c ≤ s.last) × SlotFits rules rule s (query_of query) (length (commits_of (take i trace))) (taken c trace) (cursor_at s c)
+    pub opened : (i c : ℕ) (follows : Bool) (n : ℕ) (query : Pred A) → IsBeginning trace i c follows n query → (c ≤ s.last) × SlotFits rules rule s (query_of query) follows n (taken c trace) (cursor_at s c)
     pub untaken : (c : ℕ) → s.last < c → taken c trace ≡ []
     pub taken_given : (j c : ℕ) (x : Item K) → slice_get trace j ≡ Some (event.Take c, reply.Taken x) → c ≤ s.last
     pub within : (c : ℕ) (k : OpenCursor K A) → cursor_at s c ≡ Some k → c ≤ s.last
-    pub marks : (i j c n : ℕ) (query : Pred A) → IsOpening trace i c query → slice_get trace j ≡ Some (event.Take c, reply.Taken (item.Mark n))
-        → IsListing (matches_query rules.is_match (query_of query)) (length (commits_of (take i trace))) n s.commits (delivered c (take j trace))
+    pub marks : (i j c : ℕ) (follows : Bool) (n m : ℕ) (query : Pred A) → IsBeginning trace i c follows n query → slice_get trace j ≡ Some (event.Take c, reply.Taken (item.Mark m))
+        → IsListingFor follows (matches_query rules.is_match (query_of query)) n m s.commits (delivered c (take j trace))
     pub askings : (c : ℕ) → AskingsOf trace s c (cursor_at s c)
     pub closed : (i c : ℕ) → slice_get trace i ≡ Some (event.Close c, reply.Closed) → IsShut s c
     pub silent : (i j c : ℕ) (later : Event C K A) (answer : Reply C O K A E) → slice_get trace i ≡ Some (event.Close c, reply.Closed) → i < j
@@ -125,11 +151,29 @@ module _ {C O K A E : Type 0} (rules : Rules K A) (rule : Rule) where
     grown = omega (arith, ap length E'.commits, length-append old.commits (option_to_list (written (e, r))))
 
     -- an opening of the longer trace is one of the trace, or the last moment
-    opening_push : (i c : ℕ) (query : Pred A) → IsOpening (trace ++ (e, r) ∷ []) i c query → ((i < length trace) × IsOpening trace i c query) ⊎ ((i ≡ length trace) × IsFresh rules rule old new query c)
-    opening_push i c query o =
-        elim (slice_get_push trace (e, r) (event.Open query o.room, reply.Opened c o.end) i o.is) [
+    beginning_push : (i c : ℕ) (follows : Bool) (n : ℕ) (query : Pred A) → IsBeginning (trace ++ (e, r) ∷ []) i c follows n query → ((i < length trace) × IsBeginning trace i c follows n query) ⊎ ((i ≡ length trace) × IsFresh rules rule old new follows n query c)
+    beginning_push i c false n query o =
+        elim (slice_get_push trace (e, r) (event.Open query o.0.room, reply.Opened c o.0.end) i o.0.is) [
+          | inl p ↦ inl (p.1, (record { room = o.0.room; end = o.0.end; is = p.0 }, o.1 ∙ ap length (before_push i (omega (arith, p.1)))))
+          | inr p ↦
+              let now : n ≡ length old.commits = o.1 ∙ ap (λ k. length (commits_of (take k (trace ++ (e, r) ∷ [])))) p.0 ∙ ap length before_end in
+              inr (p.0, subst (λ k. IsFresh rules rule old new false k query c) (sym now) (subst (λ m. Opening rules rule old new m.0 m.1) p.1 E'.opening))
+        ]
+    beginning_push i c true n query o =
+        elim (slice_get_push trace (e, r) (event.Follow query o.room n, reply.Opened c o.end) i o.is) [
           | inl p ↦ inl (p.1, record { room = o.room; end = o.end; is = p.0 })
           | inr p ↦ inr (p.0, subst (λ m. Opening rules rule old new m.0 m.1) p.1 E'.opening)
+        ]
+
+    -- a serial that is answered by the last moment is new
+    issued_now : (c : ℕ) (a : Event C K A) (end : E) → ◌≡◌ {A = Event C K A × Reply C O K A E} (e, r) (a, reply.Opened c end) → (old.last < c) × (c ≤ new.last)
+    issued_now c a end h = opening_serial O rules rule old new a c end (subst (λ m. Opening rules rule old new m.0 m.1) h E'.opening)
+
+    issued_push : (i c : ℕ) (a : Event C K A) (end : E) → slice_get (trace ++ (e, r) ∷ []) i ≡ Some (a, reply.Opened c end) → c ≤ new.last
+    issued_push i c a end h =
+        elim (slice_get_push trace (e, r) (a, reply.Opened c end) i h) [
+          | inl p ↦ omega (arith, I.issued i c a end p.0, E'.last)
+          | inr p ↦ (issued_now c a end p.1).1
         ]
 
     -- where nothing is given to a cursor that wasn't open
@@ -143,24 +187,25 @@ module _ {C O K A E : Type 0} (rules : Rules K A) (rule : Rule) where
     taken_stays : (c : ℕ) → taken_by c (e, r) ≡ None → taken c (trace ++ (e, r) ∷ []) ≡ taken c trace
     taken_stays c h = taken_push trace (e, r) c ∙ ap (λ o. taken c trace ++ option_to_list o) h ∙ append-nil (taken c trace)
 
-    slot_push : (q : Query A) (n c : ℕ) → c ≤ old.last → (o p : Option (OpenCursor K A)) → cursor_at old c ≡ o → cursor_at new c ≡ p → SlotFits rules rule old q n (taken c trace) o → SlotFits rules rule new q n (taken c (trace ++ (e, r) ∷ [])) p
-    slot_push q n c l (Some before) (Some after) a b f =
+    slot_push : (q : Query A) (follows : Bool) (n c : ℕ) → c ≤ old.last → (o p : Option (OpenCursor K A)) → cursor_at old c ≡ o → cursor_at new c ≡ p → SlotFits rules rule old q follows n (taken c trace) o → SlotFits rules rule new q follows n (taken c (trace ++ (e, r) ∷ [])) p
+    slot_push q follows n c l (Some before) (Some after) a b f =
         let s = E'.serves c before after a b in
         record {
           query = s.query ∙ f.query;
+          follows_is = s.follows ∙ f.follows_is;
           opened = s.opened ∙ f.opened;
           fits = rw (given_push trace (e, r) c before.unread after.unread s.sent s.mailbox) (s.fits (taken c trace ++ before.unread) f.fits);
         }
-    slot_push q n c l (Some before) None a b f =
+    slot_push q follows n c l (Some before) None a b f =
         let none : taken_by c (e, r) ≡ None = gone (taken_by c (e, r)) refl in
-        rw (taken_stays c none) (begins_grow (matches_query rules.is_match q) n old.commits new.commits (written (e, r)) (without_marks (taken c trace)) E'.commits (slot_begins rules rule old q n (taken c trace) (Some before) f))
+        rw (taken_stays c none) (begins_grow (matches_query rules.is_match q) follows n old.commits new.commits (written (e, r)) (without_marks (taken c trace)) E'.commits (slot_begins rules rule old q follows n (taken c trace) (Some before) f))
       where
         gone : (o : Option (Item K)) → taken_by c (e, r) ≡ o → taken_by c (e, r) ≡ None
         gone None t = t
         gone (Some x) t = let k = E'.takes c x t in absurd (let h : None ≡ Some k.after = sym b ∙ k.is_open in cc)
-    slot_push q n c l None (Some after) a b f = absurd (let h : None ≡ Some after = sym (E'.shut c l a) ∙ b in cc)
-    slot_push q n c l None None a b f =
-        rw (taken_stays c (not_taken c a)) (begins_grow (matches_query rules.is_match q) n old.commits new.commits (written (e, r)) (without_marks (taken c trace)) E'.commits f)
+    slot_push q follows n c l None (Some after) a b f = absurd (let h : None ≡ Some after = sym (E'.shut c l a) ∙ b in cc)
+    slot_push q follows n c l None None a b f =
+        rw (taken_stays c (not_taken c a)) (begins_grow (matches_query rules.is_match q) follows n old.commits new.commits (written (e, r)) (without_marks (taken c trace)) E'.commits f)
 
     not_open : (s : State K A) → ((c : ℕ) (k : OpenCursor K A) → cursor_at s c ≡ Some k → c ≤ s.last) → (c : ℕ) → s.last < c → cursor_at s c ≡ None
     not_open s h c l = go (cursor_at s c) refl
@@ -169,27 +214,26 @@ module _ {C O K A E : Type 0} (rules : Rules K A) (rule : Rule) where
         go None t = t
         go (Some k) t = absurd (omega (arith, l, h c k t))
 
-    opened_push : (i c : ℕ) (query : Pred A) → IsOpening (trace ++ (e, r) ∷ []) i c query
-        → (c ≤ new.last) × SlotFits rules rule new (query_of query) (length (commits_of (take i (trace ++ (e, r) ∷ [])))) (taken c (trace ++ (e, r) ∷ [])) (cursor_at new c)
-    opened_push i c query o =
-        elim (opening_push i c query o) [
+    opened_push : (i c : ℕ) (follows : Bool) (n : ℕ) (query : Pred A) → IsBeginning (trace ++ (e, r) ∷ []) i c follows n query
+        → (c ≤ new.last) × SlotFits rules rule new (query_of query) follows n (taken c (trace ++ (e, r) ∷ [])) (cursor_at new c)
+    opened_push i c follows n query o =
+        elim (beginning_push i c follows n query o) [
           | inl p ↦
-              let was = I.opened i c query p.1 in
-              (omega (arith, was.0, E'.last), rw (before_push i (omega (arith, p.0))) (slot_push (query_of query) (length (commits_of (take i trace))) c was.0 (cursor_at old c) (cursor_at new c) refl refl was.1))
+              let was = I.opened i c follows n query p.1 in
+              (omega (arith, was.0, E'.last), slot_push (query_of query) follows n c was.0 (cursor_at old c) (cursor_at new c) refl refl was.1)
           | inr p ↦
               let f = p.1 in
               let none : taken c (trace ++ (e, r) ∷ []) ≡ [] = taken_stays c (not_taken c (not_open old I.within c f.serial)) ∙ I.untaken c f.serial in
-              (f.given, rw (p.0, before_end, none, f.is_open) (record { query = f.query_is; opened = f.opened; fits = rw f.unread f.fits }))
+              (f.given, rw (none, f.is_open) (record { query = f.query_is; follows_is = f.follows_is; opened = f.opened; fits = rw f.unread f.fits }))
         ]
 
     was_opened_push : (c : ℕ) → WasOpened trace c → WasOpened (trace ++ (e, r) ∷ []) c
-    was_opened_push c h =
-        let o = h.opening in
-        record {
-          place = h.place;
-          query = h.query;
-          opening = record { room = o.room; end = o.end; is = slice_get_before trace ((e, r) ∷ []) h.place (slice_get_within trace h.place _ o.is) ∙ o.is };
-        }
+    was_opened_push c h = record {
+      place = h.place;
+      opening = h.opening;
+      end = h.end;
+      is = slice_get_before trace ((e, r) ∷ []) h.place (slice_get_within trace h.place _ h.is) ∙ h.is;
+    }
 
     seen_push : (c : ℕ) (k : OpenCursor K A) → cursor_at new c ≡ Some k → WasOpened (trace ++ (e, r) ∷ []) c
     seen_push c k h = go (cursor_at old c) refl
@@ -198,17 +242,17 @@ module _ {C O K A E : Type 0} (rules : Rules K A) (rule : Rule) where
         go (Some before) was = was_opened_push c (I.seen c before was)
         go None was =
             let o = (E'.appears c k was h).3 in
-            record { place = length trace; query = o.query; opening = record { room = o.room; end = o.end; is = slice_get_end trace (e, r) ∙ ap Some o.is } }
+            record { place = length trace; opening = e; end = o.end; is = slice_get_end trace (e, r) ∙ ap (λ x. Some (e, x)) o.is }
 
-    once_push : (i j c : ℕ) (query other : Pred A) → IsOpening (trace ++ (e, r) ∷ []) i c query → IsOpening (trace ++ (e, r) ∷ []) j c other → i ≡ j
-    once_push i j c query other a b =
-        elim (opening_push i c query a) [
-          | inl p ↦ elim (opening_push j c other b) [
-            | inl q ↦ I.once i j c query other p.1 q.1
-            | inr q ↦ absurd (omega (arith, (I.opened i c query p.1).0, q.1.serial))
+    once_push : (i j c : ℕ) (a b : Event C K A) (end other : E) → slice_get (trace ++ (e, r) ∷ []) i ≡ Some (a, reply.Opened c end) → slice_get (trace ++ (e, r) ∷ []) j ≡ Some (b, reply.Opened c other) → i ≡ j
+    once_push i j c a b end other h k =
+        elim (slice_get_push trace (e, r) (a, reply.Opened c end) i h) [
+          | inl p ↦ elim (slice_get_push trace (e, r) (b, reply.Opened c other) j k) [
+            | inl q ↦ I.once i j c a b end other p.0 q.0
+            | inr q ↦ absurd (omega (arith, I.issued i c a end p.0, (issued_now c b other q.1).0))
           ]
-          | inr p ↦ elim (opening_push j c other b) [
-            | inl q ↦ absurd (omega (arith, (I.opened j c other q.1).0, p.1.serial))
+          | inr p ↦ elim (slice_get_push trace (e, r) (b, reply.Opened c other) j k) [
+            | inl q ↦ absurd (omega (arith, I.issued j c b other q.0, (issued_now c a end p.1).0))
             | inr q ↦ p.0 ∙ sym q.0
           ]
         ]
@@ -233,25 +277,24 @@ module _ {C O K A E : Type 0} (rules : Rules K A) (rule : Rule) where
         ]
 
     -- the mark of the last moment
-    mark_now : (i c n : ℕ) (query : Pred A) → IsOpening trace i c query → i < length trace → ◌≡◌ {A = Event C K A × Reply C O K A E} (e, r) (event.Take c, reply.Taken (item.Mark n))
-        → IsListing (matches_query rules.is_match (query_of query)) (length (commits_of (take i trace))) n old.commits (delivered c trace)
-    mark_now i c n query o l is =
-        let t = E'.takes c (item.Mark n) (ap (λ m. taken_by c m) is ∙ taken_same C O A E c (item.Mark n)) in
-        let f = subst (λ o. SlotFits rules rule old (query_of query) (length (commits_of (take i trace))) (taken c trace) o) t.was_open (I.opened i c query o).1 in
-        rw (← f.query, ← f.opened) (f.fits.marks (taken c trace) t.rest n (ap (λ l. taken c trace ++ l) t.front))
+    mark_now : (i c : ℕ) (follows : Bool) (n m : ℕ) (query : Pred A) → IsBeginning trace i c follows n query → ◌≡◌ {A = Event C K A × Reply C O K A E} (e, r) (event.Take c, reply.Taken (item.Mark m))
+        → IsListingFor follows (matches_query rules.is_match (query_of query)) n m old.commits (delivered c trace)
+    mark_now i c follows n m query o is =
+        let t = E'.takes c (item.Mark m) (ap (λ m. taken_by c m) is ∙ taken_same C O A E c (item.Mark m)) in
+        let f = subst (λ o. SlotFits rules rule old (query_of query) follows n (taken c trace) o) t.was_open (I.opened i c follows n query o).1 in
+        rw (← f.query, ← f.follows_is, ← f.opened) (f.fits.marks (taken c trace) t.rest m (ap (λ l. taken c trace ++ l) t.front))
 
-    marks_push : (i j c n : ℕ) (query : Pred A) → IsOpening (trace ++ (e, r) ∷ []) i c query → slice_get (trace ++ (e, r) ∷ []) j ≡ Some (event.Take c, reply.Taken (item.Mark n))
-        → IsListing (matches_query rules.is_match (query_of query)) (length (commits_of (take i (trace ++ (e, r) ∷ [])))) n new.commits (delivered c (take j (trace ++ (e, r) ∷ [])))
-    marks_push i j c n query o h =
-        elim (opening_push i c query o) [
+    marks_push : (i j c : ℕ) (follows : Bool) (n m : ℕ) (query : Pred A) → IsBeginning (trace ++ (e, r) ∷ []) i c follows n query → slice_get (trace ++ (e, r) ∷ []) j ≡ Some (event.Take c, reply.Taken (item.Mark m))
+        → IsListingFor follows (matches_query rules.is_match (query_of query)) n m new.commits (delivered c (take j (trace ++ (e, r) ∷ [])))
+    marks_push i j c follows n m query o h =
+        elim (beginning_push i c follows n query o) [
           | inl p ↦
-              rw (before_push i (omega (arith, p.0)))
-              (listing_grow (matches_query rules.is_match (query_of query)) (length (commits_of (take i trace))) n old.commits new.commits (written (e, r)) _ E'.commits
-              (elim (slice_get_push trace (e, r) (event.Take c, reply.Taken (item.Mark n)) j h) [
-                | inl q ↦ rw (take_push trace (e, r) j (omega (arith, q.1))) (I.marks i j c n query p.1 q.0)
-                | inr q ↦ rw (q.0, take_end trace (e, r)) (mark_now i c n query p.1 p.0 q.1)
-              ]))
-          | inr p ↦ absurd (omega (arith, (taken_given_push j c (item.Mark n) h).0, p.1.serial))
+              listing_grow (matches_query rules.is_match (query_of query)) follows n m old.commits new.commits (written (e, r)) _ E'.commits
+              (elim (slice_get_push trace (e, r) (event.Take c, reply.Taken (item.Mark m)) j h) [
+                | inl q ↦ rw (take_push trace (e, r) j (omega (arith, q.1))) (I.marks i j c follows n m query p.1 q.0)
+                | inr q ↦ rw (q.0, take_end trace (e, r)) (mark_now i c follows n m query p.1 q.1)
+              ])
+          | inr p ↦ absurd (omega (arith, (taken_given_push j c (item.Mark m) h).0, p.1.serial))
         ]
 
     askings_push : (c : ℕ) → AskingsOf (trace ++ (e, r) ∷ []) new c (cursor_at new c)
@@ -325,6 +368,7 @@ module _ {C O K A E : Type 0} (rules : Rules K A) (rule : Rule) where
       legal = E'.legal;
       seen = seen_push;
       once = once_push;
+      issued = issued_push;
       known = known_push;
       opened = opened_push;
       untaken = λ c l.
@@ -348,15 +392,22 @@ module _ {C O K A E : Type 0} (rules : Rules K A) (rule : Rule) where
     finders = I.finders.once;
     cursors = I.once;
     opened = I.known;
-    delivers = λ i c query o.
-        subst (λ t. BeginsListing (matches_query rules.is_match (query_of query)) (length (commits_of (take i trace))) (length t) t (delivered c trace)) I.commits
-        (slot_begins rules rule s (query_of query) (length (commits_of (take i trace))) (taken c trace) (cursor_at s c) (I.opened i c query o).1);
+    delivers = λ i c query o. delivered_is c false (commits_before i trace) query (I.opened i c false (commits_before i trace) query (o, refl)).1;
     marks = λ i j c n query o h.
-        subst (λ t. IsListing (matches_query rules.is_match (query_of query)) (length (commits_of (take i trace))) n t (delivered c (take j trace))) I.commits (I.marks i j c n query o h);
+        subst (λ t. IsListing (matches_query rules.is_match (query_of query)) (commits_before i trace) n t (delivered c (take j trace))) I.commits (I.marks i j c false (commits_before i trace) n query (o, refl) h);
+    follows = λ i c n query o. delivered_is c true n query (I.opened i c true n query o).1;
+    marks_behind = λ i j c n m query o h.
+        subst (λ t. AreChanges (matches_query rules.is_match (query_of query)) n m t (delivered c (take j trace))) I.commits (I.marks i j c true n m query o h);
     askings = λ c. go c (cursor_at s c) (I.askings c);
     closed = I.silent;
   }
     where
+      delivered_is : (c : ℕ) (follows : Bool) (n : ℕ) (query : Pred A) → SlotFits rules rule s (query_of query) follows n (taken c trace) (cursor_at s c)
+          → BeginsListingFor follows (matches_query rules.is_match (query_of query)) n (length (commits_of trace)) (commits_of trace) (delivered c trace)
+      delivered_is c follows n query f =
+          subst (λ t. BeginsListingFor follows (matches_query rules.is_match (query_of query)) n (length t) t (delivered c trace)) I.commits
+          (slot_begins rules rule s (query_of query) follows n (taken c trace) (cursor_at s c) f)
+
       go : (c : ℕ) (o : Option (OpenCursor K A)) → AskingsOf trace s c o → HasAskings trace c
       go c (Some k) f = f.has
       go c None f = f

@@ -8,7 +8,7 @@ use Rattle.key_class.specs.declared.refusal.Refusal.TheVariants as refusal
 use Rattle.split.specs.Tests.{first_failing, IsRefusedBy}
 use Rattle.cursor.specs.OpenCursors.{OpenCursor}
 use Rattle.world.specs.States.{State, cursor_at}
-use Rattle.world.specs.Steps.{cursor_tests, open_tests}
+use Rattle.world.specs.Steps.{cursor_tests, open_tests, follow_tests, is_bad_opening, is_full_of_cursors}
 
 -- a longer table of tests
 pub failing_first : (tests more : List (Bool × Refusal)) (why : Refusal) → first_failing tests ≡ Some why → first_failing (tests ++ more) ≡ Some why
@@ -89,8 +89,18 @@ open_passed s query room positive small low few given =
     rw (first, second) refl
 
 -- where the tests of an opening pass there is a place and a serial
+pub full_leaves_room : {K A : Type 0} (s : State K A) → is_full_of_cursors s ≡ false → (length s.cursors < 256) × (s.last < 4294967295)
+full_leaves_room s h = (search (arith, h), search (arith, h))
+
 pub open_leaves_room : {K A : Type 0} (s : State K A) (query : Pred A) (room : ℕ) → first_failing (open_tests s query room) ≡ None → (length s.cursors < 256) × (s.last < 4294967295)
 open_leaves_room s query room h =
-    let first = passed_at (nat_eq room 0 || (nat_lt 4096 room || nat_lt 32 (depth_of (query_of query)))) refusal.BadConfig ((nat_le 256 (length s.cursors) || nat_le 4294967295 s.last, refusal.CursorsFull) ∷ []) h in
-    let second = passed_at (nat_le 256 (length s.cursors) || nat_le 4294967295 s.last) refusal.CursorsFull [] first.1 in
-    (search (arith, second.0), search (arith, second.0))
+    let first = passed_at (is_bad_opening query room) refusal.BadConfig ((is_full_of_cursors s, refusal.CursorsFull) ∷ []) h in
+    full_leaves_room s (passed_at (is_full_of_cursors s) refusal.CursorsFull [] first.1).0
+
+-- a commit that is followed is one that there is
+pub follow_leaves_room : {K A : Type 0} (s : State K A) (query : Pred A) (room n : ℕ) → first_failing (follow_tests s query room n) ≡ None → (n ≤ length s.commits) × (length s.cursors < 256) × (s.last < 4294967295)
+follow_leaves_room s query room n h =
+    let first = passed_at (is_bad_opening query room) refusal.BadConfig ((nat_lt (length s.commits) n, refusal.FromFuture) ∷ (is_full_of_cursors s, refusal.CursorsFull) ∷ []) h in
+    let second = passed_at (nat_lt (length s.commits) n) refusal.FromFuture ((is_full_of_cursors s, refusal.CursorsFull) ∷ []) first.1 in
+    let room = full_leaves_room s (passed_at (is_full_of_cursors s) refusal.CursorsFull [] second.1).0 in
+    (search (arith, second.0), room.0, room.1)

@@ -1,10 +1,11 @@
 -- The loop over a list of events.
-use Rattle.std.proofs.Common.{Bool, ◌≡◌, ◌+◌, ◌<◌, ℕ, zero, suc, List, [], ◌∷◌, ◌++◌, length, take, get_or, refl, sym, ◌∙◌, arith, subst, length-append, length-take}
+use Rattle.std.proofs.Common.{Bool, true, false, ◌≡◌, ◌+◌, ◌<◌, ℕ, zero, suc, List, [], ◌∷◌, ◌++◌, length, take, get_or, refl, sym, ◌∙◌, arith, subst, length-append, length-take}
 use Rattle.std.specs.List.{zip}
 use Rattle.std.specs.Result.{IsErrAnd}
 use Rattle.std.proofs.lemmas.List.{take_more, append-nil}
 use Rattle.std.proofs.Common.{append_assoc}
 use Rattle.std.proofs.Common.{Result, Ok, Err}
+use Rattle.key_class.specs.declared.pred.Pred.{Pred}
 use Rattle.mailbox.specs.Outlets.{Rule}
 use Rattle.key_class.specs.Rules.{IsLawful, Rules}
 use Rattle.key_class.specs.declared.refusal.Refusal.{Refusal}
@@ -21,7 +22,11 @@ use Rattle.world.specs.Steps.{Step, Runs, IsCopy}
 use Rattle.world.specs.Traces.{Trace, IsFaithful, IsAlwaysFaithful}
 use Rattle.world.proofs.Sounding.{new_sound_world}
 use Rattle.world.proofs.Stepping.{step_leads}
-use Rattle.world.proofs.Faithful.{Inv, Inv-push, faithful}
+use Rattle.world.proofs.Faithful.{Inv, IsBeginning, Inv-push, faithful}
+
+no_beginning : (C O K A E : Type 0) (i c : ℕ) (follows : Bool) (n : ℕ) (query : Pred A) → IsBeginning {C = C} {O = O} {K = K} {E = E} [] i c follows n query → ⊥
+no_beginning C O K A E i c false n query o = let h = o.0.is in cc
+no_beginning C O K A E i c true n query o = let h = o.is in cc
 
 module _ {C O K A E : Type 0} (rules : Rules K A) (rule : Rule) where
   inv_start : (config : Config) → Inv {C = C} {O = O} {E = E} rules rule [] (new_state config)
@@ -29,13 +34,14 @@ module _ {C O K A E : Type 0} (rules : Rules K A) (rule : Rule) where
     commits = refl;
     legal = λ place write h. absurd (cc);
     seen = λ c k h. absurd (cc);
-    once = λ i j c query other o p. let h = o.is in absurd (cc);
+    once = λ i j c a b end other h k. absurd (cc);
+    issued = λ i c a end h. absurd (cc);
     known = λ j c x h. absurd (cc);
-    opened = λ i c query o. let h = o.is in absurd (cc);
+    opened = λ i c follows n query o. absurd (no_beginning C O K A E i c follows n query o);
     untaken = λ c l. refl;
     taken_given = λ j c x h. absurd (cc);
     within = λ c k h. absurd (cc);
-    marks = λ i j c n query o h. absurd (cc);
+    marks = λ i j c follows n m query o h. absurd (cc);
     askings = λ c. record { places = []; rising = λ j first second e f. absurd (cc); each = λ i n e. absurd (cc) };
     closed = λ i c h. absurd (cc);
     silent = λ i j c later answer h l k a. absurd (cc);
@@ -82,6 +88,12 @@ module _ {C O K A E : Type 0} (rules : Rules K A) (rule : Rule) where
   step_copied old (event.Open query room) copy r new h d = opened r (subst (λ k. Step rules rule 0 old k r new) h.2 d)
     where
       opened : (r : Reply C O K A E) → Step rules rule 0 old (event.Open h.0 room) r new → Step rules rule 0 old (event.Open query room) r new
+      opened (reply.Refused why) d = record { cause = rw (← h.1) d.cause; unchanged = d.unchanged }
+      opened (reply.Opened c end) d = record { passed = rw (← h.1) d.passed; change = record { serial = d.change.serial; after = rw (← h.1) d.change.after } }
+      opened r d = absurd d.change
+  step_copied old (event.Follow query room n) copy r new h d = opened r (subst (λ k. Step rules rule 0 old k r new) h.2 d)
+    where
+      opened : (r : Reply C O K A E) → Step rules rule 0 old (event.Follow h.0 room n) r new → Step rules rule 0 old (event.Follow query room n) r new
       opened (reply.Refused why) d = record { cause = rw (← h.1) d.cause; unchanged = d.unchanged }
       opened (reply.Opened c end) d = record { passed = rw (← h.1) d.passed; change = record { serial = d.change.serial; after = rw (← h.1) d.change.after } }
       opened r d = absurd d.change

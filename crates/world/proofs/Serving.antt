@@ -48,6 +48,7 @@ module _ {C O K A E : Type 0} (rules : Rules K A) (rule : Rule) {same_key : K �
       → ((items : List (Item K)) → Fits rules.is_match old.commits (shown rules rule old.search.tree k) items → Fits rules.is_match new.commits (shown rules rule new.search.tree k) items) → Serves rules rule old e r new c k k
   untouched e r new c k none fits = record {
     query = refl;
+    follows = refl;
     opened = refl;
     sent = [];
     mailbox = ap (λ o. option_to_list o ++ k.unread) none ∙ sym (append-nil k.unread);
@@ -169,6 +170,7 @@ module _ {C O K A E : Type 0} (rules : Rules K A) (rule : Rule) {same_key : K �
       let t = turn_sends rules rule old.commits old.search.tree was later how turn in
       record {
         query = t.query;
+        follows = t.follows;
         opened = t.opened;
         sent = t.offered;
         mailbox = ap (λ o. option_to_list o ++ later.unread) none ∙ t.unread;

@@ -3,6 +3,8 @@ use Rattle.std.proofs.Common.{◌≡◌, ◌≢◌, ◌+◌, ◌<◌, ◌≤◌,
 use Rattle.std.specs.Prelude.{option_to_list, nat_eq}
 use Rattle.std.proofs.lemmas.List.{append-nil}
 use Rattle.mailbox.specs.Outlets.{Rule}
+use Rattle.key_class.specs.Queries.{query_of}
+use Rattle.std.proofs.lemmas.List.Elements.{All-nil}
 use Rattle.key_class.specs.Rules.{IsLawful, Rules}
 use Rattle.key_class.specs.declared.pred.Pred.{Pred}
 use Rattle.key_class.specs.declared.refusal.Refusal.{Refusal}
@@ -24,7 +26,7 @@ use Rattle.split.proofs.RowsDone.{buried}
 use Rattle.cursor.specs.declared.cursor.Turned.{Turned}
 use Rattle.cursor.specs.declared.cursor.Turned.TheVariants as turned
 use Rattle.cursor.specs.OpenCursors.{OpenCursor, shown, wants, tree_work}
-use Rattle.cursor.proofs.Turning.{turn_less_work, open_fits, ask_fits, take_fits}
+use Rattle.cursor.proofs.Turning.{turn_less_work, open_fits, follow_fits, ask_fits, take_fits}
 use Rattle.world.specs.Stamps.{Stamp}
 use Rattle.world.specs.declared.event.Event.{Event}
 use Rattle.world.specs.declared.event.Event.TheVariants as event
@@ -32,14 +34,14 @@ use Rattle.world.specs.declared.reply.Reply.{Reply}
 use Rattle.world.specs.declared.reply.Reply.TheVariants as reply
 use Rattle.world.specs.Serials.{member, without}
 use Rattle.world.specs.States.{State, cursor_at, finder_at, with_pages, with_cursor, IsAtWork, IsSoundWorld}
-use Rattle.world.specs.Steps.{commit_tests, tests, cursor_tests, opened_cursor, SeeksOn, Step, IsRefused, IsCarriedOut, TurnsAt}
+use Rattle.world.specs.Steps.{commit_tests, tests, cursor_tests, opened_cursor, following_cursor, Opens, SeeksOn, Step, IsRefused, IsCarriedOut, TurnsAt}
 use Rattle.world.specs.Traces.{written, taken_by, asks}
 use Rattle.page_table.specs.Keeping.{KeepsRows}
 use Rattle.world.specs.Promises.{Serves, ServesAll, LowersCursorWork, FitsAtOpening, KeepsRowsUnder}
 use Rattle.world.proofs.Serials.{member_serial, member_within, put_same, put_other, without_same, without_other, push_same, push_other}
 use Rattle.world.proofs.Effects.{Effect, FinderEffect, IsShut, IsFresh, Opening, Closing, Numbering, Finding, Writing}
 use Rattle.descent.specs.Finders.{OpenFinder}
-use Rattle.world.proofs.Refusing.{closed_fails, failing_first, passed_first, open_leaves_room, open_from_tests}
+use Rattle.world.proofs.Refusing.{closed_fails, failing_first, passed_first, open_leaves_room, follow_leaves_room, open_from_tests}
 use Rattle.world.proofs.Sounding.{moved_sound, placed_sound, opened_sound, turned_sound, closed_sound, fresh_at_work}
 use Rattle.world.proofs.PageSteps.{placed_tree}
 use Rattle.world.proofs.FinderSteps.{finds_sound, unfound_sound, may_move, may_visit, meets_on, moves_sound, row_lives, buries_sound, seeks_on_sound, swept_page, sweeps_sound}
@@ -207,20 +209,35 @@ module _ {C O K A E : Type 0} (rules : Rules K A) (rule : Rule) {same_key : K �
       }
 
 module _ {K A : Type 0} (rules : Rules K A) (rule : Rule) {same_key : K → K → Bool} {same_atom : A → A → Bool} (lawful : IsLawful rules same_key same_atom) (old : State K A) (inv : IsSoundWorld rules.is_cover old) where
-  -- a cursor at the present commits
-  opened_fits : (query : Pred A) (room : ℕ) (new : State K A) → new ≡ record old { cursors = old.cursors ++ opened_cursor old query room ∷ []; last = old.last + 1 } → IsFresh rules rule old new query (old.last + 1)
-  opened_fits query room new made =
+  -- a cursor that was opened
+  begun_fits : (query : Pred A) (k : OpenCursor K A) (new : State K A) → k.serial ≡ old.last + 1 → k.query ≡ query_of query → k.unread ≡ [] → new ≡ record old { cursors = old.cursors ++ k ∷ []; last = old.last + 1 }
+      → Fits rules.is_match old.commits (shown rules rule old.search.tree k) [] → IsFresh rules rule old new k.follows k.opened query (old.last + 1)
+  begun_fits query k new number asks empty made fits = record {
+    serial = omega arith;
+    given = omega (arith, ap (λ (s : State K A). s.last) made);
+    cursor = k;
+    is_open = ap (λ s. cursor_at s (old.last + 1)) made ∙ push_same (λ k. k.serial) (old.last + 1) 0 old.last k old.cursors number (omega arith) inv.serials;
+    query_is = asks;
+    follows_is = refl;
+    opened = refl;
+    unread = empty;
+    fits = rw made fits;
+  }
+
+  -- nothing given fits a cursor at the present commits, nor one that follows a commit
+  open_fits_none : (query : Pred A) (room : ℕ) → Fits rules.is_match old.commits (shown rules rule old.search.tree (opened_cursor old query room)) []
+  open_fits_none query room =
       let k = opened_cursor old query room in
-      record {
-        serial = omega arith;
-        given = omega (arith, ap (λ (s : State K A). s.last) made);
-        cursor = k;
-        is_open = ap (λ s. cursor_at s (old.last + 1)) made ∙ push_same (λ k. k.serial) (old.last + 1) 0 old.last k old.cursors refl (omega arith) inv.serials;
-        query_is = refl;
-        opened = refl;
-        unread = refl;
-        fits = rw made (open_fits rules rule lawful old.search.tree old.commits k refl refl refl (open_find rules.is_cover old.search.tree old.search.fan inv.tree.sound old.commits inv.agrees (wants rules rule k)));
-      }
+      open_fits rules rule lawful old.search.tree old.commits k refl refl refl refl (open_find rules.is_cover old.search.tree old.search.fan inv.tree.sound old.commits inv.agrees (wants rules rule k))
+
+  follow_fits_none : (query : Pred A) (room n : ℕ) → n ≤ length old.commits → Fits rules.is_match old.commits (shown rules rule old.search.tree (following_cursor old query room n)) []
+  follow_fits_none query room n within = follow_fits rules rule old.search.tree old.commits (following_cursor old query room n) refl within refl refl refl
+
+  opened_fits : (query : Pred A) (room : ℕ) (new : State K A) → new ≡ record old { cursors = old.cursors ++ opened_cursor old query room ∷ []; last = old.last + 1 } → IsFresh rules rule old new false (length old.commits) query (old.last + 1)
+  opened_fits query room new made = begun_fits query (opened_cursor old query room) new refl refl refl made (open_fits_none query room)
+
+  following_fits : (query : Pred A) (room n : ℕ) (new : State K A) → n ≤ length old.commits → new ≡ record old { cursors = old.cursors ++ following_cursor old query room n ∷ []; last = old.last + 1 } → IsFresh rules rule old new true n query (old.last + 1)
+  following_fits query room n new within made = begun_fits query (following_cursor old query room n) new refl refl refl made (follow_fits_none query room n within)
 
 same_keeps : {K : Type 0} (t t' : Tree K) → t' ≡ t → KeepsRows t t'
 same_keeps t t' e = subst (λ x. KeepsRows t x) (sym e) (record { pages = omega arith; counter = omega arith; under = λ q m l h f. refl; whole = λ f. refl })
@@ -317,51 +334,66 @@ module _ {C O K A E : Type 0} (rules : Rules K A) (rule : Rule) {same_key : K �
         };
       }
 
-  leads_by_open : (query : Pred A) (room c : ℕ) (end : E) (new : State K A) → IsCarriedOut {C = C} {O = O} {E = E} rules rule seat old (event.Open query room) (reply.Opened c end) new
-      → Leads {C = C} {O = O} {E = E} rules rule lawful seat old inv (event.Open query room) (reply.Opened c end) new
-  leads_by_open query room c end new d =
-      let left = open_leaves_room old query room d.passed in
-      let k = opened_cursor old query room in
-      let work = fresh_at_work rules.is_cover old inv k (length old.commits) old.search.tree.counter refl refl refl refl refl in
-      let sound : IsSoundWorld rules.is_cover new = subst (λ s. IsSoundWorld rules.is_cover s) (sym d.change.after) (opened_sound rules.is_cover old inv k refl work left.0 left.1) in
-      let apart : (x : ℕ) → x ≢ old.last + 1 → cursor_at new x ≡ cursor_at old x = λ x n. ap (λ s. cursor_at s x) d.change.after ∙ push_other (λ k. k.serial) x k old.cursors n in
-      let fresh = opened_fits rules rule lawful old inv query room new d.change.after in
-      let put : cursor_at new (old.last + 1) ≡ Some k = ap (λ s. cursor_at s (old.last + 1)) d.change.after ∙ push_same (λ k. k.serial) (old.last + 1) 0 old.last k old.cursors refl (omega arith) inv.serials in
+  -- a cursor is opened
+  leads_by_begun : (e : Event C K A) (c : ℕ) (end : E) (k : OpenCursor K A) (new : State K A) → Opens old k c new → k.serial ≡ old.last + 1 → k.unread ≡ [] → k.asked ≡ false → IsAtWork old.search.tree old.commits k
+      → (length old.cursors < 256) × (old.last < 4294967295) → Opening {C = C} {O = O} {E = E} rules rule old new e (reply.Opened c end)
+      → Fits rules.is_match new.commits (shown rules rule new.search.tree k) [] → Finding {C = C} {O = O} {E = E} rules rule old new e (reply.Opened c end)
+      → ((x : ℕ) → taken_by {C = C} {O = O} {E = E} x (e, reply.Opened c end) ≡ None) → Closing {C = C} {O = O} {E = E} rules rule new e (reply.Opened c end) → ((x : ℕ) → asks e x → ⊥)
+      → Leads {C = C} {O = O} {E = E} rules rule lawful seat old inv e (reply.Opened c end) new
+  leads_by_begun e c end k new d number empty unasked work left opening fits finding untaken closing asks_none =
+      let sound : IsSoundWorld rules.is_cover new = subst (λ s. IsSoundWorld rules.is_cover s) (sym d.after) (opened_sound rules.is_cover old inv k number work left.0 left.1) in
+      let apart : (x : ℕ) → x ≢ old.last + 1 → cursor_at new x ≡ cursor_at old x = λ x n. ap (λ s. cursor_at s x) d.after ∙ push_other (λ k. k.serial) x k old.cursors (λ eq. n (eq ∙ number)) in
+      let put : cursor_at new (old.last + 1) ≡ Some k = ap (λ s. cursor_at s (old.last + 1)) d.after ∙ push_same (λ k. k.serial) (old.last + 1) 0 old.last k old.cursors number (omega arith) inv.serials in
       let beyond : (x : ℕ) (k : OpenCursor K A) → cursor_at old x ≡ Some k → x ≢ old.last + 1 = λ x k h eq. omega (arith, eq, (member_within (λ k. k.serial) x 0 old.last old.cursors k inv.serials h).1) in
       record {
         sound = sound;
         effect = record {
-          commits = ap (λ s. s.commits) d.change.after ∙ sym (append-nil old.commits);
+          commits = ap (λ s. s.commits) d.after ∙ sym (append-nil old.commits);
           legal = sound.legal;
           serves = λ x before after a b.
               let s : Some before ≡ Some after = sym a ∙ sym (apart x (beyond x before a)) ∙ b in
               let f : before ≡ after = cc in
-              subst (λ k. Serves {C = C} {O = O} {E = E} rules rule old (event.Open query room) (reply.Opened c end) new x before k) f (untouched rules rule lawful old inv (event.Open query room) (reply.Opened c end) new x before refl (λ items h. rw d.change.after h));
-          last = omega (arith, ap (λ (s : State K A). s.last) d.change.after);
+              subst (λ k. Serves {C = C} {O = O} {E = E} rules rule old e (reply.Opened c end) new x before k) f (untouched rules rule lawful old inv e (reply.Opened c end) new x before (untaken x) (λ items h. rw d.after h));
+          last = omega (arith, ap (λ (s : State K A). s.last) d.after);
           within = λ x k h. (member_within (λ k. k.serial) x 0 new.last new.cursors k sound.serials h).1;
           shut = λ x l h. apart x (λ eq. omega (arith, l, eq)) ∙ h;
           appears = λ x y h g. elim (same_or_not x (old.last + 1)) [
             | inl eq ↦
-                let s : Some y ≡ Some k = sym g ∙ ap (λ n. cursor_at new n) eq ∙ put in
-                let f : y ≡ k = cc in (
+                let s : Some k ≡ Some y = sym put ∙ ap (λ n. cursor_at new n) (sym eq) ∙ g in
+                let f : k ≡ y = cc in (
                   omega (arith, eq),
-                  ap (λ (z : OpenCursor K A). z.unread) f,
-                  ap (λ (z : OpenCursor K A). z.asked) f,
-                  record { query = query; room = room; end = end; is = ap (λ n. (event.Open query room, reply.Opened n end)) (d.change.serial ∙ sym eq) },
-                  (let e : Some fresh.cursor ≡ Some y = sym fresh.is_open ∙ ap (λ n. cursor_at new n) (sym eq) ∙ g in
-                      let h : fresh.cursor ≡ y = cc in
-                      subst (λ (z : OpenCursor K A). Fits rules.is_match new.commits (shown rules rule new.search.tree z) []) h fresh.fits),
+                  ap (λ (z : OpenCursor K A). z.unread) (sym f) ∙ empty,
+                  ap (λ (z : OpenCursor K A). z.asked) (sym f) ∙ unasked,
+                  record { end = end; is = ap (λ n. reply.Opened n end) (d.serial ∙ sym eq) },
+                  subst (λ (z : OpenCursor K A). Fits rules.is_match new.commits (shown rules rule new.search.tree z) []) f fits,
                 )
             | inr n ↦ absurd (none_is_some y (cursor_at new x) (apart x n ∙ h) g)
           ];
-          takes = λ x item t. absurd (cc);
-          opening = subst (λ n. IsFresh rules rule old new query n) (sym d.change.serial) fresh;
-          closing = tt;
-          silent = λ x s a. absurd a;
+          takes = λ x item t. absurd (none_is_some item (taken_by x (e, reply.Opened c end)) (untaken x) t);
+          opening = opening;
+          closing = closing;
+          silent = λ x s a. absurd (asks_none x a);
           numbering = tt;
-          finders = finders_stay rules rule old (event.Open query room) (reply.Opened c end) new (ap (λ s. s.finders) d.change.after) (ap (λ s. s.last_finder) d.change.after) tt tt;
+          finders = finders_stay rules rule old e (reply.Opened c end) new (ap (λ s. s.finders) d.after) (ap (λ s. s.last_finder) d.after) finding tt;
         };
       }
+
+  leads_by_open : (query : Pred A) (room c : ℕ) (end : E) (new : State K A) → IsCarriedOut {C = C} {O = O} {E = E} rules rule seat old (event.Open query room) (reply.Opened c end) new
+      → Leads {C = C} {O = O} {E = E} rules rule lawful seat old inv (event.Open query room) (reply.Opened c end) new
+  leads_by_open query room c end new d =
+      let fresh = opened_fits rules rule lawful old inv query room new d.change.after in
+      leads_by_begun (event.Open query room) c end (opened_cursor old query room) new d.change refl refl refl
+      (fresh_at_work rules.is_cover old inv (opened_cursor old query room) (length old.commits) old.search.tree.counter refl refl refl refl refl) (open_leaves_room old query room d.passed)
+      (subst (λ n. IsFresh rules rule old new false (length old.commits) query n) (sym d.change.serial) fresh) (rw d.change.after (open_fits_none rules rule lawful old inv query room)) tt (λ x. refl) tt (λ x a. a)
+
+  leads_by_follow : (query : Pred A) (room n c : ℕ) (end : E) (new : State K A) → IsCarriedOut {C = C} {O = O} {E = E} rules rule seat old (event.Follow query room n) (reply.Opened c end) new
+      → Leads {C = C} {O = O} {E = E} rules rule lawful seat old inv (event.Follow query room n) (reply.Opened c end) new
+  leads_by_follow query room n c end new d =
+      let left = follow_leaves_room old query room n d.passed in
+      let fresh = following_fits rules rule lawful old inv query room n new left.0 d.change.after in
+      leads_by_begun (event.Follow query room n) c end (following_cursor old query room n) new d.change refl refl refl
+      (record { stack = All-nil (λ i. (i.page < length old.search.tree.pages) × (i.memo ≤ old.search.tree.counter)); from_opening = omega arith; within = left.0 }) (left.1, left.2)
+      (subst (λ x. IsFresh rules rule old new true n query x) (sym d.change.serial) fresh) (rw d.change.after (follow_fits_none rules rule lawful old inv query room n left.0)) tt (λ x. refl) tt (λ x a. a)
 
   leads_by_close : (d : ℕ) (new : State K A) → IsCarriedOut {C = C} {O = O} {E = E} rules rule seat old (event.Close d) reply.Closed new → Leads {C = C} {O = O} {E = E} rules rule lawful seat old inv (event.Close d) reply.Closed new
   leads_by_close d new h =
@@ -414,6 +446,7 @@ module _ {C O K A E : Type 0} (rules : Rules K A) (rule : Rule) {same_key : K �
       refl (λ c n. refl) (λ item e. absurd (cc)) tt tt tt tt tt
       (record {
         query = refl;
+        follows = refl;
         opened = refl;
         sent = [];
         mailbox = sym (append-nil t.before.unread);
@@ -432,6 +465,7 @@ module _ {C O K A E : Type 0} (rules : Rules K A) (rule : Rule) {same_key : K �
       (λ x e. let s : Some item ≡ Some x = sym here ∙ e in let f : item ≡ x = cc in (t.rest, t.front ∙ ap (λ y. y ∷ t.rest) f)) tt tt tt tt tt
       (record {
         query = refl;
+        follows = refl;
         opened = refl;
         sent = [];
         mailbox = ap (λ o. option_to_list o ++ t.rest) here ∙ sym t.front ∙ sym (append-nil t.before.unread);
@@ -592,6 +626,7 @@ module _ {C O K A E : Type 0} (rules : Rules K A) (rule : Rule) {same_key : K �
   step_leads (event.Unfind f) reply.Unfound new d = leads_by_unfind f new d
   step_leads (event.Sweep page) (reply.Swept count) new d = leads_by_sweep page count new d
   step_leads (event.Open query room) (reply.Opened c end) new d = leads_by_open query room c end new d
+  step_leads (event.Follow query room n) (reply.Opened c end) new d = leads_by_follow query room n c end new d
   step_leads (event.Turn x) reply.Offered new d = leads_by_turn x turned.Offered reply.Offered new d.change (record { uncommitted = refl; untaken = λ c. refl; opening = tt; closing = tt; numbering = tt; finding = tt; writing = tt }) (λ c s a. silent_when_shut rules rule seat old (event.Turn x) new reply.Offered d c s a)
   step_leads (event.Turn x) (reply.Visited page) new d = leads_by_turn x (turned.Visited page) (reply.Visited page) new d.change (record { uncommitted = refl; untaken = λ c. refl; opening = tt; closing = tt; numbering = tt; finding = tt; writing = tt }) (λ c s a. silent_when_shut rules rule seat old (event.Turn x) new (reply.Visited page) d c s a)
   step_leads (event.Turn x) (reply.Passed n) new d = leads_by_turn x (turned.Passed n) (reply.Passed n) new d.change (record { uncommitted = refl; untaken = λ c. refl; opening = tt; closing = tt; numbering = tt; finding = tt; writing = tt }) (λ c s a. silent_when_shut rules rule seat old (event.Turn x) new (reply.Passed n) d c s a)
@@ -629,6 +664,11 @@ module _ {C O K A E : Type 0} (rules : Rules K A) (rule : Rule) {same_key : K �
   pub step_opens : (e : Event C K A) (r : Reply C O K A E) (new : State K A) → Step rules rule seat old e r new → FitsAtOpening rules rule r new
   step_opens (event.Open query room) (reply.Opened c end) new d = λ k h.
       let o = opened_fits rules rule lawful old inv query room new d.change.after in
+      let s : Some o.cursor ≡ Some k = sym o.is_open ∙ ap (λ n. cursor_at new n) (sym d.change.serial) ∙ h in
+      let f : o.cursor ≡ k = cc in
+      subst (λ (k : OpenCursor K A). Fits rules.is_match new.commits (shown rules rule new.search.tree k) []) f o.fits
+  step_opens (event.Follow query room n) (reply.Opened c end) new d = λ k h.
+      let o = following_fits rules rule lawful old inv query room n new (follow_leaves_room old query room n d.passed).0 d.change.after in
       let s : Some o.cursor ≡ Some k = sym o.is_open ∙ ap (λ n. cursor_at new n) (sym d.change.serial) ∙ h in
       let f : o.cursor ≡ k = cc in
       subst (λ (k : OpenCursor K A). Fits rules.is_match new.commits (shown rules rule new.search.tree k) []) f o.fits

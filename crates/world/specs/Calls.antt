@@ -100,6 +100,10 @@ module _ (C O E : Type 0) {K A : Type 0} (rules : Rules K A) (rule : Rule) where
   abbrev pub OpensCursor : State K A → Pred A → ℕ → Result (ℕ × E) Refusal → State K A → Type 0
   OpensCursor old query room made new = IsOneStep 0 old (event.Open query room) (reply_of_opening C O E made) new
 
+  -- a cursor is opened that follows a commit
+  abbrev pub OpensFollower : State K A → Pred A → ℕ → ℕ → Result (ℕ × E) Refusal → State K A → Type 0
+  OpensFollower old query room n made new = IsOneStep 0 old (event.Follow query room n) (reply_of_opening C O E made) new
+
   -- a cursor turns
   abbrev pub TurnsCursor : State K A → ℕ → Result Turned Refusal → State K A → Type 0
   TurnsCursor old c made new = IsOneStep 0 old (event.Turn c) (reply_of_turn C O E made) new

@@ -14,6 +14,7 @@ use Rattle.change_list.specs.declared.config.Config.{Config}
 use Rattle.change_list.specs.declared.item.Item.{Item}
 use Rattle.change_list.specs.declared.item.Row.{Row}
 use Rattle.row_version.specs.Entries.{is_needed}
+use Rattle.page_table.specs.Stacks.{StackItem}
 use Rattle.page_table.specs.Trees.{page_at, after_rows}
 use Rattle.split.specs.Steps.{after_split, after_post, after_grow, after_enlarge}
 use Rattle.split.specs.Tests.{first_failing, place_tests, enlarge_tests, split_tests, post_tests, grow_tests, sweep_tests, HasUnneeded}
@@ -42,6 +43,10 @@ abbrev pub where_met : Bool → List (Bool × Refusal) → List (Bool × Refusal
 where_met met [] = []
 where_met met ((fails, why) ∷ tests) = (met && fails, why) ∷ where_met met tests
 
+-- the room or the query's depth is out of range
+abbrev pub is_bad_opening : {A : Type 0} → Pred A → ℕ → Bool
+is_bad_opening query room = nat_eq room 0 || (nat_lt most_room room || nat_lt most_depth (depth_of (query_of query)))
+
 module _ {K A : Type 0} where
   -- the serial was given, and its cursor is open
   abbrev pub cursor_tests : State K A → ℕ → List (Bool × Refusal)
@@ -50,11 +55,20 @@ module _ {K A : Type 0} where
       ∷ (is_none (cursor_at old c), refusal.CursorClosed)
       ∷ []
 
+  -- there is no place or no serial for one more cursor
+  abbrev pub is_full_of_cursors : State K A → Bool
+  is_full_of_cursors old = nat_le most_cursors (length old.cursors) || nat_le greatest_serial old.last
+
   -- the room and the query's depth are in range, and there is a place and a serial for one more cursor
   abbrev pub open_tests : State K A → Pred A → ℕ → List (Bool × Refusal)
-  open_tests old query room =
-      (nat_eq room 0 || (nat_lt most_room room || nat_lt most_depth (depth_of (query_of query))), refusal.BadConfig)
-      ∷ (nat_le most_cursors (length old.cursors) || nat_le greatest_serial old.last, refusal.CursorsFull)
+  open_tests old query room = (is_bad_opening query room, refusal.BadConfig) ∷ (is_full_of_cursors old, refusal.CursorsFull) ∷ []
+
+  -- and so for a cursor that follows commit n, which is no later one than there are
+  abbrev pub follow_tests : State K A → Pred A → ℕ → ℕ → List (Bool × Refusal)
+  follow_tests old query room n =
+      (is_bad_opening query room, refusal.BadConfig)
+      ∷ (nat_lt (length old.commits) n, refusal.FromFuture)
+      ∷ (is_full_of_cursors old, refusal.CursorsFull)
       ∷ []
 
   -- there is a place for one more commit
@@ -82,19 +96,28 @@ module _ {K A : Type 0} where
   abbrev pub visit_tests : State K A → ℕ → List (Bool × Refusal) → List (Bool × Refusal)
   visit_tests old f further = finder_tests old f ++ row_tests old further (finder_at old f)
 
-  -- a cursor at the present commits, whose scan begins at the root
-  abbrev pub opened_cursor : State K A → Pred A → ℕ → OpenCursor K A
-  opened_cursor old query room = record {
+  -- a new cursor behind a commit, with these pages to visit
+  abbrev pub begun_cursor : State K A → Pred A → ℕ → Bool → ℕ → List StackItem → OpenCursor K A
+  begun_cursor old query room follows opened stack = record {
     serial = old.last + 1;
     query = query_of query;
-    opened = length old.commits;
-    stack = (record { page = 0; memo = old.search.tree.counter }) ∷ [];
+    follows = follows;
+    opened = opened;
+    stack = stack;
     pending = [];
-    position = length old.commits;
+    position = opened;
     asked = false;
     room = room;
     unread = [];
   }
+
+  -- a cursor at the present commits, whose scan begins at the root
+  abbrev pub opened_cursor : State K A → Pred A → ℕ → OpenCursor K A
+  opened_cursor old query room = begun_cursor old query room false (length old.commits) ((record { page = 0; memo = old.search.tree.counter }) ∷ [])
+
+  -- a cursor that follows commit n, without a snapshot and so without a scan
+  abbrev pub following_cursor : State K A → Pred A → ℕ → ℕ → OpenCursor K A
+  following_cursor old query room n = begun_cursor old query room true n []
 
   -- the commit is the next, and a leaf has its row at the end
   pub record Places (seat : ℕ) (old : State K A) (page : ℕ) (key : K) (tag : ℕ) (stamp : Stamp K) (new : State K A) : Type 0 where
@@ -162,9 +185,10 @@ module _ {K A : Type 0} where
     pub is : IsHorizon (length old.commits) old.cursors horizon
     pub some : HasUnneeded horizon old.search.tree page
 
-  pub record Opens (old : State K A) (query : Pred A) (room c : ℕ) (new : State K A) : Type 0 where
+  -- the cursor is open, with the next serial
+  pub record Opens (old : State K A) (cursor : OpenCursor K A) (c : ℕ) (new : State K A) : Type 0 where
     pub serial : c ≡ old.last + 1
-    pub after : new ≡ record old { cursors = old.cursors ++ opened_cursor old query room ∷ []; last = old.last + 1 }
+    pub after : new ≡ record old { cursors = old.cursors ++ cursor ∷ []; last = old.last + 1 }
 
   pub record Asks (old : State K A) (c : ℕ) (new : State K A) : Type 0 where
     pub before : OpenCursor K A
@@ -229,6 +253,7 @@ module _ {C K A : Type 0} where
   -- an event that asks for the same: the copy of a query has places of its own in memory
   abbrev pub IsCopy : Event C K A → Event C K A → Type 0
   IsCopy (event.Open query room) copy = (other : Pred A) × (query_of other ≡ query_of query) × (copy ≡ event.Open other room)
+  IsCopy (event.Follow query room n) copy = (other : Pred A) × (query_of other ≡ query_of query) × (copy ≡ event.Follow other room n)
   IsCopy event copy = copy ≡ event
 
 module _ {C K A : Type 0} (rules : Rules K A) (rule : Rule) where
@@ -245,6 +270,7 @@ module _ {C K A : Type 0} (rules : Rules K A) (rule : Rule) where
   tests old (event.Unfind f) = finder_tests old f
   tests old (event.Sweep page) = sweep_tests old.search page
   tests old (event.Open query room) = open_tests old query room
+  tests old (event.Follow query room n) = follow_tests old query room n
   tests old (event.Turn c) = cursor_tests old c
   tests old (event.AskMark c) = cursor_tests old c
   tests old (event.Take c) = cursor_tests old c ++ (rule.is_emptied_elsewhere, refusal.NotHere) ∷ []
@@ -286,7 +312,8 @@ module _ {C O K A E : Type 0} (rules : Rules K A) (rule : Rule) where
   Changes seat old (event.Move f leaf key) reply.Seeking new = SeeksOn rules rule old f new
   Changes seat old (event.Unfind f) reply.Unfound new = new ≡ record old { finders = without (λ k. k.serial) f old.finders }
   Changes seat old (event.Sweep page) (reply.Swept count) new = SweepsLeaf old page count new
-  Changes seat old (event.Open query room) (reply.Opened c end) new = Opens old query room c new
+  Changes seat old (event.Open query room) (reply.Opened c end) new = Opens old (opened_cursor old query room) c new
+  Changes seat old (event.Follow query room n) (reply.Opened c end) new = Opens old (following_cursor old query room n) c new
   Changes seat old (event.Turn c) reply.Offered new = TurnsAt rules rule old c (Ok turned.Offered) new
   Changes seat old (event.Turn c) (reply.Visited page) new = TurnsAt rules rule old c (Ok (turned.Visited page)) new
   Changes seat old (event.Turn c) (reply.Passed n) new = TurnsAt rules rule old c (Ok (turned.Passed n)) new

@@ -11,7 +11,7 @@ use Rattle.change_list.specs.declared.write.Write.TheVariants.{Insert, Delete, M
 use Rattle.change_list.specs.declared.item.Item.{Item}
 use Rattle.change_list.specs.declared.item.Item.TheVariants as item
 use Rattle.change_list.specs.Changes.{IsLegal}
-use Rattle.change_list.specs.Listings.{IsListing, BeginsListing, without_marks}
+use Rattle.change_list.specs.Listings.{IsListing, BeginsListing, AreChanges, BeginsChanges, without_marks}
 use Rattle.world.specs.declared.event.Event.{Event}
 use Rattle.world.specs.declared.event.Event.TheVariants as event
 use Rattle.world.specs.declared.reply.Reply.{Reply}
@@ -93,11 +93,18 @@ module _ {C O K A E : Type 0} where
     pub end : E
     pub is : IsMoment trace i (event.Open query room) (reply.Opened c end)
 
+  -- the place of a trace at which a cursor was opened that follows commit n, with its query
+  pub record IsFollowing (trace : Trace C O K A E) (i c n : ℕ) (query : Pred A) : Type 0 where
+    pub room : ℕ
+    pub end : E
+    pub is : IsMoment trace i (event.Follow query room n) (reply.Opened c end)
+
   -- cursor c was opened
   pub record WasOpened (trace : Trace C O K A E) (c : ℕ) : Type 0 where
     pub place : ℕ
-    pub query : Pred A
-    pub opening : IsOpening trace place c query
+    pub opening : Event C K A
+    pub end : E
+    pub is : IsMoment trace place opening (reply.Opened c end)
 
   -- a finder of the row was answered with that serial
   pub record HasFinder (trace : Trace C O K A E) (f row : ℕ) : Type 0 where
@@ -113,7 +120,8 @@ module _ {C O K A E : Type 0} where
 
   -- The headline. The commits are numbered in their order, each is the write of its event, and they are a legal list. What a
   -- cursor has delivered begins a listing for its query from its opening to the last commit. A mark that was taken shows that
-  -- all of it up to the mark's commit was delivered, and was asked for. A closed cursor delivers nothing more.
+  -- all of it up to the mark's commit was delivered, and was asked for. A closed cursor delivers nothing more. What a cursor
+  -- opened from commit n has delivered begins the matching changes after n, each once, in commit order.
   pub record IsFaithful (matching : A → K → Bool) (trace : Trace C O K A E) : Type 0 where
     pub numbered : (i : ℕ) (e : Event C K A) (stamp : Stamp K) → IsMoment trace i e (reply.Committed stamp) → stamp.number ≡ commits_before i trace + 1
     pub writes : (i : ℕ) (e : Event C K A) (stamp : Stamp K) → IsMoment trace i e (reply.Committed stamp) → IsWriteOf (take i trace) e stamp.write
@@ -121,13 +129,17 @@ module _ {C O K A E : Type 0} where
     -- no serial is given to two finders
     pub finders : (i j f row other : ℕ) → IsMoment trace i (event.Find row) (reply.Finder f) → IsMoment trace j (event.Find other) (reply.Finder f) → i ≡ j
     -- no serial is given to two cursors
-    pub cursors : (i j c : ℕ) (query other : Pred A) → IsOpening trace i c query → IsOpening trace j c other → i ≡ j
+    pub cursors : (i j c : ℕ) (e f : Event C K A) (end other : E) → IsMoment trace i e (reply.Opened c end) → IsMoment trace j f (reply.Opened c other) → i ≡ j
     -- what is taken of a cursor is taken after its opening
     pub opened : (j c : ℕ) (x : Item K) → IsMoment trace j (event.Take c) (reply.Taken x) → WasOpened (take j trace) c
     pub delivers : (i c : ℕ) (query : Pred A) → IsOpening trace i c query
         → BeginsListing (matches_query matching (query_of query)) (commits_before i trace) (length (commits_of trace)) (commits_of trace) (delivered c trace)
     pub marks : (i j c n : ℕ) (query : Pred A) → IsOpening trace i c query → IsMoment trace j (event.Take c) (reply.Taken (item.Mark n))
         → IsListing (matches_query matching (query_of query)) (commits_before i trace) n (commits_of trace) (delivered c (take j trace))
+    pub follows : (i c n : ℕ) (query : Pred A) → IsFollowing trace i c n query
+        → BeginsChanges (matches_query matching (query_of query)) n (length (commits_of trace)) (commits_of trace) (delivered c trace)
+    pub marks_behind : (i j c n m : ℕ) (query : Pred A) → IsFollowing trace i c n query → IsMoment trace j (event.Take c) (reply.Taken (item.Mark m))
+        → AreChanges (matches_query matching (query_of query)) n m (commits_of trace) (delivered c (take j trace))
     pub askings : (c : ℕ) → HasAskings trace c
     pub closed : (i j c : ℕ) (later : Event C K A) (answer : Reply C O K A E) → IsMoment trace i (event.Close c) reply.Closed → i < j → IsMoment trace j later answer → asks later c
         → answer ≡ reply.Refused refusal.CursorClosed

@@ -1,6 +1,6 @@
 //! Events as calls, each with an answer of its own type: for those who know which event they make.
 ghost use Rattle.std.specs.Prelude.{IfOk};
-ghost use Rattle.world.specs.Calls.{AsksCursor, ClosesCursor, OpensCursor, OpensFinder, PlacesRow, DeletesMet, MovesMet, SweepsPage, TakesFront, TurnsCursor};
+ghost use Rattle.world.specs.Calls.{AsksCursor, ClosesCursor, OpensCursor, OpensFinder, OpensFollower, PlacesRow, DeletesMet, MovesMet, SweepsPage, TakesFront, TurnsCursor};
 
 use crate::reply::Stamped;
 use crate::world::World;
@@ -92,6 +92,25 @@ impl<C: KeyClass, O: Outlet<C::Key>> World<C, O> {
     {
         self.recall_soundness();
         self.open(query, room)
+    }
+
+    /// Opens a cursor that follows a commit, without a snapshot: its serial, and the other end of its mailbox, out of which
+    /// nothing came yet.
+    ///
+    /// # Errors
+    /// Those of the event `Follow`; nothing is changed then.
+    pub fn follow_commit(
+        &mut self,
+        query: Pred<C::Atom>,
+        room: u64,
+        commit: u64,
+    ) -> Result<(u64, O::End), Refusal>
+        ensures opens { OpensFollower C O O.End C.rules O.rule
+            self.old query room commit result self.new }
+        ensures fresh { IfOk result (λ made. O.fresh made.1) }
+    {
+        self.recall_soundness();
+        self.follow(query, room, commit)
     }
 
     /// Turns a cursor once.

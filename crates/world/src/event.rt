@@ -32,6 +32,8 @@ pub enum Event<C: KeyClass> {
     Sweep(u64),
     /// Opens a cursor at the present commits: query, room of its mailbox in items (1 to 4,096).
     Open(Pred<C::Atom>, u64),
+    /// Opens a cursor that follows a commit, without a snapshot: query, room of its mailbox, number of the commit.
+    Follow(Pred<C::Atom>, u64, u64),
     /// Lets a cursor do one piece of its work.
     Turn(u64),
     /// Asks a cursor for a mark.
@@ -59,6 +61,9 @@ impl<C: KeyClass> Event<C> {
             Event::Unfind(finder) => Event::Unfind(*finder),
             Event::Sweep(page) => Event::Sweep(*page),
             Event::Open(query, room) => Event::Open(query.copy(alloc)?, *room),
+            Event::Follow(query, room, commit) => {
+                Event::Follow(query.copy(alloc)?, *room, *commit)
+            }
             Event::Turn(cursor) => Event::Turn(*cursor),
             Event::AskMark(cursor) => Event::AskMark(*cursor),
             Event::Take(cursor) => Event::Take(*cursor),

@@ -252,6 +252,9 @@ impl<C: KeyClass, O: Outlet<C::Key>> World<C, O> {
             Event::Unfind(finder) => return self.unfind(finder),
             Event::Sweep(page) => return Reply::of_sweep(self.sweep(page)),
             Event::Open(query, room) => return Reply::of_opening(self.open(query, room)),
+            Event::Follow(query, room, commit) => {
+                return Reply::of_opening(self.follow(query, room, commit));
+            }
             Event::Turn(cursor) => return Reply::of_turn(self.turn(cursor)),
             Event::AskMark(cursor) => return Reply::of_asking(self.ask_mark(cursor)),
             Event::Take(cursor) => return Reply::of_taking(self.take(cursor)),

@@ -151,6 +151,14 @@ fn opened(alloc: Global, world: &mut Trial, nots: u32) -> Result<Result<u64, Ref
     }
 }
 
+/// The serial of the cursor that follows a commit, by a call, or why there is none.
+fn followed(alloc: Global, world: &mut Trial, commit: u64) -> Result<Result<u64, Refusal>, Fail> {
+    match world.follow_commit(nested(alloc, 0)?, 1, commit) {
+        Ok((serial, ())) => Ok(Ok(serial)),
+        Err(refusal) => Ok(Err(refusal)),
+    }
+}
+
 /// What a world does or tells.
 #[derive(Clone, Copy, Debug)]
 enum Deed {
@@ -171,6 +179,8 @@ enum Deed {
     OfferRow(u64),
     /// By calls: the cursor marks that so many commits were given, and is closed.
     Mark(u64, u64),
+    /// By a call: a cursor that follows a commit is opened, or refused.
+    Follow(u64, Result<u64, Refusal>),
 }
 
 fn is_done(alloc: Global, world: &mut Trial, deed: Deed) -> Result<bool, Fail> {
@@ -186,6 +196,7 @@ fn is_done(alloc: Global, world: &mut Trial, deed: Deed) -> Result<bool, Fail> {
         Deed::EndRows => ends_rows(world),
         Deed::OfferRow(number) => offers_row(alloc, world, number),
         Deed::Mark(cursor, commits) => marks_and_closes(world, cursor, commits),
+        Deed::Follow(commit, wanted) => Ok(followed(alloc, world, commit)? == wanted),
     }
 }
 
@@ -223,11 +234,13 @@ fn tells_commits_and_pages_and_opens_deep_queries(rt: HostRuntime) -> Result<(),
     Ok(())
 }
 
-static CALLS: [Deed; 4] = [
+static CALLS: [Deed; 6] = [
     Deed::EndRows,
     Deed::CountRows(0, Some(0)),
     Deed::OfferRow(4),
     Deed::Mark(1, 4),
+    Deed::Follow(5, Err(Refusal::FromFuture)),
+    Deed::Follow(4, Ok(2)),
 ];
 
 #[test]

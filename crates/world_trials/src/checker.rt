@@ -1,5 +1,5 @@
-use super::listings::{Extent, delete_refusal, extent_of, may_follow};
-use super::steps::{Answer, Ask, Ends, Query, Step};
+use super::listings::{Extent, Opening, delete_refusal, extent_of, may_follow};
+use super::steps::{Answer, Ask, Ends, Step};
 use change_list::{Item, Write};
 use interval_class::Interval;
 use key_class::Refusal;
@@ -26,15 +26,15 @@ pub enum Flaw {
     Finder,
     /// A row that can't be deleted is looked for and not refused as such, or one that can is.
     Row,
+    /// A commit that isn't there is followed, or one that is there is refused as one to come.
+    Future,
 }
 
 /// A cursor, as its answers tell.
 #[derive(Drop)]
 struct Follower {
     serial: u64,
-    query: Query,
-    /// How many commits there were at its opening.
-    opened: u64,
+    opening: Opening,
     /// What was taken, without marks.
     delivered: Vec<Item<Interval>>,
     /// How many commits there were at each asking for a mark.
@@ -79,8 +79,8 @@ impl Follower {
         item: Item<Interval>,
     ) -> Result<Option<Flaw>, AllocError> {
         self.delivered.push(item)?;
-        let bounds = (self.opened, commits.len() as u64);
-        let extent = extent_of(alloc, commits, self.query, bounds, &self.delivered)?;
+        let last = commits.len() as u64;
+        let extent = extent_of(alloc, commits, self.opening, last, &self.delivered)?;
         Ok((extent == Extent::Other).then_some(Flaw::Delivery))
     }
 
@@ -92,9 +92,8 @@ impl Follower {
         last: u64,
     ) -> Result<Option<Flaw>, AllocError> {
         let count = commits.len() as u64;
-        let bounds = (self.opened, last);
-        let extent = extent_of(alloc, commits, self.query, bounds, &self.delivered)?;
-        if last < self.opened || count < last || extent != Extent::Whole {
+        let extent = extent_of(alloc, commits, self.opening, last, &self.delivered)?;
+        if last < self.opening.commit || count < last || extent != Extent::Whole {
             return Ok(Some(Flaw::Mark));
         }
         let asking = self.askings.get(self.used_askings).copied();
@@ -184,7 +183,22 @@ impl Checker {
                 self.commit(inserts(write, ends, tag), number, write)
             }
             (Ask::Find(row), answer) => self.find(row, answer),
-            (Ask::Open(query, _), Answer::Opened(serial)) => self.open(query, serial),
+            (Ask::Open(query, _), Answer::Opened(serial)) => {
+                let opening = Opening {
+                    query,
+                    follows: false,
+                    commit: self.commits.len() as u64,
+                };
+                self.open(opening, serial)
+            }
+            (Ask::Follow(query, _, commit), answer) => {
+                let opening = Opening {
+                    query,
+                    follows: true,
+                    commit,
+                };
+                self.open_follower(opening, answer)
+            }
             _ => Ok(None),
         }
     }
@@ -256,7 +270,21 @@ impl Checker {
         Ok((!is_told).then_some(Flaw::Row))
     }
 
-    fn open(&mut self, query: Query, serial: u64) -> Result<Option<Flaw>, AllocError> {
+    fn open_follower(
+        &mut self,
+        opening: Opening,
+        answer: Answer,
+    ) -> Result<Option<Flaw>, AllocError> {
+        let is_there = opening.commit <= self.commits.len() as u64;
+        match answer {
+            Answer::Opened(serial) if is_there => self.open(opening, serial),
+            Answer::Opened(_) => Ok(Some(Flaw::Future)),
+            Answer::Refused(Refusal::FromFuture) if is_there => Ok(Some(Flaw::Future)),
+            _ => Ok(None),
+        }
+    }
+
+    fn open(&mut self, opening: Opening, serial: u64) -> Result<Option<Flaw>, AllocError> {
         for follower in &self.followers {
             if follower.serial == serial {
                 return Ok(Some(Flaw::Serial));
@@ -264,8 +292,7 @@ impl Checker {
         }
         self.followers.push(Follower {
             serial,
-            query,
-            opened: self.commits.len() as u64,
+            opening,
             delivered: Vec::new(self.alloc),
             askings: Vec::new(self.alloc),
             used_askings: 0,

@@ -91,8 +91,33 @@ static MOVES: [Ask; 23] = [
     Ask::Find(1),
 ];
 
+/// A cursor that follows commit 1, an insert and a delete while it goes on, a mark; then a commit that is to come, and the
+/// last one.
+static FOLLOWS: [Ask; 20] = [
+    Ask::Place(0, (1, 1), 7),
+    Ask::Place(0, (2, 2), 8),
+    Ask::Follow(Query::Overlaps(0, 9), 8, 1),
+    Ask::Place(0, (3, 3), 0),
+    Ask::Find(1),
+    Ask::Seek(1),
+    Ask::AskMark(1),
+    Ask::Turn(1),
+    Ask::Turn(1),
+    Ask::Turn(1),
+    Ask::Turn(1),
+    Ask::Take(1),
+    Ask::Take(1),
+    Ask::Take(1),
+    Ask::Take(1),
+    Ask::Follow(Query::Overlaps(0, 9), 8, 5),
+    Ask::Follow(Query::Overlaps(0, 9), 8, 4),
+    Ask::Turn(2),
+    Ask::Close(1),
+    Ask::Take(1),
+];
+
 /// Events of each kind, most of which are answered, and some refused.
-static EACH_KIND: [Ask; 75] = [
+static EACH_KIND: [Ask; 79] = [
     Ask::Place(0, (1, 1), 0),
     Ask::Place(0, (2, 2), 0),
     Ask::Place(0, (3, 3), 0),
@@ -176,6 +201,11 @@ static EACH_KIND: [Ask; 75] = [
     Ask::Move(3, 1, (2, 2)),
     Ask::Move(3, 1, (2, 2)),
     Ask::Move(3, 1, (2, 2)),
+    // A cursor follows from the beginning.
+    Ask::Follow(Query::Overlaps(0, 99), 4, 0),
+    Ask::Turn(3),
+    Ask::Take(3),
+    Ask::Follow(Query::Overlaps(0, 99), 4, 99),
 ];
 
 /// An answer, told by plain values. A row is told by its number, its point and its tag.
@@ -256,6 +286,26 @@ fn flaw(alloc: Global, list: &[Ask], edits: Edits) -> Result<Option<(usize, Flaw
     Ok(first_flaw(alloc, &steps)?)
 }
 
+/// The first of some edits that make a flaw.
+fn first_flawed(alloc: Global, list: &[Ask], flawless: &[Edits]) -> Result<Option<usize>, Fail> {
+    for (number, edits) in flawless.iter().enumerate() {
+        if flaw(alloc, list, edits)?.is_some() {
+            return Ok(Some(number));
+        }
+    }
+    Ok(None)
+}
+
+/// The first of some edits for which the checker finds another flaw or none.
+fn first_unfound(alloc: Global, list: &[Ask], flawed: &[Flawed]) -> Result<Option<usize>, Fail> {
+    for (number, (edits, place, wanted)) in flawed.iter().enumerate() {
+        if flaw(alloc, list, edits)? != Some((*place, *wanted)) {
+            return Ok(Some(number));
+        }
+    }
+    Ok(None)
+}
+
 fn edit(steps: &mut [Step], edits: Edits) {
     for (place, told) in edits {
         if let Some(step) = steps.get_mut(*place) {
@@ -278,9 +328,8 @@ static FLAWLESS_INSERTS: [Edits; 3] = [
 
 #[test]
 fn a_trace_with_inserts_has_no_flaw(rt: HostRuntime) -> Result<(), Fail> {
-    for (number, edits) in FLAWLESS_INSERTS.iter().enumerate() {
-        assert!(rt; flaw(rt.alloc(), &INSERTS, edits)?.is_none(), "{number}");
-    }
+    let flawed = first_flawed(rt.alloc(), &INSERTS, &FLAWLESS_INSERTS)?;
+    assert!(rt; flawed.is_none(), "{flawed:?}");
     Ok(())
 }
 
@@ -318,10 +367,8 @@ static EDITED_INSERTS: [Flawed; 15] = [
 
 #[test]
 fn edited_answers_to_inserts_are_refused(rt: HostRuntime) -> Result<(), Fail> {
-    for (number, (edits, place, wanted)) in EDITED_INSERTS.iter().enumerate() {
-        let found = flaw(rt.alloc(), &INSERTS, edits)?;
-        assert!(rt; found == Some((*place, *wanted)), "{number}: {found:?}");
-    }
+    let unfound = first_unfound(rt.alloc(), &INSERTS, &EDITED_INSERTS)?;
+    assert!(rt; unfound.is_none(), "{unfound:?}");
     Ok(())
 }
 
@@ -346,9 +393,8 @@ static FLAWLESS_DELETES: [Edits; 2] = [
 
 #[test]
 fn a_trace_with_deletes_has_no_flaw(rt: HostRuntime) -> Result<(), Fail> {
-    for (number, edits) in FLAWLESS_DELETES.iter().enumerate() {
-        assert!(rt; flaw(rt.alloc(), &DELETES, edits)?.is_none(), "{number}");
-    }
+    let flawed = first_flawed(rt.alloc(), &DELETES, &FLAWLESS_DELETES)?;
+    assert!(rt; flawed.is_none(), "{flawed:?}");
     Ok(())
 }
 
@@ -416,10 +462,8 @@ static EDITED_DELETES: [Flawed; 26] = [
 
 #[test]
 fn edited_answers_to_deletes_are_refused(rt: HostRuntime) -> Result<(), Fail> {
-    for (number, (edits, place, wanted)) in EDITED_DELETES.iter().enumerate() {
-        let found = flaw(rt.alloc(), &DELETES, edits)?;
-        assert!(rt; found == Some((*place, *wanted)), "{number}: {found:?}");
-    }
+    let unfound = first_unfound(rt.alloc(), &DELETES, &EDITED_DELETES)?;
+    assert!(rt; unfound.is_none(), "{unfound:?}");
     Ok(())
 }
 
@@ -443,9 +487,8 @@ static FLAWLESS_MOVES: [Edits; 2] = [
 
 #[test]
 fn a_trace_with_moves_has_no_flaw(rt: HostRuntime) -> Result<(), Fail> {
-    for (number, edits) in FLAWLESS_MOVES.iter().enumerate() {
-        assert!(rt; flaw(rt.alloc(), &MOVES, edits)?.is_none(), "{number}");
-    }
+    let flawed = first_flawed(rt.alloc(), &MOVES, &FLAWLESS_MOVES)?;
+    assert!(rt; flawed.is_none(), "{flawed:?}");
     Ok(())
 }
 
@@ -481,9 +524,59 @@ static EDITED_MOVES: [Flawed; 20] = [
 
 #[test]
 fn edited_answers_to_moves_are_refused(rt: HostRuntime) -> Result<(), Fail> {
-    for (number, (edits, place, wanted)) in EDITED_MOVES.iter().enumerate() {
-        let found = flaw(rt.alloc(), &MOVES, edits)?;
-        assert!(rt; found == Some((*place, *wanted)), "{number}: {found:?}");
-    }
+    let unfound = first_unfound(rt.alloc(), &MOVES, &EDITED_MOVES)?;
+    assert!(rt; unfound.is_none(), "{unfound:?}");
+    Ok(())
+}
+
+/// Edits of the answers to a cursor that follows a commit that make no flaw: none, and what the world answers.
+static FLAWLESS_FOLLOWS: [Edits; 2] = [
+    &[],
+    &[
+        (2, Told::Opened(1)),
+        (11, Told::Inserted(2, 2, 8)),
+        (12, Told::Inserted(3, 3, 0)),
+        (13, Told::Deleted(4, 1)),
+        (14, Told::Mark(4)),
+        (15, Told::Refused(Refusal::FromFuture)),
+        (16, Told::Opened(2)),
+        (17, Told::Refused(Refusal::Idle)),
+    ],
+];
+
+#[test]
+fn a_trace_that_follows_has_no_flaw(rt: HostRuntime) -> Result<(), Fail> {
+    let flawed = first_flawed(rt.alloc(), &FOLLOWS, &FLAWLESS_FOLLOWS)?;
+    assert!(rt; flawed.is_none(), "{flawed:?}");
+    Ok(())
+}
+
+static EDITED_FOLLOWS: [Flawed; 11] = [
+    // A row of a snapshot, the commit that is followed, and the one after the next.
+    (&[(11, Told::Row(1, 1, 7))], 11, Flaw::Delivery),
+    (&[(11, Told::Inserted(1, 1, 7))], 11, Flaw::Delivery),
+    (&[(11, Told::Inserted(3, 3, 0))], 11, Flaw::Delivery),
+    // A change left out, and one doubled.
+    (&[(13, Told::Nothing)], 14, Flaw::Mark),
+    (&[(12, Told::Inserted(2, 2, 8))], 12, Flaw::Delivery),
+    // A mark one too high, and one that nobody asked for.
+    (&[(14, Told::Mark(5))], 14, Flaw::Mark),
+    (&[(6, Told::Refused(Refusal::NodeFull))], 14, Flaw::Asking),
+    // A commit that is to come, and one that is there.
+    (&[(15, Told::Opened(2))], 15, Flaw::Future),
+    (
+        &[(16, Told::Refused(Refusal::FromFuture))],
+        16,
+        Flaw::Future,
+    ),
+    // A serial given twice, and a take of what is closed.
+    (&[(16, Told::Opened(1))], 16, Flaw::Serial),
+    (&[(19, Told::Nothing)], 19, Flaw::Closed),
+];
+
+#[test]
+fn edited_answers_to_what_follows_are_refused(rt: HostRuntime) -> Result<(), Fail> {
+    let unfound = first_unfound(rt.alloc(), &FOLLOWS, &EDITED_FOLLOWS)?;
+    assert!(rt; unfound.is_none(), "{unfound:?}");
     Ok(())
 }

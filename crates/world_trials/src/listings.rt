@@ -179,8 +179,18 @@ fn begins(items: &[Item<Interval>], list: &[Item<Interval>]) -> bool {
     true
 }
 
-/// How far some items are in a listing: the rows that a query asks for after `opened` commits, each once, and then the
-/// changes up to a commit in their order.
+/// What a cursor was opened for.
+#[derive(Clone, Copy)]
+pub struct Opening {
+    pub query: Query,
+    /// Whether it follows a commit, and so has no rows to give.
+    pub follows: bool,
+    /// How many commits there were, or the number of the commit that it follows.
+    pub commit: u64,
+}
+
+/// How far some items are in a listing: the rows that a query asks for at an opening, each once, and then the changes up
+/// to a commit in their order.
 #[derive(Clone, Copy, Debug, PartialEq, Eq)]
 pub enum Extent {
     /// They don't begin one.
@@ -191,16 +201,28 @@ pub enum Extent {
     Whole,
 }
 
-/// How far some items are in a listing from `opened` up to the commit `last`.
+/// The rows that a cursor gives first.
+fn first_rows(
+    alloc: Global,
+    commits: Commits,
+    opening: Opening,
+) -> Result<Vec<Item<Interval>>, AllocError> {
+    if opening.follows {
+        return Ok(Vec::new(alloc));
+    }
+    snapshot(alloc, commits, opening.query, opening.commit)
+}
+
+/// How far some items are in a listing from an opening up to the commit `last`.
 pub fn extent_of(
     alloc: Global,
     commits: Commits,
-    query: Query,
-    (opened, last): (u64, u64),
+    opening: Opening,
+    last: u64,
     items: &[Item<Interval>],
 ) -> Result<Extent, AllocError> {
-    let snapshot = snapshot(alloc, commits, query, opened)?;
-    let changes = changes(alloc, commits, query, opened, last)?;
+    let snapshot = first_rows(alloc, commits, opening)?;
+    let changes = changes(alloc, commits, opening.query, opening.commit, last)?;
     let first_change = items.iter().position(|item| !matches!(item, Item::Row(_)));
     let (rows, later) = items.split_at(first_change.unwrap_or(items.len()));
     if !each_once(rows, &snapshot) || !begins(later, &changes) {

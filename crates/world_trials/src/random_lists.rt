@@ -1,5 +1,5 @@
 use super::checker::first_flaw;
-use super::listings::{Extent, extent_of};
+use super::listings::{Extent, Opening, extent_of};
 use super::steps::{Answer, Ask, Ends, Query, Step, Trial, answer_of, new_world};
 use change_list::{Config, Item, Row, Write};
 use interval_class::Interval;
@@ -229,9 +229,21 @@ impl Source {
         }
     }
 
-    fn opening(&mut self) -> Ask {
+    fn opening(&mut self, world: &Trial) -> Ask {
         let query = self.query();
-        Ask::Open(query, self.below(9))
+        let room = self.below(9);
+        match self.below(3) {
+            0 => Ask::Follow(query, room, self.followed(world)),
+            _ => Ask::Open(query, room),
+        }
+    }
+
+    /// Mostly the number of a commit that is there, or none.
+    fn followed(&mut self, world: &Trial) -> u64 {
+        if self.below(5) == 0 {
+            return self.up_to_twice(world.commits());
+        }
+        self.below(world.commits().saturating_add(1))
     }
 
     fn node_step(&mut self, world: &Trial) -> Ask {
@@ -252,13 +264,13 @@ impl Source {
         }
     }
 
-    fn cursor_step(&mut self) -> Ask {
+    fn cursor_step(&mut self, world: &Trial) -> Ask {
         if self.last_cursor == 0 {
-            return self.opening();
+            return self.opening(world);
         }
         let cursor = self.cursor();
         match self.below(128) {
-            0..3 => self.opening(),
+            0..3 => self.opening(world),
             3 => Ask::Close(cursor),
             4..9 => Ask::AskMark(cursor),
             9..79 => Ask::Turn(cursor),
@@ -291,7 +303,7 @@ impl Source {
             8..14 => self.node_step(world),
             14..20 => self.finder_step(world),
             20 => Ask::Sweep(self.page(world, Use::Sweeping)),
-            _ => self.cursor_step(),
+            _ => self.cursor_step(world),
         }
     }
 }
@@ -397,9 +409,12 @@ fn rows_of(rt: &impl Abort, alloc: Global, world: &Trial) -> Result<Vec<Item<Int
 fn extent_held(rt: &impl Abort, alloc: Global, world: &Trial) -> Result<Extent, Fail> {
     let commits = commits_of(alloc, world)?;
     let rows = rows_of(rt, alloc, world)?;
-    let everything = Query::Overlaps(0, 31);
-    let now = (world.commits(), world.commits());
-    Ok(extent_of(alloc, &commits, everything, now, &rows)?)
+    let everything = Opening {
+        query: Query::Overlaps(0, 31),
+        follows: false,
+        commit: world.commits(),
+    };
+    Ok(extent_of(alloc, &commits, everything, world.commits(), &rows)?)
 }
 
 /// How a random list ended whose world was then settled.
@@ -455,7 +470,7 @@ fn add_flawless(alloc: Global, seed: u64, all: &mut Vec<Step>) -> Result<bool, F
 }
 
 /// The words that begin answers, each of which comes.
-static WORDS: [&str; 38] = [
+static WORDS: [&str; 39] = [
     "enlarged",
     "committed",
     "split",
@@ -494,6 +509,7 @@ static WORDS: [&str; 38] = [
     "NoRoom",
     "Idle",
     "NoSuchFinder",
+    "FromFuture",
 ];
 
 #[test]

@@ -65,6 +65,7 @@ pub enum Ask {
     Unfind(u64),
     Sweep(u64),
     Open(Query, u64),
+    Follow(Query, u64, u64),
     Turn(u64),
     AskMark(u64),
     Take(u64),
@@ -89,6 +90,9 @@ impl Ask {
             Ask::Unfind(finder) => Ok(Event::Unfind(finder)),
             Ask::Sweep(page) => Ok(Event::Sweep(page)),
             Ask::Open(query, room) => Ok(Event::Open(query.pred(alloc)?, room)),
+            Ask::Follow(query, room, commit) => {
+                Ok(Event::Follow(query.pred(alloc)?, room, commit))
+            }
             Ask::Turn(cursor) => Ok(Event::Turn(cursor)),
             Ask::AskMark(cursor) => Ok(Event::AskMark(cursor)),
             Ask::Take(cursor) => Ok(Event::Take(cursor)),

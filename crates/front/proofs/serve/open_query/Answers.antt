@@ -7,10 +7,10 @@ use Rattle.front.proofs.serve.open_query.Goals as goal
 
 pub returns-in-Ok : goal.returns-in-Ok
 returns-in-Ok g c told t =
-    let r = c.open.ensures told t in
+    let r = c.open_at.ensures told t in
     (r.0, inl (query_of c.in-Ok.query, c.in-Ok.ensures.spells, r.1), r.2)
 
 pub returns-in-Err : goal.returns-in-Err
 returns-in-Err g c told t =
-    refused_query g.C.ClassText.texts g.C.KeyClass.rules c.args.store.now told t (length c.args.text.now) (placed c.args.text.now c.args.lexemes.now) (RepliesOpen c.args.room) c.in-Err.why
+    refused_query g.C.ClassText.texts g.C.KeyClass.rules c.args.store.now told t (length c.args.text.now) (placed c.args.text.now c.args.lexemes.now) (RepliesOpen c.args.room c.args.from) c.in-Err.why
     c.in-Err.ensures.refusals (λ place e. c.in-Err.ensures.refuses place (ap Err e))

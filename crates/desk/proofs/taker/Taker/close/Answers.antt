@@ -13,6 +13,9 @@ returns-in-Some-clause-closes g c =
 pub returns-in-Some-clause-taken : goal.returns-in-Some-clause-taken
 returns-in-Some-clause-taken g c = rw (← c.self.view_is) c.checked.ensures.taken
 
+pub returns-in-Some-clause-follows : goal.returns-in-Some-clause-follows
+returns-in-Some-clause-follows g c = rw (← c.self.view_is) c.checked.ensures.follows
+
 pub returns-in-Some-clause-opened : goal.returns-in-Some-clause-opened
 returns-in-Some-clause-opened g c = rw (← c.self.view_is) c.checked.ensures.opened
 

@@ -39,7 +39,7 @@ returns-in_default g c =
             before = p.0;
             after = p.0;
             is_open = p.1;
-            strives = record { serial = refl; query = refl; opened = refl; asked = refl; fits = λ items f. f };
+            strives = record { serial = refl; query = refl; follows = refl; opened = refl; asked = refl; fits = λ items f. f };
             is = with_same c.draining.self c.args.c p.0 p.1;
           },
         );

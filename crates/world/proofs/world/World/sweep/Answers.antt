@@ -1,4 +1,4 @@
-use Rattle.std.proofs.Common.{◌≡◌, ap, length, inl, inr, Err}
+use Rattle.std.proofs.Common.{ap, length, inl, inr}
 use Rattle.std.proofs.lemmas.Result.{err_from_is_err_and}
 use Rattle.collector.specs.Horizons.{IsHorizon}
 use Rattle.world.proofs.FinderSteps.{sweeps_call_sound}

@@ -1,4 +1,4 @@
-use Rattle.std.proofs.Common.{◌≡◌, ◌∷◌, [], inl, refl, sym, ap, ◌∙◌, subst, arith, Err}
+use Rattle.std.proofs.Common.{◌≡◌, ◌∷◌, [], inl, refl, sym, ap, ◌∙◌, subst, arith}
 use Rattle.std.proofs.lemmas.Result.{err_from_is_err_and}
 use Rattle.std.proofs.lemmas.Grind.{common_steps}
 use Rattle.key_class.specs.declared.refusal.Refusal.TheVariants as refusal

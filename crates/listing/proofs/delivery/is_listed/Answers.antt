@@ -4,7 +4,7 @@ use Rattle.change_list.specs.Changes.{snapshot}
 use Rattle.listing.specs.Remaining.{AllTaken, HasWrongRow}
 use Rattle.listing.proofs.Cuts.{below_end, part_from}
 use Rattle.listing.proofs.Delivering.{none_wrong, rows_alone, delivered_from, none_left, followed_from}
-use Rattle.listing.proofs.delivery.is_delivered.Goals as goal
+use Rattle.listing.proofs.delivery.is_listed.Goals as goal
 
 pub returns-in-None-clause-delivered : goal.returns-in-None-clause-delivered
 returns-in-None-clause-delivered g c =
