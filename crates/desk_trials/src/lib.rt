@@ -6,6 +6,8 @@ mod example;
 #[cfg(test)]
 mod following;
 #[cfg(test)]
+mod growths;
+#[cfg(test)]
 mod judged;
 #[cfg(test)]
 mod likeness;

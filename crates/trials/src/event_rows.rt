@@ -15,7 +15,7 @@ const FIVE_COMMITS: Config = Config {
 };
 
 /// What a list shows, the limits of its world, and its lines.
-type List = (
+pub type List = (
     &'static str,
     Config,
     &'static [(&'static str, &'static str)],
@@ -30,6 +30,25 @@ fn first_wrong(rt: HostRuntime, lists: &[List]) -> Result<Option<&'static str>, 
         }
     }
     Ok(None)
+}
+
+/// All lists.
+pub fn lists() -> [&'static [List]; 13] {
+    [
+        MAILBOXES.as_slice(),
+        ENDS.as_slice(),
+        SPLITS.as_slice(),
+        STEPS.as_slice(),
+        NAMES.as_slice(),
+        WAYS.as_slice(),
+        FULL.as_slice(),
+        SWEEPS.as_slice(),
+        LEAVES.as_slice(),
+        CURSORS.as_slice(),
+        MOVES.as_slice(),
+        FOLLOWS.as_slice(),
+        ITEMS.as_slice(),
+    ]
 }
 
 static MAILBOXES: [List; 3] = [

@@ -159,7 +159,7 @@ fn breaks(rt: HostRuntime, lines: &Lines, at_once: usize, calls: usize) -> Resul
 #[test]
 fn reader_that_fails(rt: HostRuntime) -> Result<(), Fail> {
     for lines in [&COMMANDS, &EVENTS] {
-        for at_once in [1, 7, 20, 100] {
+        for at_once in [1, 3, 7, 20, 100] {
             for calls in 0..55 {
                 assert!(rt; breaks(rt, lines, at_once, calls)?, "{at_once} {calls}");
             }
@@ -194,7 +194,7 @@ fn is_start(text: &[u8], bytes: &[u8], count: usize) -> bool {
 #[test]
 fn writer_that_fails(rt: HostRuntime) -> Result<(), Fail> {
     for lines in [&COMMANDS, &EVENTS] {
-        for at_once in [1, 7, 20, 100] {
+        for at_once in [1, 3, 7, 20, 100] {
             for calls in 0..55 {
                 assert!(rt; stops(rt, lines, at_once, calls)?, "{at_once} {calls}");
             }
@@ -239,7 +239,7 @@ fn ends_there(rt: HostRuntime, lines: &Lines, at_once: usize, before: usize) -> 
 #[test]
 fn nothing_is_written_after_a_fault(rt: HostRuntime) -> Result<(), Fail> {
     for lines in [&COMMANDS, &EVENTS] {
-        for at_once in [1, 7, 20, 100] {
+        for at_once in [1, 3, 7, 20, 100] {
             for before in 0..55 {
                 assert!(rt;
                     ends_there(rt, lines, at_once, before)?,
@@ -260,11 +260,43 @@ fn goes_on(rt: HostRuntime, lines: &Lines, at_once: usize, before: usize) -> Res
 #[test]
 fn signal_is_no_fault(rt: HostRuntime) -> Result<(), Fail> {
     for lines in [&COMMANDS, &EVENTS] {
-        for at_once in [1, 7, 20, 100] {
+        for at_once in [1, 3, 7, 20, 100] {
             for before in 0..55 {
                 assert!(rt; goes_on(rt, lines, at_once, before)?, "{at_once} {before}");
             }
         }
     }
+    Ok(())
+}
+
+/// A reader that fails within a line: the line before is answered, and its commit made.
+#[test]
+fn reader_that_fails_within_a_line(rt: HostRuntime) -> Result<(), Fail> {
+    let mut reader = Breaking {
+        rest: b"insert (5 5) 0\ninsert (6",
+        at_once: 100,
+        calls: 1,
+    };
+    let mut written = Vec::new(rt.alloc());
+    let ending = run(rt, Kind::Session, &mut reader, &mut written)?;
+    assert!(rt; matches!(ending.result, Err(Fault::Read)));
+    assert!(rt; written.as_slice() == b"committed 1\n");
+    assert_eq!(rt; ending.commits, 1);
+    Ok(())
+}
+
+/// A writer that fails at its first call: the commit whose answer it doesn't get was made.
+#[test]
+fn writer_that_fails_at_once(rt: HostRuntime) -> Result<(), Fail> {
+    let mut reader = b"insert (5 5) 0".as_slice();
+    let mut writer = Stopping {
+        kept: Vec::new(rt.alloc()),
+        at_once: 100,
+        calls: 0,
+    };
+    let ending = run(rt, Kind::Session, &mut reader, &mut writer)?;
+    assert!(rt; matches!(ending.result, Err(Fault::Write)));
+    assert!(rt; writer.kept.is_empty());
+    assert_eq!(rt; ending.commits, 1);
     Ok(())
 }

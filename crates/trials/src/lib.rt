@@ -29,3 +29,5 @@ mod replays;
 mod rows;
 #[cfg(test)]
 mod runs;
+#[cfg(test)]
+mod twins;

@@ -76,7 +76,7 @@ fn is_answered<C: ClassText>(rt: HostRuntime, input: &str, output: &str) -> Resu
     Ok(written.as_slice() == output.as_bytes())
 }
 
-static PASSED_BOXES: [(&str, &str); 7] = [
+pub static PASSED_BOXES: [(&str, &str); 7] = [
     ("open 2 holds(0 0 0 0)", "opened 1"),
     ("place 0 (1 1 2 2) 3", "committed 1"),
     ("place 0 (-1 -1 0 0) 4", "committed 2"),
@@ -86,7 +86,7 @@ static PASSED_BOXES: [(&str, &str); 7] = [
     ("take 1", "inserted 2 (-1 -1 0 0) 4"),
 ];
 
-static PASSED_SETS: [(&str, &str); 5] = [
+pub static PASSED_SETS: [(&str, &str); 5] = [
     ("place 0 {2 1} 3", "committed 1"),
     ("open 2 overlaps{2}", "opened 1"),
     ("turn 1", "visited 0"),
@@ -94,7 +94,7 @@ static PASSED_SETS: [(&str, &str); 5] = [
     ("take 1", "row 1 {1 2} 3"),
 ];
 
-static MOVED_BOXES: [(&str, &str); 9] = [
+pub static MOVED_BOXES: [(&str, &str); 9] = [
     ("open 2 holds(0 0 0 0)", "opened 1"),
     ("place 0 (0 0 1 1) 3", "committed 1"),
     ("find 1", "finder 1"),
@@ -106,7 +106,7 @@ static MOVED_BOXES: [(&str, &str); 9] = [
     ("take 1", "moved 2 1 (-1 -1 2 2) 3"),
 ];
 
-static MOVED_SETS: [(&str, &str); 8] = [
+pub static MOVED_SETS: [(&str, &str); 8] = [
     ("place 0 {2 1} 3", "committed 1"),
     ("open 2 overlaps{2}", "opened 1"),
     ("find 1", "finder 1"),

@@ -580,3 +580,16 @@ fn edited_answers_to_what_follows_are_refused(rt: HostRuntime) -> Result<(), Fai
     assert!(rt; unfound.is_none(), "{unfound:?}");
     Ok(())
 }
+
+/// Items of the first cursor in the place of one of the second.
+static EXCHANGED: [Flawed; 2] = [
+    (&[(63, Told::Row(5, 5, 0))], 63, Flaw::Delivery),
+    (&[(63, Told::Deleted(13, 5))], 63, Flaw::Delivery),
+];
+
+#[test]
+fn items_of_another_cursor_are_refused(rt: HostRuntime) -> Result<(), Fail> {
+    let unfound = first_unfound(rt.alloc(), &EACH_KIND, &EXCHANGED)?;
+    assert!(rt; unfound.is_none(), "{unfound:?}");
+    Ok(())
+}

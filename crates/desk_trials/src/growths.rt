@@ -1,0 +1,264 @@
+//! One client after another at a desk, where a growth may be refused: the call that is refused so leaves the lock and the
+//! seats whole, and is made once more.
+ghost use Rattle.std.specs.Prelude.{◌≡◌};
+
+use crate::queries::all;
+use change_list::{Config, Item, Row};
+use desk::{Desk, Ended, Finished, Seat, Taker};
+use interval_class::{Interval, Intervals};
+use key_class::Refusal;
+use std::alloc::Global;
+use std::marker::Brand;
+use std::process::Abort;
+use std::sync::Wait;
+use std::sync::ledger::{Blank, Ledger};
+use std::test::*;
+use world::Reply;
+
+const CONFIG: Config = Config {
+    fan: 4,
+    least: 2,
+    pages: 64,
+    commits: 1_000,
+};
+
+/// So many calls were refused for want of memory, and were made once more.
+#[derive(Drop)]
+struct Refusals(u64);
+
+impl Refusals {
+    /// Whether an answer is such a refusal, which is counted.
+    fn notes(&mut self, why: Option<Refusal>) -> bool {
+        let is_want = why == Some(Refusal::OutOfMemory);
+        if is_want {
+            self.0 = self.0.saturating_add(1);
+        }
+        is_want
+    }
+}
+
+/// A call that changes a seat, and is refused: the seat is as it was.
+fn is_kept<L: Ledger>(seat: &Seat<Intervals, L>, share: u64) -> bool {
+    seat.share() == share && seat.stamps().len() as u64 == share
+}
+
+fn insert<L: Ledger, R: Wait>(
+    rt: &R,
+    desk: &Desk<Intervals, L>,
+    seat: &mut Seat<Intervals, L>,
+    refusals: &mut Refusals,
+    low: i64,
+) -> Result<u64, Refusal> {
+    let key = Interval::new(low, low)?;
+    let share = seat.share();
+    let stamped = desk.insert(rt, seat, key, 0).map(|stamp| stamp.number());
+    if refusals.notes(stamped.err()) && is_kept(seat, share) {
+        return Ok(desk.insert(rt, seat, key, 0)?.number());
+    }
+    stamped
+}
+
+fn delete<L: Ledger, R: Wait>(
+    rt: &R,
+    desk: &Desk<Intervals, L>,
+    seat: &mut Seat<Intervals, L>,
+    refusals: &mut Refusals,
+    row: u64,
+) -> Result<u64, Refusal> {
+    let share = seat.share();
+    let stamped = desk.delete(rt, seat, row).map(|stamp| stamp.number());
+    if refusals.notes(stamped.err()) && is_kept(seat, share) {
+        return Ok(desk.delete(rt, seat, row)?.number());
+    }
+    stamped
+}
+
+fn move_row<L: Ledger, R: Wait>(
+    rt: &R,
+    desk: &Desk<Intervals, L>,
+    seat: &mut Seat<Intervals, L>,
+    refusals: &mut Refusals,
+    row: u64,
+    low: i64,
+) -> Result<u64, Refusal> {
+    let key = Interval::new(low, low)?;
+    let share = seat.share();
+    let stamped = desk
+        .move_row(rt, seat, row, key)
+        .map(|stamp| stamp.number());
+    if refusals.notes(stamped.err()) && is_kept(seat, share) {
+        return Ok(desk.move_row(rt, seat, row, key)?.number());
+    }
+    stamped
+}
+
+fn open<'d, L: Ledger, R: Wait>(
+    rt: &R,
+    desk: &'d Desk<Intervals, L>,
+    seat: &mut Seat<Intervals, L>,
+    refusals: &mut Refusals,
+) -> Result<Taker<'d, Intervals, L>, Refusal> {
+    match desk.open_cursor(rt, seat, all()?, 2) {
+        Err(why) if refusals.notes(Some(why)) => desk.open_cursor(rt, seat, all()?, 2),
+        opened => opened,
+    }
+}
+
+fn open_from<'d, L: Ledger, R: Wait>(
+    rt: &R,
+    desk: &'d Desk<Intervals, L>,
+    seat: &mut Seat<Intervals, L>,
+    refusals: &mut Refusals,
+    commit: u64,
+) -> Result<Taker<'d, Intervals, L>, Refusal> {
+    match desk.open_from(rt, seat, all()?, 2, commit) {
+        Err(why) if refusals.notes(Some(why)) => desk.open_from(rt, seat, all()?, 2, commit),
+        opened => opened,
+    }
+}
+
+/// How many dead rows a sweep of a page takes out. None where it is no leaf, or none at all.
+fn sweep<L: Ledger, R: Wait>(rt: &R, desk: &Desk<Intervals, L>, page: u64) -> Result<u64, Refusal> {
+    match desk.sweep(rt, page) {
+        Reply::Swept(count) => Ok(count),
+        Reply::Refused(Refusal::OutOfMemory) => Err(Refusal::OutOfMemory),
+        _ => Ok(0),
+    }
+}
+
+/// How many dead rows a sweep of all pages takes out.
+fn sweep_all<L: Ledger, R: Wait>(
+    rt: &R,
+    desk: &Desk<Intervals, L>,
+    refusals: &mut Refusals,
+) -> Result<u64, Refusal> {
+    let mut swept: u64 = 0;
+    for page in 0..u64::from(CONFIG.pages) {
+        let count = match sweep(rt, desk, page) {
+            Err(why) if refusals.notes(Some(why)) => sweep(rt, desk, page)?,
+            count => count?,
+        };
+        swept = swept.saturating_add(count);
+    }
+    Ok(swept)
+}
+
+/// Adds what a cursor sends until it is idle.
+fn take_all<L: Ledger, R: Wait>(
+    rt: &R,
+    desk: &Desk<Intervals, L>,
+    taker: &mut Taker<'_, Intervals, L>,
+    refusals: &mut Refusals,
+    taken: &mut Vec<Item<Interval>>,
+) -> Result<(), Refusal> {
+    for _ in 0..100 {
+        match desk.turn(rt, taker.cursor()) {
+            Reply::Refused(Refusal::Idle) => return Ok(()),
+            Reply::Refused(why) if !refusals.notes(Some(why)) => return Err(why),
+            _ => {}
+        }
+        if let Some(item) = taker.take() {
+            taken.push(item)?;
+        }
+    }
+    Err(Refusal::Idle)
+}
+
+/// Whether the last items are a delete of row 2, a move of row 3 to another key, and these further ones.
+fn ends_so(items: &[Item<Interval>], further: &[Item<Interval>]) -> Result<bool, Refusal> {
+    let moved = Row {
+        row: 9,
+        key: Interval::new(30, 30)?,
+        tag: 0,
+    };
+    let changes = [Item::Deleted(8, 2), Item::Moved(moved, 3)];
+    Ok(
+        items
+            .strip_suffix(further)
+            .is_some_and(|items| items.ends_with(&changes)),
+    )
+}
+
+/// Whether a closing gave a receipt of nine commits. One that gave none was refused memory.
+fn is_received(ended: &Ended<Interval>, opened: u64, refusals: &mut Refusals) -> bool {
+    match ended {
+        Ended::Receipt(receipt) => receipt.commits() == 9 && receipt.opened() == opened,
+        Ended::NoReceipt => refusals.notes(Some(Refusal::OutOfMemory)),
+    }
+}
+
+/// Whether seven rows get the numbers from 1.
+fn write_all<L: Ledger, R: Wait>(
+    rt: &R,
+    desk: &Desk<Intervals, L>,
+    seat: &mut Seat<Intervals, L>,
+    refusals: &mut Refusals,
+) -> Result<bool, Refusal> {
+    for low in 1..8 {
+        if insert(rt, desk, seat, refusals, low)? != low.unsigned_abs() {
+            return Ok(false);
+        }
+    }
+    Ok(true)
+}
+
+/// Whether two cursors, one of which follows commit 5, send what they should while a client deletes and moves.
+fn are_served<L: Ledger, R: Wait>(
+    rt: &R,
+    alloc: Global,
+    desk: &Desk<Intervals, L>,
+    seat: &mut Seat<Intervals, L>,
+    refusals: &mut Refusals,
+) -> Result<bool, Refusal> {
+    let mut taken = Vec::with_capacity(alloc, 20)?;
+    let mut followed = Vec::with_capacity(alloc, 20)?;
+    let mut taker = open(rt, desk, seat, refusals)?;
+    let mut follower = open_from(rt, desk, seat, refusals, 5)?;
+    let deleted = delete(rt, desk, seat, refusals, 2)?;
+    let moved = move_row(rt, desk, seat, refusals, 3, 30)?;
+    let _asked = desk.ask_mark(rt, taker.cursor());
+    take_all(rt, desk, &mut taker, refusals, &mut taken)?;
+    take_all(rt, desk, &mut follower, refusals, &mut followed)?;
+    let swept = sweep_all(rt, desk, refusals)?;
+    let ended = taker.close(rt, seat, taken.as_slice());
+    let is_whole = is_received(&ended, 7, refusals);
+    let ended = follower.close(rt, seat, followed.as_slice());
+    Ok(
+        is_whole
+            && is_received(&ended, 5, refusals)
+            && (deleted, moved, swept) == (8, 9, 2)
+            && (taken.len(), followed.len()) == (10, 4)
+            && ends_so(taken.as_slice(), &[Item::Mark(9)])?
+            && ends_so(followed.as_slice(), &[])?,
+    )
+}
+
+/// Whether all is whole in the end, and at most one call was refused for want of memory.
+fn is_whole<L: Ledger>(finished: Finished<Intervals, L>, refusals: &Refusals) -> bool {
+    match finished {
+        Finished::Closing(closing) => closing.sum() == 9 && refusals.0 < 2,
+        _ => false,
+    }
+}
+
+fn refused_at_a_desk<L: Ledger, R: Wait + Abort>(
+    rt: &R,
+    alloc: Global,
+    blank: Blank,
+) -> Result<(), Fail>
+    requires name { blank.name ≡ L.name }
+    requires parts { blank.parts ≡ L.parts }
+    requires one { blank.parts ≡ 1 }
+{
+    let (desk, mut seats) = Desk::<Intervals, L>::new(alloc, blank, CONFIG, 1)?;
+    let mut refusals = Refusals(0);
+    assert!(rt; write_all(rt, &desk, &mut seats[0], &mut refusals)?);
+    assert!(rt; are_served(rt, alloc, &desk, &mut seats[0], &mut refusals)?);
+    assert!(rt; is_whole(desk.finish(seats), &refusals));
+    Ok(())
+}
+
+#[test]
+fn refused_memory_leaves_a_desk_whole(rt: HostRuntime) -> Result<(), Fail> {
+    refused_at_a_desk::<Brand, _>(&rt, rt.alloc(), Blank::new(1))
+}
