@@ -280,7 +280,7 @@ fn reader_that_fails_within_a_line(rt: HostRuntime) -> Result<(), Fail> {
     let mut written = Vec::new(rt.alloc());
     let ending = run(rt, Kind::Session, &mut reader, &mut written)?;
     assert!(rt; matches!(ending.result, Err(Fault::Read)));
-    assert!(rt; written.as_slice() == b"committed 1\n");
+    assert!(rt; written.as_slice() == b"committed 1\n".as_slice());
     assert_eq!(rt; ending.commits, 1);
     Ok(())
 }

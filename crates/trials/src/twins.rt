@@ -152,12 +152,21 @@ fn are_kept<C: ClassText>(
     Ok(twins.end())
 }
 
+/// The first of some lists by which two worlds aren't kept the same.
+fn first_unkept(rt: HostRuntime, lists: &[List]) -> Result<Option<&'static str>, Fail> {
+    for (name, config, lines) in lists {
+        if !are_kept::<Intervals>(rt, *config, lines)? {
+            return Ok(Some(*name));
+        }
+    }
+    Ok(None)
+}
+
 #[test]
 fn refused_memory_changes_no_world(rt: HostRuntime) -> Result<(), Fail> {
-    for named in lists() {
-        for (name, config, lines) in named {
-            assert!(rt; are_kept::<Intervals>(rt, *config, lines)?, "{name}");
-        }
+    for some in lists() {
+        let unkept = first_unkept(rt, some)?;
+        assert!(rt; unkept.is_none(), "{unkept:?}");
     }
     Ok(())
 }
