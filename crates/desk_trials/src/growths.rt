@@ -143,25 +143,25 @@ fn sweep_all<L: Ledger, R: Wait>(
     Ok(swept)
 }
 
-/// Adds what a cursor sends until it is idle.
+/// Adds what a cursor sends until it is idle, and tells whether it comes to that.
 fn take_all<L: Ledger, R: Wait>(
     rt: &R,
     desk: &Desk<Intervals, L>,
     taker: &mut Taker<'_, Intervals, L>,
     refusals: &mut Refusals,
     taken: &mut Vec<Item<Interval>>,
-) -> Result<(), Refusal> {
+) -> bool {
     for _ in 0..100 {
         match desk.turn(rt, taker.cursor()) {
-            Reply::Refused(Refusal::Idle) => return Ok(()),
-            Reply::Refused(why) if !refusals.notes(Some(why)) => return Err(why),
+            Reply::Refused(Refusal::Idle) => return true,
+            Reply::Refused(why) if !refusals.notes(Some(why)) => return false,
             _ => {}
         }
         if let Some(item) = taker.take() {
-            taken.push(item)?;
+            let _kept = taken.push(item);
         }
     }
-    Err(Refusal::Idle)
+    false
 }
 
 /// Whether the last items are a delete of row 2, a move of row 3 to another key, and these further ones.
@@ -202,7 +202,42 @@ fn write_all<L: Ledger, R: Wait>(
     Ok(true)
 }
 
-/// Whether two cursors, one of which follows commit 5, send what they should while a client deletes and moves.
+/// What a cursor over all rows sends while a client deletes and moves, and whether its closing tells the same.
+fn is_served<L: Ledger, R: Wait>(
+    rt: &R,
+    desk: &Desk<Intervals, L>,
+    seat: &mut Seat<Intervals, L>,
+    refusals: &mut Refusals,
+    taken: &mut Vec<Item<Interval>>,
+) -> bool {
+    let Ok(mut taker) = open(rt, desk, seat, refusals) else {
+        return false;
+    };
+    let deleted = delete(rt, desk, seat, refusals, 2);
+    let moved = move_row(rt, desk, seat, refusals, 3, 30);
+    let _asked = desk.ask_mark(rt, taker.cursor());
+    let is_idle = take_all(rt, desk, &mut taker, refusals, taken);
+    let ended = taker.close(rt, seat, taken.as_slice());
+    is_idle && is_received(&ended, 7, refusals) && deleted == Ok(8) && moved == Ok(9)
+}
+
+/// What a cursor sends that follows commit 5, and whether its closing tells the same.
+fn is_followed<L: Ledger, R: Wait>(
+    rt: &R,
+    desk: &Desk<Intervals, L>,
+    seat: &mut Seat<Intervals, L>,
+    refusals: &mut Refusals,
+    taken: &mut Vec<Item<Interval>>,
+) -> bool {
+    let Ok(mut taker) = open_from(rt, desk, seat, refusals, 5) else {
+        return false;
+    };
+    let is_idle = take_all(rt, desk, &mut taker, refusals, taken);
+    let ended = taker.close(rt, seat, taken.as_slice());
+    is_idle && is_received(&ended, 5, refusals)
+}
+
+/// Whether both cursors send what they should, and the dead rows are swept behind them.
 fn are_served<L: Ledger, R: Wait>(
     rt: &R,
     alloc: Global,
@@ -212,22 +247,13 @@ fn are_served<L: Ledger, R: Wait>(
 ) -> Result<bool, Refusal> {
     let mut taken = Vec::with_capacity(alloc, 20)?;
     let mut followed = Vec::with_capacity(alloc, 20)?;
-    let mut taker = open(rt, desk, seat, refusals)?;
-    let mut follower = open_from(rt, desk, seat, refusals, 5)?;
-    let deleted = delete(rt, desk, seat, refusals, 2)?;
-    let moved = move_row(rt, desk, seat, refusals, 3, 30)?;
-    let _asked = desk.ask_mark(rt, taker.cursor());
-    take_all(rt, desk, &mut taker, refusals, &mut taken)?;
-    take_all(rt, desk, &mut follower, refusals, &mut followed)?;
-    let swept = sweep_all(rt, desk, refusals)?;
-    let ended = taker.close(rt, seat, taken.as_slice());
-    let is_whole = is_received(&ended, 7, refusals);
-    let ended = follower.close(rt, seat, followed.as_slice());
+    let is_served = is_served(rt, desk, seat, refusals, &mut taken)
+        && is_followed(rt, desk, seat, refusals, &mut followed)
+        && sweep_all(rt, desk, refusals) == Ok(2);
+    let are_counted = (taken.len(), followed.len()) == (10, 4);
     Ok(
-        is_whole
-            && is_received(&ended, 5, refusals)
-            && (deleted, moved, swept) == (8, 9, 2)
-            && (taken.len(), followed.len()) == (10, 4)
+        is_served
+            && are_counted
             && ends_so(taken.as_slice(), &[Item::Mark(9)])?
             && ends_so(followed.as_slice(), &[])?,
     )
