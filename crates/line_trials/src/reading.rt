@@ -23,7 +23,9 @@ impl From<AllocError> for Stop {
 /// What is still to be read of a line.
 #[derive(Clone, Copy)]
 pub struct Reading<'a> {
-    rest: &'a [Token<'a>],
+    tokens: &'a [Token<'a>],
+    /// How many of them are read.
+    read: usize,
     /// The line's length.
     end: usize,
     is_in_query: bool,
@@ -33,7 +35,8 @@ impl<'a> Reading<'a> {
     /// A line of this length, of which nothing is read.
     pub fn new(tokens: &'a [Token<'a>], length: usize) -> Reading<'a> {
         Reading {
-            rest: tokens,
+            tokens,
+            read: 0,
             end: length,
             is_in_query: false,
         }
@@ -44,14 +47,19 @@ impl<'a> Reading<'a> {
         self.is_in_query = true;
     }
 
+    /// What comes next, if the line isn't at its end.
+    fn next(&self) -> Option<Token<'a>> {
+        self.tokens.get(self.read).copied()
+    }
+
     /// The place of what comes next: of a token, or the line's end.
     pub fn place(&self) -> usize {
-        self.rest.first().map_or(self.end, |token| token.place)
+        self.next().map_or(self.end, |token| token.place)
     }
 
     /// How many tokens are left.
     pub fn count(&self) -> usize {
-        self.rest.len()
+        self.tokens.len().saturating_sub(self.read)
     }
 
     /// The fault at a place.
@@ -65,21 +73,20 @@ impl<'a> Reading<'a> {
 
     /// Whether the next token is of a kind.
     pub fn is_next(&self, kind: Kind) -> bool {
-        self.rest.first().is_some_and(|token| token.kind == kind)
+        self.next().is_some_and(|token| token.kind == kind)
     }
 
     /// Whether the next token is this word.
     pub fn is_next_word(&self, word: &str) -> bool {
-        self.rest.first().is_some_and(|token| token.kind == Kind::Word
-            && token.bytes == word.as_bytes())
+        self.next().is_some_and(|token| token.kind == Kind::Word && token.bytes == word.as_bytes())
     }
 
     /// Reads a token of a kind.
     pub fn token(&mut self, kind: Kind) -> Result<Token<'a>, Stop> {
-        match self.rest.split_first() {
-            Some((token, rest)) if token.kind == kind => {
-                self.rest = rest;
-                Ok(*token)
+        match self.next() {
+            Some(token) if token.kind == kind => {
+                self.read = self.read.saturating_add(1);
+                Ok(token)
             }
             _ => Err(self.wrong_at(self.place())),
         }
@@ -98,7 +105,7 @@ impl<'a> Reading<'a> {
 
     /// Sees that nothing is left.
     pub fn end(&self) -> Result<(), Stop> {
-        if self.rest.is_empty() {
+        if self.count() == 0 {
             Ok(())
         } else {
             Err(self.wrong_at(self.place()))

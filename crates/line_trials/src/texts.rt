@@ -191,7 +191,7 @@ pub static DEEP: [Parts; 4] = [
     &[
         (1, "open 1 from 0 "),
         (12, "not(same{}and "),
-        (9, "not "),
+        (8, "not "),
         (12, "("),
         (1, "same{}"),
         (24, ")"),
