@@ -203,7 +203,7 @@ fn read_line(
     Ok(answer)
 }
 
-/// What the grammar tells of a line.
+/// What the grammar tells of a line, which is no longer than a line may be.
 pub fn told_of(alloc: Global, language: Language, class: Class, line: &[u8]) -> Told {
     let Ok(tokens) = tokens_of(alloc, line) else {
         return Told::Wrong(Stop::OutOfMemory);

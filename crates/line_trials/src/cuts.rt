@@ -3,7 +3,8 @@ use super::commands::Language;
 use super::keys::Class;
 use super::runs::is_answered;
 use super::texts::{
-    COMMANDS, DEEP, EVENTS, MOVES_AND_FOLLOWS, Parts, REFUSED_COMMANDS, REFUSED_EVENTS, Text, whole,
+    COMMANDS, DEEP, EVENTS, MOVES_AND_FOLLOWS, Parts, REFUSED_COMMANDS, REFUSED_EVENTS,
+    REFUSED_QUERIES, Text, whole,
 };
 use std::alloc::Global;
 use std::test::Fail;
@@ -44,6 +45,8 @@ fn commands_that_are_cut(rt: HostRuntime) -> Result<(), Fail> {
     let wrong = wrong_cut_of(rt.alloc(), Language::Commands, &REFUSED_COMMANDS)?;
     assert!(rt; wrong.is_none(), "{wrong:?}");
     let wrong = wrong_cut_of(rt.alloc(), Language::Commands, &MOVES_AND_FOLLOWS)?;
+    assert!(rt; wrong.is_none(), "{wrong:?}");
+    let wrong = wrong_cut_of(rt.alloc(), Language::Commands, &REFUSED_QUERIES)?;
     assert!(rt; wrong.is_none(), "{wrong:?}");
     let wrong = wrong_cut_of(rt.alloc(), Language::Commands, &COMMANDS)?;
     assert!(rt; wrong.is_none(), "{wrong:?}");

@@ -1,8 +1,9 @@
 //! The slow reader beside answers that were worked out by hand.
 use super::answers::are_answers;
-use super::commands::Language;
+use super::commands::{Language, Told, told_of};
 use super::keys::Class;
-use super::texts::{DEEP, Parts, whole};
+use super::reading::Stop;
+use super::texts::{DEEP, Parts, REFUSED_QUERIES, whole};
 use std::alloc::Global;
 use std::test::Fail;
 
@@ -198,6 +199,28 @@ fn reader_agrees_with_examples(rt: HostRuntime) -> Result<(), Fail> {
     let wrong = unlike(rt.alloc(), Language::Events, &EVENTS)?;
     assert!(rt; wrong.is_none(), "{wrong:?}");
     Ok(())
+}
+
+/// The places of the faults of the searches whose queries are refused, in their order.
+static PLACES: [usize; 38] = [
+    11, 18, 5, 8, 13, 13, 18, 15, 12, 11, 5, 13, 11, 9, 5, 5, 27, 14, 15, 14, 6, 5, 15, 8, 10, 10,
+    10, 12, 15, 9, 9, 14, 10, 11, 13, 10, 12, 12,
+];
+
+/// Where the query of a command is wrong.
+fn query_fault(alloc: Global, class: Class, line: &str) -> Option<usize> {
+    match told_of(alloc, Language::Commands, class, line.as_bytes()) {
+        Told::Wrong(Stop::QueryText(place)) => Some(place),
+        _ => None,
+    }
+}
+
+#[test]
+fn reader_agrees_with_places(rt: HostRuntime) {
+    for ((class, line), place) in REFUSED_QUERIES.iter().zip(&PLACES) {
+        let told = query_fault(rt.alloc(), *class, line);
+        assert!(rt; told == Some(*place), "{line}");
+    }
 }
 
 /// The answers to the deep queries, in their order.

@@ -3,7 +3,8 @@ use super::commands::Language;
 use super::keys::Class;
 use super::runs::is_answered;
 use super::texts::{
-    COMMANDS, DEEP, EVENTS, MOVES_AND_FOLLOWS, Parts, REFUSED_COMMANDS, REFUSED_EVENTS, Text, whole,
+    COMMANDS, DEEP, EVENTS, MOVES_AND_FOLLOWS, Parts, REFUSED_COMMANDS, REFUSED_EVENTS,
+    REFUSED_QUERIES, Text, whole,
 };
 use std::alloc::Global;
 use std::test::Fail;
@@ -14,7 +15,8 @@ fn wrong_byte(
     alloc: Global,
     language: Language,
     class: Class,
-    (text, place): (&[u8], usize),
+    text: &[u8],
+    place: usize,
     written: &mut Vec<u8>,
 ) -> Result<Option<u8>, Fail> {
     let mut input = text.to_vec(alloc)?;
@@ -38,7 +40,7 @@ fn wrong_replacement(
 ) -> Result<Option<(usize, u8)>, Fail> {
     let mut written = Vec::with_capacity(alloc, 4_096)?;
     for place in 0..text.len() {
-        let wrong = wrong_byte(alloc, language, class, (text, place), &mut written)?;
+        let wrong = wrong_byte(alloc, language, class, text, place, &mut written)?;
         if let Some(byte) = wrong {
             return Ok(Some((place, byte)));
         }
@@ -71,6 +73,13 @@ fn refused_commands_with_bytes_replaced(rt: HostRuntime) -> Result<(), Fail> {
 #[test]
 fn moves_and_follows_with_bytes_replaced(rt: HostRuntime) -> Result<(), Fail> {
     let wrong = wrong_replacement_in(rt.alloc(), Language::Commands, &MOVES_AND_FOLLOWS)?;
+    assert!(rt; wrong.is_none(), "{wrong:?}");
+    Ok(())
+}
+
+#[test]
+fn refused_queries_with_bytes_replaced(rt: HostRuntime) -> Result<(), Fail> {
+    let wrong = wrong_replacement_in(rt.alloc(), Language::Commands, &REFUSED_QUERIES)?;
     assert!(rt; wrong.is_none(), "{wrong:?}");
     Ok(())
 }

@@ -104,8 +104,50 @@ pub static COMMANDS: [Text; 24] = [
     (Class::Set, "insert {1} 0\nmove 1 {2}"),
 ];
 
+/// Searches whose queries are refused.
+pub static REFUSED_QUERIES: [Text; 38] = [
+    (Class::Interval, "find holds(+1 2)"),
+    (Class::Interval, "find same(1 2) and"),
+    (Class::Interval, "find "),
+    (Class::Interval, "find    "),
+    (Class::Interval, "find overlaps{1}"),
+    (Class::Interval, "find overlaps(3 1)"),
+    (Class::Interval, "find overlaps (3 1"),
+    (Class::Interval, "find overlaps(0"),
+    (Class::Interval, "find same(1 - 2)"),
+    (Class::Interval, "find same(1\t2)"),
+    (Class::Interval, "find ä"),
+    (Class::Interval, "find same(1 2\r)"),
+    (Class::Interval, "find same(5-6)"),
+    (Class::Interval, "find same4(1 2)"),
+    (Class::Interval, "find 4same(1 2)"),
+    (Class::Interval, "find notsame(1 2)"),
+    (Class::Interval, "find same(1 2)and(same(1 2)"),
+    (Class::Interval, "find same(1 2))"),
+    (Class::Interval, "find same(1 2) same(3 4)"),
+    (Class::Interval, "find same(1 2 3)"),
+    (Class::Interval, "find ()"),
+    (Class::Interval, "find or same(1 2)"),
+    (Class::Interval, "find same(1 2) not same(1 2)"),
+    (Class::Interval, "find not"),
+    (Class::Interval, "find same and"),
+    (Class::Interval, "find same(9223372036854775808 1)"),
+    (Class::Interval, "find same(-9223372036854775809 1)"),
+    (Class::Interval, "find same(1 9223372036854775808)"),
+    (Class::Box, "find same(0 0 5)"),
+    (Class::Box, "find same(5 0 0 9)"),
+    (Class::Box, "find same(0 9 5 0)"),
+    (Class::Box, "find same(0 0 2147483648 9)"),
+    (Class::Box, "find same(-2147483649 0 0 9)"),
+    (Class::Set, "find holds{128}"),
+    (Class::Set, "find holds{1 -1}"),
+    (Class::Set, "find holds(1)"),
+    (Class::Set, "find holds{1"),
+    (Class::Set, "find holds{1)"),
+];
+
 /// Events that are refused as lines or queries.
-pub static REFUSED_EVENTS: [Text; 35] = [
+pub static REFUSED_EVENTS: [Text; 36] = [
     (Class::Interval, "next 1"),
     (Class::Interval, "7"),
     (Class::Interval, "turn"),
@@ -141,6 +183,7 @@ pub static REFUSED_EVENTS: [Text; 35] = [
     (Class::Interval, "open 4 from"),
     (Class::Interval, "open 4 from x same(0 0)"),
     (Class::Interval, "open 4 from 1"),
+    (Class::Interval, "open 4 from 0"),
 ];
 
 /// Events that are well-formed, of each word and class, and two lines at once.

@@ -58,10 +58,9 @@ fn front_of(text: &[u8]) -> (Kind, usize) {
         [b'}', ..] => (Kind::CloseCurly, 1),
         [b'a'..=b'z', ..] => (Kind::Word, letters(text)),
         [b'0'..=b'9', ..] => (Kind::Number, digits(text)),
-        [b'-', b'0'..=b'9', ..] => match text {
-            [_, behind @ ..] => (Kind::Number, digits(behind).saturating_add(1)),
-            [] => (Kind::Stray, 0),
-        },
+        [b'-', behind @ ..] if digits(behind) > 0 => {
+            (Kind::Number, digits(behind).saturating_add(1))
+        }
         _ => (Kind::Stray, 1),
     }
 }
