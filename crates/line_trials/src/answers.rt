@@ -70,8 +70,8 @@ impl<'a> Answers<'a> {
     }
 }
 
-/// Whether answers are those to lines over a store or a world that is new. Of an answer by one that was changed no more is
-/// compared than that it refuses no line.
+/// Whether answers are those to lines over a store or a world that is new. Of an answer by one that
+/// was changed no more is compared than that it refuses no line.
 pub fn are_answers(
     alloc: Global,
     language: Language,

@@ -1,4 +1,5 @@
-//! The grammar of lines, and what is answered to a line first of all, by a store or a world that is empty.
+//! The grammar of lines, and what is answered to a line first of all, by a store or a world that is
+//! empty.
 use super::decimals::{Decimal, Range};
 use super::keys::{Class, read_key};
 use super::queries::read_query;

@@ -1,5 +1,6 @@
-//! Trials of lines: sessions and replays of short texts, each cut after each of its bytes and with each of its bytes
-//! replaced by each of the 256, beside a slow reader that knows the grammar of lines alone.
+//! Trials of lines: sessions and replays of short texts, each cut after each of its bytes and with
+//! each of its bytes replaced by each of the 256, beside a slow reader that knows the grammar of
+//! lines alone.
 #![tactic(auto)]
 
 #[cfg(test)]

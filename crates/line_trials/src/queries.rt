@@ -1,8 +1,9 @@
 //! The grammar of queries.
 //!
-//! A unit is an atom, a query in round brackets, or `not` and a unit. A conjunction is units with `and` between them, and
-//! a query is conjunctions with `or` between them. So where a unit is due there stands `not`, `(` or an atom's relation;
-//! behind a unit there stands `and`, `or`, a `)` where a bracket is open, or the end where none is.
+//! A unit is an atom, a query in round brackets, or `not` and a unit. A conjunction is units with
+//! `and` between them, and a query is conjunctions with `or` between them. So where a unit is due
+//! there stands `not`, `(` or an atom's relation; behind a unit there stands `and`, `or`, a `)` where
+//! a bracket is open, or the end where none is.
 use super::keys::{Class, read_key};
 use super::reading::{Reading, Stop};
 use super::tokens::Kind;

@@ -9,8 +9,7 @@ use super::texts::{
 use std::alloc::Global;
 use std::test::Fail;
 
-/// Whether a text is answered as the grammar tells with each of the bytes from 0 to 255 at a place; else the first with
-/// which it isn't.
+/// The first byte that, at a place of a text, makes it be answered otherwise than the grammar tells.
 fn wrong_byte(
     alloc: Global,
     language: Language,
@@ -31,7 +30,7 @@ fn wrong_byte(
     Ok(None)
 }
 
-/// The first place and byte by which a text comes to be answered otherwise than the grammar tells.
+/// The first place of a text, with a byte, of which that is so.
 fn wrong_replacement(
     alloc: Global,
     language: Language,

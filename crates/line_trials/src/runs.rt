@@ -56,7 +56,8 @@ fn runs<C: ClassText>(
     }
 }
 
-/// Whether an input is carried out without a fault, and is answered as the grammar tells. What is written is left there.
+/// Whether an input is carried out without a fault, and is answered as the grammar tells. What was
+/// written before is cleared, and the answers are left in its place.
 pub fn is_answered(
     alloc: Global,
     language: Language,
