@@ -5,10 +5,9 @@ use Rattle.std.specs.Prelude.{slice_get, OnErr}
 use Rattle.std.proofs.lemmas.List.{reverse-append, reverse-reverse}
 use mathlib.Core.List.{reverse-cons}
 use Rattle.change_list.proofs.Made.{row_found, row_push}
-use Rattle.change_list.specs.declared.item.Row.{Row}
-use Rattle.change_list.specs.Changes.{HasKey, row_at, status_of}
+use Rattle.change_list.specs.Changes.{HasKey, status_of}
 use Rattle.change_list.specs.declared.write.Status.TheVariants.{Live}
-use Rattle.change_list.specs.declared.write.Write.TheVariants.{Insert, Delete, Move}
+use Rattle.change_list.specs.declared.write.Write.TheVariants.{Insert}
 use Rattle.change_list.specs.declared.write.Write.{Write}
 use Rattle.page_table.specs.Keeping.{KeepsRows}
 use Rattle.page_table.specs.Soundness.{IsSound}

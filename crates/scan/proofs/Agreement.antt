@@ -24,7 +24,7 @@ use Rattle.page_table.specs.Soundness.{IsSound}
 use Rattle.page_table.specs.Trees.{Tree, after_rows, new_tree, page_at, pages_under, pages_within, rows_of_tree}
 use Rattle.page_table.specs.Weights.{one_if_equal, weigh}
 use Rattle.row_version.specs.Entries.{Entry, died_at, is_needed, lives_at, marked}
-use Rattle.scan.proofs.Commits.{commit_last, commit_push, commit_pushed, ended_by, ended_push, ends_push, live_pushed, none_live, or_false, or_left_false}
+use Rattle.scan.proofs.Commits.{commit_last, commit_push, commit_pushed, ended_by, ended_push, ends_push, live_pushed, none_live, or_false}
 use Rattle.scan.specs.Agreement.{Agrees, IsDeath, IsEntryOf, is_row}
 use Rattle.scan.specs.Scanning.{row_of}
 

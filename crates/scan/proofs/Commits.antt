@@ -1,7 +1,6 @@
 -- The numbered commits of a list, and of a list that gains one.
 use Rattle.std.proofs.Common.{◌≡◌, ◌+◌, ◌-◌, ◌<◌, ℕ, zero, suc, Bool, true, false, ◌||◌, List, [], ◌∷◌, ◌++◌, length, Some, ◌⊎◌, inl, inr, refl, sym, ap, ◌∙◌, arith}
 use Rattle.std.specs.Prelude.{nat_eq, slice_get}
-use Rattle.std.proofs.lemmas.Bool.{eq-eqb}
 use Rattle.change_list.proofs.Lists.{slice_get_before, slice_get_end, slice_get_push}
 use Rattle.change_list.proofs.Pushing.{list_any-push}
 use Rattle.change_list.proofs.Tracking.{commit_within, live_commit, live_made, live_within}

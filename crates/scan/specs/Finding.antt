@@ -1,5 +1,5 @@
 -- What a finder looks for, and one visit of it.
-use Rattle.std.specs.Prelude.{◌≡◌, ℕ, ◌≤◌, Bool, false, List, ◌∷◌, [], ◌++◌, Option, Some, Result, IfOk, IfSome, MatchOption, nat_eq}
+use Rattle.std.specs.Prelude.{◌≡◌, ℕ, ◌≤◌, Bool, false, List, ◌∷◌, [], ◌++◌, Option, Result, IfOk, IfSome, MatchOption, nat_eq}
 use Rattle.std.specs.List.{list_any}
 use Rattle.key_class.specs.Rules.{Rules}
 use Rattle.row_version.specs.Entries.{Entry}

@@ -92,7 +92,7 @@ fn note_accepted<C: KeyClass, T: KeyTest<C>>(
 fn is_seen<C: KeyClass, T: KeyTest<C>>(entry: &Entry<C::Key>, test: &T, commit: u32) -> bool
     ensures { result ≡ is_seen (T.accepts test.now) commit entry.now }
 {
-    entry.visible_at(commit) && test.is_accepted(entry.key())
+    test.is_accepted(entry.key()) && entry.visible_at(commit)
 }
 
 /// Whether an entry is that of the row.

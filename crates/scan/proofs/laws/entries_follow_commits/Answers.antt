@@ -1,4 +1,4 @@
-use Rattle.std.proofs.Common.{◌+◌, ◌<◌, arith, length, map, subst, sym}
+use Rattle.std.proofs.Common.{◌+◌, arith, length, map}
 use Rattle.row_version.specs.Entries.{marked}
 use Rattle.page_table.specs.LeafChanges.{after_bury}
 use Rattle.page_table.specs.Trees.{page_at}
