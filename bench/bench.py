@@ -8,6 +8,7 @@ the harness costs nothing. With `--peer` a program over Boost's R-tree gets the 
 
 import argparse
 import itertools
+import math
 import os
 import random
 import shutil
@@ -39,6 +40,8 @@ class Intervals:
     """Points and short intervals on a line, as many a unit for each number of rows."""
 
     name = "interval"
+    finds_of = 1
+    has_peer = True
 
     def __init__(self, rows, generator):
         self.span = rows * 100
@@ -57,6 +60,8 @@ class Boxes:
     """Small boxes in a square, as many in an area for each number of rows."""
 
     name = "box"
+    finds_of = 1
+    has_peer = True
 
     def __init__(self, rows, generator):
         self.span = min(int((rows * 10_000) ** 0.5), 2_000_000_000)
@@ -73,7 +78,38 @@ class Boxes:
         return f"overlaps({left} {low} {left + side} {low + side})"
 
 
-CLASSES = {kind.name: kind for kind in (Intervals, Boxes)}
+class Sets:
+    """Sets of eight elements each, and queries for all that hold so many elements that about the wanted rows match.
+
+    Random sets have no bounds that part them, so a find reads nearly every page: there are fewer finds.
+    """
+
+    name = "set"
+    finds_of = 20
+    has_peer = False
+
+    ELEMENTS = 128
+    SIZE = 8
+
+    def __init__(self, rows, generator):
+        self.rows = rows
+        self.generator = generator
+
+    def text(self, size):
+        return "{" + " ".join(str(element) for element in sorted(self.generator.sample(range(self.ELEMENTS), size))) + "}"
+
+    def key(self):
+        return self.text(self.SIZE)
+
+    def query(self, rows):
+        def expected(size):
+            return self.rows * math.comb(self.ELEMENTS - size, self.SIZE - size) / math.comb(self.ELEMENTS, self.SIZE)
+
+        size = min(range(1, self.SIZE), key=lambda size: abs(math.log(expected(size) / rows)))
+        return "holds" + self.text(size)
+
+
+CLASSES = {kind.name: kind for kind in (Intervals, Boxes, Sets)}
 
 
 class Program:
@@ -307,7 +343,7 @@ def measure(programs, kind, rows, options, folder):
     lines_path = os.path.join(folder, "lines")
     answers_path = os.path.join(folder, "answers")
     cursors = 0 if options.peer else options.cursors
-    phases = write_lines(lines_path, kind, rows, options.finds, cursors, options.items)
+    phases = write_lines(lines_path, kind, rows, options.finds // kind.finds_of, cursors, options.items)
     print(f"{kind.name}, {rows:,} rows", flush=True)
     if options.peer:
         require_equal_answers(programs, lines_path, folder)
@@ -400,8 +436,11 @@ def main():
         parser.error("--rows is 2 to 6,710,886")
     if options.peer:
         build_peer()
-    for name in options.kinds or sorted(CLASSES, reverse=True):
+    for name in options.kinds or CLASSES:
         kind = CLASSES[name]
+        if options.peer and not kind.has_peer:
+            print(f"{name}: there is no peer of this class")
+            continue
         programs = programs_of(options, name)
         costs = {}
         for rows in rows_of_runs:
