@@ -2,8 +2,8 @@ use box_class::{BoxKey, Boxes};
 use interval_class::{Interval, Intervals};
 use key_class::{Refusal, Rel};
 use query_text::{
-    ClassText, Kind, Lexeme, Line, one_cut_for_text, one_meaning_for_text, one_meaning_for_tokens, parse,
-    parse_tokens, print, scan, set_texts_name_their_elements,
+    ClassText, Kind, Lexeme, Line, one_cut_for_text, one_meaning_for_text, one_meaning_for_tokens,
+    parse, parse_tokens, print, scan, set_texts_name_their_elements,
 };
 use set_class::{Elements, Sets};
 use std::alloc::Global;

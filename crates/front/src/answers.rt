@@ -1,4 +1,4 @@
-ghost use Rattle.std.specs.Prelude.{◌≡◌, ◌+◌, ◌≤◌, [], ◌++◌, length, codes, OnOk, IfErr, OnErr};
+ghost use Rattle.std.specs.Prelude.{◌≡◌, ◌+◌, ◌≤◌, [], ◌++◌, length, codes, decimal, OnOk, IfErr, OnErr};
 ghost use Rattle.std.specs.List.{flat_map};
 ghost use Rattle.front.specs.Replies.{row_text, row_line, item_line, refusal_line, first_line, listed, reply_text, numbered_line, pair_line, content_text, moved_line};
 ghost use Rattle.std.specs.Io.KnownBytes.{Appends};
@@ -78,15 +78,24 @@ pub fn send_enough<W: Write>(writer: &mut W, gathered: &mut Gathered) -> Result<
     send(writer, gathered)
 }
 
+/// Appends a number and the line's feed.
+fn append_last(gathered: &mut Gathered, number: u64)
+    requires room { length gathered.old.items + 21 ≤ 1024 }
+    ensures { gathered.new.items ≡ gathered.old.items ++ (decimal number ++ codes "\n") }
+{
+    let mut ending = [b'\n'; 21];
+    let start = write_digits(number, &mut ending, 20);
+    append(gathered, &ending[start..]);
+}
+
 /// Appends a line of some words and a number.
+#[inline]
 pub fn append_numbered(gathered: &mut Gathered, words: &[u8], number: u64)
     requires room { length gathered.old.items + (length words.now + 21) ≤ 1024 }
     ensures { gathered.new.items ≡ gathered.old.items ++ numbered_line words.now number }
 {
-    let mut ending = [b'\n'; 21];
-    let start = write_digits(number, &mut ending, 20);
     append(gathered, words);
-    append(gathered, &ending[start..]);
+    append_last(gathered, number);
 }
 
 /// Appends a line of some words and two numbers.
