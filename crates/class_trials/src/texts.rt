@@ -2,8 +2,8 @@ use box_class::{BoxKey, Boxes};
 use interval_class::{Interval, Intervals};
 use key_class::{Refusal, Rel};
 use query_text::{
-    ClassText, Kind, Lexeme, one_cut_for_text, one_meaning_for_text, one_meaning_for_tokens, parse,
-    parse_tokens, print, scan, set_texts_name_their_elements,
+    ClassText, Kind, Lexeme, Line, one_cut_for_text, one_meaning_for_text, one_meaning_for_tokens,
+    parse, parse_tokens, print, scan, set_texts_name_their_elements,
 };
 use set_class::{Elements, Sets};
 use std::alloc::Global;
@@ -352,7 +352,9 @@ fn rewritten<C: ClassText>(
     let Ok((key, behind)) = C::read_key(text, &lexemes) else {
         return Ok(None);
     };
-    written.extend_from_slice(C::text(key).as_slice())?;
+    let mut line = Line::new();
+    C::put_text(key, &mut line);
+    written.extend_from_slice(line.as_slice())?;
     Ok(Some((key, behind.len())))
 }
 

@@ -1,14 +1,16 @@
-ghost use Rattle.std.specs.Prelude.{◌≡◌, ◌+◌, ◌≤◌, [], ◌++◌, length, OnOk, IfErr, OnErr};
+ghost use Rattle.std.specs.Prelude.{◌≡◌, ◌+◌, ◌≤◌, [], ◌++◌, length, codes, decimal, OnOk, IfErr, OnErr};
 ghost use Rattle.std.specs.List.{flat_map};
 ghost use Rattle.front.specs.Replies.{row_text, row_line, item_line, refusal_line, first_line, listed, reply_text, numbered_line, pair_line, content_text, moved_line};
 ghost use Rattle.std.specs.Io.KnownBytes.{Appends};
+ghost use Rattle.change_list.specs.declared.item.Item.TheVariants.{Inserted};
 ghost use Rattle.front.specs.Written.{HasRoomForLine, Says, TakesBeginning};
 
 use crate::reply::Reply;
 use arrayvec::ArrayVec;
 use change_list::{Item, Row};
+use itoa::write_digits;
 use key_class::{Fault, Refusal};
-use query_text::{ClassText, append, append_number};
+use query_text::{ClassText, Line, append, append_number};
 use std::io::{ErrorKind, Write};
 
 /// How many bytes of answers are gathered before they are written.
@@ -76,14 +78,24 @@ pub fn send_enough<W: Write>(writer: &mut W, gathered: &mut Gathered) -> Result<
     send(writer, gathered)
 }
 
+/// Appends a number and the line's feed.
+fn append_last(gathered: &mut Gathered, number: u64)
+    requires room { length gathered.old.items + 21 ≤ 1024 }
+    ensures { gathered.new.items ≡ gathered.old.items ++ (decimal number ++ codes "\n") }
+{
+    let mut ending = [b'\n'; 21];
+    let start = write_digits(number, &mut ending, 20);
+    append(gathered, &ending[start..]);
+}
+
 /// Appends a line of some words and a number.
+#[inline]
 pub fn append_numbered(gathered: &mut Gathered, words: &[u8], number: u64)
     requires room { length gathered.old.items + (length words.now + 21) ≤ 1024 }
     ensures { gathered.new.items ≡ gathered.old.items ++ numbered_line words.now number }
 {
     append(gathered, words);
-    append_number(gathered, number);
-    append(gathered, b"\n");
+    append_last(gathered, number);
 }
 
 /// Appends a line of some words and two numbers.
@@ -96,37 +108,52 @@ pub fn append_pair(gathered: &mut Gathered, words: &[u8], first: u64, second: u6
     append_numbered(gathered, b" ", second);
 }
 
-/// Appends a row's key and tag.
-fn append_content<C: ClassText>(gathered: &mut Gathered, row: &Row<C::Key>)
-    requires room { length gathered.old.items + 424 ≤ 1024 }
-    ensures text { gathered.new.items
-        ≡ gathered.old.items ++ content_text C.texts.key_text row.now }
-    ensures short { length gathered.new.items ≤ length gathered.old.items + 424 }
+/// Puts a row's key, its tag and the line's feed into a line.
+#[inline]
+fn put_content<C: ClassText>(line: &mut Line, row: &Row<C::Key>)
+    requires empty { line.old ≡ [] }
+    ensures text { line.new ≡ content_text C.texts.key_text row.now ++ codes "\n" }
+    ensures short { length line.new ≤ 425 }
 {
-    append(gathered, C::text(row.key).as_slice());
-    append(gathered, b" ");
-    append_number(gathered, row.tag);
+    line.put_byte(b'\n');
+    line.put_number(row.tag);
+    line.put_byte(b' ');
+    C::put_text(row.key, line);
 }
 
-/// Appends a row's number, key and tag.
-fn append_row<C: ClassText>(gathered: &mut Gathered, row: &Row<C::Key>)
-    requires room { length gathered.old.items + 445 ≤ 1024 }
-    ensures text { gathered.new.items ≡ gathered.old.items ++ row_text C.texts.key_text row.now }
-    ensures short { length gathered.new.items ≤ length gathered.old.items + 445 }
+/// Puts a row's number, its key, its tag and the line's feed into a line.
+#[inline]
+fn put_row<C: ClassText>(line: &mut Line, row: &Row<C::Key>)
+    requires empty { line.old ≡ [] }
+    ensures text { line.new ≡ row_text C.texts.key_text row.now ++ codes "\n" }
+    ensures short { length line.new ≤ 446 }
 {
-    append_number(gathered, row.row);
-    append(gathered, b" ");
-    append_content::<C>(gathered, row);
+    put_content::<C>(line, row);
+    line.put_byte(b' ');
+    line.put_number(row.row);
 }
 
-/// Appends the line of a row.
-fn append_row_line<C: ClassText>(gathered: &mut Gathered, row: &Row<C::Key>)
+/// Appends the line of a row, which is written in place of what `line` has.
+fn append_row_line<C: ClassText>(gathered: &mut Gathered, line: &mut Line, row: &Row<C::Key>)
     requires room { HasRoomForLine gathered.old.items }
     ensures { gathered.new.items ≡ gathered.old.items ++ row_line C.texts.key_text row.now }
 {
-    append(gathered, b"row ");
-    append_row::<C>(gathered, row);
-    append(gathered, b"\n");
+    line.clear();
+    put_row::<C>(line, row);
+    line.put(b"row ");
+    append(gathered, line.as_slice());
+}
+
+/// Appends the line of a row that was inserted.
+fn append_inserted_line<C: ClassText>(gathered: &mut Gathered, row: &Row<C::Key>)
+    requires room { HasRoomForLine gathered.old.items }
+    ensures { gathered.new.items
+        ≡ gathered.old.items ++ item_line C.texts.key_text (Inserted row.now) }
+{
+    let mut line = Line::new();
+    put_row::<C>(&mut line, row);
+    line.put(b"inserted ");
+    append(gathered, line.as_slice());
 }
 
 /// Appends the line of a move: of the row that it made, and the number of the row that it ended.
@@ -134,13 +161,14 @@ fn append_moved_line<C: ClassText>(gathered: &mut Gathered, row: &Row<C::Key>, e
     requires room { HasRoomForLine gathered.old.items }
     ensures { gathered.new.items ≡ gathered.old.items ++ moved_line C.texts.key_text row.now ended }
 {
-    append(gathered, b"moved ");
-    append_number(gathered, row.row);
-    append(gathered, b" ");
-    append_number(gathered, ended);
-    append(gathered, b" ");
-    append_content::<C>(gathered, row);
-    append(gathered, b"\n");
+    let mut line = Line::new();
+    put_content::<C>(&mut line, row);
+    line.put_byte(b' ');
+    line.put_number(ended);
+    line.put_byte(b' ');
+    line.put_number(row.row);
+    line.put(b"moved ");
+    append(gathered, line.as_slice());
 }
 
 /// Appends the line of an item.
@@ -149,12 +177,8 @@ pub fn append_item<C: ClassText>(gathered: &mut Gathered, item: &Item<C::Key>)
     ensures { gathered.new.items ≡ gathered.old.items ++ item_line C.texts.key_text item.now }
 {
     match item {
-        Item::Row(row) => append_row_line::<C>(gathered, row),
-        Item::Inserted(row) => {
-            append(gathered, b"inserted ");
-            append_row::<C>(gathered, row);
-            append(gathered, b"\n");
-        }
+        Item::Row(row) => append_row_line::<C>(gathered, &mut Line::new(), row),
+        Item::Inserted(row) => append_inserted_line::<C>(gathered, row),
         Item::Deleted(number, row) => append_pair(gathered, b"deleted ", *number, *row),
         Item::Moved(row, ended) => append_moved_line::<C>(gathered, row, *ended),
         Item::Mark(number) => append_numbered(gathered, b"mark ", *number),
@@ -238,8 +262,9 @@ fn write_rows<C: ClassText, W: Write>(
     ensures room { OnOk result (HasRoomForLine gathered.new.items) }
     ensures err { IfErr result (λ e. e ≡ Fault.Write) }
 {
+    let mut line = Line::new();
     for row in rows {
-        append_row_line::<C>(gathered, row);
+        append_row_line::<C>(gathered, &mut line, row);
         send_enough(writer, gathered)?;
     }
     Ok(())

@@ -31,8 +31,8 @@ module _ (len : ℕ) (ts a b c d e f : List Placed) (p q : ℕ) (x1 y1 x2 y2 : �
   box_at_fails bad = rw (opened, left, low, right, high, closed, box_of_disorder x1 y1 x2 y2 bad)
 
 -- two points between brackets
-pub points_joined : (x1 y1 x2 y2 t0 t1 t2 t3 t4 t5 : List ℕ) → t0 ≡ [] → t1 ≡ t0 ++ 40 ∷ [] → t2 ≡ t1 ++ (x1 ++ 32 ∷ y1) → t3 ≡ t2 ++ 32 ∷ [] → t4 ≡ t3 ++ (x2 ++ 32 ∷ y2) → t5 ≡ t4 ++ 41 ∷ [] → t5 ≡ 40 ∷ (x1 ++ 32 ∷ (y1 ++ 32 ∷ (x2 ++ 32 ∷ (y2 ++ 41 ∷ []))))
-points_joined x1 y1 x2 y2 t0 t1 t2 t3 t4 t5 e0 e1 e2 e3 e4 e5 = rw (e5, e4, e3, e2, e1, e0) (simp append_assoc)
+pub points_joined : (x1 y1 x2 y2 t0 t1 t2 t3 t4 t5 : List ℕ) → t1 ≡ 41 ∷ t0 → t2 ≡ (x2 ++ 32 ∷ y2) ++ t1 → t3 ≡ 32 ∷ t2 → t4 ≡ (x1 ++ 32 ∷ y1) ++ t3 → t5 ≡ 40 ∷ t4 → t5 ≡ (40 ∷ (x1 ++ 32 ∷ (y1 ++ 32 ∷ (x2 ++ 32 ∷ (y2 ++ 41 ∷ []))))) ++ t0
+points_joined x1 y1 x2 y2 t0 t1 t2 t3 t4 t5 e1 e2 e3 e4 e5 = rw (e5, e4, e3, e2, e1) (simp append_assoc)
 
 fits_32 : (z : ℤ) → FitsSigned w32 z → int_le least_i32 z && int_le z most_i32 ≡ true
 fits_32 z f = grind (arith, ints)

@@ -11,3 +11,4 @@ pub mod Total
 pub mod Meaning
 pub mod TextLaws
 pub mod PrintLaws
+pub mod LineLaws

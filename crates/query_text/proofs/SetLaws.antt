@@ -1,6 +1,6 @@
 -- A set is read from its elements, and its text is read as that set.
-use Rattle.std.proofs.Common.{◌≡◌, ◌↔◌, ⊎_elim, ℕ, zero, suc, pos, ◌+◌, ◌-◌, ◌*◌, ◌%◌, ◌^◌, ◌<◌, ◌≤◌, min, max, Bool, true, false, not, ◌&&◌, ◌==◌, List, [], ◌∷◌, ◌++◌, length, Some, Ok, Err, ap, sym, refl, ◌∙◌, append_assoc, length-append, arith, one-mul, bit_or, w64, FitsSigned, cond}
-use Rattle.std.specs.Prelude.{codes}
+use Rattle.std.proofs.Common.{◌≡◌, ◌↔◌, ⊎_elim, ℕ, zero, suc, pos, ◌+◌, ◌-◌, ◌*◌, ◌%◌, ◌^◌, ◌<◌, ◌≤◌, min, max, Bool, true, false, not, ◌&&◌, ◌==◌, List, [], ◌∷◌, ◌++◌, length, Some, Ok, Err, ap, sym, refl, ◌∙◌, append_assoc, length-append, arith, one-mul, bit_or, pow-suc, w64, FitsSigned, cond}
+use Rattle.std.specs.Prelude.{codes, nat_eq}
 use Rattle.std.specs.Int.{bit_at}
 use Rattle.std.specs.Int.Bits.{or_zero_l, or_zero_r}
 use Rattle.std.specs.List.{flat_map, Contains}
@@ -10,8 +10,8 @@ use Rattle.std.proofs.lemmas.Fmt.{length-decimal-le}
 use Rattle.std.proofs.lemmas.Int.{ints}
 use Rattle.std.proofs.lemmas.List.{append-nil}
 use Rattle.std.proofs.lemmas.Grind.{flat_map-append}
-use Rattle.std.proofs.lemmas.Nat.Bits.{bit_at_or, bit_at-zero, bit_at-lt, bit_at-pow_same, bit_at-pow_other, bit_at_above, same_from_bits}
-use Rattle.std.proofs.lemmas.Bool.{cases_eq, eq-eqb, cases_lt, le-leb}
+use Rattle.std.proofs.lemmas.Nat.Bits.{bit_at_or, bit_at-zero, bit_at-lt, bit_at-pow_same, bit_at-pow_other, bit_at_above, bit_at_cat_low, bit_at_cat_high, same_from_bits}
+use Rattle.std.proofs.lemmas.Bool.{cases_eq, eq-eqb, ne_eqb, cases_lt, le-leb}
 use Rattle.std.proofs.Math.Nat.{mod-eq_of_lt}
 use Rattle.std.proofs.Math.Bool.{and-true}
 use Rattle.std.proofs.Math.Pow.{pow-lt}
@@ -20,7 +20,7 @@ use Rattle.query_text.specs.declared.lexeme.Kind.{Kind}
 use Rattle.query_text.specs.declared.lexeme.Kind.TheVariants as kind
 use Rattle.query_text.specs.Tokens.{Placed, at, number, open_brace, close_brace, token_of, starts_with_digit, Cuts}
 use Rattle.query_text.specs.Keys.{Reading, ◌>>=◌, is_close_brace, ReadsBack}
-use Rattle.query_text.specs.SetTexts.{element_of, elements_at, mask_of, with_elements, set_at, elements_below, spaced, set_text, number_text, is_empty}
+use Rattle.query_text.specs.SetTexts.{element_of, elements_at, mask_of, with_elements, set_at, elements_below, spaced, set_text, element_text, is_empty}
 use Rattle.query_text.proofs.TextLaws.{and_false, cuts_open_brace, cuts_close_brace, cuts_space, cuts_number}
 
 -- reading
@@ -58,35 +58,28 @@ elements_step : (n : ℕ) (m : ℕ) → elements_below (suc n) m ≡ elements_be
 unfolding elements_below
 elements_step n m = refl
 
-pub no_elements : (m : ℕ) → elements_below 0 m ≡ []
+no_elements : (m : ℕ) → elements_below 0 m ≡ []
 unfolding elements_below
 no_elements m = refl
 
 -- text
 
-spaced_more : (es : List ℕ) (n : ℕ) → spaced (es ++ n ∷ []) ≡ spaced es ++ cond (is_empty es) (decimal n) (codes " " ++ decimal n)
+spaced_more : (es : List ℕ) (n : ℕ) → spaced (es ++ n ∷ []) ≡ spaced es ++ element_text n (is_empty es)
 spaced_more [] n = append-nil (decimal n)
 spaced_more (e ∷ es) n =
     let f : ℕ → List ℕ = λ x. codes " " ++ decimal x in
     ap (λ (x : List ℕ). decimal e ++ x) (flat_map-append f es (n ∷ []) ∙ ap (λ (x : List ℕ). flat_map f es ++ x) (append-nil (f n))) ∙ sym (append_assoc (decimal e) (flat_map f es) (f n))
 
-pub written_more : (n : ℕ) (m : ℕ) → spaced (elements_below (suc n) m) ≡ spaced (elements_below n m) ++ number_text m n (is_empty (elements_below n m))
+-- what a number adds to the text of a set: nothing, unless it is an element
+abbrev number_text : ℕ → ℕ → Bool → List ℕ
+number_text m n is_first = cond (bit_at m n == 1) (element_text n is_first) []
+
+written_more : (n : ℕ) (m : ℕ) → spaced (elements_below (suc n) m) ≡ spaced (elements_below n m) ++ number_text m n (is_empty (elements_below n m))
 written_more n m = rw (elements_step n m) (by_test (bit_at m n == 1))
   where
-    by_test : (b : Bool) → spaced (elements_below n m ++ cond b (n ∷ []) []) ≡ spaced (elements_below n m) ++ cond b (cond (is_empty (elements_below n m)) (decimal n) (codes " " ++ decimal n)) []
+    by_test : (b : Bool) → spaced (elements_below n m ++ cond b (n ∷ []) []) ≡ spaced (elements_below n m) ++ cond b (element_text n (is_empty (elements_below n m))) []
     by_test true = spaced_more (elements_below n m) n
     by_test false = rw (append-nil, append-nil)
-
-is_empty-append : (es : List ℕ) (n : ℕ) → is_empty (es ++ n ∷ []) ≡ false
-is_empty-append [] n = refl
-is_empty-append (e ∷ es) n = refl
-
-pub still_empty : (n : ℕ) (m : ℕ) → is_empty (elements_below (suc n) m) ≡ is_empty (elements_below n m) && not (bit_at m n == 1)
-still_empty n m = rw (elements_step n m) (by_test (bit_at m n == 1))
-  where
-    by_test : (b : Bool) → is_empty (elements_below n m ++ cond b (n ∷ []) []) ≡ is_empty (elements_below n m) && not b
-    by_test true = is_empty-append (elements_below n m) n ∙ sym (and_false (is_empty (elements_below n m)))
-    by_test false = rw append-nil (sym (and-true (is_empty (elements_below n m))))
 
 -- the text's length
 
@@ -168,6 +161,61 @@ bits_below (suc n) m i h = ⊎_elim
 
 pub mask_of_elements : (m : ℕ) → m < 2 ^ 128 → mask_of (elements_below 128 m) ≡ m
 mask_of_elements m h = same_from_bits _ _ (λ i. ⊎_elim (λ (l : i < 128). bits_below 128 m i l) (λ (g : 128 ≤ i). bits_above 128 m i g ∙ sym (bit_at_above m 128 i h g)) (cases_lt i 128))
+
+-- the greatest element and the others
+
+same_elements : (n a b : ℕ) → ((i : ℕ) → i < n → bit_at a i ≡ bit_at b i) → elements_below n a ≡ elements_below n b
+same_elements zero a b h = no_elements a ∙ sym (no_elements b)
+same_elements (suc n) a b h =
+    let below : elements_below n a ≡ elements_below n b = same_elements n a b (λ i l. h i (omega (arith, l))) in
+    rw (elements_step n a, elements_step n b, below, h n (omega arith)) refl
+
+none_above : (n k m : ℕ) → m < 2 ^ k → elements_below (k + n) m ≡ elements_below k m
+none_above zero k m h = let e : k + zero ≡ k = omega arith in rw e refl
+none_above (suc n) k m h =
+    let e : k + suc n ≡ suc (k + n) = omega arith in
+    let none : bit_at m (k + n) ≡ 0 = bit_at_above m k (k + n) h (omega arith) in
+    rw (e, elements_step (k + n) m, none, append-nil) (none_above n k m h)
+
+all_elements : (k m : ℕ) → m < 2 ^ k → k ≤ 128 → elements_below 128 m ≡ elements_below k m
+all_elements k m h l =
+    let e : 128 ≡ k + (128 - k) = omega (arith, l) in
+    rw e (none_above (128 - k) k m h)
+
+greatest_of_sum : (e rest : ℕ) → e ≤ 127 → rest < 2 ^ e → elements_below 128 (1 * 2 ^ e + rest) ≡ elements_below 128 rest ++ e ∷ []
+greatest_of_sum e rest small low =
+    let m = 1 * 2 ^ e + rest in
+    let none : e - e ≡ 0 = omega arith in
+    let high : m < 2 ^ suc e = omega (arith, low, pow-suc 2 e) in
+    let top : bit_at m e ≡ 1 = bit_at_cat_high 1 e rest e low (omega arith) ∙ rw none refl in
+    let below : elements_below e m ≡ elements_below e rest = same_elements e m rest (λ i l. bit_at_cat_low 1 e rest i l) in
+    all_elements (suc e) m high (omega (arith, small)) ∙ rw (elements_step e m, top, below, all_elements e rest low (omega (arith, small))) refl
+
+greatest_last : (m e : ℕ) → e ≤ 127 → 2 ^ e ≤ m → m < 2 ^ suc e → elements_below 128 m ≡ elements_below 128 (m - 2 ^ e) ++ e ∷ []
+greatest_last m e small low high =
+    let parted : m ≡ 1 * 2 ^ e + (m - 2 ^ e) = omega (arith, low) in
+    ap (elements_below 128) parted ∙ greatest_of_sum e (m - 2 ^ e) small (omega (arith, low, high, pow-suc 2 e))
+
+pub no_elements_of_zero : elements_below 128 0 ≡ []
+no_elements_of_zero = all_elements 0 0 (omega arith) (omega arith) ∙ no_elements 0
+
+has_some : (es : List ℕ) → 0 < mask_of es → is_empty es ≡ false
+has_some [] h = absurd (omega (arith, h))
+has_some (e ∷ es) h = refl
+
+-- an element is the first of its set where the set has no others
+is_first : (rest : ℕ) → rest < 2 ^ 128 → is_empty (elements_below 128 rest) ≡ nat_eq rest 0
+is_first rest h = ⊎_elim
+    (λ (e : rest ≡ 0). rw (e, no_elements_of_zero) refl)
+    (λ (n : rest ≡ 0 → ⊥). has_some (elements_below 128 rest) (rw (mask_of_elements rest h) (omega (arith, n))) ∙ sym (ne_eqb rest 0 n))
+    (cases_eq rest 0)
+
+-- the text of a set's elements ends with the greatest
+pub text_ends : (mask e : ℕ) → e ≤ 127 → 2 ^ e ≤ mask → mask < 2 ^ suc e → mask < 2 ^ 128 → spaced (elements_below 128 mask) ≡ spaced (elements_below 128 (mask - 2 ^ e)) ++ element_text e (nat_eq (mask - 2 ^ e) 0)
+text_ends mask e small low high fits =
+    let rest = mask - 2 ^ e in
+    let spaces = spaced_more (elements_below 128 rest) e in
+    ap spaced (greatest_last mask e small low high) ∙ rw (← is_first rest (omega (arith, fits))) spaces
 
 -- reading the text back
 

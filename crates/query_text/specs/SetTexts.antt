@@ -1,5 +1,5 @@
 -- The text of a set: its elements between braces.
-use Rattle.std.specs.Prelude.{ℕ, zero, suc, pos, unsigned_abs, ◌^◌, ◌==◌, bit_or, Bool, true, false, List, [], ◌∷◌, ◌++◌, Option, Ok, Err, if◌then◌else◌, ◌↔◌, ◌<◌, Contains, codes}
+use Rattle.std.specs.Prelude.{ℕ, zero, suc, pos, unsigned_abs, ◌^◌, ◌==◌, bit_or, Bool, true, false, List, [], ◌∷◌, ◌++◌, Option, Ok, Err, if◌then◌else◌, ◌↔◌, ◌<◌, ◌≤◌, Contains, codes}
 use Rattle.std.specs.Int.{bit_at}
 use Rattle.std.specs.List.{flat_map}
 use Rattle.std.specs.Option.{option_map}
@@ -52,9 +52,13 @@ abbrev pub spaced : List ℕ → List ℕ
 spaced [] = []
 spaced (e ∷ es) = decimal e ++ flat_map (λ f. codes " " ++ decimal f) es
 
--- what a number adds to the text of a set: nothing, unless it is an element
-abbrev pub number_text : ℕ → ℕ → Bool → List ℕ
-number_text mask n is_first = if bit_at mask n == 1 then (if is_first then decimal n else codes " " ++ decimal n) else []
+-- an element in the text of a set: a space stands before each but the first
+abbrev pub element_text : ℕ → Bool → List ℕ
+element_text e is_first = if is_first then decimal e else codes " " ++ decimal e
+
+-- no element of the mask is greater
+abbrev pub IsGreatest : ℕ → ℕ → Type 0
+IsGreatest mask e = (e ≤ 127) × (2 ^ e ≤ mask) × (mask < 2 ^ suc e)
 
 -- the elements of a set, rising and once each
 abbrev pub elements_of : Elements → List ℕ

@@ -4,20 +4,20 @@ ghost use Rattle.query_text.specs.KeyLengths.{box_leaves_fewer};
 
 use crate::class::ClassText;
 use crate::lexeme::Lexeme;
+use crate::line::Line;
 use crate::reader::{close_bracket, open_bracket, signed_32};
-use crate::text::{KeyText, append, append_number};
 use box_class::{Atom, BoxKey, Boxes};
 use key_class::Rel;
 
-/// Appends the numbers of a point.
-fn append_point(text: &mut KeyText, x: i32, y: i32)
-    requires room { length text.old.items + 23 ≤ 403 }
-    ensures numbers { text.new.items ≡ text.old.items ++ point_text x y }
-    ensures short { length text.new.items ≤ length text.old.items + 23 }
+/// Puts the numbers of a point into a line.
+fn put_point(line: &mut Line, x: i32, y: i32)
+    requires room { length line.old + 41 ≤ 512 }
+    ensures numbers { line.new ≡ point_text x y ++ line.old }
+    ensures short { length line.new ≤ length line.old + 41 }
 {
-    append_number(text, x);
-    append(text, b" ");
-    append_number(text, y);
+    line.put_signed(i64::from(y));
+    line.put_byte(b' ');
+    line.put_signed(i64::from(x));
 }
 
 impl ClassText for Boxes {
@@ -37,14 +37,13 @@ impl ClassText for Boxes {
         }
     }
 
-    fn text(key: BoxKey) -> KeyText {
-        let mut text = KeyText::new();
-        append(&mut text, b"(");
-        append_point(&mut text, key.x1, key.y1);
-        append(&mut text, b" ");
-        append_point(&mut text, key.x2, key.y2);
-        append(&mut text, b")");
-        text
+    #[inline]
+    fn put_text(key: BoxKey, line: &mut Line) {
+        line.put_byte(b')');
+        put_point(line, key.x2, key.y2);
+        line.put_byte(b' ');
+        put_point(line, key.x1, key.y1);
+        line.put_byte(b'(');
     }
 
     fn atom(rel: Rel, operand: BoxKey) -> Atom {

@@ -1,4 +1,4 @@
-ghost use Rattle.std.specs.Prelude.{◌≡◌, ℕ, ◌<◌, true, List, length, IfOk};
+ghost use Rattle.std.specs.Prelude.{◌≡◌, ℕ, ◌+◌, ◌<◌, ◌≤◌, true, List, ◌++◌, length, IfOk};
 ghost use Rattle.key_class.specs.declared.sides.Rel.{Rel};
 ghost use Rattle.query_text.specs.Tokens.{Placed};
 ghost use Rattle.query_text.specs.Keys.{LeavesFewer, GivesRead, ReadsBack};
@@ -6,7 +6,7 @@ ghost use Rattle.query_text.specs.ClassTexts.{Texts};
 ghost use Rattle.query_text.specs.Printing.{begins_apart};
 
 use crate::lexeme::Lexeme;
-use crate::text::KeyText;
+use crate::line::Line;
 use key_class::{KeyClass, Rel};
 
 /// A class of keys that have texts.
@@ -23,9 +23,11 @@ pub trait ClassText: KeyClass {
         ensures gives { GivesRead texts.key_at text.now lexemes.now result }
         ensures shorter { IfOk result (λ r. length r.1.now < length lexemes.now) };
 
-    /// The key's text.
-    fn text(key: Self::Key) -> KeyText
-        ensures text { result.items ≡ texts.key_text key }
+    /// Puts the key's text into a line, in front of what it has. No key's text has more than 403 bytes.
+    fn put_text(key: Self::Key, line: &mut Line)
+        requires room { length line.old ≤ 64 }
+        ensures text { line.new ≡ texts.key_text key ++ line.old }
+        ensures short { length line.new ≤ length line.old + 403 }
         ensures read_back { ReadsBack texts.key_at (texts.key_text key) key };
 
     fn atom(rel: Rel, key: Self::Key) -> Self::Atom

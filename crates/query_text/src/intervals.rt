@@ -4,8 +4,8 @@ ghost use Rattle.query_text.specs.KeyLengths.{interval_leaves_fewer};
 
 use crate::class::ClassText;
 use crate::lexeme::Lexeme;
+use crate::line::Line;
 use crate::reader::{close_bracket, open_bracket, signed};
-use crate::text::{KeyText, append, append_number};
 use interval_class::{Atom, Interval, Intervals};
 use key_class::Rel;
 
@@ -24,14 +24,13 @@ impl ClassText for Intervals {
         }
     }
 
-    fn text(key: Interval) -> KeyText {
-        let mut text = KeyText::new();
-        append(&mut text, b"(");
-        append_number(&mut text, key.lo);
-        append(&mut text, b" ");
-        append_number(&mut text, key.hi);
-        append(&mut text, b")");
-        text
+    #[inline]
+    fn put_text(key: Interval, line: &mut Line) {
+        line.put_byte(b')');
+        line.put_signed(key.hi);
+        line.put_byte(b' ');
+        line.put_signed(key.lo);
+        line.put_byte(b'(');
     }
 
     fn atom(rel: Rel, operand: Interval) -> Atom {

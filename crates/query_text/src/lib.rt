@@ -5,6 +5,7 @@ mod boxes;
 mod class;
 mod intervals;
 mod lexeme;
+mod line;
 mod numbers;
 mod parser;
 mod printer;
@@ -16,8 +17,9 @@ mod text;
 
 pub use class::ClassText;
 pub use lexeme::{Kind, Lexeme};
+pub use line::{LINE, Line};
 pub use parser::{one_meaning_for_text, one_meaning_for_tokens, parse, parse_tokens};
 pub use printer::print;
 pub use scanner::{one_cut_for_text, scan};
 pub use sets::set_texts_name_their_elements;
-pub use text::{KeyText, MAX_KEY_TEXT, append, append_number};
+pub use text::{append, append_number};

@@ -1,6 +1,6 @@
-ghost use Rattle.std.specs.Prelude.{◌≡◌, ◌↔◌, ℤ, pos, negsuc, ◌≤◌, ◌<◌, ◌^◌, ◌-◌, ◌+◌, ◌*◌, ◌≤ℤ◌, unsigned_abs, IsTrue, Some, None};
+ghost use Rattle.std.specs.Prelude.{◌≡◌, ◌↔◌, pos, ◌≤◌, ◌<◌, ◌^◌, ◌-◌, ◌+◌, ◌*◌, IsTrue, Some, None};
 ghost use Rattle.std.specs.Option.{option_map};
-ghost use Rattle.query_text.specs.Tokens.{is_negative, digits_of, word, token_in, number_value, number_within, decimal_value_after, least_i32, most_i32, least_i64, most_i64, FitsOrNone, u64_number};
+ghost use Rattle.query_text.specs.Tokens.{is_negative, digits_of, word, number, token_in, number_value, number_within, decimal_value_after, least_i32, most_i32, least_i64, most_i64, FitsOrNone, u64_number};
 
 use crate::lexeme::{Kind, Lexeme};
 
@@ -46,12 +46,26 @@ fn digits_of(bytes: &[u8]) -> &[u8]
     }
 }
 
-/// The number that bytes write, unless its size is 2^64 or more.
-fn integer(bytes: &[u8]) -> Option<i128>
-    ensures { FitsOrNone unsigned_abs (number_value bytes.now) result }
+/// The number that bytes write, where it is one of 64 bits without a sign.
+fn natural(bytes: &[u8]) -> Option<u64>
+    ensures { option_map pos result ≡ u64_number (number (number_value bytes.now)) }
 {
-    let size = i128::from(magnitude(digits_of(bytes))?);
-    Some(if is_negative(bytes) { -size } else { size })
+    let size = magnitude(digits_of(bytes))?;
+    if is_negative(bytes) && size > 0 {
+        return None;
+    }
+    Some(size)
+}
+
+/// The number that bytes write, where it is one of 64 bits with a sign.
+fn integer(bytes: &[u8]) -> Option<i64>
+    ensures { result ≡ number_within least_i64 most_i64 (number (number_value bytes.now)) }
+{
+    let size = magnitude(digits_of(bytes))?;
+    if is_negative(bytes) {
+        return 0_i64.checked_sub_unsigned(size);
+    }
+    i64::try_from(size).ok()
 }
 
 impl Lexeme {
@@ -65,36 +79,30 @@ impl Lexeme {
         }
     }
 
-    /// Its number, where it has one in a range.
-    pub(crate) fn number_within(self, text: &[u8], least: i128, most: i128) -> Option<i128>
-        requires low { negsuc (2 ^ 64 - 2) ≤ℤ least }
-        requires high { most ≤ℤ pos (2 ^ 64 - 1) }
-        ensures { result ≡ number_within least most (token_in text.now self) }
-    {
-        match self.kind {
-            Kind::Number => integer(self.bytes(text)).filter(|n| least <= *n && *n <= most),
-            _ => None,
-        }
-    }
-
     /// Its number, where it is one of 64 bits without a sign. Leading zeros count for nothing, and `-0` is 0.
     pub fn unsigned(self, text: &[u8]) -> Option<u64>
         ensures { option_map pos result ≡ u64_number (token_in text.now self) }
     {
-        Some(self.number_within(text, 0, i128::from(u64::MAX))? as u64)
+        match self.kind {
+            Kind::Number => natural(self.bytes(text)),
+            _ => None,
+        }
     }
 
     /// Its number, where it is one of 64 bits with a sign.
     pub fn signed(self, text: &[u8]) -> Option<i64>
         ensures { result ≡ number_within least_i64 most_i64 (token_in text.now self) }
     {
-        Some(self.number_within(text, i128::from(i64::MIN), i128::from(i64::MAX))? as i64)
+        match self.kind {
+            Kind::Number => integer(self.bytes(text)),
+            _ => None,
+        }
     }
 
     /// Its number, where it is one of 32 bits with a sign.
     pub fn signed_32(self, text: &[u8]) -> Option<i32>
         ensures { result ≡ number_within least_i32 most_i32 (token_in text.now self) }
     {
-        Some(self.number_within(text, i128::from(i32::MIN), i128::from(i32::MAX))? as i32)
+        i32::try_from(self.signed(text)?).ok()
     }
 }

@@ -1,16 +1,15 @@
-ghost use Rattle.std.specs.Prelude.{◌≡◌, ℕ, List, ◌<◌, ◌≤◌, length, ◌+◌, ◌++◌, IfSome, IfOk, not, ◌&&◌, ◌==◌, refl};
-ghost use Rattle.std.specs.Int.{bit_at};
+ghost use Rattle.std.specs.Prelude.{◌≡◌, ℕ, List, ◌<◌, ◌≤◌, length, ◌++◌, IfSome, IfOk, refl};
 ghost use Rattle.set_class.specs.Sets.{IsElementOf};
 ghost use Rattle.set_class.specs.declared.elements.Elements.{Elements};
 ghost use Rattle.query_text.specs.Tokens.{token_in};
 ghost use Rattle.query_text.specs.Keys.{GivesRead};
-ghost use Rattle.query_text.specs.SetTexts.{element_of, set_at, number_text, HasJust, IsElementUnder, elements_of, set_behind_brace, set_named, set_texts};
+ghost use Rattle.query_text.specs.SetTexts.{element_of, set_at, element_text, elements_below, spaced, IsGreatest, HasJust, IsElementUnder, elements_of, set_behind_brace, set_named, set_texts};
 ghost use Rattle.query_text.specs.KeyLengths.{set_leaves_fewer};
 
 use crate::class::ClassText;
 use crate::lexeme::{Kind, Lexeme};
+use crate::line::Line;
 use crate::reader::{first_of, open_brace};
-use crate::text::{KeyText, append, append_number};
 use key_class::Rel;
 use set_class::{Atom, Elements, Sets};
 
@@ -19,7 +18,10 @@ fn element(text: &[u8], lexeme: Lexeme) -> Option<u8>
     ensures element { result ≡ element_of (token_in text.now lexeme) }
     ensures small { IfSome result (λ e. e ≤ 127) }
 {
-    Some(lexeme.number_within(text, 0, 127)? as u8)
+    match lexeme.unsigned(text)? {
+        number @ 0..=127 => Some(number as u8),
+        _ => None,
+    }
 }
 
 /// The set of the elements before a closing brace.
@@ -46,21 +48,36 @@ fn elements<'a>(text: &[u8], lexemes: &'a [Lexeme]) -> Result<(Elements, &'a [Le
     }
 }
 
-/// Appends a number, where it is an element of the mask, and says whether no element was appended yet.
-fn append_element(mask: u128, number: u8, is_first: bool, text: &mut KeyText) -> bool
-    requires small { number ≤ 127 }
-    requires room { length text.old.items + 4 ≤ 403 }
-    ensures text { text.new.items ≡ text.old.items ++ number_text mask number is_first }
-    ensures still_first { result ≡ (is_first && not (bit_at mask number == 1)) }
+/// The greatest element of a mask that has one.
+fn greatest(mask: u128) -> u8
+    requires { 0 < mask }
+    ensures { IsGreatest mask result }
 {
-    if mask >> number & 1 == 0 {
-        return is_first;
-    }
+    (127 - mask.leading_zeros()) as u8
+}
+
+/// Puts an element into a line, and a space in front of it, unless it is the first of its set.
+fn put_element(line: &mut Line, element: u8, is_first: bool)
+    requires room { length line.old ≤ 466 }
+    ensures { line.new ≡ element_text element is_first ++ line.old }
+{
+    line.put_number(u64::from(element));
     if !is_first {
-        append(text, b" ");
+        line.put_byte(b' ');
     }
-    append_number(text, number);
-    false
+}
+
+/// Puts the elements of a mask into a line, the greatest first, and so in front of it the others.
+fn put_elements(line: &mut Line, mask: u128)
+    requires room { length line.old ≤ 65 }
+    ensures { line.new ≡ spaced (elements_below 128 mask) ++ line.old }
+{
+    let mut rest = mask;
+    'elements: while rest > 0 {
+        let element = greatest(rest);
+        rest -= 1 << element;
+        put_element(line, element, rest == 0);
+    }
 }
 
 impl ClassText for Sets {
@@ -72,15 +89,10 @@ impl ClassText for Sets {
         elements(text, rest)
     }
 
-    fn text(key: Elements) -> KeyText {
-        let mut text = KeyText::new();
-        append(&mut text, b"{");
-        let mut is_first = true;
-        for number in 0..128 {
-            is_first = append_element(key.mask, number, is_first, &mut text);
-        }
-        append(&mut text, b"}");
-        text
+    fn put_text(key: Elements, line: &mut Line) {
+        line.put_byte(b'}');
+        put_elements(line, key.mask);
+        line.put_byte(b'{');
     }
 
     fn atom(rel: Rel, operand: Elements) -> Atom {

@@ -4,12 +4,6 @@ ghost use Rattle.std.specs.Prelude.{◌≡◌, ◌+◌, ◌≤◌, ◌++◌, len
 use arrayvec::ArrayVec;
 use itoa::{Buffer, Integer};
 
-/// The most bytes that a key's text has: those of the set of all elements.
-pub const MAX_KEY_TEXT: usize = 403;
-
-/// The text of a key.
-pub type KeyText = ArrayVec<u8, MAX_KEY_TEXT>;
-
 /// Puts bytes behind a text.
 pub fn append<const CAPACITY: usize>(text: &mut ArrayVec<u8, CAPACITY>, bytes: &[u8])
     requires room { length text.old.items + length bytes.now ≤ CAPACITY }

@@ -6,4 +6,4 @@ on_ok (Ok x) p = p
 on_ok (Err e) p = tt
 
 pub returns-clause-read_back : goal.returns-clause-read_back
-returns-clause-read_back g c = on_ok c.write_all-2.result (rw c.parts-rel.ensures.operand at c.text.ensures.read_back)
+returns-clause-read_back g c = on_ok c.write_all-2.result (rw c.parts-rel.ensures.operand at c.put_text.ensures.read_back)

@@ -1,6 +1,6 @@
 use Rattle.std.proofs.Common.{rules, w64, FitsSigned}
 use Rattle.query_text.proofs.IntervalLaws.{interval_reads_back}
-use Rattle.query_text.proofs.intervals.IntervalsClassText.text.Goals as goal
+use Rattle.query_text.proofs.intervals.IntervalsClassText.put_text.Goals as goal
 
 pub returns-clause-read_back : goal.returns-clause-read_back
 returns-clause-read_back c =
