@@ -1,5 +1,6 @@
 pub mod Bytes
 pub mod Conversing
+pub mod Feeds
 pub mod Filling
 pub mod Opening
 pub mod Progress

@@ -5,6 +5,7 @@ ghost use Rattle.front.specs.Held.{Held, AreMovedToFront, FailsToRead, FillsFrom
 
 use key_class::Fault;
 use key_class::limits::MAX_LINE;
+use memchr::memchr;
 use std::alloc::{AllocError, Global};
 use std::io::Read;
 use std::marker::Model;
@@ -139,10 +140,5 @@ fn feed_of(bytes: &[u8]) -> Option<usize>
     ensures some { IfSome result (IsFirstFeed bytes.now) }
     ensures none { IsNone result → HasNoFeed bytes.now }
 {
-    for (at, byte) in bytes.iter().enumerate() {
-        if *byte == b'\n' {
-            return Some(at);
-        }
-    }
-    None
+    memchr(b'\n', bytes)
 }
