@@ -1,6 +1,7 @@
 //! Stores of intervals.
-ghost use Rattle.std.specs.Prelude.{◌≡◌, None, Some, IfSome, length};
+ghost use Rattle.std.specs.Prelude.{◌≡◌, ◌↔◌, ◌≤◌, true, false, None, Some, IfSome, length};
 ghost use Rattle.gist_c.specs.IntervalOwning.{is_held};
+ghost use Rattle.change_list.specs.Configs.{IsWithinLimits};
 ghost use Rattle.store.specs.States.{new_store};
 
 use crate::interval_store::IntervalStore;
@@ -29,6 +30,7 @@ pub extern "C" fn gist_interval_drop(alloc: Global, store: &mut IntervalStore)
 #[unsafe(no_mangle)]
 pub extern "C" fn gist_interval_commits(alloc: Global, store: &mut IntervalStore) -> u64
     ensures number { IfSome store.old.inside.state (λ state. result ≡ length state.commits) }
+    ensures none { store.old.inside.state ≡ None → result ≡ 0 }
     ensures kept { store.new.inside.state ≡ store.old.inside.state }
 {
     match store.take(alloc) {
@@ -55,6 +57,10 @@ pub extern "C" fn gist_interval_new(
     ensures made { result ≡ 0 → store.new.inside.state
         ≡ Some (new_store (record { fan = fan; least = least; pages = pages; commits = commits })) }
     ensures refused { ¬ (result ≡ 0) → store.new.inside.state ≡ store.old.inside.state }
+    ensures held { is_held store.old.inside.state ≡ true → result ≡ 2 }
+    ensures limits { is_held store.old.inside.state ≡ false → (result ≡ 2)
+        ↔ (¬ IsWithinLimits (record { fan = fan; least = least; pages = pages; commits = commits })) }
+    ensures answers { result ≤ 2 }
 {
     if store.is_open() {
         return 2;
