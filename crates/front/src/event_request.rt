@@ -6,7 +6,7 @@ ghost use Rattle.world.specs.declared.event.Event.TheVariants as event;
 ghost use Rattle.front.specs.EventLines.{event_verb_of, event_verb_of_word, is_side, two_numbers_and_key, page_key_and_tag, page_and_sides, two_pages, only_sides, cursor_asked, event_from, IsEventAsked, GivesSides};
 
 use crate::tokens::{end, lone_number, natural, start};
-use query_text::{ClassText, Kind, Lexeme};
+use query_text::{ClassText, Kind, Lexeme, same_bytes};
 
 /// The word that an event line begins with.
 #[derive(Clone, Copy, Debug)]
@@ -54,35 +54,35 @@ pub enum EventRequest<'a, K> {
 fn verb_of_word(word: &[u8]) -> EventVerb
     ensures { result ≡ event_verb_of_word word.now }
 {
-    if word == b"enlarge".as_slice() {
+    if same_bytes(word, b"enlarge") {
         EventVerb::Enlarge
-    } else if word == b"place".as_slice() {
+    } else if same_bytes(word, b"place") {
         EventVerb::Place
-    } else if word == b"split".as_slice() {
+    } else if same_bytes(word, b"split") {
         EventVerb::Split
-    } else if word == b"post".as_slice() {
+    } else if same_bytes(word, b"post") {
         EventVerb::Post
-    } else if word == b"grow".as_slice() {
+    } else if same_bytes(word, b"grow") {
         EventVerb::Grow
-    } else if word == b"find".as_slice() {
+    } else if same_bytes(word, b"find") {
         EventVerb::Find
-    } else if word == b"seek".as_slice() {
+    } else if same_bytes(word, b"seek") {
         EventVerb::Seek
-    } else if word == b"move".as_slice() {
+    } else if same_bytes(word, b"move") {
         EventVerb::Move
-    } else if word == b"unfind".as_slice() {
+    } else if same_bytes(word, b"unfind") {
         EventVerb::Unfind
-    } else if word == b"sweep".as_slice() {
+    } else if same_bytes(word, b"sweep") {
         EventVerb::Sweep
-    } else if word == b"open".as_slice() {
+    } else if same_bytes(word, b"open") {
         EventVerb::Open
-    } else if word == b"turn".as_slice() {
+    } else if same_bytes(word, b"turn") {
         EventVerb::Turn
-    } else if word == b"askmark".as_slice() {
+    } else if same_bytes(word, b"askmark") {
         EventVerb::AskMark
-    } else if word == b"take".as_slice() {
+    } else if same_bytes(word, b"take") {
         EventVerb::Take
-    } else if word == b"close".as_slice() {
+    } else if same_bytes(word, b"close") {
         EventVerb::Close
     } else {
         EventVerb::Other

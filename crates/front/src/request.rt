@@ -3,7 +3,7 @@ ghost use Rattle.query_text.specs.Tokens.{token_in};
 ghost use Rattle.front.specs.Requests.{verb_of, verb_of_word, key_and_tag, number_and_key, room_and_query, asked_from, IsAsked};
 
 use crate::tokens::{end, lone_number, natural, start};
-use query_text::{ClassText, Kind, Lexeme};
+use query_text::{ClassText, Kind, Lexeme, same_bytes};
 
 /// The word that a command begins with.
 #[derive(Clone, Copy, Debug)]
@@ -39,23 +39,23 @@ pub enum Request<'a, K> {
 fn verb_of_word(word: &[u8]) -> Verb
     ensures { result ≡ verb_of_word word.now }
 {
-    if word == b"insert".as_slice() {
+    if same_bytes(word, b"insert") {
         Verb::Insert
-    } else if word == b"delete".as_slice() {
+    } else if same_bytes(word, b"delete") {
         Verb::Delete
-    } else if word == b"move".as_slice() {
+    } else if same_bytes(word, b"move") {
         Verb::Move
-    } else if word == b"open".as_slice() {
+    } else if same_bytes(word, b"open") {
         Verb::Open
-    } else if word == b"next".as_slice() {
+    } else if same_bytes(word, b"next") {
         Verb::Next
-    } else if word == b"mark".as_slice() {
+    } else if same_bytes(word, b"mark") {
         Verb::Mark
-    } else if word == b"find".as_slice() {
+    } else if same_bytes(word, b"find") {
         Verb::Find
-    } else if word == b"sweep".as_slice() {
+    } else if same_bytes(word, b"sweep") {
         Verb::Sweep
-    } else if word == b"close".as_slice() {
+    } else if same_bytes(word, b"close") {
         Verb::Close
     } else {
         Verb::Other

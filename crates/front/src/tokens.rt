@@ -5,7 +5,7 @@ ghost use Rattle.query_text.specs.declared.lexeme.Lexeme.{Lexeme};
 ghost use Rattle.query_text.specs.Tokens.{token_in};
 ghost use Rattle.front.specs.Requests.{is_from, natural_at, one_number, start_at, BeginAt, IsRead};
 
-use query_text::{Kind, Lexeme};
+use query_text::{Kind, Lexeme, same_bytes};
 
 /// The first lexeme and the others, if there is one.
 pub fn first_of(lexemes: &[Lexeme]) -> Option<(Lexeme, &[Lexeme])>
@@ -38,7 +38,7 @@ fn is_from(text: &[u8], lexeme: Lexeme) -> bool
     ensures { result ≡ is_from (token_in text.now lexeme) }
 {
     match lexeme.kind {
-        Kind::Word => lexeme.bytes(text) == b"from".as_slice(),
+        Kind::Word => same_bytes(lexeme.bytes(text), b"from"),
         _ => false,
     }
 }

@@ -1,5 +1,5 @@
 -- A set is read from its elements, and its text is read as that set.
-use Rattle.std.proofs.Common.{◌≡◌, ◌↔◌, ⊎_elim, ℕ, zero, suc, pos, ◌+◌, ◌-◌, ◌*◌, ◌%◌, ◌^◌, ◌<◌, ◌≤◌, min, max, Bool, true, false, not, ◌&&◌, ◌==◌, List, [], ◌∷◌, ◌++◌, length, Some, Ok, Err, ap, sym, refl, ◌∙◌, append_assoc, length-append, arith, one-mul, bit_or, pow-suc, w64, FitsSigned, cond}
+use Rattle.std.proofs.Common.{◌≡◌, ◌↔◌, ⊎_elim, ℕ, zero, suc, pos, ◌+◌, ◌-◌, ◌*◌, ◌%◌, ◌^◌, ◌<◌, ◌≤◌, min, max, Bool, true, false, ◌==◌, List, [], ◌∷◌, ◌++◌, length, Some, Ok, Err, ap, sym, refl, ◌∙◌, append_assoc, length-append, arith, one-mul, bit_or, pow-suc, w64, FitsSigned, cond}
 use Rattle.std.specs.Prelude.{codes, nat_eq}
 use Rattle.std.specs.Int.{bit_at}
 use Rattle.std.specs.Int.Bits.{or_zero_l, or_zero_r}
@@ -13,7 +13,6 @@ use Rattle.std.proofs.lemmas.Grind.{flat_map-append}
 use Rattle.std.proofs.lemmas.Nat.Bits.{bit_at_or, bit_at-zero, bit_at-lt, bit_at-pow_same, bit_at-pow_other, bit_at_above, bit_at_cat_low, bit_at_cat_high, same_from_bits}
 use Rattle.std.proofs.lemmas.Bool.{cases_eq, eq-eqb, ne_eqb, cases_lt, le-leb}
 use Rattle.std.proofs.Math.Nat.{mod-eq_of_lt}
-use Rattle.std.proofs.Math.Bool.{and-true}
 use Rattle.std.proofs.Math.Pow.{pow-lt}
 use Rattle.set_class.specs.declared.elements.Elements.{Elements}
 use Rattle.query_text.specs.declared.lexeme.Kind.{Kind}
@@ -21,7 +20,7 @@ use Rattle.query_text.specs.declared.lexeme.Kind.TheVariants as kind
 use Rattle.query_text.specs.Tokens.{Placed, at, number, open_brace, close_brace, token_of, starts_with_digit, Cuts}
 use Rattle.query_text.specs.Keys.{Reading, ◌>>=◌, is_close_brace, ReadsBack}
 use Rattle.query_text.specs.SetTexts.{element_of, elements_at, mask_of, with_elements, set_at, elements_below, spaced, set_text, element_text, is_empty}
-use Rattle.query_text.proofs.TextLaws.{and_false, cuts_open_brace, cuts_close_brace, cuts_space, cuts_number}
+use Rattle.query_text.proofs.TextLaws.{cuts_open_brace, cuts_close_brace, cuts_space, cuts_number}
 
 -- reading
 

@@ -22,4 +22,4 @@ pub use parser::{one_meaning_for_text, one_meaning_for_tokens, parse, parse_toke
 pub use printer::print;
 pub use scanner::{one_cut_for_text, scan};
 pub use sets::set_texts_name_their_elements;
-pub use text::{append, append_number};
+pub use text::{append, append_number, same_bytes};

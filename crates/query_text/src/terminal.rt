@@ -3,6 +3,7 @@ ghost use Rattle.query_text.specs.Tokens.{token_in};
 ghost use Rattle.query_text.specs.Grammar.{terminal_of, keyword_of};
 
 use crate::lexeme::{Kind, Lexeme};
+use crate::text::same_bytes;
 use key_class::Rel;
 
 /// What a token is in the grammar of queries.
@@ -21,19 +22,19 @@ pub enum Terminal {
 fn keyword(word: &[u8]) -> Terminal
     ensures { result ≡ keyword_of word.now }
 {
-    if word == b"and".as_slice() {
+    if same_bytes(word, b"and") {
         Terminal::And
-    } else if word == b"or".as_slice() {
+    } else if same_bytes(word, b"or") {
         Terminal::Or
-    } else if word == b"not".as_slice() {
+    } else if same_bytes(word, b"not") {
         Terminal::Not
-    } else if word == b"overlaps".as_slice() {
+    } else if same_bytes(word, b"overlaps") {
         Terminal::Relation(Rel::Overlaps)
-    } else if word == b"within".as_slice() {
+    } else if same_bytes(word, b"within") {
         Terminal::Relation(Rel::Within)
-    } else if word == b"holds".as_slice() {
+    } else if same_bytes(word, b"holds") {
         Terminal::Relation(Rel::Holds)
-    } else if word == b"same".as_slice() {
+    } else if same_bytes(word, b"same") {
         Terminal::Relation(Rel::Same)
     } else {
         Terminal::Other

@@ -1,8 +1,20 @@
-//! Texts that are put together in an array, where there is room for them.
+//! Texts that are compared, or put together in an array where there is room for them.
 ghost use Rattle.std.specs.Prelude.{◌≡◌, ◌+◌, ◌≤◌, ◌++◌, length};
+ghost use Rattle.std.specs.Str.{bytes_eq};
 
 use arrayvec::ArrayVec;
 use itoa::{Buffer, Integer};
+
+/// Whether two texts have the same bytes. Where they begin with different ones no more is read.
+#[inline]
+pub fn same_bytes(text: &[u8], other: &[u8]) -> bool
+    ensures { result ≡ bytes_eq text.now other.now }
+{
+    match (text, other) {
+        ([first, ..], [expected, ..]) => *first == *expected && text == other,
+        _ => text == other,
+    }
+}
 
 /// Puts bytes behind a text.
 pub fn append<const CAPACITY: usize>(text: &mut ArrayVec<u8, CAPACITY>, bytes: &[u8])

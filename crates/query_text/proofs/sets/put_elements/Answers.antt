@@ -1,4 +1,4 @@
-use Rattle.std.proofs.Common.{◌≡◌, ◌-◌, [], refl, ◌+◌, ◌≤◌, ◌<◌, ◌^◌, ◌++◌, List, ℕ, arith, rules, ap, sym, ◌∙◌, length, length-append, append_assoc}
+use Rattle.std.proofs.Common.{◌≡◌, ◌-◌, [], refl, ◌^◌, ◌++◌, arith, rules, ap, sym, ◌∙◌, length, length-append, append_assoc}
 use Rattle.std.specs.Prelude.{nat_eq}
 use Rattle.query_text.specs.SetTexts.{spaced, elements_below, element_text}
 use Rattle.query_text.proofs.SetLaws.{elements_short, shifted, text_ends, no_elements_of_zero}

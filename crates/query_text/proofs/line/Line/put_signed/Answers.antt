@@ -1,4 +1,4 @@
-use Rattle.std.proofs.Common.{◌≤◌, ◌^◌, arith, rules, ap, length, length-append, length-drop, drop}
+use Rattle.std.proofs.Common.{arith, rules, ap, length, length-append, length-drop, drop}
 use Rattle.std.specs.Fmt.{decimal}
 use Rattle.query_text.proofs.LineLaws.{size_short}
 use Rattle.query_text.proofs.line.Line.put_signed.Goals as goal

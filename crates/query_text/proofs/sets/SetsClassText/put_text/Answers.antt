@@ -1,4 +1,4 @@
-use Rattle.std.proofs.Common.{◌∷◌, [], arith, rules, ap, length, length-append}
+use Rattle.std.proofs.Common.{arith, rules, ap, length, length-append}
 use Rattle.query_text.specs.SetTexts.{spaced, elements_below}
 use Rattle.query_text.proofs.SetLaws.{elements_short, set_reads_back}
 use Rattle.query_text.proofs.sets.SetsClassText.put_text.Goals as goal
