@@ -4,19 +4,13 @@ ghost use Rattle.query_text.specs.Tokens.{is_negative, digits_of, word, number, 
 
 use crate::lexeme::{Kind, Lexeme};
 
-/// A number below this has fewer than 64 bits with one more digit.
-const SMALL: u64 = 1 << 31;
-
 /// The number that one more digit makes, unless it is 2^64 or more.
-#[inline]
 fn with_digit(value: u64, digit: u8) -> Option<u64>
     ensures { FitsOrNone (λ n. n) (value * 10 + (digit - 48)) result }
 {
-    let units = u64::from(digit.saturating_sub(b'0'));
-    if value < SMALL {
-        return Some(value * 10 + units);
-    }
-    value.checked_mul(10)?.checked_add(units)
+    value
+        .checked_mul(10)?
+        .checked_add(u64::from(digit.saturating_sub(b'0')))
 }
 
 /// The number that digits write, unless it is 2^64 or more.
