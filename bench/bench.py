@@ -7,10 +7,12 @@ the harness costs nothing. With `--peer` a program over Boost's R-tree gets the 
 """
 
 import argparse
+import collections
 import itertools
 import math
 import os
 import random
+import re
 import shutil
 import subprocess
 import sys
@@ -237,6 +239,35 @@ def instructions(words, input_path, folder):
     raise SystemExit("bench: valgrind told no number of instructions")
 
 
+def instructions_by_function(words, input_path, folder):
+    """How many instructions a run takes in each function, without those that it calls."""
+    instructions(words, input_path, folder)
+    out = os.path.join(folder, "callgrind.out")
+    table = subprocess.run(["callgrind_annotate", "--threshold=100", out], stdout=subprocess.PIPE, check=True, text=True).stdout
+    found = collections.Counter()
+    for line in table.splitlines():
+        row = re.match(r" *([\d,]+) \([ \d.]+%\)  [^:]*:(.*?)(?: \[|$)", line)
+        if row:
+            found[re.sub(r"(::)?<.*", "", row.group(2))] += int(row.group(1).replace(",", ""))
+    return found
+
+
+def print_functions(program, phases, many, lines_path, folder):
+    """Prints the functions that take the most of a line of each phase."""
+    prefix_path = os.path.join(folder, "prefix")
+    before = collections.Counter()
+    for end, phase in [(0, None)] + [(phase.end, phase) for phase in phases]:
+        copy_prefix(lines_path, end, prefix_path)
+        after = instructions_by_function(program.words, prefix_path, folder)
+        if phase:
+            print(f"  {phase.name:<17}{phase.lines:>9,} lines {(after.total() - before.total()) / phase.lines:>12,.0f} instructions a line")
+            after.subtract(before)
+            for name, count in after.most_common(many):
+                print(f"  {count / phase.lines:>20,.0f} {name}")
+            after.update(before)
+        before = after
+
+
 def refused_answers(path):
     """The refusals by their names, and how many rows a find has."""
     refused = {}
@@ -345,6 +376,9 @@ def measure(programs, kind, rows, options, folder):
     cursors = 0 if options.peer else options.cursors
     phases = write_lines(lines_path, kind, rows, options.finds // kind.finds_of, cursors, options.items)
     print(f"{kind.name}, {rows:,} rows", flush=True)
+    if options.functions:
+        print_functions(programs[0], phases, options.functions, lines_path, folder)
+        return None
     if options.peer:
         require_equal_answers(programs, lines_path, folder)
     costs = line_costs(programs, phases, rows, options, lines_path, folder)
@@ -424,11 +458,14 @@ def main():
     parser.add_argument("--items", type=int, default=100, help="items that each cursor is first asked for")
     parser.add_argument("--turns", type=int, default=3, help="runs, the least of which counts; up to five times as many of short ones")
     parser.add_argument("--callgrind", action="store_true", help="instructions in place of time, by valgrind")
+    parser.add_argument("--functions", type=int, default=0, help="with --callgrind, that many functions of each phase, and what each takes of a line")
     parser.add_argument("--peer", action="store_true", help="beside a peer over Boost's R-tree, without cursors")
     parser.add_argument("--option", action="append", default=[], help="a further word for `gist serve`, as --option=--pages=65536")
     options = parser.parse_args()
     if options.callgrind and shutil.which("valgrind") is None:
         parser.error("--callgrind needs valgrind")
+    if options.functions and not options.callgrind:
+        parser.error("--functions needs --callgrind")
     if not 1 <= options.cursors <= 256:
         parser.error("--cursors is 1 to 256")
     rows_of_runs = options.rows or ([10_000] if options.callgrind else [10_000, 100_000, 1_000_000])
