@@ -144,25 +144,31 @@ fn append_row_line<C: ClassText>(gathered: &mut Gathered, line: &mut Line, row: 
     append(gathered, line.as_slice());
 }
 
-/// Appends the line of a row that was inserted.
-fn append_inserted_line<C: ClassText>(gathered: &mut Gathered, row: &Row<C::Key>)
+/// Appends the line of a row that was inserted, which is written in place of what `line` has.
+fn append_inserted_line<C: ClassText>(gathered: &mut Gathered, line: &mut Line, row: &Row<C::Key>)
     requires room { HasRoomForLine gathered.old.items }
     ensures { gathered.new.items
         ≡ gathered.old.items ++ item_line C.texts.key_text (Inserted row.now) }
 {
-    let mut line = Line::new();
-    put_row::<C>(&mut line, row);
+    line.clear();
+    put_row::<C>(line, row);
     line.put(b"inserted ");
     append(gathered, line.as_slice());
 }
 
-/// Appends the line of a move: of the row that it made, and the number of the row that it ended.
-fn append_moved_line<C: ClassText>(gathered: &mut Gathered, row: &Row<C::Key>, ended: u64)
+/// Appends the line of a move, which is written in place of what `line` has: of the row that it made, and the number of the
+/// row that it ended.
+fn append_moved_line<C: ClassText>(
+    gathered: &mut Gathered,
+    line: &mut Line,
+    row: &Row<C::Key>,
+    ended: u64,
+)
     requires room { HasRoomForLine gathered.old.items }
     ensures { gathered.new.items ≡ gathered.old.items ++ moved_line C.texts.key_text row.now ended }
 {
-    let mut line = Line::new();
-    put_content::<C>(&mut line, row);
+    line.clear();
+    put_content::<C>(line, row);
     line.put_byte(b' ');
     line.put_number(ended);
     line.put_byte(b' ');
@@ -171,16 +177,16 @@ fn append_moved_line<C: ClassText>(gathered: &mut Gathered, row: &Row<C::Key>, e
     append(gathered, line.as_slice());
 }
 
-/// Appends the line of an item.
-pub fn append_item<C: ClassText>(gathered: &mut Gathered, item: &Item<C::Key>)
+/// Appends the line of an item. Where it has a key it is written in place of what `line` has.
+pub fn append_item<C: ClassText>(gathered: &mut Gathered, line: &mut Line, item: &Item<C::Key>)
     requires room { HasRoomForLine gathered.old.items }
     ensures { gathered.new.items ≡ gathered.old.items ++ item_line C.texts.key_text item.now }
 {
     match item {
-        Item::Row(row) => append_row_line::<C>(gathered, &mut Line::new(), row),
-        Item::Inserted(row) => append_inserted_line::<C>(gathered, row),
+        Item::Row(row) => append_row_line::<C>(gathered, line, row),
+        Item::Inserted(row) => append_inserted_line::<C>(gathered, line, row),
         Item::Deleted(number, row) => append_pair(gathered, b"deleted ", *number, *row),
-        Item::Moved(row, ended) => append_moved_line::<C>(gathered, row, *ended),
+        Item::Moved(row, ended) => append_moved_line::<C>(gathered, line, row, *ended),
         Item::Mark(number) => append_numbered(gathered, b"mark ", *number),
     }
 }
@@ -219,15 +225,15 @@ pub fn gather_refusal<W: Write>(
     send_enough(writer, gathered)
 }
 
-/// Appends the first line of a reply.
-fn append_line<C: ClassText>(gathered: &mut Gathered, reply: &Reply<C::Key>)
+/// Appends the first line of a reply. Where it has a key it is written in place of what `line` has.
+fn append_line<C: ClassText>(gathered: &mut Gathered, line: &mut Line, reply: &Reply<C::Key>)
     requires room { HasRoomForLine gathered.old.items }
     ensures { gathered.new.items ≡ gathered.old.items ++ first_line C.texts.key_text reply.now }
 {
     match reply {
         Reply::Committed(number) => append_numbered(gathered, b"committed ", *number),
         Reply::Opened(cursor) => append_numbered(gathered, b"opened ", *cursor),
-        Reply::Given(item) => append_item::<C>(gathered, item),
+        Reply::Given(item) => append_item::<C>(gathered, line, item),
         Reply::Empty => append(gathered, b"empty\n"),
         Reply::Asked => append(gathered, b"asked\n"),
         Reply::Found(rows) => append_numbered(gathered, b"found ", rows.len() as u64),
@@ -247,13 +253,14 @@ fn rows_of<K>(reply: &Reply<K>) -> &[Row<K>]
     }
 }
 
-/// Writes a line for each row, behind the answers that are gathered.
+/// Writes a line for each row, behind the answers that are gathered. Each is written in place of what `line` has.
 ///
 /// # Errors
 /// `Write` where the writer failed. It took a beginning of what was gathered.
 fn write_rows<C: ClassText, W: Write>(
     writer: &mut W,
     gathered: &mut Gathered,
+    line: &mut Line,
     rows: &[Row<C::Key>],
 ) -> Result<(), Fault>
     requires room { HasRoomForLine gathered.old.items }
@@ -262,21 +269,22 @@ fn write_rows<C: ClassText, W: Write>(
     ensures room { OnOk result (HasRoomForLine gathered.new.items) }
     ensures err { IfErr result (λ e. e ≡ Fault.Write) }
 {
-    let mut line = Line::new();
     for row in rows {
-        append_row_line::<C>(gathered, &mut line, row);
+        append_row_line::<C>(gathered, line, row);
         send_enough(writer, gathered)?;
     }
     Ok(())
 }
 
-/// Writes the lines of a reply, behind the answers that are gathered.
+/// Writes the lines of a reply, behind the answers that are gathered. Those with keys are written in place of what `line`
+/// has.
 ///
 /// # Errors
 /// `Write` where the writer failed. It took a beginning of what was gathered.
 pub fn write_reply<C: ClassText, W: Write>(
     writer: &mut W,
     gathered: &mut Gathered,
+    line: &mut Line,
     reply: &Reply<C::Key>,
 ) -> Result<(), Fault>
     requires room { HasRoomForLine gathered.old.items }
@@ -285,7 +293,7 @@ pub fn write_reply<C: ClassText, W: Write>(
     ensures room { OnOk result (HasRoomForLine gathered.new.items) }
     ensures err { IfErr result (λ e. e ≡ Fault.Write) }
 {
-    append_line::<C>(gathered, reply);
+    append_line::<C>(gathered, line, reply);
     send_enough(writer, gathered)?;
-    write_rows::<C, W>(writer, gathered, rows_of(reply))
+    write_rows::<C, W>(writer, gathered, line, rows_of(reply))
 }

@@ -9,7 +9,7 @@ use crate::answers::{Gathered, gather_refusal, send};
 use crate::line_buffer::LineBuffer;
 use key_class::limits::MAX_LINE;
 use key_class::{Fault, Refusal};
-use query_text::{Lexeme, scan};
+use query_text::{Lexeme, Line, scan};
 use std::alloc::Global;
 use std::io::{Read, Write};
 
@@ -18,7 +18,8 @@ pub trait Responder {
     /// Whether a text may answer the tokens of a line with so many bytes, and what becomes of the responder.
     ghost answers: { ℕ → Self → List Placed → List ℕ → Self → Type 0 };
 
-    /// Answers the lexemes of a line, behind the answers that are gathered.
+    /// Answers the lexemes of a line, behind the answers that are gathered. A line with a key is written in place of what
+    /// `scratch` has.
     ///
     /// # Errors
     /// `Write` where the writer failed. The line is carried out all the same.
@@ -29,6 +30,7 @@ pub trait Responder {
         lexemes: &[Lexeme],
         writer: &mut W,
         gathered: &mut Gathered,
+        scratch: &mut Line,
     ) -> Result<(), Fault>
         requires room { HasRoomForLine gathered.old.items }
         ensures answers { (said : List ℕ)
@@ -47,6 +49,7 @@ fn answer_line<S: Responder, W: Write>(
     lexemes: &mut Vec<Lexeme>,
     writer: &mut W,
     gathered: &mut Gathered,
+    scratch: &mut Line,
 ) -> Result<(), Fault>
     requires capacity { 4096 ≤ vec_capacity lexemes.old }
     requires room { HasRoomForLine gathered.old.items }
@@ -61,7 +64,7 @@ fn answer_line<S: Responder, W: Write>(
         return gather_refusal(Refusal::Line(MAX_LINE as u64), writer, gathered);
     }
     match scan(line, lexemes) {
-        Ok(()) => responder.answer(alloc, line, lexemes.as_slice(), writer, gathered),
+        Ok(()) => responder.answer(alloc, line, lexemes.as_slice(), writer, gathered, scratch),
         Err(_) => unreachable!(),
     }
 }
@@ -97,6 +100,7 @@ pub fn converse<S: Responder, R: Read, W: Write>(
         return Err(Fault::OutOfMemory);
     };
     let mut gathered = Gathered::new();
+    let mut scratch = Line::new();
     'reading: for _ in 0..u64::MAX {
         send(writer, &mut gathered)?;
         if !lines.fill(reader)? {
@@ -108,6 +112,7 @@ pub fn converse<S: Responder, R: Read, W: Write>(
                 &mut lexemes,
                 writer,
                 &mut gathered,
+                &mut scratch,
             )?;
             send(writer, &mut gathered)?;
             return Ok(());
@@ -122,6 +127,7 @@ pub fn converse<S: Responder, R: Read, W: Write>(
                 &mut lexemes,
                 writer,
                 &mut gathered,
+                &mut scratch,
             )?;
             lines.pass(passed);
         }

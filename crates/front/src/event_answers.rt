@@ -8,12 +8,16 @@ use crate::answers::{
 };
 use key_class::Fault;
 use mailbox::Outlet;
-use query_text::{ClassText, append};
+use query_text::{ClassText, Line, append};
 use std::io::Write;
 use world::Reply;
 
-/// Appends the line of a reply.
-fn append_line<C: ClassText, O: Outlet<C::Key>>(gathered: &mut Gathered, reply: &Reply<C, O>)
+/// Appends the line of a reply. Where it has a key it is written in place of what `line` has.
+fn append_line<C: ClassText, O: Outlet<C::Key>>(
+    gathered: &mut Gathered,
+    line: &mut Line,
+    reply: &Reply<C, O>,
+)
     requires room { HasRoomForLine gathered.old.items }
     ensures { gathered.new.items ≡ gathered.old.items ++ reply_line C.texts.key_text reply.now }
 {
@@ -37,20 +41,22 @@ fn append_line<C: ClassText, O: Outlet<C::Key>>(gathered: &mut Gathered, reply: 
         Reply::Visited(page) => append_numbered(gathered, b"visited ", u64::from(*page)),
         Reply::Passed(number) => append_numbered(gathered, b"passed ", *number),
         Reply::Asked => append(gathered, b"asked\n"),
-        Reply::Taken(item) => append_item::<C>(gathered, item),
+        Reply::Taken(item) => append_item::<C>(gathered, line, item),
         Reply::Nothing => append(gathered, b"nothing\n"),
         Reply::Closed => append(gathered, b"closed\n"),
         Reply::Refused(why) => append_refusal(gathered, *why),
     }
 }
 
-/// Writes the line of a reply, behind the answers that are gathered.
+/// Writes the line of a reply, behind the answers that are gathered. Where it has a key it is written in place of what
+/// `line` has.
 ///
 /// # Errors
 /// `Write` where the writer failed. It took a beginning of what was gathered.
 pub fn write_event_reply<C: ClassText, O: Outlet<C::Key>, W: Write>(
     writer: &mut W,
     gathered: &mut Gathered,
+    line: &mut Line,
     reply: &Reply<C, O>,
 ) -> Result<(), Fault>
     requires room { HasRoomForLine gathered.old.items }
@@ -59,6 +65,6 @@ pub fn write_event_reply<C: ClassText, O: Outlet<C::Key>, W: Write>(
     ensures room { OnOk result (HasRoomForLine gathered.new.items) }
     ensures err { IfErr result (λ e. e ≡ Fault.Write) }
 {
-    append_line::<C, O>(gathered, reply);
+    append_line::<C, O>(gathered, line, reply);
     send_enough(writer, gathered)
 }

@@ -11,7 +11,7 @@ use crate::event_request::{EventRequest, read_event};
 use crate::tokens::first_of;
 use key_class::{Fault, Pred, Refusal, Side, Sides};
 use mailbox::Tray;
-use query_text::{ClassText, Lexeme, parse_tokens};
+use query_text::{ClassText, Lexeme, Line, parse_tokens};
 use std::alloc::Global;
 use std::io::{Read, Write};
 use world::{Event, Reply, World};
@@ -111,6 +111,7 @@ impl<C: ClassText> Responder for World<C, Tray<C::Key>> {
         lexemes: &[Lexeme],
         writer: &mut W,
         gathered: &mut Gathered,
+        scratch: &mut Line,
     ) -> Result<(), Fault> {
         let Some((first, rest)) = first_of(lexemes) else {
             return Ok(());
@@ -118,7 +119,7 @@ impl<C: ClassText> Responder for World<C, Tray<C::Key>> {
         match read_event::<C>(text, first, rest) {
             Ok(request) => {
                 let reply = carry_out(alloc, self, text, request);
-                write_event_reply::<C, Tray<C::Key>, W>(writer, gathered, &reply)
+                write_event_reply::<C, Tray<C::Key>, W>(writer, gathered, scratch, &reply)
             }
             Err(place) => gather_refusal(Refusal::Line(place as u64), writer, gathered),
         }

@@ -39,26 +39,17 @@ pub enum Request<'a, K> {
 fn verb_of_word(word: &[u8]) -> Verb
     ensures { result ≡ verb_of_word word.now }
 {
-    if same_bytes(word, b"insert") {
-        Verb::Insert
-    } else if same_bytes(word, b"delete") {
-        Verb::Delete
-    } else if same_bytes(word, b"move") {
-        Verb::Move
-    } else if same_bytes(word, b"open") {
-        Verb::Open
-    } else if same_bytes(word, b"next") {
-        Verb::Next
-    } else if same_bytes(word, b"mark") {
-        Verb::Mark
-    } else if same_bytes(word, b"find") {
-        Verb::Find
-    } else if same_bytes(word, b"sweep") {
-        Verb::Sweep
-    } else if same_bytes(word, b"close") {
-        Verb::Close
-    } else {
-        Verb::Other
+    match word {
+        b"find" => Verb::Find,
+        b"next" => Verb::Next,
+        _ if same_bytes(word, b"insert") => Verb::Insert,
+        _ if same_bytes(word, b"delete") => Verb::Delete,
+        _ if same_bytes(word, b"move") => Verb::Move,
+        _ if same_bytes(word, b"open") => Verb::Open,
+        _ if same_bytes(word, b"mark") => Verb::Mark,
+        _ if same_bytes(word, b"sweep") => Verb::Sweep,
+        _ if same_bytes(word, b"close") => Verb::Close,
+        _ => Verb::Other,
     }
 }
 

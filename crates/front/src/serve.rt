@@ -15,7 +15,7 @@ use crate::reply::Reply;
 use crate::request::{Request, read_request};
 use crate::tokens::first_of;
 use key_class::{Fault, KeyClass, Pred, Refusal};
-use query_text::{ClassText, Lexeme, parse_tokens};
+use query_text::{ClassText, Lexeme, Line, parse_tokens};
 use std::alloc::Global;
 use std::io::{Read, Write};
 use store::Store;
@@ -119,9 +119,10 @@ impl<C: ClassText> Responder for Store<C> {
         lexemes: &[Lexeme],
         writer: &mut W,
         gathered: &mut Gathered,
+        scratch: &mut Line,
     ) -> Result<(), Fault> {
         match reply_to_tokens(alloc, self, text, lexemes) {
-            Some(reply) => write_reply::<C, W>(writer, gathered, &reply),
+            Some(reply) => write_reply::<C, W>(writer, gathered, scratch, &reply),
             None => Ok(()),
         }
     }
