@@ -13,9 +13,8 @@ use crate::commands::{close, delete, find, insert, mark, move_row, next, open, o
 use crate::conversation::{Responder, converse};
 use crate::reply::Reply;
 use crate::request::{Request, read_request};
-use crate::tokens::first_of;
 use key_class::{Fault, KeyClass, Pred, Refusal};
-use query_text::{ClassText, Lexeme, Line, parse_tokens};
+use query_text::{ClassText, Lexeme, Line, first_of, parse_tokens};
 use std::alloc::Global;
 use std::io::{Read, Write};
 use store::Store;

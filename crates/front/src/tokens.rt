@@ -1,21 +1,11 @@
 //! What stands at the front of a line's lexemes.
-ghost use Rattle.std.specs.Prelude.{◌≡◌, [], ◌∷◌, Ok, Err, OnOk, IfErr, MatchOption};
+ghost use Rattle.std.specs.Prelude.{◌≡◌, [], Ok, Err, OnOk, IfErr};
 ghost use Rattle.query_text.specs.Keys.{GivesRead};
 ghost use Rattle.query_text.specs.declared.lexeme.Lexeme.{Lexeme};
 ghost use Rattle.query_text.specs.Tokens.{token_in};
 ghost use Rattle.front.specs.Requests.{is_from, natural_at, one_number, start_at, BeginAt, IsRead};
 
-use query_text::{Kind, Lexeme, same_bytes};
-
-/// The first lexeme and the others, if there is one.
-pub fn first_of(lexemes: &[Lexeme]) -> Option<(Lexeme, &[Lexeme])>
-    ensures { MatchOption result (lexemes.now ≡ []) (λ r. lexemes.now ≡ r.0 ∷ r.1.now) }
-{
-    match lexemes {
-        [] => None,
-        [first, rest @ ..] => Some((*first, rest)),
-    }
-}
+use query_text::{Kind, Lexeme, first_of, same_bytes};
 
 /// A number from 0 to 2^64 - 1 at the front, and the lexemes behind it.
 ///

@@ -20,6 +20,7 @@ pub use lexeme::{Kind, Lexeme};
 pub use line::{LINE, Line};
 pub use parser::{one_meaning_for_text, one_meaning_for_tokens, parse, parse_tokens};
 pub use printer::print;
+pub use reader::first_of;
 pub use scanner::{one_cut_for_text, scan};
 pub use sets::set_texts_name_their_elements;
 pub use text::{append, append_number, same_bytes};
