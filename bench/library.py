@@ -1,0 +1,64 @@
+#!/usr/bin/env python3
+"""Measures the library for C in process, beside the R-tree of Boost.Geometry on the same keys where its headers are there.
+
+    bench/library.py [--class interval|box] [--rows N ..] [--finds N] [--turns N] [--callgrind]
+
+It builds bench/library/library.cpp over include/gist.h and the library that `rt lib` leaves in crates/gist_c/out, and runs
+it. Each find must give the same rows by every tree, or the run ends with status 1.
+"""
+import argparse
+import os
+import shutil
+import subprocess
+import sys
+import tempfile
+
+sys.dont_write_bytecode = True
+from bench import HERE, PEER_FLAGS, PEER_HEADER, has_header, instructions_by_function
+
+TOP = os.path.dirname(HERE)
+SOURCE = os.path.join(HERE, "library", "library.cpp")
+PROGRAM = os.path.join(HERE, "out", "library")
+LIBRARY = os.path.join(TOP, "crates", "gist_c", "out", "libgist_c.a")
+
+
+def build():
+    compiler = shutil.which("c++")
+    if compiler is None:
+        raise SystemExit("library: there is no c++")
+    if not os.path.exists(LIBRARY):
+        raise SystemExit(f"library: {LIBRARY} is missing; run rt lib in crates/gist_c")
+    boost = ["-DWITH_BOOST"] if has_header(compiler, PEER_HEADER) else []
+    if not boost:
+        print("Boost's headers are missing: gist is measured alone")
+    os.makedirs(os.path.dirname(PROGRAM), exist_ok=True)
+    words = [compiler, *PEER_FLAGS, *boost, f"-I{TOP}/include", SOURCE, LIBRARY, "-lm", "-o", PROGRAM]
+    if subprocess.run(words).returncode != 0:
+        raise SystemExit("library: the program can't be built")
+
+
+def main():
+    parser = argparse.ArgumentParser(description="Measures the library for C in process.")
+    parser.add_argument("--class", dest="kinds", action="append", choices=["interval", "box"], help="by default both")
+    parser.add_argument("--rows", type=int, action="append", help="by default 10000, 100000 and 1000000")
+    parser.add_argument("--finds", type=int, default=20_000, help="finds in a phase")
+    parser.add_argument("--turns", type=int, default=3, help="runs, the least of which counts; up to five times as many of short ones")
+    parser.add_argument("--callgrind", action="store_true", help="instructions in place of time, by valgrind, of gist alone")
+    options = parser.parse_args()
+    build()
+    for kind in options.kinds or ["interval", "box"]:
+        for rows in options.rows or ([20_000] if options.callgrind else [10_000, 100_000, 1_000_000]):
+            turns = 1 if options.callgrind else options.turns * min(1 + 100_000 // rows, 5)
+            words = [PROGRAM, kind, str(rows), str(options.finds), str(turns)]
+            print(f"{kind}, {rows:,} rows", flush=True)
+            if not options.callgrind:
+                if subprocess.run(words).returncode != 0:
+                    raise SystemExit(1)
+                continue
+            with tempfile.TemporaryDirectory(prefix="gist-bench-") as folder:
+                for name, count in instructions_by_function([*words, "gist"], os.devnull, folder).most_common(20):
+                    print(f"  {count:>16,} {name}")
+
+
+if __name__ == "__main__":
+    main()

@@ -1,0 +1,378 @@
+// Measures a store in process: the calls of include/gist.h, and beside them the R-tree of Boost.Geometry on the same keys
+// where its headers are there. Usage: library interval|box ROWS FINDS TURNS [gist]
+//
+// A line is told for each phase: its name, how many calls, and nanoseconds of processor time a call of each tree, the least
+// of TURNS turns. With a last word `gist` nothing else is measured, as for callgrind. Every find of every tree must give the
+// same rows, or the program ends with status 1.
+
+#include <algorithm>
+#include <cinttypes>
+#include <cstdint>
+#include <cstdio>
+#include <cstdlib>
+#include <cstring>
+#include <ctime>
+#include <memory>
+#include <string>
+#include <vector>
+
+#include "gist.h"
+
+#ifdef WITH_BOOST
+#include <boost/geometry.hpp>
+#include <boost/geometry/index/rtree.hpp>
+#endif
+
+namespace {
+
+constexpr std::uint64_t SEED = 20240607;
+
+// What each tree gets: fan 32 with at least 12 a side, as in the measurements of lines, and as many pages and commits as there are
+constexpr gist_limits LIMITS = {32, 12, 65536, 16777216};
+
+[[noreturn]] void fail(const std::string& what) {
+    std::fprintf(stderr, "library: %s\n", what.c_str());
+    std::exit(1);
+}
+
+void expect(std::uint32_t code, const char* call) {
+    if (code != GIST_OK) fail(std::string(call) + " is refused: " + std::to_string(code));
+}
+
+// splitmix64, of Steele, Lea and Flood
+class Generator {
+  public:
+    std::uint64_t below(std::uint64_t bound) {
+        std::uint64_t z = (state += 0x9e3779b97f4a7c15ULL);
+        z = (z ^ (z >> 30)) * 0xbf58476d1ce4e5b9ULL;
+        z = (z ^ (z >> 27)) * 0x94d049bb133111ebULL;
+        return (z ^ (z >> 31)) % bound;
+    }
+
+  private:
+    std::uint64_t state = SEED;
+};
+
+double seconds() {
+    timespec now;
+    clock_gettime(CLOCK_PROCESS_CPUTIME_ID, &now);
+    return now.tv_sec + now.tv_nsec * 1e-9;
+}
+
+// What a find gave: how many rows, and a sum of them in which their order doesn't count
+struct Found {
+    std::uint64_t count = 0;
+    std::uint64_t sum = 0;
+
+    void add(std::uint64_t row) {
+        count += 1;
+        sum += row * row + 7 * row;
+    }
+    bool operator==(const Found& other) const { return count == other.count && sum == other.sum; }
+};
+
+// Short intervals on a line, a hundred points of it for each
+struct Intervals {
+    struct Key {
+        std::int64_t lo, hi;
+    };
+    using Row = gist_interval_row;
+    using Item = gist_interval_item;
+    static constexpr std::uint32_t CLASS = GIST_INTERVALS;
+
+    static Key key(Generator& generator, std::uint64_t rows) {
+        std::int64_t lo = generator.below(rows * 100);
+        return {lo, lo + static_cast<std::int64_t>(generator.below(20))};
+    }
+    static Key wanted(Generator& generator, std::uint64_t rows, std::uint64_t count) {
+        std::int64_t lo = generator.below(rows * 100);
+        return {lo, lo + static_cast<std::int64_t>(count * 100 - 10)};
+    }
+    static std::string overlaps(const Key& key) {
+        char text[96];
+        std::snprintf(text, sizeof text, "overlaps(%" PRId64 " %" PRId64 ")", key.lo, key.hi);
+        return text;
+    }
+    static std::uint32_t insert(gist_store* store, const Key& key, std::uint64_t* row) {
+        return gist_interval_insert(store, key.lo, key.hi, 0, row);
+    }
+    static std::uint32_t find(gist_store* store, const std::string& query, std::vector<Row>& rows, std::uint64_t* count) {
+        std::uint64_t fault;
+        return gist_interval_find(store, query.data(), query.size(), rows.data(), rows.size(), count, &fault);
+    }
+    static std::uint32_t next(gist_store* store, std::uint64_t cursor, Item* item) { return gist_interval_next(store, cursor, item); }
+};
+
+// Small boxes in a square, a hundred by a hundred points of it for each
+struct Boxes {
+    struct Key {
+        std::int32_t x1, y1, x2, y2;
+    };
+    using Row = gist_box_row;
+    using Item = gist_box_item;
+    static constexpr std::uint32_t CLASS = GIST_BOXES;
+
+    static std::int64_t side(std::uint64_t rows) {
+        std::int64_t side = 1;
+        while ((side + 1) * (side + 1) <= static_cast<std::int64_t>(rows * 10000)) side += 1;
+        return std::min<std::int64_t>(side, 2000000000);
+    }
+    static Key square(Generator& generator, std::uint64_t rows, std::int64_t least, std::int64_t more) {
+        static std::uint64_t known_rows = 0;
+        static std::int64_t known_side = 0;
+        if (known_rows != rows) known_rows = rows, known_side = side(rows);
+        std::int32_t x = generator.below(known_side), y = generator.below(known_side);
+        std::int32_t width = least + generator.below(more), height = least + generator.below(more);
+        return {x, y, x + width, y + height};
+    }
+    static Key key(Generator& generator, std::uint64_t rows) { return square(generator, rows, 0, 20); }
+    static Key wanted(Generator& generator, std::uint64_t rows, std::uint64_t count) {
+        std::int64_t wide = side(count) - 10;
+        return square(generator, rows, wide, 1);
+    }
+    static std::string overlaps(const Key& key) {
+        char text[96];
+        std::snprintf(text, sizeof text, "overlaps(%" PRId32 " %" PRId32 " %" PRId32 " %" PRId32 ")", key.x1, key.y1, key.x2, key.y2);
+        return text;
+    }
+    static std::uint32_t insert(gist_store* store, const Key& key, std::uint64_t* row) {
+        return gist_box_insert(store, key.x1, key.y1, key.x2, key.y2, 0, row);
+    }
+    static std::uint32_t find(gist_store* store, const std::string& query, std::vector<Row>& rows, std::uint64_t* count) {
+        std::uint64_t fault;
+        return gist_box_find(store, query.data(), query.size(), rows.data(), rows.size(), count, &fault);
+    }
+    static std::uint32_t next(gist_store* store, std::uint64_t cursor, Item* item) { return gist_box_next(store, cursor, item); }
+};
+
+// A store of gist
+template <class Kind>
+class Store {
+  public:
+    static constexpr const char* NAME = "gist";
+
+    Store() : rows(1024) { expect(gist_new(&store, Kind::CLASS, &LIMITS), "gist_new"); }
+    ~Store() { gist_drop(&store); }
+    Store(const Store&) = delete;
+
+    void insert(std::uint64_t row, const typename Kind::Key& key) {
+        std::uint64_t made;
+        expect(Kind::insert(&store, key, &made), "insert");
+        if (made != row) fail("a row has another number");
+    }
+    void erase(std::uint64_t row, const typename Kind::Key&) {
+        std::uint64_t commit;
+        expect(gist_delete(&store, row, &commit), "gist_delete");
+    }
+    Found find(const typename Kind::Key& wanted) {
+        std::uint64_t count = 0;
+        std::string query = Kind::overlaps(wanted);
+        expect(Kind::find(&store, query, rows, &count), "find");
+        if (count > rows.size()) fail("a find has more rows than the buffer");
+        Found found;
+        for (std::uint64_t at = 0; at < count; at += 1) found.add(rows[at].row);
+        return found;
+    }
+    std::uint64_t open(const typename Kind::Key& wanted) {
+        std::uint64_t cursor, fault;
+        std::string query = Kind::overlaps(wanted);
+        expect(gist_open(&store, query.data(), query.size(), &cursor, &fault), "gist_open");
+        return cursor;
+    }
+    // Takes items until nothing is left, and tells how many
+    std::uint64_t follow(std::uint64_t cursor) {
+        typename Kind::Item item;
+        for (std::uint64_t taken = 0;; taken += 1) {
+            expect(Kind::next(&store, cursor, &item), "next");
+            if (item.kind == GIST_NOTHING) return taken;
+        }
+    }
+
+  private:
+    gist_store store = {};
+    std::vector<typename Kind::Row> rows;
+};
+
+#ifdef WITH_BOOST
+
+namespace bg = boost::geometry;
+namespace bgi = boost::geometry::index;
+
+inline auto box_of(const Intervals::Key& key) {
+    using Point = bg::model::point<std::int64_t, 1, bg::cs::cartesian>;
+    return bg::model::box<Point>(Point(key.lo), Point(key.hi));
+}
+
+inline auto box_of(const Boxes::Key& key) {
+    using Point = bg::model::point<std::int32_t, 2, bg::cs::cartesian>;
+    return bg::model::box<Point>(Point(key.x1, key.y1), Point(key.x2, key.y2));
+}
+
+// Boost's tree with a way to split
+template <class Kind, class Splits>
+class Boost {
+  public:
+    using Value = std::pair<decltype(box_of(typename Kind::Key())), std::uint64_t>;
+
+    void insert(std::uint64_t row, const typename Kind::Key& key) { tree.insert(Value(box_of(key), row)); }
+    void erase(std::uint64_t row, const typename Kind::Key& key) {
+        if (tree.remove(Value(box_of(key), row)) != 1) fail("boost lacks a row");
+    }
+    Found find(const typename Kind::Key& wanted) {
+        rows.clear();
+        tree.query(bgi::intersects(box_of(wanted)), std::back_inserter(rows));
+        Found found;
+        for (const Value& value : rows) found.add(value.second);
+        return found;
+    }
+
+  private:
+    bgi::rtree<Value, Splits> tree;
+    std::vector<Value> rows;
+};
+
+template <class Kind>
+struct Quadratic : Boost<Kind, bgi::quadratic<16>> {
+    static constexpr const char* NAME = "quadratic<16>";
+};
+
+template <class Kind>
+struct Rstar : Boost<Kind, bgi::rstar<16>> {
+    static constexpr const char* NAME = "rstar<16>";
+};
+
+#endif
+
+// What the calls of a phase take, and what its finds gave
+struct Phase {
+    const char* name;
+    std::uint64_t calls;
+    double taken;
+    std::vector<Found> found;
+};
+
+template <class Kind>
+struct Work {
+    std::vector<typename Kind::Key> keys, later;
+    std::vector<typename Kind::Key> wanted, followed;
+    std::vector<std::uint64_t> ended;
+
+    Work(std::uint64_t rows, std::uint64_t finds) {
+        Generator generator;
+        for (std::uint64_t row = 0; row < rows; row += 1) keys.push_back(Kind::key(generator, rows));
+        for (std::uint64_t at = 0; at < finds; at += 1) wanted.push_back(Kind::wanted(generator, rows, 10));
+        for (std::uint64_t row = 1; row <= rows; row += 1) ended.push_back(row);
+        for (std::uint64_t at = rows; at > 1; at -= 1) std::swap(ended[at - 1], ended[generator.below(at)]);
+        ended.resize(rows / 2);
+        for (int at = 0; at < 100; at += 1) followed.push_back(Kind::wanted(generator, rows, 200));
+        for (std::uint64_t at = 0; at < rows / 10; at += 1) later.push_back(Kind::key(generator, rows));
+    }
+};
+
+template <class Call>
+Phase timed(const char* name, std::uint64_t calls, Call call) {
+    Phase phase{name, calls, 0, {}};
+    double began = seconds();
+    call(phase);
+    phase.taken = (seconds() - began) / static_cast<double>(calls);
+    return phase;
+}
+
+template <class Kind, class Tree>
+std::vector<Phase> common_phases(Tree& tree, const Work<Kind>& work) {
+    std::vector<Phase> phases;
+    phases.push_back(timed("insert", work.keys.size(), [&](Phase&) {
+        for (std::uint64_t at = 0; at < work.keys.size(); at += 1) tree.insert(at + 1, work.keys[at]);
+    }));
+    phases.push_back(timed("find of ten", work.wanted.size(), [&](Phase& phase) {
+        for (const auto& wanted : work.wanted) phase.found.push_back(tree.find(wanted));
+    }));
+    phases.push_back(timed("delete", work.ended.size(), [&](Phase&) {
+        for (std::uint64_t row : work.ended) tree.erase(row, work.keys[row - 1]);
+    }));
+    phases.push_back(timed("find of five", work.wanted.size(), [&](Phase& phase) {
+        for (const auto& wanted : work.wanted) phase.found.push_back(tree.find(wanted));
+    }));
+    return phases;
+}
+
+// What only gist has: cursors that first give a snapshot, and then follow
+template <class Kind>
+void following_phases(Store<Kind>& store, const Work<Kind>& work, std::vector<Phase>& phases) {
+    std::vector<std::uint64_t> cursors;
+    for (const auto& followed : work.followed) cursors.push_back(store.open(followed));
+    auto follow = [&](const char* name) {
+        std::uint64_t taken = 0;
+        double began = seconds();
+        for (std::uint64_t cursor : cursors) taken += store.follow(cursor);
+        phases.push_back({name, taken, (seconds() - began) / static_cast<double>(std::max<std::uint64_t>(taken, 1)), {}});
+    };
+    follow("item of a snapshot");
+    std::uint64_t row = work.keys.size() + work.ended.size();
+    phases.push_back(timed("insert, followed", work.later.size(), [&](Phase&) {
+        for (const auto& key : work.later) store.insert(row += 1, key);
+    }));
+    follow("item that follows");
+}
+
+template <class Kind, class Tree>
+std::vector<Phase> best_of(std::uint64_t turns, const Work<Kind>& work) {
+    std::vector<Phase> best;
+    for (std::uint64_t turn = 0; turn < turns; turn += 1) {
+        auto tree = std::make_unique<Tree>();
+        std::vector<Phase> phases = common_phases<Kind>(*tree, work);
+        if constexpr (std::is_same_v<Tree, Store<Kind>>) following_phases(*tree, work, phases);
+        for (std::size_t at = 0; at < phases.size(); at += 1) {
+            if (turn == 0) best.push_back(phases[at]);
+            best[at].taken = std::min(best[at].taken, phases[at].taken);
+        }
+    }
+    return best;
+}
+
+void require_same(const std::vector<Phase>& one, const std::vector<Phase>& other, const char* name) {
+    for (std::size_t at = 0; at < std::min(one.size(), other.size()); at += 1)
+        if (!(one[at].found == other[at].found)) fail(std::string(name) + " finds other rows in: " + one[at].name);
+}
+
+template <class Kind>
+void measure(std::uint64_t rows, std::uint64_t finds, std::uint64_t turns, bool alone) {
+    Work<Kind> work(rows, finds);
+    std::vector<std::pair<const char*, std::vector<Phase>>> all;
+    all.emplace_back(Store<Kind>::NAME, best_of<Kind, Store<Kind>>(turns, work));
+#ifdef WITH_BOOST
+    if (!alone) {
+        all.emplace_back(Quadratic<Kind>::NAME, best_of<Kind, Quadratic<Kind>>(turns, work));
+        all.emplace_back(Rstar<Kind>::NAME, best_of<Kind, Rstar<Kind>>(turns, work));
+    }
+#else
+    (void)alone;
+#endif
+    for (const auto& other : all) require_same(all.front().second, other.second, other.first);
+    std::printf("  %-20s%12s", "nanoseconds a call", "calls");
+    for (const auto& tree : all) std::printf("%16s", tree.first);
+    std::printf("\n");
+    for (std::size_t at = 0; at < all.front().second.size(); at += 1) {
+        std::printf("  %-20s%12" PRIu64, all.front().second[at].name, all.front().second[at].calls);
+        for (const auto& tree : all)
+            if (at < tree.second.size()) std::printf("%16.0f", tree.second[at].taken * 1e9);
+        std::printf("\n");
+    }
+}
+
+}  // namespace
+
+int main(int count, char** words) {
+    if (count < 5) fail("usage: library interval|box ROWS FINDS TURNS [gist]");
+    std::uint64_t rows = std::strtoull(words[2], nullptr, 10), finds = std::strtoull(words[3], nullptr, 10), turns = std::strtoull(words[4], nullptr, 10);
+    bool alone = count > 5 && std::strcmp(words[5], "gist") == 0;
+    if (rows < 2 || finds < 1 || turns < 1) fail("ROWS is 2 and more, FINDS and TURNS 1 and more");
+    if (std::strcmp(words[1], "interval") == 0) {
+        measure<Intervals>(rows, finds, turns, alone);
+    } else if (std::strcmp(words[1], "box") == 0) {
+        measure<Boxes>(rows, finds, turns, alone);
+    } else {
+        fail("keys are of the class interval or box");
+    }
+    return 0;
+}
