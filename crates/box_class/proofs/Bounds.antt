@@ -1,7 +1,7 @@
-use Rattle.std.proofs.Common.{◌≡◌, ℕ, ◌<◌, ◌+◌, ◌≤◌, true, List, ◌∷◌, length, slice_index_or, arith, ⊎_elim, subst, sym, ◌∙◌}
+use Rattle.std.proofs.Common.{◌≡◌, ℕ, ◌<◌, ◌+◌, ◌≤◌, true, List, ◌∷◌, length, slice_index_or, take, drop, arith, ⊎_elim, subst, sym, ◌∙◌}
 use Rattle.std.proofs.lemmas.Bool.{cases_eq}
 use Rattle.std.proofs.lemmas.List.{get_or_default}
-use Rattle.std.proofs.lemmas.List.Elements.{All-head, All-tail, All-cons}
+use Rattle.std.proofs.lemmas.List.Elements.{All-head, All-tail, All-cons, All-take, All-drop}
 use Rattle.box_class.specs.declared.boxes.BoxKey.{BoxKey}
 use Rattle.box_class.specs.Boxes.{is_cover, size_of, union_of}
 use Rattle.box_class.specs.BoxLaws.{size_of-le, union_is_least, union_covers_left, union_covers_right, covers_through}
@@ -51,3 +51,9 @@ grown_within limit b x keys i w p r =
 pub seed_within : (limit : ℕ) (x : BoxKey) (keys : List BoxKey) (i : ℕ) → HaveBoundWithin limit keys → i < length keys → x ≡ slice_index_or keys i x → HaveBoundWithin limit (x ∷ keys)
 seed_within limit x keys i w p r =
     (w.0, w.1, All-cons (λ (k : BoxKey). is_cover w.0 k ≡ true) x keys (covered_read w.0 x keys i w.2 p r) w.2)
+
+-- what bounds them all bounds one of them and some that come later
+pub row_within : (limit : ℕ) (x : BoxKey) (keys : List BoxKey) (i n m : ℕ) → HaveBoundWithin limit keys → i < length keys → x ≡ slice_index_or keys i x → HaveBoundWithin limit (x ∷ take m (drop n keys))
+row_within limit x keys i n m w p r =
+    let P = λ (k : BoxKey). is_cover w.0 k ≡ true in
+    (w.0, w.1, All-cons P x (take m (drop n keys)) (covered_read w.0 x keys i w.2 p r) (All-take P m (drop n keys) (All-drop P n keys w.2)))

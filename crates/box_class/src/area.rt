@@ -35,6 +35,33 @@ pub trait Area: Copy + Ord {
         ensures { area_of result ≡ distance (area_of self) (area_of other) };
 }
 
+impl Area for u32 {
+    type Waste = i32;
+
+    ghost limit = { 2 ^ 31 };
+
+    ghost area_of = { λ n. n };
+
+    ghost waste_of = { λ n. n };
+
+    fn of(key: BoxKey) -> u32 {
+        width(key) as u32 * height(key) as u32
+    }
+
+    fn waste(a: BoxKey, b: BoxKey) -> i32 {
+        let both = i64::from(u32::of(union(a, b)));
+        (both - i64::from(u32::of(a)) - i64::from(u32::of(b))) as i32
+    }
+
+    fn gain(bound: BoxKey, key: BoxKey) -> u32 {
+        u32::of(union(bound, key)) - u32::of(bound)
+    }
+
+    fn apart(self, other: u32) -> u32 {
+        self.abs_diff(other)
+    }
+}
+
 impl Area for u64 {
     type Waste = i64;
 
