@@ -1,1 +1,1 @@
-mod IntervalBoxes
+mod StoreBoxes

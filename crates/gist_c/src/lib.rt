@@ -1,8 +1,16 @@
 //! Stores for programs in C, and in Rust and other languages that call C.
 #![tactic(auto)]
 
-mod interval_inside;
-mod interval_store;
-mod interval_tree;
-mod intervals;
+mod answers;
+mod any_store;
+mod buffers;
+mod calls;
+mod crossing;
+mod handle;
+mod inside;
+mod interval_rows;
+mod limits;
+mod names;
 mod parts;
+mod shown;
+mod stores;

@@ -1,39 +1,39 @@
 ghost use Rattle.std.specs.Prelude.{◌≡◌, Some, None, IfSome, IfNone};
-ghost use Rattle.gist_c.specs.IntervalOwning.{is_held};
+ghost use Rattle.gist_c.specs.Owning.{is_held};
 
-use crate::interval_inside::IntervalInside;
-use crate::interval_tree::IntervalTree;
+use crate::any_store::AnyStore;
+use crate::inside::Inside;
 use crate::parts::Parts;
 use std::alloc::Global;
 use std::mem;
 
-/// A handle of a store of intervals, or of none.
+/// A handle of a store, or of none.
 #[repr(C)]
 #[derive(Drop)]
-pub struct IntervalStore {
+pub struct Handle {
     is_open: bool,
-    pub(crate) inside: IntervalInside,
+    pub(crate) inside: Inside,
     ghost sound: { is_open ≡ is_held inside.state },
 }
 
-impl IntervalStore {
+impl Handle {
     /// A handle of no store.
-    fn empty(alloc: Global) -> IntervalStore
+    fn empty(alloc: Global) -> Handle
         ensures { result.inside.state ≡ None }
     {
-        IntervalStore {
+        Handle {
             is_open: false,
-            inside: IntervalInside::empty(alloc),
+            inside: Inside::empty(alloc),
         }
     }
 
     /// A handle of a store.
-    fn of(tree: Box<IntervalTree>) -> IntervalStore
-        ensures { result.inside.state ≡ Some tree.value }
+    fn of(store: Box<AnyStore>) -> Handle
+        ensures { result.inside.state ≡ Some store.value }
     {
-        IntervalStore {
+        Handle {
             is_open: true,
-            inside: IntervalInside::of_parts(Parts::of(tree)),
+            inside: Inside::of_parts(Parts::of(store)),
         }
     }
 
@@ -45,12 +45,12 @@ impl IntervalStore {
     }
 
     /// Takes the store out of the handle.
-    pub(crate) fn take(&mut self, alloc: Global) -> Option<Box<IntervalTree>>
-        ensures some { IfSome result (λ tree. self.old.inside.state ≡ Some tree.value) }
+    pub(crate) fn take(&mut self, alloc: Global) -> Option<Box<AnyStore>>
+        ensures some { IfSome result (λ store. self.old.inside.state ≡ Some store.value) }
         ensures none { IfNone result (self.old.inside.state ≡ None) }
         ensures left { self.new.inside.state ≡ None }
     {
-        let IntervalStore { is_open, inside } = mem::replace(self, IntervalStore::empty(alloc));
+        let Handle { is_open, inside } = mem::replace(self, Handle::empty(alloc));
         if !is_open {
             return None;
         }
@@ -58,10 +58,10 @@ impl IntervalStore {
     }
 
     /// Puts a store into a handle that has none.
-    pub(crate) fn put(&mut self, tree: Box<IntervalTree>)
+    pub(crate) fn put(&mut self, store: Box<AnyStore>)
         requires { self.old.inside.state ≡ None }
-        ensures { self.new.inside.state ≡ Some tree.value }
+        ensures { self.new.inside.state ≡ Some store.value }
     {
-        *self = IntervalStore::of(tree);
+        *self = Handle::of(store);
     }
 }

@@ -25,11 +25,11 @@ use denote.Triple.Table.{entered}
 use denote.Triple.Walked.{says, Stays, stay_dropped, walk_of, ends_at, Goes-dropped, walk_Meets}
 use Rattle.std.proofs.BoxSteps.Form.{D, B, word, box_typed}
 use Rattle.std.proofs.BoxSteps.Steps.{box_out, box_in}
-use Rattle.gist_c.proofs.IntervalBoxes.{E, FromParts as From}
-use Rattle.gist_c.specs.contracts.interval_inside.IntervalInside.of_parts as F
-use Rattle.gist_c.specs.contracts.interval_inside.IntervalInside.of_parts.Key.{name as #self}
-use Rattle.gist_c.proofs.interval_inside.IntervalInside.of_parts.Statement as stated
-use Rattle.gist_c.proofs.interval_inside.IntervalInside.of_parts.Code as code
+use Rattle.gist_c.proofs.StoreBoxes.{E, FromParts as From}
+use Rattle.gist_c.specs.contracts.inside.Inside.of_parts as F
+use Rattle.gist_c.specs.contracts.inside.Inside.of_parts.Key.{name as #self}
+use Rattle.gist_c.proofs.inside.Inside.of_parts.Statement as stated
+use Rattle.gist_c.proofs.inside.Inside.of_parts.Code as code
 
 abbrev stayed : Stays (F.ended).signature.params (F.ended).kept
 stayed = (stay_dropped From yes, tt)

@@ -1,7 +1,7 @@
 -- `into_parts` moves two fields, and what they own goes with them.
 use Rattle.std.specs.Prelude.{◌≢◌, Option, Some, None}
 use Rattle.std.specs.Global.{Global}
-use Rattle.gist_c.specs.IntervalOwning.{IntervalState as State}
+use Rattle.gist_c.specs.Owning.{AnyState as State}
 use denote.RawPtr.{Ptr}
 use denote.RattleType.{owns}
 use mathlib.Core.Path.{refl, sym, subst}
@@ -29,11 +29,11 @@ use denote.Triple.Table.{entered}
 use denote.Triple.Walked.{says, Stays, stay_dropped, walk_of, ends_at, Goes-dropped, walk_Meets}
 use Rattle.std.proofs.BoxSteps.Form.{D, B, word, box_typed}
 use Rattle.std.proofs.BoxSteps.Steps.{box_out, box_in}
-use Rattle.gist_c.proofs.IntervalBoxes.{E, FromInside as From}
-use Rattle.gist_c.specs.contracts.interval_inside.IntervalInside.into_parts as F
-use Rattle.gist_c.specs.contracts.interval_inside.IntervalInside.into_parts.Key.{name as #self}
-use Rattle.gist_c.proofs.interval_inside.IntervalInside.into_parts.Statement as stated
-use Rattle.gist_c.proofs.interval_inside.IntervalInside.into_parts.Code as code
+use Rattle.gist_c.proofs.StoreBoxes.{E, FromInside as From}
+use Rattle.gist_c.specs.contracts.inside.Inside.into_parts as F
+use Rattle.gist_c.specs.contracts.inside.Inside.into_parts.Key.{name as #self}
+use Rattle.gist_c.proofs.inside.Inside.into_parts.Statement as stated
+use Rattle.gist_c.proofs.inside.Inside.into_parts.Code as code
 
 abbrev stayed : Stays (F.ended).signature.params (F.ended).kept
 stayed = (stay_dropped From yes, tt)

@@ -32,12 +32,12 @@ use denote.Triple.Walked.{says, Stays, stay_dropped, walk_of, ends_at, Goes-drop
 use Rattle.std.proofs.alloc.Calls.{handle_tells}
 use Rattle.std.proofs.ResultValues.{and_tt}
 use Rattle.std.specs.contracts.alloc.Global as Heap
-use Rattle.gist_c.proofs.IntervalBoxes.{E}
-use Rattle.gist_c.specs.contracts.interval_inside.IntervalInside as Pointer
-use Rattle.gist_c.specs.contracts.interval_inside.IntervalInside.empty as F
-use Rattle.gist_c.specs.contracts.interval_inside.IntervalInside.empty.Key.{name as #self}
-use Rattle.gist_c.proofs.interval_inside.IntervalInside.empty.Statement as stated
-use Rattle.gist_c.proofs.interval_inside.IntervalInside.empty.Code as code
+use Rattle.gist_c.proofs.StoreBoxes.{E}
+use Rattle.gist_c.specs.contracts.inside.Inside as Pointer
+use Rattle.gist_c.specs.contracts.inside.Inside.empty as F
+use Rattle.gist_c.specs.contracts.inside.Inside.empty.Key.{name as #self}
+use Rattle.gist_c.proofs.inside.Inside.empty.Statement as stated
+use Rattle.gist_c.proofs.inside.Inside.empty.Code as code
 
 abbrev stayed : Stays (F.ended).signature.params (F.ended).kept
 stayed = (stay_dropped (plain (λ _. Heap.the_row)) yes, tt)
