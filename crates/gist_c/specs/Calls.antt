@@ -1,5 +1,5 @@
 -- What the calls of a store answer and leave, clause by clause.
-use Rattle.std.specs.Prelude.{◌≡◌, ◌≢◌, ◌↔◌, ℕ, ◌+◌, ◌≤◌, ◌<◌, ◌⊎◌, Bool, true, false, List, length, Option, Result, Ok, Err, IfOk, IfErr, OnOk, OnErr, IsPermutation}
+use Rattle.std.specs.Prelude.{◌≡◌, ◌≢◌, ◌↔◌, ℕ, ◌+◌, ◌≤◌, ◌<◌, ◌⊎◌, Bool, true, false, List, length, map, Option, Result, Ok, Err, IfOk, IfErr, OnOk, OnErr, IsPermutation}
 use Rattle.key_class.specs.declared.refusal.Refusal.{Refusal}
 use Rattle.key_class.specs.declared.refusal.Refusal.TheVariants.{OutOfMemory, CommitsFull, NoSuchRow, AlreadyDeleted, FindersFull, CursorsFull, FromFuture}
 use Rattle.key_class.specs.Rules.{Rules, satisfies}
@@ -9,7 +9,10 @@ use Rattle.query_text.specs.Grammar.{SpellsText, RefusesText, IfQueryText, IsPar
 use Rattle.change_list.specs.declared.write.Write.TheVariants.{Insert, Delete, Move}
 use Rattle.change_list.specs.declared.item.Item.{Item}
 use Rattle.change_list.specs.declared.item.Row.{Row}
-use Rattle.change_list.specs.Changes.{IsLegal, NamesNoRow, NamesDead, snapshot}
+use Rattle.change_list.specs.Changes.{IsLegal, NamesNoRow, NamesDead, commit_at, snapshot}
+use Rattle.gist_c.specs.declared.shown.Shown.{Shown}
+use Rattle.gist_c.specs.Buffers.{written_over}
+use Rattle.gist_c.specs.Shown.{shown_item, shown_commit}
 use Rattle.store.specs.States.{StoreState, Commits, Keeps, IsOpened, IsFullOf, HasFewPages, HasNoCommitLeft, HasNoCommitFor, HasNoFinderFor, RefusesRow, RefusesNext, AddsDead, IsListed, MayRefuseDelete, MayRefuseMove, LacksCursor, Closes, SweepsStore, SweepsStorePart, Nexts, ChangesCursor, with_asking}
 
 -- why no cursor is opened on a text's query
@@ -63,9 +66,9 @@ module _ {K A : Type 0} (rules : Rules K A) where
     pub legal : IsLegal new.commits
     pub few_pages : HasFewPages new
 
-  -- a cursor is asked for its next item
-  pub record IsNext (cursor : ℕ) (old : StoreState K A) (answer : Result (Option (Item K)) Refusal) (new : StoreState K A) : Type 0 where
-    pub ok : IfOk answer (λ item. Nexts rules.is_match old cursor item new)
+  -- a cursor is asked for its next item, which is shown
+  pub record ShowsNext {I : Type 0} (item_of : Shown K → I) (cursor : ℕ) (old : StoreState K A) (answer : Result I Refusal) (new : StoreState K A) : Type 0 where
+    pub ok : IfOk answer (λ shown. (given : Option (Item K)) × (shown ≡ item_of (shown_item given)) × Nexts rules.is_match old cursor given new)
     pub err : IfErr answer (λ why. RefusesNext rules.is_match old cursor why new)
 
   -- dead rows are removed, and counted
@@ -107,10 +110,18 @@ module _ {K A : Type 0} (rules : Rules K A) where
       pub spelled : SpellsText texts text query
       pub found : rows ≡ snapshot (satisfies rules query) (length state.commits) state.commits
 
-    -- the live rows that a text asks for are found, by rising number
-    pub record IsSearch (old : StoreState K A) (answer : Result (List (Row K)) Refusal) (new : StoreState K A) : Type 0 where
-      pub ok : IfOk answer (Finds old)
+    -- the live rows that a text asks for are counted, and stand over the first places of a buffer, by rising number
+    pub record Shows {R : Type 0} (row_of : Row K → R) (state : StoreState K A) (before after : List R) (number : ℕ) : Type 0 where
+      pub rows : List (Row K)
+      pub found : Finds state rows
+      pub counted : number ≡ length rows
+      pub written : after ≡ written_over (map row_of rows) before
+
+    -- the live rows that a text asks for are shown in a buffer
+    pub record IsSearch {R : Type 0} (row_of : Row K → R) (before after : List R) (old : StoreState K A) (answer : Result ℕ Refusal) (new : StoreState K A) : Type 0 where
+      pub ok : IfOk answer (Shows row_of old before after)
       pub same : new ≡ old
+      pub err : OnErr answer (after ≡ before)
       pub refused : IfQueryText answer (RefusesText texts text)
       pub refusals : IfErr answer IsParseRefusal
 
@@ -124,3 +135,7 @@ module _ {K A : Type 0} where
   pub record IsClosing (cursor : ℕ) (old : StoreState K A) (answer : Result (Unit {0}) Refusal) (new : StoreState K A) : Type 0 where
     pub ok : OnOk answer (Closes old cursor new)
     pub err : IfErr answer (λ why. LacksCursor old cursor why new)
+
+  -- the commit with a number is shown, or that there is none
+  abbrev pub ShowsCommit : {I : Type 0} → (Shown K → I) → ℕ → StoreState K A → Result I Refusal → StoreState K A → Type 0
+  ShowsCommit item_of number old answer new = (answer ≡ Ok (item_of (shown_commit number (commit_at old.commits number)))) × (new ≡ old)

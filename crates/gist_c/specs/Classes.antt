@@ -1,5 +1,5 @@
 -- Calls of a store whose class is known when it is made, and of a handle.
-use Rattle.std.specs.Prelude.{◌≡◌, ◌⊎◌, ℕ, Option, None, IfSome, IsSomeAnd, Result, Err, length}
+use Rattle.std.specs.Prelude.{◌≡◌, ◌⊎◌, ℕ, Option, None, IfSome, IsSomeAnd, Result, Ok, Err, length}
 use Rattle.key_class.specs.declared.refusal.Refusal.{Refusal}
 use Rattle.key_class.specs.declared.refusal.Refusal.TheVariants.{BadConfig}
 use Rattle.key_class.specs.Rules.{Rules}
@@ -25,6 +25,10 @@ use Rattle.gist_c.specs.declared.any_store.AnyStore.TheVariants.{Intervals, Boxe
 -- what a call of a store answers and leaves, by its class
 abbrev pub Call : Type 0 → Type 1
 Call V = (K A : Type 0) → Rules K A → Texts K A → StoreState K A → Result V Refusal → StoreState K A → Type 0
+
+-- what a call of a store of intervals answers and leaves
+abbrev pub IntervalCall : Type 0 → Type 1
+IntervalCall V = StoreState Interval interval.Atom → Result V Refusal → StoreState Interval interval.Atom → Type 0
 
 -- a class has the number: 1 is that of intervals, 2 of boxes, 3 of sets
 abbrev pub IsClass : ℕ → Type 0
@@ -54,9 +58,14 @@ module _ {V : Type 0} where
   OfClass call old answer new = ⊥
 
   -- a call of a store of intervals; one of another class is refused, and nothing changes
-  abbrev pub OfIntervals : (StoreState Interval interval.Atom → Result V Refusal → StoreState Interval interval.Atom → Type 0) → AnyStore → Result V Refusal → AnyStore → Type 0
+  abbrev pub OfIntervals : IntervalCall V → AnyStore → Result V Refusal → AnyStore → Type 0
   OfIntervals call (Intervals old) answer (Intervals new) = call old answer new
   OfIntervals call old answer new = (answer ≡ Err BadConfig) × (new ≡ old)
+
+  -- a call with a key, or with none for this refusal, which is the answer then, and nothing changes
+  abbrev pub WithKey : {K S : Type 0} → (K → S → Result V Refusal → S → Type 0) → Result K Refusal → S → Result V Refusal → S → Type 0
+  WithKey call (Ok key) old answer new = call key old answer new
+  WithKey call (Err why) old answer new = (answer ≡ Err why) × (new ≡ old)
 
   -- a call of a handle's store; a handle of none is refused, and has none then
   pub record OnHandle (call : AnyStore → Result V Refusal → AnyStore → Type 0) (old new : Option AnyStore) (answer : Result V Refusal) : Type 0 where

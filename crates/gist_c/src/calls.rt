@@ -1,8 +1,12 @@
 //! The calls of a store of any class, with what they promise in one word each.
 ghost use Rattle.std.specs.Prelude.{◌≡◌};
-ghost use Rattle.gist_c.specs.Calls.{IsInsert, IsDelete, IsMove, IsNext, IsSweep, IsOpening, IsFollowing, IsAsking, IsClosing};
+ghost use Rattle.gist_c.specs.Calls.{IsInsert, IsDelete, IsMove, ShowsNext, IsSearch, IsSweep, IsOpening, IsFollowing, IsAsking, IsClosing};
+ghost use Rattle.change_list.specs.Changes.{commit_at};
+ghost use Rattle.gist_c.specs.Shown.{shown_commit};
 
-use change_list::Item;
+use crate::buffers::write_rows;
+use crate::crossing::Crossing;
+use crate::shown;
 use key_class::{KeyClass, Refusal};
 use query_text::{ClassText, parse};
 use std::alloc::Global;
@@ -53,11 +57,34 @@ pub fn open_from<C: ClassText>(
     store.open_from(query, ROOM, commit)
 }
 
-/// Gives a cursor's next item.
-pub fn next<C: KeyClass>(store: &mut Store<C>, cursor: u64) -> Result<Option<Item<C::Key>>, Refusal>
-    ensures { IsNext C.rules cursor store.old result store.new }
+/// Gives a cursor's next item, as C is given it.
+pub fn next<C: Crossing>(store: &mut Store<C>, cursor: u64) -> Result<C::CItem, Refusal>
+    ensures { ShowsNext C.rules C.item_of cursor store.old result store.new }
 {
-    store.next(cursor)
+    let item = store.next(cursor)?;
+    Ok(C::item(shown::item(item)))
+}
+
+/// The commit with a number, as C is given it.
+pub fn commit<C: Crossing>(store: &Store<C>, number: u64) -> C::CItem
+    ensures { result ≡ C.item_of (shown_commit number (commit_at store.now.commits number)) }
+{
+    C::item(shown::commit(number, store.commit(number)))
+}
+
+/// Puts the live rows that the query of a text asks for into a buffer, as many as fit, and tells how many there are.
+pub fn find<C: Crossing>(
+    alloc: Global,
+    store: &Store<C>,
+    text: &[u8],
+    rows: &mut [C::CRow],
+) -> Result<u64, Refusal>
+    ensures { IsSearch C.rules C.texts text.now C.row_of rows.old rows.new store.now result store.now }
+{
+    let query = parse::<C>(alloc, text)?;
+    let found = store.find(&query)?;
+    write_rows::<C>(rows, &found);
+    Ok(found.len() as u64)
 }
 
 /// Asks a cursor for a mark.

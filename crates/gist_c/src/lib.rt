@@ -9,6 +9,7 @@ mod crossing;
 mod handle;
 mod inside;
 mod interval_rows;
+mod intervals;
 mod limits;
 mod names;
 mod parts;
