@@ -1,1 +1,2 @@
 mod StoreBoxes
+mod Writing
