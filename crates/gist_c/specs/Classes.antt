@@ -30,6 +30,14 @@ Call V = (K A : Type 0) → Rules K A → Texts K A → StoreState K A → Resul
 abbrev pub IntervalCall : Type 0 → Type 1
 IntervalCall V = StoreState Interval interval.Atom → Result V Refusal → StoreState Interval interval.Atom → Type 0
 
+-- of a store of boxes
+abbrev pub BoxCall : Type 0 → Type 1
+BoxCall V = StoreState BoxKey box.Atom → Result V Refusal → StoreState BoxKey box.Atom → Type 0
+
+-- of a store of sets
+abbrev pub SetCall : Type 0 → Type 1
+SetCall V = StoreState Elements set.Atom → Result V Refusal → StoreState Elements set.Atom → Type 0
+
 -- a class has the number: 1 is that of intervals, 2 of boxes, 3 of sets
 abbrev pub IsClass : ℕ → Type 0
 IsClass class = (class ≡ 1) ⊎ (class ≡ 2) ⊎ (class ≡ 3)
@@ -61,6 +69,16 @@ module _ {V : Type 0} where
   abbrev pub OfIntervals : IntervalCall V → AnyStore → Result V Refusal → AnyStore → Type 0
   OfIntervals call (Intervals old) answer (Intervals new) = call old answer new
   OfIntervals call old answer new = (answer ≡ Err BadConfig) × (new ≡ old)
+
+  -- of boxes
+  abbrev pub OfBoxes : BoxCall V → AnyStore → Result V Refusal → AnyStore → Type 0
+  OfBoxes call (Boxes old) answer (Boxes new) = call old answer new
+  OfBoxes call old answer new = (answer ≡ Err BadConfig) × (new ≡ old)
+
+  -- of sets
+  abbrev pub OfSets : SetCall V → AnyStore → Result V Refusal → AnyStore → Type 0
+  OfSets call (Sets old) answer (Sets new) = call old answer new
+  OfSets call old answer new = (answer ≡ Err BadConfig) × (new ≡ old)
 
   -- a call with a key, or with none for this refusal, which is the answer then, and nothing changes
   abbrev pub WithKey : {K S : Type 0} → (K → S → Result V Refusal → S → Type 0) → Result K Refusal → S → Result V Refusal → S → Type 0

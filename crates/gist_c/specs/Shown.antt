@@ -1,5 +1,5 @@
 -- What C is given of items and commits.
-use Rattle.std.specs.Prelude.{ℕ, Option, Some, None}
+use Rattle.std.specs.Prelude.{ℕ, ℤ, pos, Option, Some, None}
 use Rattle.change_list.specs.declared.item.Row.{Row}
 use Rattle.change_list.specs.declared.item.Item.{Item}
 use Rattle.change_list.specs.declared.item.Item.TheVariants as item
@@ -31,3 +31,8 @@ module _ {K : Type 0} where
   shown_commit number (Some (Insert key tag)) = shown_row 2 (record { row = number; key = key; tag = tag }) 0
   shown_commit number (Some (Delete ended)) = shown_bare 3 number ended
   shown_commit number (Some (Move ended key)) = shown_row 4 (record { row = number; key = key; tag = 0 }) ended
+
+  -- an end of a key, or 0
+  abbrev pub end_of : (K → ℤ) → Option K → ℤ
+  end_of of (Some key) = of key
+  end_of of None = pos 0

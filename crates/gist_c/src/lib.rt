@@ -3,6 +3,8 @@
 
 mod answers;
 mod any_store;
+mod box_rows;
+mod boxes;
 mod buffers;
 mod calls;
 mod crossing;
@@ -13,5 +15,7 @@ mod intervals;
 mod limits;
 mod names;
 mod parts;
+mod set_rows;
+mod sets;
 mod shown;
 mod stores;
