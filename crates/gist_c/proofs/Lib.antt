@@ -1,1 +1,2 @@
-mod IntervalBoxes
+mod StoreBoxes
+mod Writing

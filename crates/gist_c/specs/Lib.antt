@@ -1,1 +1,10 @@
-pub mod IntervalOwning
+pub mod Owning
+pub mod Answers
+pub mod BoxRows
+pub mod Buffers
+pub mod Calls
+pub mod Classes
+pub mod IntervalRows
+pub mod Names
+pub mod SetRows
+pub mod Shown

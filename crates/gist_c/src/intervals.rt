@@ -1,85 +1,203 @@
-//! Stores of intervals.
-ghost use Rattle.std.specs.Prelude.{◌≡◌, ◌↔◌, ◌≤◌, true, false, None, Some, IfSome, length};
-ghost use Rattle.gist_c.specs.IntervalOwning.{is_held};
-ghost use Rattle.change_list.specs.Configs.{IsWithinLimits};
-ghost use Rattle.store.specs.States.{new_store};
+//! What can be asked of a store of intervals.
+ghost use Rattle.std.specs.Prelude.{◌≡◌, ◌≢◌, OnErr};
+ghost use Rattle.interval_class.specs.Intervals.{interval_rules};
+ghost use Rattle.gist_c.specs.Answers.{Tells, TellsFault};
+ghost use Rattle.gist_c.specs.Calls.{IsInsert, IsMove, ShowsNext, ShowsCommit};
+ghost use Rattle.gist_c.specs.Classes.{OnHandle, OfIntervals, WithKey};
+ghost use Rattle.gist_c.specs.IntervalRows.{AtInterval, IsInterval, FindsIntervals, interval_item};
 
-use crate::interval_store::IntervalStore;
-use crate::interval_tree::IntervalTree;
-use change_list::Config;
+use crate::answers::{no_store, tell, tell_fault};
+use crate::any_store::AnyStore;
+use crate::calls;
+use crate::handle::Handle;
+use crate::interval_rows::{IntervalItem, IntervalRow};
+use interval_class::Interval;
+use key_class::Refusal;
 use std::alloc::Global;
-use store::Store;
 
-/// Whether the handle has a store.
-#[unsafe(no_mangle)]
-pub extern "C" fn gist_interval_is_open(store: &IntervalStore) -> bool
-    ensures { result ≡ is_held store.now.inside.state }
+/// The interval with these ends.
+fn interval(lo: i64, hi: i64) -> Result<Interval, Refusal>
+    ensures { IsInterval lo hi result }
 {
-    store.is_open()
+    Interval::new(lo, hi)
 }
 
-/// Drops the store of a handle, if it has one. The handle has none then.
+/// Adds a row with an interval and a tag, and gives its number.
 #[unsafe(no_mangle)]
-pub extern "C" fn gist_interval_drop(alloc: Global, store: &mut IntervalStore)
-    ensures { store.new.inside.state ≡ None }
+pub extern "C" fn gist_interval_insert(
+    alloc: Global,
+    store: &mut Handle,
+    lo: i64,
+    hi: i64,
+    tag: u64,
+    row: &mut u64,
+) -> u32
+    ensures { AtInterval lo hi (λ key. Tells result row.old row.new (OnHandle
+        (OfIntervals (WithKey (λ k. IsInsert interval_rules k tag) key))
+        store.old.inside.state store.new.inside.state)) }
 {
-    drop(store.take(alloc));
+    let key = interval(lo, hi);
+    match store.take(alloc) {
+        None => tell(no_store(), row),
+        Some(mut held) => {
+            let inserted = insert(&mut held, key, tag);
+            store.put(held);
+            tell(inserted, row)
+        }
+    }
 }
 
-/// How many commits the store has, or 0 where there is none.
+/// Adds a row to a store of intervals.
+fn insert(held: &mut AnyStore, key: Result<Interval, Refusal>, tag: u64) -> Result<u64, Refusal>
+    ensures { OfIntervals (WithKey (λ k. IsInsert interval_rules k tag) key)
+        held.old result held.new }
+{
+    match held {
+        AnyStore::Intervals(store) => calls::insert(store, key?, tag),
+        _ => Err(Refusal::BadConfig),
+    }
+}
+
+/// Moves a row to an interval, and gives the number of the row that it makes.
 #[unsafe(no_mangle)]
-pub extern "C" fn gist_interval_commits(alloc: Global, store: &mut IntervalStore) -> u64
-    ensures number { IfSome store.old.inside.state (λ state. result ≡ length state.commits) }
-    ensures none { store.old.inside.state ≡ None → result ≡ 0 }
-    ensures kept { store.new.inside.state ≡ store.old.inside.state }
+pub extern "C" fn gist_interval_move(
+    alloc: Global,
+    store: &mut Handle,
+    row: u64,
+    lo: i64,
+    hi: i64,
+    moved: &mut u64,
+) -> u32
+    ensures { AtInterval lo hi (λ key. Tells result moved.old moved.new (OnHandle
+        (OfIntervals (WithKey (IsMove interval_rules row) key))
+        store.old.inside.state store.new.inside.state)) }
+{
+    let key = interval(lo, hi);
+    match store.take(alloc) {
+        None => tell(no_store(), moved),
+        Some(mut held) => {
+            let answer = move_row(&mut held, row, key);
+            store.put(held);
+            tell(answer, moved)
+        }
+    }
+}
+
+/// Moves a row of a store of intervals.
+fn move_row(held: &mut AnyStore, row: u64, key: Result<Interval, Refusal>) -> Result<u64, Refusal>
+    ensures { OfIntervals (WithKey (IsMove interval_rules row) key) held.old result held.new }
+{
+    match held {
+        AnyStore::Intervals(store) => calls::move_row(store, row, key?),
+        _ => Err(Refusal::BadConfig),
+    }
+}
+
+/// Gives a cursor's next item, or that nothing is left.
+#[unsafe(no_mangle)]
+pub extern "C" fn gist_interval_next(
+    alloc: Global,
+    store: &mut Handle,
+    cursor: u64,
+    item: &mut IntervalItem,
+) -> u32
+    ensures { Tells result item.old item.new (OnHandle
+        (OfIntervals (ShowsNext interval_rules interval_item cursor))
+        store.old.inside.state store.new.inside.state) }
 {
     match store.take(alloc) {
-        None => 0,
-        Some(tree) => {
-            let commits = tree.store.commits();
-            store.put(tree);
-            commits
+        None => tell(no_store(), item),
+        Some(mut held) => {
+            let given = next(&mut held, cursor);
+            store.put(held);
+            tell(given, item)
         }
     }
 }
 
-/// Makes an empty store for a handle that has none. 0, or the number of a refusal: 1 where memory is wanting, 2 where a
-/// limit is out of its range or the handle has a store; the handle is as it was then.
-#[unsafe(no_mangle)]
-pub extern "C" fn gist_interval_new(
-    alloc: Global,
-    store: &mut IntervalStore,
-    fan: u32,
-    least: u32,
-    pages: u32,
-    commits: u32,
-) -> u32
-    ensures made { result ≡ 0 → store.new.inside.state
-        ≡ Some (new_store (record { fan = fan; least = least; pages = pages; commits = commits })) }
-    ensures refused { ¬ (result ≡ 0) → store.new.inside.state ≡ store.old.inside.state }
-    ensures held { is_held store.old.inside.state ≡ true → result ≡ 2 }
-    ensures limits { is_held store.old.inside.state ≡ false → (result ≡ 2)
-        ↔ (¬ IsWithinLimits (record { fan = fan; least = least; pages = pages; commits = commits })) }
-    ensures answers { result ≤ 2 }
+/// Gives the next item of a cursor of a store of intervals.
+fn next(held: &mut AnyStore, cursor: u64) -> Result<IntervalItem, Refusal>
+    ensures { OfIntervals (ShowsNext interval_rules interval_item cursor)
+        held.old result held.new }
 {
-    if store.is_open() {
-        return 2;
+    match held {
+        AnyStore::Intervals(store) => calls::next(store, cursor),
+        _ => Err(Refusal::BadConfig),
     }
-    let config = Config {
-        fan,
-        least,
-        pages,
-        commits,
-    };
-    let made = match Store::new(alloc, config) {
-        Ok(made) => made,
-        Err(refusal) => return refusal.number() as u32,
-    };
-    match Box::new(alloc, IntervalTree { store: made }) {
-        Ok(tree) => {
-            store.put(tree);
-            0
+}
+
+/// Tells the commit with a number, or that there is none.
+#[unsafe(no_mangle)]
+pub extern "C" fn gist_interval_commit(
+    alloc: Global,
+    store: &mut Handle,
+    number: u64,
+    commit: &mut IntervalItem,
+) -> u32
+    ensures { Tells result commit.old commit.new (OnHandle
+        (OfIntervals (ShowsCommit interval_item number))
+        store.old.inside.state store.new.inside.state) }
+{
+    match store.take(alloc) {
+        None => tell(no_store(), commit),
+        Some(held) => {
+            let told = commit_of(&held, number);
+            store.put(held);
+            tell(told, commit)
         }
-        Err(_) => 1,
+    }
+}
+
+/// The commit of a store of intervals with a number.
+fn commit_of(held: &AnyStore, number: u64) -> Result<IntervalItem, Refusal>
+    ensures { OfIntervals (ShowsCommit interval_item number) held.now result held.now }
+{
+    match held {
+        AnyStore::Intervals(store) => Ok(calls::commit(store, number)),
+        _ => Err(Refusal::BadConfig),
+    }
+}
+
+/// Puts the live rows that the query of a text asks for into a buffer, by rising number, as many as fit, and tells how
+/// many there are.
+#[unsafe(no_mangle)]
+pub extern "C" fn gist_interval_find(
+    alloc: Global,
+    store: &mut Handle,
+    query: &[u8],
+    rows: &mut [IntervalRow],
+    found: &mut u64,
+    fault: &mut u64,
+) -> u32
+    ensures found { Tells result found.old found.new (TellsFault fault.old fault.new (OnHandle
+        (OfIntervals (FindsIntervals query.now rows.old rows.new))
+        store.old.inside.state store.new.inside.state)) }
+    ensures unfilled { result ≢ 0 → rows.new ≡ rows.old }
+{
+    match store.take(alloc) {
+        None => tell(no_store(), found),
+        Some(held) => {
+            let answer = find(alloc, &held, query, rows);
+            store.put(held);
+            tell_fault(&answer, fault);
+            tell(answer, found)
+        }
+    }
+}
+
+/// Finds rows of a store of intervals.
+fn find(
+    alloc: Global,
+    held: &AnyStore,
+    query: &[u8],
+    rows: &mut [IntervalRow],
+) -> Result<u64, Refusal>
+    ensures found { OfIntervals (FindsIntervals query.now rows.old rows.new)
+        held.now result held.now }
+    ensures unfilled { OnErr result (rows.new ≡ rows.old) }
+{
+    match held {
+        AnyStore::Intervals(store) => calls::find(alloc, store, query, rows),
+        _ => Err(Refusal::BadConfig),
     }
 }

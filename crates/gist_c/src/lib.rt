@@ -1,8 +1,21 @@
 //! Stores for programs in C, and in Rust and other languages that call C.
 #![tactic(auto)]
 
-mod interval_inside;
-mod interval_store;
-mod interval_tree;
+mod answers;
+mod any_store;
+mod box_rows;
+mod boxes;
+mod buffers;
+mod calls;
+mod crossing;
+mod handle;
+mod inside;
+mod interval_rows;
 mod intervals;
+mod limits;
+mod names;
 mod parts;
+mod set_rows;
+mod sets;
+mod shown;
+mod stores;

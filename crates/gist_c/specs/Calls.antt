@@ -1,0 +1,141 @@
+-- What the calls of a store answer and leave, clause by clause.
+use Rattle.std.specs.Prelude.{◌≡◌, ◌≢◌, ◌↔◌, ℕ, ◌+◌, ◌≤◌, ◌<◌, ◌⊎◌, Bool, true, false, List, length, map, Option, Result, Ok, Err, IfOk, IfErr, OnOk, OnErr, IsPermutation}
+use Rattle.key_class.specs.declared.refusal.Refusal.{Refusal}
+use Rattle.key_class.specs.declared.refusal.Refusal.TheVariants.{OutOfMemory, CommitsFull, NoSuchRow, AlreadyDeleted, FindersFull, CursorsFull, FromFuture}
+use Rattle.key_class.specs.Rules.{Rules, satisfies}
+use Rattle.key_class.specs.Queries.{Query}
+use Rattle.query_text.specs.ClassTexts.{Texts}
+use Rattle.query_text.specs.Grammar.{SpellsText, RefusesText, IfQueryText, IsParseRefusal}
+use Rattle.change_list.specs.declared.write.Write.TheVariants.{Insert, Delete, Move}
+use Rattle.change_list.specs.declared.item.Item.{Item}
+use Rattle.change_list.specs.declared.item.Row.{Row}
+use Rattle.change_list.specs.Changes.{IsLegal, NamesNoRow, NamesDead, commit_at, snapshot}
+use Rattle.gist_c.specs.declared.shown.Shown.{Shown}
+use Rattle.gist_c.specs.Buffers.{written_over}
+use Rattle.gist_c.specs.Shown.{shown_item, shown_commit}
+use Rattle.store.specs.States.{StoreState, Commits, Keeps, IsOpened, IsFullOf, HasFewPages, HasNoCommitLeft, HasNoCommitFor, HasNoFinderFor, RefusesRow, RefusesNext, AddsDead, IsListed, MayRefuseDelete, MayRefuseMove, LacksCursor, Closes, SweepsStore, SweepsStorePart, Nexts, ChangesCursor, with_asking}
+
+-- why no cursor is opened on a text's query
+abbrev pub RefusesOpening : Refusal → Type 0
+RefusesOpening why = (why ≡ CursorsFull) ⊎ IsParseRefusal why
+
+module _ {K A : Type 0} (rules : Rules K A) where
+  -- a row is added
+  pub record IsInsert (key : K) (tag : ℕ) (old : StoreState K A) (answer : Result ℕ Refusal) (new : StoreState K A) : Type 0 where
+    pub number : IfOk answer (λ n. n ≡ length old.commits + 1)
+    pub ok : OnOk answer (Commits rules.is_match old (Insert key tag) new)
+    pub dead : OnOk answer (IsPermutation old.dead new.dead)
+    pub finders : new.finders ≡ old.finders
+    pub err : OnErr answer (Keeps rules.is_match old new)
+    pub full : (answer ≡ Err CommitsFull) ↔ HasNoCommitLeft old
+    pub refusals : IfErr answer (RefusesRow new)
+    pub legal : IsLegal new.commits
+    pub few_pages : HasFewPages new
+
+  -- a row is deleted
+  pub record IsDelete (row : ℕ) (old : StoreState K A) (answer : Result ℕ Refusal) (new : StoreState K A) : Type 0 where
+    pub number : IfOk answer (λ n. n ≡ length old.commits + 1)
+    pub ok : OnOk answer (Commits rules.is_match old (Delete row) new)
+    pub dead : OnOk answer (AddsDead old row new)
+    pub err : OnErr answer (Keeps rules.is_match old new)
+    pub no_such_row : (answer ≡ Err NoSuchRow) ↔ NamesNoRow old.commits row
+    pub already_deleted : (answer ≡ Err AlreadyDeleted) ↔ NamesDead old.commits row
+    pub full : (answer ≡ Err CommitsFull) ↔ HasNoCommitFor old row
+    pub finders_full : (answer ≡ Err FindersFull) ↔ HasNoFinderFor old row
+    pub refusals : IfErr answer (MayRefuseDelete old)
+    pub found : OnOk answer (new.finders ≡ old.finders + 1)
+    pub unfound : IfErr answer (λ why. why ≢ OutOfMemory → new ≡ old)
+    pub finders : new.finders ≤ old.finders + 1
+    pub legal : IsLegal new.commits
+    pub few_pages : HasFewPages new
+
+  -- a row is moved
+  pub record IsMove (row : ℕ) (key : K) (old : StoreState K A) (answer : Result ℕ Refusal) (new : StoreState K A) : Type 0 where
+    pub number : IfOk answer (λ n. n ≡ length old.commits + 1)
+    pub ok : OnOk answer (Commits rules.is_match old (Move row key) new)
+    pub dead : OnOk answer (AddsDead old row new)
+    pub err : OnErr answer (Keeps rules.is_match old new)
+    pub no_such_row : (answer ≡ Err NoSuchRow) ↔ NamesNoRow old.commits row
+    pub already_deleted : (answer ≡ Err AlreadyDeleted) ↔ NamesDead old.commits row
+    pub full : (answer ≡ Err CommitsFull) ↔ HasNoCommitFor old row
+    pub refusals : IfErr answer (MayRefuseMove old new)
+    pub untouched : IfErr answer (λ why. IsListed why → new ≡ old)
+    pub found : OnOk answer (new.finders ≡ old.finders + 1)
+    pub unfound : IfErr answer (λ why. why ≢ OutOfMemory → new.finders ≡ old.finders)
+    pub finders : new.finders ≤ old.finders + 1
+    pub legal : IsLegal new.commits
+    pub few_pages : HasFewPages new
+
+  -- a cursor is asked for its next item, which is shown
+  pub record ShowsNext {I : Type 0} (item_of : Shown K → I) (cursor : ℕ) (old : StoreState K A) (answer : Result I Refusal) (new : StoreState K A) : Type 0 where
+    pub ok : IfOk answer (λ shown. (given : Option (Item K)) × (shown ≡ item_of (shown_item given)) × Nexts rules.is_match old cursor given new)
+    pub err : IfErr answer (λ why. RefusesNext rules.is_match old cursor why new)
+
+  -- dead rows are removed, and counted
+  pub record IsSweep (old : StoreState K A) (answer : Result ℕ Refusal) (new : StoreState K A) : Type 0 where
+    pub ok : IfOk answer (λ n. SweepsStore rules.is_match old n new)
+    pub err : OnErr answer (SweepsStorePart rules.is_match old new)
+    pub refusals : IfErr answer (λ why. why ≡ OutOfMemory)
+
+  module _ (texts : Texts K A) (text : List ℕ) where
+    -- the text asks for a query, on which a cursor stands behind a commit
+    pub record OpensOn (follows : Bool) (commit : ℕ) (old : StoreState K A) (cursor : ℕ) (new : StoreState K A) : Type 0 where
+      pub query : Query A
+      pub spelled : SpellsText texts text query
+      pub opened : IsOpened rules.is_match old query follows commit cursor new
+
+    -- a cursor is opened at the present commits
+    pub record IsOpening (old : StoreState K A) (answer : Result ℕ Refusal) (new : StoreState K A) : Type 0 where
+      pub ok : IfOk answer (λ c. OpensOn false (length old.commits) old c new)
+      pub err : OnErr answer (new ≡ old)
+      pub refused : IfQueryText answer (RefusesText texts text)
+      pub full : (answer ≡ Err CursorsFull) → IsFullOf old
+      pub not_full : OnOk answer (¬ IsFullOf old)
+      pub refusals : IfErr answer RefusesOpening
+
+    -- a cursor is opened that follows a commit
+    pub record IsFollowing (commit : ℕ) (old : StoreState K A) (answer : Result ℕ Refusal) (new : StoreState K A) : Type 0 where
+      pub ok : IfOk answer (λ c. OpensOn true commit old c new)
+      pub err : OnErr answer (new ≡ old)
+      pub refused : IfQueryText answer (RefusesText texts text)
+      pub future : (answer ≡ Err FromFuture) → length old.commits < commit
+      pub not_future : OnOk answer (commit ≤ length old.commits)
+      pub full : (answer ≡ Err CursorsFull) → (commit ≤ length old.commits) × IsFullOf old
+      pub not_full : OnOk answer (¬ IsFullOf old)
+      pub refusals : IfErr answer (λ why. (why ≡ FromFuture) ⊎ RefusesOpening why)
+
+    -- the text asks for a query, which these live rows satisfy
+    pub record Finds (state : StoreState K A) (rows : List (Row K)) : Type 0 where
+      pub query : Query A
+      pub spelled : SpellsText texts text query
+      pub found : rows ≡ snapshot (satisfies rules query) (length state.commits) state.commits
+
+    -- the live rows that a text asks for are counted, and stand over the first places of a buffer, by rising number
+    pub record Shows {R : Type 0} (row_of : Row K → R) (state : StoreState K A) (before after : List R) (number : ℕ) : Type 0 where
+      pub rows : List (Row K)
+      pub found : Finds state rows
+      pub counted : number ≡ length rows
+      pub written : after ≡ written_over (map row_of rows) before
+
+    -- the live rows that a text asks for are shown in a buffer
+    pub record IsSearch {R : Type 0} (row_of : Row K → R) (before after : List R) (old : StoreState K A) (answer : Result ℕ Refusal) (new : StoreState K A) : Type 0 where
+      pub ok : IfOk answer (Shows row_of old before after)
+      pub same : new ≡ old
+      pub err : OnErr answer (after ≡ before)
+      pub refused : IfQueryText answer (RefusesText texts text)
+      pub refusals : IfErr answer IsParseRefusal
+
+module _ {K A : Type 0} where
+  -- a cursor is asked for a mark
+  pub record IsAsking (cursor : ℕ) (old : StoreState K A) (answer : Result (Unit {0}) Refusal) (new : StoreState K A) : Type 0 where
+    pub ok : OnOk answer (ChangesCursor with_asking old cursor new)
+    pub err : IfErr answer (λ why. LacksCursor old cursor why new)
+
+  -- a cursor is closed
+  pub record IsClosing (cursor : ℕ) (old : StoreState K A) (answer : Result (Unit {0}) Refusal) (new : StoreState K A) : Type 0 where
+    pub ok : OnOk answer (Closes old cursor new)
+    pub err : IfErr answer (λ why. LacksCursor old cursor why new)
+
+  -- the commit with a number is shown, or that there is none
+  abbrev pub ShowsCommit : {I : Type 0} → (Shown K → I) → ℕ → StoreState K A → Result I Refusal → StoreState K A → Type 0
+  ShowsCommit item_of number old answer new = (answer ≡ Ok (item_of (shown_commit number (commit_at old.commits number)))) × (new ≡ old)

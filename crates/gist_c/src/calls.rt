@@ -1,0 +1,109 @@
+//! The calls of a store of any class, with what they promise in one word each.
+ghost use Rattle.std.specs.Prelude.{◌≡◌};
+ghost use Rattle.gist_c.specs.Calls.{IsInsert, IsDelete, IsMove, ShowsNext, IsSearch, IsSweep, IsOpening, IsFollowing, IsAsking, IsClosing};
+ghost use Rattle.change_list.specs.Changes.{commit_at};
+ghost use Rattle.gist_c.specs.Shown.{shown_commit};
+
+use crate::buffers::write_rows;
+use crate::crossing::Crossing;
+use crate::shown;
+use key_class::{KeyClass, Refusal};
+use query_text::{ClassText, parse};
+use std::alloc::Global;
+use store::Store;
+
+/// A cursor's room, which has no meaning in a store.
+const ROOM: u64 = 1;
+
+/// Adds a row.
+pub fn insert<C: KeyClass>(store: &mut Store<C>, key: C::Key, tag: u64) -> Result<u64, Refusal>
+    ensures { IsInsert C.rules key tag store.old result store.new }
+{
+    store.insert(key, tag)
+}
+
+/// Deletes a row.
+pub fn delete<C: KeyClass>(store: &mut Store<C>, row: u64) -> Result<u64, Refusal>
+    ensures { IsDelete C.rules row store.old result store.new }
+{
+    store.delete(row)
+}
+
+/// Moves a row.
+pub fn move_row<C: KeyClass>(store: &mut Store<C>, row: u64, key: C::Key) -> Result<u64, Refusal>
+    ensures { IsMove C.rules row key store.old result store.new }
+{
+    store.move_row(row, key)
+}
+
+/// Opens a cursor on the query of a text.
+pub fn open<C: ClassText>(alloc: Global, store: &mut Store<C>, text: &[u8]) -> Result<u64, Refusal>
+    ensures { IsOpening C.rules C.texts text.now store.old result store.new }
+{
+    let query = parse::<C>(alloc, text)?;
+    store.open(query, ROOM)
+}
+
+/// Opens a cursor on the query of a text that follows a commit.
+pub fn open_from<C: ClassText>(
+    alloc: Global,
+    store: &mut Store<C>,
+    text: &[u8],
+    commit: u64,
+) -> Result<u64, Refusal>
+    ensures { IsFollowing C.rules C.texts text.now commit store.old result store.new }
+{
+    let query = parse::<C>(alloc, text)?;
+    store.open_from(query, ROOM, commit)
+}
+
+/// Gives a cursor's next item, as C is given it.
+pub fn next<C: Crossing>(store: &mut Store<C>, cursor: u64) -> Result<C::CItem, Refusal>
+    ensures { ShowsNext C.rules C.item_of cursor store.old result store.new }
+{
+    let item = store.next(cursor)?;
+    Ok(C::item(shown::item(item)))
+}
+
+/// The commit with a number, as C is given it.
+pub fn commit<C: Crossing>(store: &Store<C>, number: u64) -> C::CItem
+    ensures { result ≡ C.item_of (shown_commit number (commit_at store.now.commits number)) }
+{
+    C::item(shown::commit(number, store.commit(number)))
+}
+
+/// Puts the live rows that the query of a text asks for into a buffer, as many as fit, and tells how many there are.
+pub fn find<C: Crossing>(
+    alloc: Global,
+    store: &Store<C>,
+    text: &[u8],
+    rows: &mut [C::CRow],
+) -> Result<u64, Refusal>
+    ensures { IsSearch C.rules C.texts text.now C.row_of rows.old rows.new store.now result store.now }
+{
+    let query = parse::<C>(alloc, text)?;
+    let found = store.find(&query)?;
+    write_rows::<C>(rows, &found);
+    Ok(found.len() as u64)
+}
+
+/// Asks a cursor for a mark.
+pub fn mark<C: KeyClass>(store: &mut Store<C>, cursor: u64) -> Result<(), Refusal>
+    ensures { IsAsking cursor store.old result store.new }
+{
+    store.ask_mark(cursor)
+}
+
+/// Closes a cursor.
+pub fn close<C: KeyClass>(store: &mut Store<C>, cursor: u64) -> Result<(), Refusal>
+    ensures { IsClosing cursor store.old result store.new }
+{
+    store.close(cursor)
+}
+
+/// Sweeps the dead rows that no scan needs.
+pub fn sweep<C: KeyClass>(store: &mut Store<C>) -> Result<u64, Refusal>
+    ensures { IsSweep C.rules store.old result store.new }
+{
+    store.sweep_all()
+}

@@ -1,0 +1,353 @@
+/*
+ * gist: rows in memory that are found by intervals, boxes or sets, and followed as they change.
+ *
+ * A store has rows. Each row has a key, a number and a tag, which is a number of the caller's own. Each insert, delete
+ * or move that succeeds is a commit with the next number: 1, 2, 3 and so on. A row's number is that of the commit that
+ * made it; a move ends a row and makes another, which has the new key and the same tag.
+ *
+ * A find gives the rows that a query asks for now. A cursor gives them one by one and then goes on: it gives each later
+ * change that the query asks for, in the order of the commits, without a gap and without a repetition, whatever is
+ * inserted, deleted, moved or swept meanwhile.
+ *
+ *     gist_store store = GIST_NO_STORE;
+ *     gist_limits limits = {.fan = 32, .least = 12, .pages = 65536, .commits = 16777216};
+ *     uint64_t row;
+ *     if (gist_new(&store, GIST_INTERVALS, &limits) != GIST_OK) ...
+ *     if (gist_interval_insert(&store, 9, 17, 4711, &row) != GIST_OK) ...
+ *     gist_drop(&store);
+ *
+ * What every caller must keep
+ * ---------------------------
+ * - A handle is set to GIST_NO_STORE before its first use. Its fields are the library's: no caller reads or writes them,
+ *   and a handle isn't copied, since two copies would be two owners of one store.
+ * - No pointer is null, and each points to a value of its type that may be read, and written where it isn't const, and
+ *   that no other pointer of the call points to. A buffer may have the length 0; its pointer isn't null then either.
+ * - A handle is given to one call at a time. Two threads that share a store take a lock of their own round each call; the
+ *   library has no lock and starts no thread. Different stores need no lock between them.
+ * - No call is made from a signal handler, nor from the forked child of a process with threads.
+ * - Memory comes from malloc, realloc and free, which are those of one allocator, and align as malloc of the C library does.
+ *
+ * What every call answers
+ * -----------------------
+ * 0 (GIST_OK), or the number of the refusal. A call that is refused changes neither the commits nor what a cursor has
+ * still to give, and leaves what its pointers point to as it was, but for `fault` where a query's text is refused, and
+ * the buffers and counts of a batch, which tell what was done before. Every call with a handle of no store is refused
+ * with GIST_BAD_CONFIG, and so is a call for keys of another class than the store's; nothing changes then.
+ */
+#ifndef GIST_H
+#define GIST_H
+
+#include <stdbool.h>
+#include <stddef.h>
+#include <stdint.h>
+
+#ifdef __cplusplus
+extern "C" {
+#endif
+
+/* What a call answers. The numbers between these name refusals that no call of this header gives. */
+enum {
+    GIST_OK = 0,
+    GIST_OUT_OF_MEMORY = 1,    /* memory was wanting in this call */
+    GIST_BAD_CONFIG = 2,       /* a limit out of its range, ends out of order, no store, or a store of another class */
+    GIST_PAGES_FULL = 3,       /* fewer than two pages are left */
+    GIST_COMMITS_FULL = 4,     /* there are as many commits as the limit */
+    GIST_CURSORS_FULL = 5,     /* 256 cursors are open, or 4,294,967,295 were opened */
+    GIST_FINDERS_FULL = 6,     /* 4,294,967,295 deletes and moves were begun */
+    GIST_NO_SUCH_ROW = 14,     /* no insert or move has that number */
+    GIST_ALREADY_DELETED = 15, /* the row was deleted or moved */
+    GIST_NO_SUCH_CURSOR = 16,  /* the number was never given to a cursor */
+    GIST_CURSOR_CLOSED = 17,   /* the cursor is closed */
+    GIST_QUERY_TEXT = 21,      /* the query's text is refused at the byte `fault` */
+    GIST_FROM_FUTURE = 23      /* there are fewer commits than the one to be followed */
+};
+
+/*
+ * Puts the name of a refusal into a buffer, as "CommitsFull", and a 0 behind it, as far as there is room, and gives the
+ * name's length, which is 0 where no refusal has the number. No name is longer than 14 bytes, so 16 always suffice.
+ */
+size_t gist_refusal_name(uint32_t refusal, char *name, size_t room);
+
+/* A handle of a store, or of none. */
+typedef struct gist_store {
+    bool is_open;
+    void *inside;
+} gist_store;
+
+/* What a handle is before its first use: it has no store. */
+#define GIST_NO_STORE {false, NULL}
+
+/* The classes of keys. */
+enum {
+    GIST_INTERVALS = 1, /* the whole numbers from lo to hi, both inside */
+    GIST_BOXES = 2,     /* the whole points (x, y) with x1 <= x <= x2 and y1 <= y <= y2 */
+    GIST_SETS = 3       /* sets of the numbers from 0 to 127 */
+};
+
+/* The limits of a store. For many rows, 32 and 12 are good for fan and least. */
+typedef struct gist_limits {
+    uint32_t fan;     /* how many entries a page may have: 4 to 64 */
+    uint32_t least;   /* how many each side of a split has at least: 2 to half of fan */
+    uint32_t pages;   /* how many pages there may be: 1 to 65,536 */
+    uint32_t commits; /* how many commits there may be: 1 to 16,777,216 */
+} gist_limits;
+
+/*
+ * Makes an empty store of a class for a handle that has none.
+ *
+ * GIST_BAD_CONFIG where no class has the number, a limit is out of its range or the handle has a store already;
+ * GIST_OUT_OF_MEMORY. The handle is as it was then.
+ */
+uint32_t gist_new(gist_store *store, uint32_t class_of_keys, const gist_limits *limits);
+
+/* Drops the store of a handle, if it has one. The handle has none then, and may be given to gist_new again. */
+void gist_drop(gist_store *store);
+
+/* Whether the handle has a store. */
+bool gist_is_open(const gist_store *store);
+
+/* How many commits the store has; 0 where the handle has none. */
+uint64_t gist_commits(gist_store *store);
+
+/*
+ * Deletes a row, and gives the commit's number.
+ *
+ * GIST_NO_SUCH_ROW, else GIST_ALREADY_DELETED, else GIST_COMMITS_FULL, else GIST_FINDERS_FULL; GIST_OUT_OF_MEMORY.
+ */
+uint32_t gist_delete(gist_store *store, uint64_t row, uint64_t *commit);
+
+/*
+ * Opens a cursor on a query, and gives its number, which no other cursor of the store gets. The cursor gives the rows
+ * that match now, in some order, and then the later changes.
+ *
+ * A query is a text of ASCII bytes, not ended by a 0: `overlaps`, `within`, `holds` and `same` with a key, and `and`,
+ * `or`, `not` and round brackets, at most 32 deep and 4,096 bytes long. Keys are written `(9 17)`, `(x1 y1 x2 y2)` and
+ * `{2 5 64}`: "overlaps (9 17) and not within (0 9)".
+ *
+ * GIST_QUERY_TEXT, and `fault` gets the place of the byte at which the text is refused, counted from 0;
+ * GIST_CURSORS_FULL; GIST_OUT_OF_MEMORY.
+ */
+uint32_t gist_open(gist_store *store, const char *query, size_t length, uint64_t *cursor, uint64_t *fault);
+
+/*
+ * Opens a cursor that follows a commit: it gives the changes after that commit and no row that was there. Of a mark's
+ * number it goes on where the mark was given. Every change there is follows commit 0.
+ *
+ * As gist_open; GIST_FROM_FUTURE where there are fewer commits than that, before GIST_CURSORS_FULL.
+ */
+uint32_t gist_open_from(gist_store *store, const char *query, size_t length, uint64_t commit, uint64_t *cursor,
+                        uint64_t *fault);
+
+/*
+ * Asks a cursor for a mark: an item with the number of a commit, which shows that all up to that commit was given. It
+ * comes once what was there is given.
+ *
+ * GIST_NO_SUCH_CURSOR, GIST_CURSOR_CLOSED.
+ */
+uint32_t gist_mark(gist_store *store, uint64_t cursor);
+
+/*
+ * Closes a cursor. It gives nothing more.
+ *
+ * GIST_NO_SUCH_CURSOR, GIST_CURSOR_CLOSED.
+ */
+uint32_t gist_close(gist_store *store, uint64_t cursor);
+
+/*
+ * Removes the ended rows that no open cursor needs any more, and tells how many they were. Their memory serves later
+ * rows.
+ *
+ * GIST_OUT_OF_MEMORY; some of them may be removed then.
+ */
+uint32_t gist_sweep(gist_store *store, uint64_t *removed);
+
+/* What an item tells. A class's item has a key of that class beside `kind`, `number`, `ended` and `tag`. */
+enum {
+    GIST_NOTHING = 0,  /* nothing is left; all else is 0 */
+    GIST_ROW = 1,      /* a row that was there at the opening: its number, key and tag */
+    GIST_INSERTED = 2, /* a later row: its number, key and tag */
+    GIST_DELETED = 3,  /* the commit `number` ended the row `ended` */
+    GIST_MOVED = 4,    /* the commit `number` ended the row `ended` and made one with this number, key and tag */
+    GIST_MARK = 5      /* all up to the commit `number` was given */
+};
+
+/* --- intervals --- */
+
+/* A row of a store of intervals. */
+typedef struct gist_interval_row {
+    uint64_t row;
+    uint64_t tag;
+    int64_t lo;
+    int64_t hi;
+} gist_interval_row;
+
+/* An item, or a commit, of a store of intervals. Where it has no key, all of the key is 0. */
+typedef struct gist_interval_item {
+    uint32_t kind;
+    uint64_t number;
+    uint64_t ended;
+    uint64_t tag;
+    int64_t lo;
+    int64_t hi;
+} gist_interval_item;
+
+/*
+ * Adds a row, and gives its number, which is the commit's.
+ *
+ * GIST_BAD_CONFIG where the ends are out of order; GIST_COMMITS_FULL exactly where the list of commits is full; GIST_PAGES_FULL,
+ * GIST_OUT_OF_MEMORY.
+ */
+uint32_t gist_interval_insert(gist_store *store, int64_t lo, int64_t hi, uint64_t tag, uint64_t *row);
+
+/*
+ * Moves a row to a key by one commit, and gives the number of the row that it makes.
+ *
+ * GIST_BAD_CONFIG where the ends are out of order, else as gist_delete; GIST_PAGES_FULL where fewer than two pages are left.
+ */
+uint32_t gist_interval_move(gist_store *store, uint64_t row, int64_t lo, int64_t hi, uint64_t *moved);
+
+/*
+ * Gives a cursor's next item, or GIST_NOTHING where nothing is left and no mark is asked for.
+ *
+ * GIST_NO_SUCH_CURSOR, GIST_CURSOR_CLOSED; GIST_OUT_OF_MEMORY, and the next call goes on.
+ */
+uint32_t gist_interval_next(gist_store *store, uint64_t cursor, gist_interval_item *item);
+
+/*
+ * Puts the rows that a query asks for into a buffer, by rising number, as many as fit, and tells how many there are.
+ * What is behind them in the buffer stays. A length of 0 counts them.
+ *
+ * GIST_QUERY_TEXT, as gist_open; GIST_OUT_OF_MEMORY. The buffer stays as it is then.
+ */
+uint32_t gist_interval_find(gist_store *store, const char *query, size_t length, gist_interval_row *rows, size_t room,
+                       uint64_t *found, uint64_t *fault);
+
+/*
+ * Tells the commit with a number, as an item of the kind GIST_INSERTED, GIST_DELETED or GIST_MOVED, or GIST_NOTHING
+ * where there is none. The commit of a move has no tag, which is 0 then: the row's is that of the row that it ends.
+ */
+uint32_t gist_interval_commit(gist_store *store, uint64_t number, gist_interval_item *commit);
+
+/* --- boxes --- */
+
+/* A row of a store of boxes. */
+typedef struct gist_box_row {
+    uint64_t row;
+    uint64_t tag;
+    int32_t x1;
+    int32_t y1;
+    int32_t x2;
+    int32_t y2;
+} gist_box_row;
+
+/* An item, or a commit, of a store of boxes. Where it has no key, all of the key is 0. */
+typedef struct gist_box_item {
+    uint32_t kind;
+    uint64_t number;
+    uint64_t ended;
+    uint64_t tag;
+    int32_t x1;
+    int32_t y1;
+    int32_t x2;
+    int32_t y2;
+} gist_box_item;
+
+/*
+ * Adds a row, and gives its number, which is the commit's.
+ *
+ * GIST_BAD_CONFIG where the ends are out of order; GIST_COMMITS_FULL exactly where the list of commits is full; GIST_PAGES_FULL,
+ * GIST_OUT_OF_MEMORY.
+ */
+uint32_t gist_box_insert(gist_store *store, int32_t x1, int32_t y1, int32_t x2, int32_t y2, uint64_t tag, uint64_t *row);
+
+/*
+ * Moves a row to a key by one commit, and gives the number of the row that it makes.
+ *
+ * GIST_BAD_CONFIG where the ends are out of order, else as gist_delete; GIST_PAGES_FULL where fewer than two pages are left.
+ */
+uint32_t gist_box_move(gist_store *store, uint64_t row, int32_t x1, int32_t y1, int32_t x2, int32_t y2, uint64_t *moved);
+
+/*
+ * Gives a cursor's next item, or GIST_NOTHING where nothing is left and no mark is asked for.
+ *
+ * GIST_NO_SUCH_CURSOR, GIST_CURSOR_CLOSED; GIST_OUT_OF_MEMORY, and the next call goes on.
+ */
+uint32_t gist_box_next(gist_store *store, uint64_t cursor, gist_box_item *item);
+
+/*
+ * Puts the rows that a query asks for into a buffer, by rising number, as many as fit, and tells how many there are.
+ * What is behind them in the buffer stays. A length of 0 counts them.
+ *
+ * GIST_QUERY_TEXT, as gist_open; GIST_OUT_OF_MEMORY. The buffer stays as it is then.
+ */
+uint32_t gist_box_find(gist_store *store, const char *query, size_t length, gist_box_row *rows, size_t room,
+                       uint64_t *found, uint64_t *fault);
+
+/*
+ * Tells the commit with a number, as an item of the kind GIST_INSERTED, GIST_DELETED or GIST_MOVED, or GIST_NOTHING
+ * where there is none. The commit of a move has no tag, which is 0 then: the row's is that of the row that it ends.
+ */
+uint32_t gist_box_commit(gist_store *store, uint64_t number, gist_box_item *commit);
+
+/* --- sets --- */
+
+/* A row of a store of sets: the bit e of low is set where the number e is in the set, and the bit e of high where 64 + e is. */
+typedef struct gist_set_row {
+    uint64_t row;
+    uint64_t tag;
+    uint64_t low;
+    uint64_t high;
+} gist_set_row;
+
+/* An item, or a commit, of a store of sets. Where it has no key, all of the key is 0. */
+typedef struct gist_set_item {
+    uint32_t kind;
+    uint64_t number;
+    uint64_t ended;
+    uint64_t tag;
+    uint64_t low;
+    uint64_t high;
+} gist_set_item;
+
+/*
+ * Adds a row, and gives its number, which is the commit's.
+ *
+ * GIST_COMMITS_FULL exactly where the list of commits is full; GIST_PAGES_FULL,
+ * GIST_OUT_OF_MEMORY.
+ */
+uint32_t gist_set_insert(gist_store *store, uint64_t low, uint64_t high, uint64_t tag, uint64_t *row);
+
+/*
+ * Moves a row to a key by one commit, and gives the number of the row that it makes.
+ *
+ * As gist_delete; GIST_PAGES_FULL where fewer than two pages are left.
+ */
+uint32_t gist_set_move(gist_store *store, uint64_t row, uint64_t low, uint64_t high, uint64_t *moved);
+
+/*
+ * Gives a cursor's next item, or GIST_NOTHING where nothing is left and no mark is asked for.
+ *
+ * GIST_NO_SUCH_CURSOR, GIST_CURSOR_CLOSED; GIST_OUT_OF_MEMORY, and the next call goes on.
+ */
+uint32_t gist_set_next(gist_store *store, uint64_t cursor, gist_set_item *item);
+
+/*
+ * Puts the rows that a query asks for into a buffer, by rising number, as many as fit, and tells how many there are.
+ * What is behind them in the buffer stays. A length of 0 counts them.
+ *
+ * GIST_QUERY_TEXT, as gist_open; GIST_OUT_OF_MEMORY. The buffer stays as it is then.
+ */
+uint32_t gist_set_find(gist_store *store, const char *query, size_t length, gist_set_row *rows, size_t room,
+                       uint64_t *found, uint64_t *fault);
+
+/*
+ * Tells the commit with a number, as an item of the kind GIST_INSERTED, GIST_DELETED or GIST_MOVED, or GIST_NOTHING
+ * where there is none. The commit of a move has no tag, which is 0 then: the row's is that of the row that it ends.
+ */
+uint32_t gist_set_commit(gist_store *store, uint64_t number, gist_set_item *commit);
+
+#ifdef __cplusplus
+}
+#endif
+
+#endif

@@ -1,0 +1,456 @@
+/*
+ * Calls every function of include/gist.h, with every refusal that can be had in a short time, and compares what is answered
+ * with what docs/MODEL.md says. `every_call` does all of it. `every_call refused` makes some calls of each kind again where
+ * one is refused for want of memory, and compares where that leads; tools/refusing_malloc.c refuses a request.
+ *
+ * The last line is `N passed, M failed`; the status is 0 only where M is 0.
+ */
+#include "gist.h"
+
+#include <inttypes.h>
+#include <stdio.h>
+#include <string.h>
+
+static unsigned passed, failed;
+
+static void check(int holds, const char *what, int line)
+{
+    passed += holds != 0;
+    failed += holds == 0;
+    if (!holds)
+        fprintf(stderr, "line %d: %s\n", line, what);
+}
+
+#define CHECK(condition) check(!!(condition), #condition, __LINE__)
+
+static const gist_limits SMALL = {.fan = 4, .least = 2, .pages = 1000, .commits = 1000};
+
+/* What stands where a refused call must leave it. */
+#define UNTOUCHED 12345
+
+static uint64_t opened(gist_store *store, const char *query)
+{
+    uint64_t cursor = 0, fault = 0;
+
+    CHECK(gist_open(store, query, strlen(query), &cursor, &fault) == GIST_OK);
+    return cursor;
+}
+
+static void names(void)
+{
+    static const struct {
+        uint32_t refusal;
+        const char *name;
+    } known[] = {
+        {GIST_OUT_OF_MEMORY, "OutOfMemory"},   {GIST_BAD_CONFIG, "BadConfig"},
+        {GIST_PAGES_FULL, "PagesFull"},        {GIST_COMMITS_FULL, "CommitsFull"},
+        {GIST_CURSORS_FULL, "CursorsFull"},    {GIST_FINDERS_FULL, "FindersFull"},
+        {GIST_NO_SUCH_ROW, "NoSuchRow"},       {GIST_ALREADY_DELETED, "AlreadyDeleted"},
+        {GIST_NO_SUCH_CURSOR, "NoSuchCursor"}, {GIST_CURSOR_CLOSED, "CursorClosed"},
+        {GIST_QUERY_TEXT, "QueryText"},        {GIST_FROM_FUTURE, "FromFuture"},
+    };
+    char name[16];
+    size_t longest = 0;
+
+    for (size_t i = 0; i < sizeof known / sizeof known[0]; i++) {
+        CHECK(gist_refusal_name(known[i].refusal, name, sizeof name) == strlen(known[i].name));
+        CHECK(strcmp(name, known[i].name) == 0);
+    }
+    for (uint32_t refusal = 1; refusal <= 23; refusal++) {
+        size_t length = gist_refusal_name(refusal, name, sizeof name);
+
+        CHECK(length > 0 && length == strlen(name));
+        longest = length > longest ? length : longest;
+    }
+    CHECK(longest == 14);
+    CHECK(gist_refusal_name(0, name, sizeof name) == 0 && name[0] == 0);
+    CHECK(gist_refusal_name(24, name, sizeof name) == 0 && name[0] == 0);
+    memset(name, '?', sizeof name);
+    CHECK(gist_refusal_name(GIST_BAD_CONFIG, name, 3) == 9 && memcmp(name, "Bad?", 4) == 0);
+    CHECK(gist_refusal_name(GIST_BAD_CONFIG, name, 0) == 9 && name[0] == 'B');
+}
+
+/* A handle of no store is refused by every call. */
+static void no_store(void)
+{
+    gist_store none = GIST_NO_STORE;
+    uint64_t number = UNTOUCHED, fault = UNTOUCHED;
+    gist_interval_item interval = {.number = UNTOUCHED};
+    gist_box_item box = {.number = UNTOUCHED};
+    gist_set_item set = {.number = UNTOUCHED};
+    gist_interval_row interval_row = {.row = UNTOUCHED};
+    gist_box_row box_row = {.row = UNTOUCHED};
+    gist_set_row set_row = {.row = UNTOUCHED};
+
+    CHECK(!gist_is_open(&none));
+    CHECK(gist_commits(&none) == 0);
+    CHECK(gist_delete(&none, 1, &number) == GIST_BAD_CONFIG);
+    CHECK(gist_open(&none, "x", 1, &number, &fault) == GIST_BAD_CONFIG);
+    CHECK(gist_open_from(&none, "x", 1, 0, &number, &fault) == GIST_BAD_CONFIG);
+    CHECK(gist_mark(&none, 1) == GIST_BAD_CONFIG);
+    CHECK(gist_close(&none, 1) == GIST_BAD_CONFIG);
+    CHECK(gist_sweep(&none, &number) == GIST_BAD_CONFIG);
+    CHECK(gist_interval_insert(&none, 1, 2, 3, &number) == GIST_BAD_CONFIG);
+    CHECK(gist_interval_move(&none, 1, 1, 2, &number) == GIST_BAD_CONFIG);
+    CHECK(gist_interval_next(&none, 1, &interval) == GIST_BAD_CONFIG);
+    CHECK(gist_interval_commit(&none, 1, &interval) == GIST_BAD_CONFIG);
+    CHECK(gist_interval_find(&none, "x", 1, &interval_row, 1, &number, &fault) == GIST_BAD_CONFIG);
+    CHECK(gist_box_insert(&none, 1, 2, 3, 4, 5, &number) == GIST_BAD_CONFIG);
+    CHECK(gist_box_move(&none, 1, 1, 2, 3, 4, &number) == GIST_BAD_CONFIG);
+    CHECK(gist_box_next(&none, 1, &box) == GIST_BAD_CONFIG);
+    CHECK(gist_box_commit(&none, 1, &box) == GIST_BAD_CONFIG);
+    CHECK(gist_box_find(&none, "x", 1, &box_row, 1, &number, &fault) == GIST_BAD_CONFIG);
+    CHECK(gist_set_insert(&none, 1, 2, 3, &number) == GIST_BAD_CONFIG);
+    CHECK(gist_set_move(&none, 1, 1, 2, &number) == GIST_BAD_CONFIG);
+    CHECK(gist_set_next(&none, 1, &set) == GIST_BAD_CONFIG);
+    CHECK(gist_set_commit(&none, 1, &set) == GIST_BAD_CONFIG);
+    CHECK(gist_set_find(&none, "x", 1, &set_row, 1, &number, &fault) == GIST_BAD_CONFIG);
+    CHECK(number == UNTOUCHED && fault == UNTOUCHED);
+    CHECK(interval.number == UNTOUCHED && box.number == UNTOUCHED && set.number == UNTOUCHED);
+    CHECK(interval_row.row == UNTOUCHED && box_row.row == UNTOUCHED && set_row.row == UNTOUCHED);
+    gist_drop(&none);
+    gist_drop(&none);
+    CHECK(!gist_is_open(&none));
+}
+
+static void limits(void)
+{
+    static const gist_limits bad[] = {
+        {3, 2, 10, 10},  {65, 2, 10, 10}, {8, 1, 10, 10},    {8, 5, 10, 10},
+        {8, 3, 0, 10},   {8, 3, 65537, 10}, {8, 3, 10, 0},     {8, 3, 10, 16777217},
+    };
+    static const gist_limits good[] = {{4, 2, 1, 1}, {64, 32, 65536, 16777216}};
+    gist_store store = GIST_NO_STORE;
+
+    for (size_t i = 0; i < sizeof bad / sizeof bad[0]; i++)
+        for (uint32_t class = GIST_INTERVALS; class <= GIST_SETS; class++)
+            CHECK(gist_new(&store, class, &bad[i]) == GIST_BAD_CONFIG && !gist_is_open(&store));
+    CHECK(gist_new(&store, 0, &SMALL) == GIST_BAD_CONFIG && !gist_is_open(&store));
+    CHECK(gist_new(&store, 4, &SMALL) == GIST_BAD_CONFIG && !gist_is_open(&store));
+    for (size_t i = 0; i < sizeof good / sizeof good[0]; i++)
+        for (uint32_t class = GIST_INTERVALS; class <= GIST_SETS; class++) {
+            CHECK(gist_new(&store, class, &good[i]) == GIST_OK && gist_is_open(&store));
+            CHECK(gist_new(&store, class, &good[i]) == GIST_BAD_CONFIG && gist_is_open(&store));
+            gist_drop(&store);
+            CHECK(!gist_is_open(&store));
+        }
+}
+
+/* A store of another class than the call's is refused, and stays as it was. */
+static void other_class(void)
+{
+    gist_store intervals = GIST_NO_STORE, boxes = GIST_NO_STORE, sets = GIST_NO_STORE;
+    uint64_t number = UNTOUCHED, fault = UNTOUCHED;
+    gist_interval_item interval = {.number = UNTOUCHED};
+    gist_box_item box = {.number = UNTOUCHED};
+    gist_set_item set = {.number = UNTOUCHED};
+    gist_interval_row interval_row = {.row = UNTOUCHED};
+    gist_box_row box_row = {.row = UNTOUCHED};
+    gist_set_row set_row = {.row = UNTOUCHED};
+
+    CHECK(gist_new(&intervals, GIST_INTERVALS, &SMALL) == GIST_OK);
+    CHECK(gist_new(&boxes, GIST_BOXES, &SMALL) == GIST_OK);
+    CHECK(gist_new(&sets, GIST_SETS, &SMALL) == GIST_OK);
+    CHECK(gist_interval_insert(&boxes, 1, 2, 3, &number) == GIST_BAD_CONFIG);
+    CHECK(gist_interval_move(&sets, 1, 1, 2, &number) == GIST_BAD_CONFIG);
+    CHECK(gist_interval_next(&boxes, 1, &interval) == GIST_BAD_CONFIG);
+    CHECK(gist_interval_commit(&sets, 1, &interval) == GIST_BAD_CONFIG);
+    CHECK(gist_interval_find(&boxes, "x", 1, &interval_row, 1, &number, &fault) == GIST_BAD_CONFIG);
+    CHECK(gist_box_insert(&sets, 1, 2, 3, 4, 5, &number) == GIST_BAD_CONFIG);
+    CHECK(gist_box_move(&intervals, 1, 1, 2, 3, 4, &number) == GIST_BAD_CONFIG);
+    CHECK(gist_box_next(&sets, 1, &box) == GIST_BAD_CONFIG);
+    CHECK(gist_box_commit(&intervals, 1, &box) == GIST_BAD_CONFIG);
+    CHECK(gist_box_find(&sets, "x", 1, &box_row, 1, &number, &fault) == GIST_BAD_CONFIG);
+    CHECK(gist_set_insert(&intervals, 1, 2, 3, &number) == GIST_BAD_CONFIG);
+    CHECK(gist_set_move(&boxes, 1, 1, 2, &number) == GIST_BAD_CONFIG);
+    CHECK(gist_set_next(&intervals, 1, &set) == GIST_BAD_CONFIG);
+    CHECK(gist_set_commit(&boxes, 1, &set) == GIST_BAD_CONFIG);
+    CHECK(gist_set_find(&intervals, "x", 1, &set_row, 1, &number, &fault) == GIST_BAD_CONFIG);
+    CHECK(number == UNTOUCHED && fault == UNTOUCHED);
+    CHECK(interval.number == UNTOUCHED && box.number == UNTOUCHED && set.number == UNTOUCHED);
+    CHECK(interval_row.row == UNTOUCHED && box_row.row == UNTOUCHED && set_row.row == UNTOUCHED);
+    CHECK(gist_commits(&intervals) == 0 && gist_commits(&boxes) == 0 && gist_commits(&sets) == 0);
+    gist_drop(&intervals);
+    gist_drop(&boxes);
+    gist_drop(&sets);
+}
+
+static int interval_is(const gist_interval_item *item, uint32_t kind, uint64_t number, uint64_t ended, int64_t lo,
+                       int64_t hi, uint64_t tag)
+{
+    return item->kind == kind && item->number == number && item->ended == ended && item->lo == lo && item->hi == hi
+           && item->tag == tag;
+}
+
+static void intervals(void)
+{
+    static const char all[] = "overlaps (-100 100)";
+    gist_store store = GIST_NO_STORE;
+    gist_interval_item item;
+    gist_interval_row rows[4];
+    uint64_t number, cursor, follower, fault = UNTOUCHED;
+
+    CHECK(gist_new(&store, GIST_INTERVALS, &SMALL) == GIST_OK);
+    CHECK(gist_interval_insert(&store, -3, 4, 70, &number) == GIST_OK && number == 1);
+    CHECK(gist_interval_insert(&store, 5, 5, 71, &number) == GIST_OK && number == 2);
+    CHECK(gist_interval_insert(&store, INT64_MIN, INT64_MAX, UINT64_MAX, &number) == GIST_OK && number == 3);
+    number = UNTOUCHED;
+    CHECK(gist_interval_insert(&store, 6, 5, 0, &number) == GIST_BAD_CONFIG && number == UNTOUCHED);
+    CHECK(gist_interval_move(&store, 1, 6, 5, &number) == GIST_BAD_CONFIG && number == UNTOUCHED);
+    CHECK(gist_commits(&store) == 3);
+
+    memset(rows, 0, sizeof rows);
+    rows[2].row = UNTOUCHED;
+    CHECK(gist_interval_find(&store, all, strlen(all), rows, 2, &number, &fault) == GIST_OK && number == 3);
+    CHECK(rows[0].row == 1 && rows[0].lo == -3 && rows[0].hi == 4 && rows[0].tag == 70);
+    CHECK(rows[1].row == 2 && rows[1].lo == 5 && rows[1].hi == 5 && rows[1].tag == 71);
+    CHECK(rows[2].row == UNTOUCHED);
+    CHECK(gist_interval_find(&store, all, strlen(all), rows, 0, &number, &fault) == GIST_OK && number == 3);
+    CHECK(gist_interval_find(&store, "same (5 5)", 10, rows, 4, &number, &fault) == GIST_OK && number == 1);
+    CHECK(rows[0].row == 2 && rows[1].row == 2 && rows[2].row == UNTOUCHED && fault == UNTOUCHED);
+    number = UNTOUCHED;
+    CHECK(gist_interval_find(&store, "same (5 4)", 10, rows, 4, &number, &fault) == GIST_QUERY_TEXT && fault == 5);
+    CHECK(number == UNTOUCHED && rows[0].row == 2);
+
+    cursor = opened(&store, "within (-10 10)");
+    CHECK(cursor == 1);
+    CHECK(gist_interval_next(&store, cursor, &item) == GIST_OK && item.kind == GIST_ROW);
+    number = item.number;
+    CHECK(number == 1 || number == 2);
+    CHECK(gist_interval_next(&store, cursor, &item) == GIST_OK && item.kind == GIST_ROW && item.number == 3 - number);
+    CHECK(gist_interval_next(&store, cursor, &item) == GIST_OK && interval_is(&item, GIST_NOTHING, 0, 0, 0, 0, 0));
+    CHECK(gist_interval_insert(&store, 7, 8, 72, &number) == GIST_OK && number == 4);
+    CHECK(gist_interval_move(&store, 2, -1, 1, &number) == GIST_OK && number == 5);
+    CHECK(gist_delete(&store, 1, &number) == GIST_OK && number == 6);
+    CHECK(gist_interval_move(&store, 5, 50, 60, &number) == GIST_OK && number == 7);
+    CHECK(gist_mark(&store, cursor) == GIST_OK);
+    CHECK(gist_interval_next(&store, cursor, &item) == GIST_OK && interval_is(&item, GIST_INSERTED, 4, 0, 7, 8, 72));
+    CHECK(gist_interval_next(&store, cursor, &item) == GIST_OK && interval_is(&item, GIST_MOVED, 5, 2, -1, 1, 71));
+    CHECK(gist_interval_next(&store, cursor, &item) == GIST_OK && interval_is(&item, GIST_DELETED, 6, 1, 0, 0, 0));
+    CHECK(gist_interval_next(&store, cursor, &item) == GIST_OK && interval_is(&item, GIST_DELETED, 7, 5, 0, 0, 0));
+    CHECK(gist_interval_next(&store, cursor, &item) == GIST_OK && interval_is(&item, GIST_MARK, 7, 0, 0, 0, 0));
+    CHECK(gist_interval_next(&store, cursor, &item) == GIST_OK && item.kind == GIST_NOTHING);
+
+    CHECK(gist_open_from(&store, all, strlen(all), 5, &follower, &fault) == GIST_OK && follower == 2);
+    CHECK(gist_interval_next(&store, follower, &item) == GIST_OK && interval_is(&item, GIST_DELETED, 6, 1, 0, 0, 0));
+    CHECK(gist_interval_next(&store, follower, &item) == GIST_OK && interval_is(&item, GIST_MOVED, 7, 5, 50, 60, 71));
+    CHECK(gist_interval_next(&store, follower, &item) == GIST_OK && item.kind == GIST_NOTHING);
+
+    CHECK(gist_interval_commit(&store, 4, &item) == GIST_OK && interval_is(&item, GIST_INSERTED, 4, 0, 7, 8, 72));
+    CHECK(gist_interval_commit(&store, 5, &item) == GIST_OK && interval_is(&item, GIST_MOVED, 5, 2, -1, 1, 0));
+    CHECK(gist_interval_commit(&store, 6, &item) == GIST_OK && interval_is(&item, GIST_DELETED, 6, 1, 0, 0, 0));
+    CHECK(gist_interval_commit(&store, 0, &item) == GIST_OK && interval_is(&item, GIST_NOTHING, 0, 0, 0, 0, 0));
+    CHECK(gist_interval_commit(&store, 8, &item) == GIST_OK && interval_is(&item, GIST_NOTHING, 0, 0, 0, 0, 0));
+
+    CHECK(gist_sweep(&store, &number) == GIST_OK && number == 3);
+    CHECK(gist_sweep(&store, &number) == GIST_OK && number == 0);
+    gist_drop(&store);
+}
+
+static void refusals(void)
+{
+    gist_limits few = {.fan = 4, .least = 2, .pages = 1000, .commits = 3};
+    gist_store store = GIST_NO_STORE;
+    gist_interval_item item = {.number = UNTOUCHED};
+    uint64_t number, cursor, fault = UNTOUCHED;
+
+    CHECK(gist_new(&store, GIST_INTERVALS, &few) == GIST_OK);
+    CHECK(gist_interval_insert(&store, 1, 2, 3, &number) == GIST_OK);
+    CHECK(gist_interval_insert(&store, 1, 2, 3, &number) == GIST_OK);
+    number = UNTOUCHED;
+    CHECK(gist_delete(&store, 0, &number) == GIST_NO_SUCH_ROW);
+    CHECK(gist_delete(&store, 3, &number) == GIST_NO_SUCH_ROW);
+    CHECK(gist_interval_move(&store, 3, 1, 2, &number) == GIST_NO_SUCH_ROW && number == UNTOUCHED);
+    CHECK(gist_delete(&store, 1, &number) == GIST_OK && number == 3);
+    number = UNTOUCHED;
+    CHECK(gist_delete(&store, 1, &number) == GIST_ALREADY_DELETED);
+    CHECK(gist_interval_move(&store, 1, 1, 2, &number) == GIST_ALREADY_DELETED);
+    CHECK(gist_delete(&store, 2, &number) == GIST_COMMITS_FULL);
+    CHECK(gist_interval_move(&store, 2, 1, 2, &number) == GIST_COMMITS_FULL);
+    CHECK(gist_interval_insert(&store, 1, 2, 3, &number) == GIST_COMMITS_FULL && number == UNTOUCHED);
+    CHECK(gist_commits(&store) == 3);
+
+    cursor = UNTOUCHED;
+    CHECK(gist_open(&store, "overlaps (1 2", 13, &cursor, &fault) == GIST_QUERY_TEXT && fault == 13);
+    CHECK(gist_open(&store, "", 0, &cursor, &fault) == GIST_QUERY_TEXT && fault == 0);
+    CHECK(gist_open_from(&store, "over (1 2)", 10, 0, &cursor, &fault) == GIST_QUERY_TEXT && fault == 0);
+    fault = UNTOUCHED;
+    CHECK(gist_open_from(&store, "same (1 2)", 10, 4, &cursor, &fault) == GIST_FROM_FUTURE);
+    CHECK(cursor == UNTOUCHED && fault == UNTOUCHED);
+    for (unsigned i = 1; i <= 256; i++)
+        CHECK(opened(&store, "same (1 2)") == i);
+    CHECK(gist_open(&store, "same (1 2)", 10, &cursor, &fault) == GIST_CURSORS_FULL);
+    CHECK(gist_open_from(&store, "same (1 2)", 10, 3, &cursor, &fault) == GIST_CURSORS_FULL);
+    CHECK(gist_open_from(&store, "same (1 2)", 10, 4, &cursor, &fault) == GIST_FROM_FUTURE);
+    CHECK(cursor == UNTOUCHED && fault == UNTOUCHED);
+    CHECK(gist_mark(&store, 0) == GIST_NO_SUCH_CURSOR && gist_mark(&store, 257) == GIST_NO_SUCH_CURSOR);
+    CHECK(gist_close(&store, 257) == GIST_NO_SUCH_CURSOR);
+    CHECK(gist_interval_next(&store, 257, &item) == GIST_NO_SUCH_CURSOR);
+    CHECK(gist_close(&store, 7) == GIST_OK);
+    CHECK(gist_close(&store, 7) == GIST_CURSOR_CLOSED);
+    CHECK(gist_mark(&store, 7) == GIST_CURSOR_CLOSED);
+    CHECK(gist_interval_next(&store, 7, &item) == GIST_CURSOR_CLOSED && item.number == UNTOUCHED);
+    CHECK(opened(&store, "same (1 2)") == 257);
+    gist_drop(&store);
+}
+
+/* One page has room for four rows, and there is no other. */
+static void pages(void)
+{
+    gist_limits one = {.fan = 4, .least = 2, .pages = 1, .commits = 1000};
+    gist_store store = GIST_NO_STORE;
+    uint64_t number;
+
+    CHECK(gist_new(&store, GIST_BOXES, &one) == GIST_OK);
+    for (unsigned i = 1; i <= 4; i++)
+        CHECK(gist_box_insert(&store, 0, 0, 1, 1, 0, &number) == GIST_OK && number == i);
+    CHECK(gist_box_insert(&store, 0, 0, 1, 1, 0, &number) == GIST_PAGES_FULL && number == 4);
+    CHECK(gist_box_move(&store, 1, 5, 5, 6, 6, &number) == GIST_PAGES_FULL && number == 4);
+    CHECK(gist_commits(&store) == 4);
+    gist_drop(&store);
+}
+
+static void boxes(void)
+{
+    static const char west[] = "overlaps (0 0 9 9)";
+    gist_store store = GIST_NO_STORE;
+    gist_box_item item;
+    gist_box_row rows[2];
+    uint64_t number, cursor, fault;
+
+    CHECK(gist_new(&store, GIST_BOXES, &SMALL) == GIST_OK);
+    CHECK(gist_box_insert(&store, 1, 2, 3, 4, 70, &number) == GIST_OK && number == 1);
+    CHECK(gist_box_insert(&store, INT32_MIN, INT32_MIN, INT32_MAX, INT32_MAX, 71, &number) == GIST_OK && number == 2);
+    number = UNTOUCHED;
+    CHECK(gist_box_insert(&store, 3, 2, 1, 4, 0, &number) == GIST_BAD_CONFIG);
+    CHECK(gist_box_insert(&store, 1, 4, 3, 2, 0, &number) == GIST_BAD_CONFIG);
+    CHECK(gist_box_move(&store, 1, 1, 4, 3, 2, &number) == GIST_BAD_CONFIG && number == UNTOUCHED);
+    CHECK(gist_box_find(&store, west, strlen(west), rows, 2, &number, &fault) == GIST_OK && number == 2);
+    CHECK(rows[0].row == 1 && rows[0].tag == 70);
+    CHECK(rows[0].x1 == 1 && rows[0].y1 == 2 && rows[0].x2 == 3 && rows[0].y2 == 4);
+    CHECK(rows[1].row == 2 && rows[1].x1 == INT32_MIN && rows[1].y2 == INT32_MAX);
+    CHECK(gist_box_find(&store, "same (1 2)", 10, rows, 2, &number, &fault) == GIST_QUERY_TEXT && fault == 9);
+
+    cursor = opened(&store, "same (1 2 3 4) or same (5 6 7 8)");
+    CHECK(gist_box_next(&store, cursor, &item) == GIST_OK && item.kind == GIST_ROW && item.number == 1);
+    CHECK(item.x1 == 1 && item.y1 == 2 && item.x2 == 3 && item.y2 == 4 && item.tag == 70 && item.ended == 0);
+    CHECK(gist_box_move(&store, 1, 5, 6, 7, 8, &number) == GIST_OK && number == 3);
+    CHECK(gist_box_next(&store, cursor, &item) == GIST_OK && item.kind == GIST_MOVED && item.number == 3);
+    CHECK(item.x1 == 5 && item.y1 == 6 && item.x2 == 7 && item.y2 == 8 && item.tag == 70 && item.ended == 1);
+    CHECK(gist_box_next(&store, cursor, &item) == GIST_OK && item.kind == GIST_NOTHING && item.x1 == 0);
+    CHECK(gist_box_commit(&store, 1, &item) == GIST_OK && item.kind == GIST_INSERTED && item.number == 1);
+    CHECK(item.x1 == 1 && item.y1 == 2 && item.x2 == 3 && item.y2 == 4 && item.tag == 70 && item.ended == 0);
+    gist_drop(&store);
+}
+
+static void sets(void)
+{
+    gist_store store = GIST_NO_STORE;
+    gist_set_item item;
+    gist_set_row rows[2];
+    uint64_t number, cursor, fault;
+
+    CHECK(gist_new(&store, GIST_SETS, &SMALL) == GIST_OK);
+    CHECK(gist_set_insert(&store, 1 << 2 | 1 << 5, 1, 70, &number) == GIST_OK && number == 1);
+    CHECK(gist_set_insert(&store, UINT64_MAX, UINT64_MAX, 71, &number) == GIST_OK && number == 2);
+    CHECK(gist_set_insert(&store, 0, 0, 72, &number) == GIST_OK && number == 3);
+    CHECK(gist_set_find(&store, "same {2 5 64}", 13, rows, 2, &number, &fault) == GIST_OK && number == 1);
+    CHECK(rows[0].row == 1 && rows[0].tag == 70 && rows[0].low == (1 << 2 | 1 << 5) && rows[0].high == 1);
+    CHECK(gist_set_find(&store, "overlaps {127}", 14, rows, 2, &number, &fault) == GIST_OK && number == 1);
+    CHECK(rows[0].row == 2 && rows[0].low == UINT64_MAX && rows[0].high == UINT64_MAX);
+    CHECK(gist_set_find(&store, "same {128}", 10, rows, 2, &number, &fault) == GIST_QUERY_TEXT && fault == 6);
+
+    cursor = opened(&store, "holds {64}");
+    CHECK(gist_set_move(&store, 3, 0, 3, &number) == GIST_OK && number == 4);
+    CHECK(gist_set_next(&store, cursor, &item) == GIST_OK && item.kind == GIST_ROW && item.number <= 2);
+    CHECK(gist_set_next(&store, cursor, &item) == GIST_OK && item.kind == GIST_ROW && item.number <= 2);
+    CHECK(gist_set_next(&store, cursor, &item) == GIST_OK && item.kind == GIST_INSERTED && item.number == 4);
+    CHECK(item.low == 0 && item.high == 3 && item.tag == 72 && item.ended == 0);
+    CHECK(gist_set_next(&store, cursor, &item) == GIST_OK && item.kind == GIST_NOTHING);
+    CHECK(gist_set_commit(&store, 4, &item) == GIST_OK && item.kind == GIST_MOVED && item.ended == 3);
+    CHECK(item.low == 0 && item.high == 3 && item.tag == 0 && item.number == 4);
+    gist_drop(&store);
+}
+
+/* Rows come and go beside an index by which every answer can be told: row n has the interval (n, n + 2). */
+static void many(void)
+{
+    gist_limits wide = {.fan = 32, .least = 12, .pages = 65536, .commits = 100000};
+    gist_store store = GIST_NO_STORE;
+    gist_interval_item item;
+    gist_interval_row rows[3];
+    uint64_t number, cursor, fault, given = 0;
+
+    CHECK(gist_new(&store, GIST_INTERVALS, &wide) == GIST_OK);
+    for (int64_t n = 1; n <= 10000; n++)
+        if (gist_interval_insert(&store, n, n + 2, (uint64_t)n, &number) != GIST_OK || number != (uint64_t)n)
+            CHECK(!"every insert is the next commit");
+    CHECK(gist_interval_find(&store, "overlaps (5000 5000)", 20, rows, 3, &number, &fault) == GIST_OK && number == 3);
+    CHECK(rows[0].row == 4998 && rows[1].row == 4999 && rows[2].row == 5000);
+    cursor = opened(&store, "overlaps (0 20000)");
+    for (;;) {
+        CHECK(gist_interval_next(&store, cursor, &item) == GIST_OK);
+        if (item.kind == GIST_NOTHING)
+            break;
+        given++;
+    }
+    CHECK(given == 10000);
+    for (uint64_t row = 1; row <= 9000; row++)
+        if (gist_delete(&store, row, &number) != GIST_OK || number != 10000 + row)
+            CHECK(!"every delete is the next commit");
+    CHECK(gist_sweep(&store, &number) == GIST_OK && number == 9000);
+    CHECK(gist_interval_find(&store, "overlaps (0 20000)", 18, rows, 3, &number, &fault) == GIST_OK && number == 1000);
+    CHECK(rows[0].row == 9001);
+    gist_drop(&store);
+}
+
+/* Makes a call again where it was refused for want of memory. */
+#define AGAIN(call) ((call) != GIST_OUT_OF_MEMORY ? (void)0 : CHECK((call) == GIST_OK))
+
+static void refused_memory(void)
+{
+    gist_store store = GIST_NO_STORE;
+    gist_interval_item item = {0};
+    gist_interval_row rows[64];
+    uint64_t number, cursor, fault, seen = 0;
+
+    AGAIN(gist_new(&store, GIST_INTERVALS, &SMALL));
+    AGAIN(gist_open(&store, "overlaps (0 99) and not same (5 5)", 34, &cursor, &fault));
+    for (int64_t n = 1; n <= 40; n++)
+        AGAIN(gist_interval_insert(&store, n, n, 0, &number));
+    CHECK(gist_commits(&store) == 40);
+    for (uint64_t row = 1; row <= 10; row++)
+        AGAIN(gist_delete(&store, row, &number));
+    AGAIN(gist_interval_move(&store, 20, 90, 90, &number));
+    CHECK(gist_commits(&store) == 51);
+    do {
+        AGAIN(gist_interval_next(&store, cursor, &item));
+        seen += item.kind != GIST_NOTHING;
+    } while (item.kind != GIST_NOTHING);
+    /* 39 inserts, 9 deletes and the move */
+    CHECK(seen == 49);
+    AGAIN(gist_sweep(&store, &number));
+    AGAIN(gist_interval_find(&store, "overlaps (0 99)", 15, rows, 64, &number, &fault));
+    CHECK(number == 30 && rows[0].row == 11 && rows[29].row == 51);
+    gist_drop(&store);
+}
+
+int main(int argc, char **argv)
+{
+    if (argc == 2 && strcmp(argv[1], "refused") == 0) {
+        refused_memory();
+    } else {
+        names();
+        no_store();
+        limits();
+        other_class();
+        intervals();
+        refusals();
+        pages();
+        boxes();
+        sets();
+        many();
+    }
+    printf("%u passed, %u failed\n", passed, failed);
+    return failed != 0;
+}
