@@ -3,8 +3,7 @@
 
     bench/library.py [--class interval|box] [--rows N ..] [--finds N] [--turns N] [--callgrind]
 
-It builds bench/library/library.cpp over include/gist.h and the library that `rt lib` leaves in crates/gist_c/out, and runs
-it. Each find must give the same rows by every tree, or the run ends with status 1.
+It builds bench/library/library.cpp over the library that tools/library makes, and runs it. Each find must give the same rows by every tree, or the run ends with status 1.
 """
 import argparse
 import os
@@ -19,20 +18,18 @@ from bench import HERE, PEER_FLAGS, PEER_HEADER, has_header, instructions_by_fun
 TOP = os.path.dirname(HERE)
 SOURCE = os.path.join(HERE, "library", "library.cpp")
 PROGRAM = os.path.join(HERE, "out", "library")
-LIBRARY = os.path.join(TOP, "crates", "gist_c", "out", "libgist_c.a")
+LIBRARY = os.path.join(HERE, "out", "gist_c")
 
 
 def build():
     compiler = shutil.which("c++")
     if compiler is None:
         raise SystemExit("library: there is no c++")
-    if not os.path.exists(LIBRARY):
-        raise SystemExit(f"library: {LIBRARY} is missing; run rt lib in crates/gist_c")
+    subprocess.run([os.path.join(TOP, "tools", "library"), LIBRARY], check=True)
     boost = ["-DWITH_BOOST"] if has_header(compiler, PEER_HEADER) else []
     if not boost:
         print("Boost's headers are missing: gist is measured alone")
-    os.makedirs(os.path.dirname(PROGRAM), exist_ok=True)
-    words = [compiler, *PEER_FLAGS, *boost, f"-I{TOP}/include", SOURCE, LIBRARY, "-lm", "-o", PROGRAM]
+    words = [compiler, *PEER_FLAGS, *boost, f"-I{LIBRARY}", SOURCE, f"-L{LIBRARY}", "-lgist", "-o", PROGRAM]
     if subprocess.run(words).returncode != 0:
         raise SystemExit("library: the program can't be built")
 
