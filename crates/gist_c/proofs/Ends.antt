@@ -15,7 +15,9 @@ pub interval_with : (lo hi : ℤ) (key : Interval) → key.lo ≡ lo → key.hi 
 interval_with lo hi key e f = rw (← e, ← f) (sym (interval_of_ends key))
 
 pub interval_without : (lo hi : ℤ) → hi <ℤ lo → None ≡ interval_of lo hi
-interval_without lo hi bad = sym (when_none (int_le lo hi) _ (λ h. absurd (omega (arith, ints, bad, le_z_yes h))))
+interval_without lo hi bad = sym (when_none (int_le lo hi) _ (λ h. absurd (apart (le_z_yes h)))) where
+  apart : lo ≤ℤ hi → ⊥
+  apart h = omega (arith, ints, bad, h)
 
 pub box_with : (x1 y1 x2 y2 : ℤ) (key : BoxKey) → key.x1 ≡ x1 → key.x2 ≡ x2 → key.y1 ≡ y1 → key.y2 ≡ y2 → Some key ≡ box_of x1 y1 x2 y2
 box_with x1 y1 x2 y2 key e f g h = rw (← e, ← f, ← g, ← h) (sym (box_of_ends key))

@@ -1,5 +1,5 @@
 -- Rows that were added, and one more.
-use Rattle.std.proofs.Common.{◌≡◌, ℕ, List, [], ◌∷◌, ◌++◌, Option, refl, subst}
+use Rattle.std.proofs.Common.{ℕ, List, [], ◌∷◌, ◌++◌, Option, refl, subst}
 use Rattle.std.specs.Prelude.{Ok}
 use Rattle.key_class.specs.Rules.{Rules}
 use Rattle.store.specs.States.{StoreState}

@@ -18,6 +18,14 @@ pub struct Limits {
 }
 
 #[repr(C)]
+#[derive(Clone, Copy)]
+pub struct IntervalEntry {
+    pub lo: i64,
+    pub hi: i64,
+    pub tag: u64,
+}
+
+#[repr(C)]
 #[derive(Clone, Copy, Default)]
 pub struct IntervalRow {
     pub row: u64,
@@ -35,6 +43,16 @@ pub struct IntervalItem {
     pub tag: u64,
     pub lo: i64,
     pub hi: i64,
+}
+
+#[repr(C)]
+#[derive(Clone, Copy)]
+pub struct BoxEntry {
+    pub x1: i32,
+    pub y1: i32,
+    pub x2: i32,
+    pub y2: i32,
+    pub tag: u64,
 }
 
 #[repr(C)]
@@ -59,6 +77,14 @@ pub struct BoxItem {
     pub y1: i32,
     pub x2: i32,
     pub y2: i32,
+}
+
+#[repr(C)]
+#[derive(Clone, Copy)]
+pub struct SetEntry {
+    pub low: u64,
+    pub high: u64,
+    pub tag: u64,
 }
 
 #[repr(C)]
@@ -102,8 +128,10 @@ extern "C" {
     pub fn gist_sweep(store: *mut Handle, removed: *mut u64) -> u32;
 
     pub fn gist_interval_insert(store: *mut Handle, lo: i64, hi: i64, tag: u64, row: *mut u64) -> u32;
+    pub fn gist_interval_insert_all(store: *mut Handle, entries: *const IntervalEntry, length: usize, added: *mut u64) -> u32;
     pub fn gist_interval_move(store: *mut Handle, row: u64, lo: i64, hi: i64, moved: *mut u64) -> u32;
     pub fn gist_interval_next(store: *mut Handle, cursor: u64, item: *mut IntervalItem) -> u32;
+    pub fn gist_interval_take(store: *mut Handle, cursor: u64, items: *mut IntervalItem, room: usize, given: *mut u64) -> u32;
     pub fn gist_interval_commit(store: *mut Handle, number: u64, commit: *mut IntervalItem) -> u32;
     pub fn gist_interval_find(
         store: *mut Handle,
@@ -116,8 +144,10 @@ extern "C" {
     ) -> u32;
 
     pub fn gist_box_insert(store: *mut Handle, x1: i32, y1: i32, x2: i32, y2: i32, tag: u64, row: *mut u64) -> u32;
+    pub fn gist_box_insert_all(store: *mut Handle, entries: *const BoxEntry, length: usize, added: *mut u64) -> u32;
     pub fn gist_box_move(store: *mut Handle, row: u64, x1: i32, y1: i32, x2: i32, y2: i32, moved: *mut u64) -> u32;
     pub fn gist_box_next(store: *mut Handle, cursor: u64, item: *mut BoxItem) -> u32;
+    pub fn gist_box_take(store: *mut Handle, cursor: u64, items: *mut BoxItem, room: usize, given: *mut u64) -> u32;
     pub fn gist_box_commit(store: *mut Handle, number: u64, commit: *mut BoxItem) -> u32;
     pub fn gist_box_find(
         store: *mut Handle,
@@ -130,8 +160,10 @@ extern "C" {
     ) -> u32;
 
     pub fn gist_set_insert(store: *mut Handle, low: u64, high: u64, tag: u64, row: *mut u64) -> u32;
+    pub fn gist_set_insert_all(store: *mut Handle, entries: *const SetEntry, length: usize, added: *mut u64) -> u32;
     pub fn gist_set_move(store: *mut Handle, row: u64, low: u64, high: u64, moved: *mut u64) -> u32;
     pub fn gist_set_next(store: *mut Handle, cursor: u64, item: *mut SetItem) -> u32;
+    pub fn gist_set_take(store: *mut Handle, cursor: u64, items: *mut SetItem, room: usize, given: *mut u64) -> u32;
     pub fn gist_set_commit(store: *mut Handle, number: u64, commit: *mut SetItem) -> u32;
     pub fn gist_set_find(
         store: *mut Handle,

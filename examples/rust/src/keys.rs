@@ -53,11 +53,19 @@ pub unsafe trait Key: Copy {
 
     type CItem: Copy + Default;
 
+    type CEntry: Copy;
+
+    fn entry(key: Self, tag: u64) -> Self::CEntry;
+
     unsafe fn insert(store: *mut ffi::Handle, key: Self, tag: u64, row: *mut u64) -> u32;
+
+    unsafe fn insert_all(store: *mut ffi::Handle, entries: &[Self::CEntry], added: *mut u64) -> u32;
 
     unsafe fn move_row(store: *mut ffi::Handle, row: u64, key: Self, moved: *mut u64) -> u32;
 
     unsafe fn next(store: *mut ffi::Handle, cursor: u64, item: *mut Self::CItem) -> u32;
+
+    unsafe fn take(store: *mut ffi::Handle, cursor: u64, items: &mut [Self::CItem], given: *mut u64) -> u32;
 
     unsafe fn commit(store: *mut ffi::Handle, number: u64, commit: *mut Self::CItem) -> u32;
 
@@ -81,8 +89,18 @@ unsafe impl Key for Interval {
 
     type CItem = ffi::IntervalItem;
 
+    type CEntry = ffi::IntervalEntry;
+
+    fn entry(key: Interval, tag: u64) -> ffi::IntervalEntry {
+        ffi::IntervalEntry { lo: key.lo, hi: key.hi, tag }
+    }
+
     unsafe fn insert(store: *mut ffi::Handle, key: Interval, tag: u64, row: *mut u64) -> u32 {
         ffi::gist_interval_insert(store, key.lo, key.hi, tag, row)
+    }
+
+    unsafe fn insert_all(store: *mut ffi::Handle, entries: &[ffi::IntervalEntry], added: *mut u64) -> u32 {
+        ffi::gist_interval_insert_all(store, entries.as_ptr(), entries.len(), added)
     }
 
     unsafe fn move_row(store: *mut ffi::Handle, row: u64, key: Interval, moved: *mut u64) -> u32 {
@@ -91,6 +109,10 @@ unsafe impl Key for Interval {
 
     unsafe fn next(store: *mut ffi::Handle, cursor: u64, item: *mut ffi::IntervalItem) -> u32 {
         ffi::gist_interval_next(store, cursor, item)
+    }
+
+    unsafe fn take(store: *mut ffi::Handle, cursor: u64, items: &mut [ffi::IntervalItem], given: *mut u64) -> u32 {
+        ffi::gist_interval_take(store, cursor, items.as_mut_ptr(), items.len(), given)
     }
 
     unsafe fn commit(store: *mut ffi::Handle, number: u64, commit: *mut ffi::IntervalItem) -> u32 {
@@ -125,8 +147,18 @@ unsafe impl Key for BoxKey {
 
     type CItem = ffi::BoxItem;
 
+    type CEntry = ffi::BoxEntry;
+
+    fn entry(key: BoxKey, tag: u64) -> ffi::BoxEntry {
+        ffi::BoxEntry { x1: key.x1, y1: key.y1, x2: key.x2, y2: key.y2, tag }
+    }
+
     unsafe fn insert(store: *mut ffi::Handle, key: BoxKey, tag: u64, row: *mut u64) -> u32 {
         ffi::gist_box_insert(store, key.x1, key.y1, key.x2, key.y2, tag, row)
+    }
+
+    unsafe fn insert_all(store: *mut ffi::Handle, entries: &[ffi::BoxEntry], added: *mut u64) -> u32 {
+        ffi::gist_box_insert_all(store, entries.as_ptr(), entries.len(), added)
     }
 
     unsafe fn move_row(store: *mut ffi::Handle, row: u64, key: BoxKey, moved: *mut u64) -> u32 {
@@ -135,6 +167,10 @@ unsafe impl Key for BoxKey {
 
     unsafe fn next(store: *mut ffi::Handle, cursor: u64, item: *mut ffi::BoxItem) -> u32 {
         ffi::gist_box_next(store, cursor, item)
+    }
+
+    unsafe fn take(store: *mut ffi::Handle, cursor: u64, items: &mut [ffi::BoxItem], given: *mut u64) -> u32 {
+        ffi::gist_box_take(store, cursor, items.as_mut_ptr(), items.len(), given)
     }
 
     unsafe fn commit(store: *mut ffi::Handle, number: u64, commit: *mut ffi::BoxItem) -> u32 {
@@ -183,8 +219,18 @@ unsafe impl Key for Set {
 
     type CItem = ffi::SetItem;
 
+    type CEntry = ffi::SetEntry;
+
+    fn entry(key: Set, tag: u64) -> ffi::SetEntry {
+        ffi::SetEntry { low: key.low(), high: key.high(), tag }
+    }
+
     unsafe fn insert(store: *mut ffi::Handle, key: Set, tag: u64, row: *mut u64) -> u32 {
         ffi::gist_set_insert(store, key.low(), key.high(), tag, row)
+    }
+
+    unsafe fn insert_all(store: *mut ffi::Handle, entries: &[ffi::SetEntry], added: *mut u64) -> u32 {
+        ffi::gist_set_insert_all(store, entries.as_ptr(), entries.len(), added)
     }
 
     unsafe fn move_row(store: *mut ffi::Handle, row: u64, key: Set, moved: *mut u64) -> u32 {
@@ -193,6 +239,10 @@ unsafe impl Key for Set {
 
     unsafe fn next(store: *mut ffi::Handle, cursor: u64, item: *mut ffi::SetItem) -> u32 {
         ffi::gist_set_next(store, cursor, item)
+    }
+
+    unsafe fn take(store: *mut ffi::Handle, cursor: u64, items: &mut [ffi::SetItem], given: *mut u64) -> u32 {
+        ffi::gist_set_take(store, cursor, items.as_mut_ptr(), items.len(), given)
     }
 
     unsafe fn commit(store: *mut ffi::Handle, number: u64, commit: *mut ffi::SetItem) -> u32 {

@@ -1,7 +1,8 @@
 use crate::ffi;
-use crate::keys::{Key, Query};
+use crate::keys::{Key, Query, RawItem};
 use crate::refusal::Refusal;
 use std::marker::PhantomData;
+use std::ops::Range;
 
 /// The limits of a store.
 #[derive(Clone, Copy, Debug, PartialEq, Eq)]
@@ -83,6 +84,19 @@ fn told<T>(answer: u32, value: T, fault: u64) -> Result<T, Refusal> {
     }
 }
 
+/// What a cursor gave, or none where nothing is left.
+fn item_of<K>(item: RawItem<K>) -> Option<Item<K>> {
+    let row = Row { row: item.number, key: item.key, tag: item.tag };
+    match item.kind {
+        1 => Some(Item::Row(row)),
+        2 => Some(Item::Inserted(row)),
+        3 => Some(Item::Deleted { commit: item.number, row: item.ended }),
+        4 => Some(Item::Moved { row, ended: item.ended }),
+        5 => Some(Item::Mark(item.number)),
+        _ => None,
+    }
+}
+
 fn bytes(query: &str) -> Query {
     Query(query.as_ptr().cast(), query.len())
 }
@@ -129,6 +143,22 @@ impl<K: Key> Store<K> {
         let mut row = 0;
         let answer = unsafe { K::insert(&mut self.handle, key, tag, &mut row) };
         told(answer, row, 0)
+    }
+
+    /// Adds rows one after the other, in one call, and gives their numbers. Where one is refused, the refusal stands beside
+    /// the numbers of those before it, which were added.
+    pub fn insert_all(&mut self, rows: &[(K, u64)]) -> (Range<u64>, Result<(), Refusal>) {
+        let entries: Vec<_> = rows.iter().map(|&(key, tag)| K::entry(key, tag)).collect();
+        let first = self.commits() + 1;
+        let mut all = 0;
+        loop {
+            let mut added = 0;
+            let answer = unsafe { K::insert_all(&mut self.handle, &entries[all..], &mut added) };
+            all += added as usize;
+            if answer != 0 || all == entries.len() {
+                return (first..first + all as u64, told(answer, (), 0));
+            }
+        }
     }
 
     /// Deletes a row, and gives the commit's number.
@@ -183,16 +213,17 @@ impl<K: Key> Store<K> {
     pub fn next(&mut self, cursor: Cursor) -> Result<Option<Item<K>>, Refusal> {
         let mut item = K::CItem::default();
         let answer = unsafe { K::next(&mut self.handle, cursor.0, &mut item) };
-        let item = K::item(told(answer, item, 0)?);
-        let row = Row { row: item.number, key: item.key, tag: item.tag };
-        Ok(match item.kind {
-            1 => Some(Item::Row(row)),
-            2 => Some(Item::Inserted(row)),
-            3 => Some(Item::Deleted { commit: item.number, row: item.ended }),
-            4 => Some(Item::Moved { row, ended: item.ended }),
-            5 => Some(Item::Mark(item.number)),
-            _ => None,
-        })
+        Ok(item_of(K::item(told(answer, item, 0)?)))
+    }
+
+    /// A cursor's next items, at most as many as that, by one call. There are none only where nothing is left and no mark
+    /// is asked for, or none were wanted.
+    pub fn take(&mut self, cursor: Cursor, most: usize) -> Result<Vec<Item<K>>, Refusal> {
+        let mut items = vec![K::CItem::default(); most];
+        let mut given = 0;
+        let answer = unsafe { K::take(&mut self.handle, cursor.0, &mut items, &mut given) };
+        items.truncate(told(answer, given as usize, 0)?);
+        Ok(items.into_iter().filter_map(|item| item_of(K::item(item))).collect())
     }
 
     /// What a cursor gives, until nothing is left. Another such iterator goes on where this one ended.
@@ -278,6 +309,24 @@ mod tests {
         assert_eq!(store.sweep()?, 2);
         store.close(cursor)?;
         assert_eq!(store.close(cursor), Err(Refusal::CursorClosed));
+        Ok(())
+    }
+
+    #[test]
+    fn many_rows_and_items_go_by_one_call() -> Result<(), Refusal> {
+        let mut store = Store::new(Limits::default())?;
+        let rows = [(interval(1, 2), 70), (interval(3, 4), 71), (interval(6, 5), 72), (interval(7, 8), 73)];
+        assert_eq!(store.insert_all(&rows), (1..3, Err(Refusal::BadConfig)));
+        assert_eq!(store.insert_all(&rows[..2]), (3..5, Ok(())));
+        let cursor = store.open_from("overlaps (0 9)", 0)?;
+        let given = store.take(cursor, 3)?;
+        let numbers = given.iter().map(|item| match item {
+            Item::Inserted(row) => row.row,
+            _ => 0,
+        });
+        assert!(numbers.eq(1..4));
+        assert_eq!(store.take(cursor, 3)?.len(), 1);
+        assert_eq!(store.take(cursor, 3)?.len(), 0);
         Ok(())
     }
 

@@ -1,4 +1,4 @@
-use Rattle.std.proofs.Common.{ap, rules, w32, FitsSigned}
+use Rattle.std.proofs.Common.{rules, w32, FitsSigned}
 use Rattle.std.proofs.lemmas.Int.{to_z-of_z}
 use Rattle.gist_c.proofs.Ends.{box_with, box_without}
 use Rattle.gist_c.proofs.box_rows.box_key.Goals as goal

@@ -1,6 +1,5 @@
-use Rattle.std.proofs.Common.{◌++◌, ◌∷◌, [], take, sym, ap, ◌∙◌, subst, arith}
+use Rattle.std.proofs.Common.{◌++◌, ◌∷◌, [], take, sym, ap, ◌∙◌, arith}
 use Rattle.std.proofs.lemmas.List.{take_more}
-use Rattle.gist_c.specs.Calls.{InsertsAll}
 use Rattle.gist_c.proofs.Inserting.{inserts_push}
 use Rattle.gist_c.proofs.calls.insert_all.Goals as goal
 

@@ -1,6 +1,5 @@
-use Rattle.std.proofs.Common.{ap, rules, w64, FitsSigned}
+use Rattle.std.proofs.Common.{rules, w64, FitsSigned}
 use Rattle.std.proofs.lemmas.Int.{to_z-of_z}
-use Rattle.std.specs.Prelude.{Err}
 use Rattle.gist_c.proofs.Ends.{interval_with, interval_without}
 use Rattle.gist_c.proofs.interval_rows.interval.Goals as goal
 
