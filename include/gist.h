@@ -18,21 +18,22 @@
  *
  * What every caller must keep
  * ---------------------------
- * - A handle is set to GIST_NO_STORE before its first use. Its fields are the library's: no caller reads or writes them,
- *   and a handle isn't copied, since two copies would be two owners of one store.
+ * - A handle is set to GIST_NO_STORE before its first use. Its fields are the library's: no caller reads or writes
+ *   them, and a handle isn't copied, since two copies would be two owners of one store.
  * - No pointer is null, and each points to a value of its type that may be read, and written where it isn't const, and
  *   that no other pointer of the call points to. A buffer may have the length 0; its pointer isn't null then either.
- * - A handle is given to one call at a time. Two threads that share a store take a lock of their own round each call; the
- *   library has no lock and starts no thread. Different stores need no lock between them.
+ * - A handle is given to one call at a time. Two threads that share a store take a lock of their own round each call;
+ *   the library has no lock and starts no thread. Different stores need no lock between them.
  * - No call is made from a signal handler, nor from the forked child of a process with threads.
- * - Memory comes from malloc, realloc and free, which are those of one allocator, and align as malloc of the C library does.
+ * - Memory comes from malloc, realloc and free. They are of one allocator, and align a block to each power of two up to
+ *   16 that divides its size.
  *
  * What every call answers
  * -----------------------
  * 0 (GIST_OK), or the number of the refusal. A call that is refused changes neither the commits nor what a cursor has
- * still to give, and leaves what its pointers point to as it was, but for `fault` where a query's text is refused, and
- * the buffers and counts of a batch, which tell what was done before. Every call with a handle of no store is refused
- * with GIST_BAD_CONFIG, and so is a call for keys of another class than the store's; nothing changes then.
+ * still to give, and leaves what its pointers point to as it was, but for `fault` where a query's text is refused.
+ * Every call with a handle of no store is refused with GIST_BAD_CONFIG, and so is a call for keys of another class than
+ * the store's; nothing changes then.
  */
 #ifndef GIST_H
 #define GIST_H
@@ -131,7 +132,7 @@ uint32_t gist_open(gist_store *store, const char *query, size_t length, uint64_t
 
 /*
  * Opens a cursor that follows a commit: it gives the changes after that commit and no row that was there. Of a mark's
- * number it goes on where the mark was given. Every change there is follows commit 0.
+ * number it goes on where the mark was given. All changes that there are follow commit 0.
  *
  * As gist_open; GIST_FROM_FUTURE where there are fewer commits than that, before GIST_CURSORS_FULL.
  */
@@ -181,6 +182,13 @@ typedef struct gist_interval_row {
     int64_t hi;
 } gist_interval_row;
 
+/* A row to be added to a store of intervals. */
+typedef struct gist_interval_entry {
+    int64_t lo;
+    int64_t hi;
+    uint64_t tag;
+} gist_interval_entry;
+
 /* An item, or a commit, of a store of intervals. Where it has no key, all of the key is 0. */
 typedef struct gist_interval_item {
     uint32_t kind;
@@ -194,15 +202,25 @@ typedef struct gist_interval_item {
 /*
  * Adds a row, and gives its number, which is the commit's.
  *
- * GIST_BAD_CONFIG where the ends are out of order; GIST_COMMITS_FULL exactly where the list of commits is full; GIST_PAGES_FULL,
- * GIST_OUT_OF_MEMORY.
+ * GIST_BAD_CONFIG where the ends are out of order; GIST_COMMITS_FULL exactly where else the list of commits is full;
+ * GIST_PAGES_FULL where fewer than two pages are left; GIST_OUT_OF_MEMORY.
  */
 uint32_t gist_interval_insert(gist_store *store, int64_t lo, int64_t hi, uint64_t tag, uint64_t *row);
 
 /*
+ * Adds rows one after the other, until one is refused, and tells how many were added. Their numbers are the next ones,
+ * and the last is gist_commits(store). Where fewer were added than there are, a call with the others tells why.
+ *
+ * As gist_interval_insert, where the first row is refused.
+ */
+uint32_t gist_interval_insert_all(gist_store *store, const gist_interval_entry *entries, size_t length,
+                                  uint64_t *added);
+
+/*
  * Moves a row to a key by one commit, and gives the number of the row that it makes.
  *
- * GIST_BAD_CONFIG where the ends are out of order, else as gist_delete; GIST_PAGES_FULL where fewer than two pages are left.
+ * GIST_BAD_CONFIG where the ends are out of order, else as gist_delete; GIST_PAGES_FULL where fewer than two pages are
+ * left.
  */
 uint32_t gist_interval_move(gist_store *store, uint64_t row, int64_t lo, int64_t hi, uint64_t *moved);
 
@@ -214,8 +232,18 @@ uint32_t gist_interval_move(gist_store *store, uint64_t row, int64_t lo, int64_t
 uint32_t gist_interval_next(gist_store *store, uint64_t cursor, gist_interval_item *item);
 
 /*
+ * Gives a cursor's next items, until the buffer is full, nothing is left or the next is refused, and tells how many
+ * they are. Where they are fewer than there is room for, the next call tells whether nothing is left: it gives none
+ * then.
+ *
+ * As gist_interval_next, where the first item is refused. A room of 0 asks for nothing, and is refused for nothing.
+ */
+uint32_t gist_interval_take(gist_store *store, uint64_t cursor, gist_interval_item *items, size_t room,
+                            uint64_t *given);
+
+/*
  * Puts the rows that a query asks for into a buffer, by rising number, as many as fit, and tells how many there are.
- * What is behind them in the buffer stays. A length of 0 counts them.
+ * What is behind them in the buffer stays. A room of 0 counts them.
  *
  * GIST_QUERY_TEXT, as gist_open; GIST_OUT_OF_MEMORY. The buffer stays as it is then.
  */
@@ -240,6 +268,15 @@ typedef struct gist_box_row {
     int32_t y2;
 } gist_box_row;
 
+/* A row to be added to a store of boxes. */
+typedef struct gist_box_entry {
+    int32_t x1;
+    int32_t y1;
+    int32_t x2;
+    int32_t y2;
+    uint64_t tag;
+} gist_box_entry;
+
 /* An item, or a commit, of a store of boxes. Where it has no key, all of the key is 0. */
 typedef struct gist_box_item {
     uint32_t kind;
@@ -255,17 +292,28 @@ typedef struct gist_box_item {
 /*
  * Adds a row, and gives its number, which is the commit's.
  *
- * GIST_BAD_CONFIG where the ends are out of order; GIST_COMMITS_FULL exactly where the list of commits is full; GIST_PAGES_FULL,
- * GIST_OUT_OF_MEMORY.
+ * GIST_BAD_CONFIG where the ends are out of order; GIST_COMMITS_FULL exactly where else the list of commits is full;
+ * GIST_PAGES_FULL where fewer than two pages are left; GIST_OUT_OF_MEMORY.
  */
-uint32_t gist_box_insert(gist_store *store, int32_t x1, int32_t y1, int32_t x2, int32_t y2, uint64_t tag, uint64_t *row);
+uint32_t gist_box_insert(gist_store *store, int32_t x1, int32_t y1, int32_t x2, int32_t y2, uint64_t tag,
+                         uint64_t *row);
+
+/*
+ * Adds rows one after the other, until one is refused, and tells how many were added. Their numbers are the next ones,
+ * and the last is gist_commits(store). Where fewer were added than there are, a call with the others tells why.
+ *
+ * As gist_box_insert, where the first row is refused.
+ */
+uint32_t gist_box_insert_all(gist_store *store, const gist_box_entry *entries, size_t length, uint64_t *added);
 
 /*
  * Moves a row to a key by one commit, and gives the number of the row that it makes.
  *
- * GIST_BAD_CONFIG where the ends are out of order, else as gist_delete; GIST_PAGES_FULL where fewer than two pages are left.
+ * GIST_BAD_CONFIG where the ends are out of order, else as gist_delete; GIST_PAGES_FULL where fewer than two pages are
+ * left.
  */
-uint32_t gist_box_move(gist_store *store, uint64_t row, int32_t x1, int32_t y1, int32_t x2, int32_t y2, uint64_t *moved);
+uint32_t gist_box_move(gist_store *store, uint64_t row, int32_t x1, int32_t y1, int32_t x2, int32_t y2,
+                       uint64_t *moved);
 
 /*
  * Gives a cursor's next item, or GIST_NOTHING where nothing is left and no mark is asked for.
@@ -275,8 +323,17 @@ uint32_t gist_box_move(gist_store *store, uint64_t row, int32_t x1, int32_t y1, 
 uint32_t gist_box_next(gist_store *store, uint64_t cursor, gist_box_item *item);
 
 /*
+ * Gives a cursor's next items, until the buffer is full, nothing is left or the next is refused, and tells how many
+ * they are. Where they are fewer than there is room for, the next call tells whether nothing is left: it gives none
+ * then.
+ *
+ * As gist_box_next, where the first item is refused. A room of 0 asks for nothing, and is refused for nothing.
+ */
+uint32_t gist_box_take(gist_store *store, uint64_t cursor, gist_box_item *items, size_t room, uint64_t *given);
+
+/*
  * Puts the rows that a query asks for into a buffer, by rising number, as many as fit, and tells how many there are.
- * What is behind them in the buffer stays. A length of 0 counts them.
+ * What is behind them in the buffer stays. A room of 0 counts them.
  *
  * GIST_QUERY_TEXT, as gist_open; GIST_OUT_OF_MEMORY. The buffer stays as it is then.
  */
@@ -291,13 +348,23 @@ uint32_t gist_box_commit(gist_store *store, uint64_t number, gist_box_item *comm
 
 /* --- sets --- */
 
-/* A row of a store of sets: the bit e of low is set where the number e is in the set, and the bit e of high where 64 + e is. */
+/*
+ * A row of a store of sets: the bit e of low is set where the number e is in the set, and the bit e of high where
+ * 64 + e is.
+ */
 typedef struct gist_set_row {
     uint64_t row;
     uint64_t tag;
     uint64_t low;
     uint64_t high;
 } gist_set_row;
+
+/* A row to be added to a store of sets. */
+typedef struct gist_set_entry {
+    uint64_t low;
+    uint64_t high;
+    uint64_t tag;
+} gist_set_entry;
 
 /* An item, or a commit, of a store of sets. Where it has no key, all of the key is 0. */
 typedef struct gist_set_item {
@@ -312,10 +379,18 @@ typedef struct gist_set_item {
 /*
  * Adds a row, and gives its number, which is the commit's.
  *
- * GIST_COMMITS_FULL exactly where the list of commits is full; GIST_PAGES_FULL,
+ * GIST_COMMITS_FULL exactly where the list of commits is full; GIST_PAGES_FULL where fewer than two pages are left;
  * GIST_OUT_OF_MEMORY.
  */
 uint32_t gist_set_insert(gist_store *store, uint64_t low, uint64_t high, uint64_t tag, uint64_t *row);
+
+/*
+ * Adds rows one after the other, until one is refused, and tells how many were added. Their numbers are the next ones,
+ * and the last is gist_commits(store). Where fewer were added than there are, a call with the others tells why.
+ *
+ * As gist_set_insert, where the first row is refused.
+ */
+uint32_t gist_set_insert_all(gist_store *store, const gist_set_entry *entries, size_t length, uint64_t *added);
 
 /*
  * Moves a row to a key by one commit, and gives the number of the row that it makes.
@@ -332,8 +407,17 @@ uint32_t gist_set_move(gist_store *store, uint64_t row, uint64_t low, uint64_t h
 uint32_t gist_set_next(gist_store *store, uint64_t cursor, gist_set_item *item);
 
 /*
+ * Gives a cursor's next items, until the buffer is full, nothing is left or the next is refused, and tells how many
+ * they are. Where they are fewer than there is room for, the next call tells whether nothing is left: it gives none
+ * then.
+ *
+ * As gist_set_next, where the first item is refused. A room of 0 asks for nothing, and is refused for nothing.
+ */
+uint32_t gist_set_take(gist_store *store, uint64_t cursor, gist_set_item *items, size_t room, uint64_t *given);
+
+/*
  * Puts the rows that a query asks for into a buffer, by rising number, as many as fit, and tells how many there are.
- * What is behind them in the buffer stays. A length of 0 counts them.
+ * What is behind them in the buffer stays. A room of 0 counts them.
  *
  * GIST_QUERY_TEXT, as gist_open; GIST_OUT_OF_MEMORY. The buffer stays as it is then.
  */

@@ -1,7 +1,8 @@
 /*
- * Calls every function of include/gist.h, with every refusal that can be had in a short time, and compares what is answered
- * with what docs/MODEL.md says. `every_call` does all of it. `every_call refused` makes some calls of each kind again where
- * one is refused for want of memory, and compares where that leads; tools/refusing_malloc.c refuses a request.
+ * Calls every function of include/gist.h, with every refusal that can be had in a short time, and compares what is
+ * answered with what docs/MODEL.md says. `every_call` does all of it. `every_call refused` makes some calls of each kind
+ * again where one is refused for want of memory, and compares where that leads; tools/refusing_malloc.c refuses a
+ * request.
  *
  * The last line is `N passed, M failed`; the status is 0 only where M is 0.
  */
@@ -81,6 +82,9 @@ static void no_store(void)
     gist_interval_row interval_row = {.row = UNTOUCHED};
     gist_box_row box_row = {.row = UNTOUCHED};
     gist_set_row set_row = {.row = UNTOUCHED};
+    gist_interval_entry interval_entry = {1, 2, 3};
+    gist_box_entry box_entry = {1, 2, 3, 4, 5};
+    gist_set_entry set_entry = {1, 2, 3};
 
     CHECK(!gist_is_open(&none));
     CHECK(gist_commits(&none) == 0);
@@ -105,6 +109,12 @@ static void no_store(void)
     CHECK(gist_set_next(&none, 1, &set) == GIST_BAD_CONFIG);
     CHECK(gist_set_commit(&none, 1, &set) == GIST_BAD_CONFIG);
     CHECK(gist_set_find(&none, "x", 1, &set_row, 1, &number, &fault) == GIST_BAD_CONFIG);
+    CHECK(gist_interval_insert_all(&none, &interval_entry, 1, &number) == GIST_BAD_CONFIG);
+    CHECK(gist_interval_take(&none, 1, &interval, 1, &number) == GIST_BAD_CONFIG);
+    CHECK(gist_box_insert_all(&none, &box_entry, 1, &number) == GIST_BAD_CONFIG);
+    CHECK(gist_box_take(&none, 1, &box, 1, &number) == GIST_BAD_CONFIG);
+    CHECK(gist_set_insert_all(&none, &set_entry, 1, &number) == GIST_BAD_CONFIG);
+    CHECK(gist_set_take(&none, 1, &set, 1, &number) == GIST_BAD_CONFIG);
     CHECK(number == UNTOUCHED && fault == UNTOUCHED);
     CHECK(interval.number == UNTOUCHED && box.number == UNTOUCHED && set.number == UNTOUCHED);
     CHECK(interval_row.row == UNTOUCHED && box_row.row == UNTOUCHED && set_row.row == UNTOUCHED);
@@ -147,6 +157,9 @@ static void other_class(void)
     gist_interval_row interval_row = {.row = UNTOUCHED};
     gist_box_row box_row = {.row = UNTOUCHED};
     gist_set_row set_row = {.row = UNTOUCHED};
+    gist_interval_entry interval_entry = {1, 2, 3};
+    gist_box_entry box_entry = {1, 2, 3, 4, 5};
+    gist_set_entry set_entry = {1, 2, 3};
 
     CHECK(gist_new(&intervals, GIST_INTERVALS, &SMALL) == GIST_OK);
     CHECK(gist_new(&boxes, GIST_BOXES, &SMALL) == GIST_OK);
@@ -166,6 +179,12 @@ static void other_class(void)
     CHECK(gist_set_next(&intervals, 1, &set) == GIST_BAD_CONFIG);
     CHECK(gist_set_commit(&boxes, 1, &set) == GIST_BAD_CONFIG);
     CHECK(gist_set_find(&intervals, "x", 1, &set_row, 1, &number, &fault) == GIST_BAD_CONFIG);
+    CHECK(gist_interval_insert_all(&boxes, &interval_entry, 1, &number) == GIST_BAD_CONFIG);
+    CHECK(gist_interval_take(&sets, 1, &interval, 1, &number) == GIST_BAD_CONFIG);
+    CHECK(gist_box_insert_all(&sets, &box_entry, 1, &number) == GIST_BAD_CONFIG);
+    CHECK(gist_box_take(&intervals, 1, &box, 1, &number) == GIST_BAD_CONFIG);
+    CHECK(gist_set_insert_all(&intervals, &set_entry, 1, &number) == GIST_BAD_CONFIG);
+    CHECK(gist_set_take(&boxes, 1, &set, 1, &number) == GIST_BAD_CONFIG);
     CHECK(number == UNTOUCHED && fault == UNTOUCHED);
     CHECK(interval.number == UNTOUCHED && box.number == UNTOUCHED && set.number == UNTOUCHED);
     CHECK(interval_row.row == UNTOUCHED && box_row.row == UNTOUCHED && set_row.row == UNTOUCHED);
@@ -291,6 +310,63 @@ static void refusals(void)
     CHECK(gist_mark(&store, 7) == GIST_CURSOR_CLOSED);
     CHECK(gist_interval_next(&store, 7, &item) == GIST_CURSOR_CLOSED && item.number == UNTOUCHED);
     CHECK(opened(&store, "same (1 2)") == 257);
+    gist_drop(&store);
+}
+
+/* Many rows a call, and many items: the first that is refused ends a call, and another tells why. */
+static void batches(void)
+{
+    static const gist_interval_entry entries[] = {{1, 2, 70}, {3, 3, 71}, {5, 4, 72}, {6, 7, 73}};
+    static const gist_box_entry box_entries[] = {{1, 2, 3, 4, 70}, {0, 0, 0, 0, 71}};
+    static const gist_set_entry set_entries[] = {{1, 2, 70}, {0, 0, 71}};
+    gist_limits few = {.fan = 4, .least = 2, .pages = 1000, .commits = 4};
+    gist_store store = GIST_NO_STORE;
+    gist_interval_item items[4] = {0};
+    gist_box_item boxes[3];
+    gist_set_item sets[3];
+    uint64_t number = UNTOUCHED, cursor;
+
+    CHECK(gist_new(&store, GIST_INTERVALS, &few) == GIST_OK);
+    CHECK(gist_interval_insert_all(&store, entries, 0, &number) == GIST_OK && number == 0);
+    CHECK(gist_interval_insert_all(&store, entries, 4, &number) == GIST_OK && number == 2);
+    number = UNTOUCHED;
+    CHECK(gist_interval_insert_all(&store, entries + 2, 2, &number) == GIST_BAD_CONFIG && number == UNTOUCHED);
+    CHECK(gist_interval_insert_all(&store, entries, 2, &number) == GIST_OK && number == 2);
+    CHECK(gist_interval_insert_all(&store, entries, 1, &number) == GIST_COMMITS_FULL && number == 2);
+    CHECK(gist_commits(&store) == 4);
+
+    items[3].number = UNTOUCHED;
+    CHECK(gist_open_from(&store, "overlaps (0 9)", 14, 0, &cursor, &number) == GIST_OK);
+    CHECK(gist_interval_take(&store, cursor, items, 3, &number) == GIST_OK && number == 3);
+    CHECK(interval_is(&items[0], GIST_INSERTED, 1, 0, 1, 2, 70));
+    CHECK(interval_is(&items[1], GIST_INSERTED, 2, 0, 3, 3, 71));
+    CHECK(interval_is(&items[2], GIST_INSERTED, 3, 0, 1, 2, 70));
+    CHECK(items[3].number == UNTOUCHED);
+    CHECK(gist_mark(&store, cursor) == GIST_OK);
+    CHECK(gist_interval_take(&store, cursor, items, 4, &number) == GIST_OK && number == 2);
+    CHECK(interval_is(&items[0], GIST_INSERTED, 4, 0, 3, 3, 71) && interval_is(&items[1], GIST_MARK, 4, 0, 0, 0, 0));
+    CHECK(items[2].number == 3 && items[3].number == UNTOUCHED);
+    CHECK(gist_interval_take(&store, cursor, items, 4, &number) == GIST_OK && number == 0);
+    CHECK(gist_interval_take(&store, 9, items, 0, &number) == GIST_OK && number == 0);
+    number = UNTOUCHED;
+    CHECK(gist_interval_take(&store, 9, items, 4, &number) == GIST_NO_SUCH_CURSOR && number == UNTOUCHED);
+    CHECK(items[0].number == 4);
+    gist_drop(&store);
+
+    CHECK(gist_new(&store, GIST_BOXES, &SMALL) == GIST_OK);
+    CHECK(gist_box_insert_all(&store, box_entries, 2, &number) == GIST_OK && number == 2);
+    cursor = opened(&store, "overlaps (0 0 9 9)");
+    CHECK(gist_box_take(&store, cursor, boxes, 3, &number) == GIST_OK && number == 2);
+    CHECK(boxes[0].kind == GIST_ROW && boxes[1].kind == GIST_ROW && boxes[0].number + boxes[1].number == 3);
+    CHECK(boxes[0].tag + boxes[1].tag == 141 && boxes[0].y2 + boxes[1].y2 == 4);
+    gist_drop(&store);
+
+    CHECK(gist_new(&store, GIST_SETS, &SMALL) == GIST_OK);
+    CHECK(gist_set_insert_all(&store, set_entries, 2, &number) == GIST_OK && number == 2);
+    cursor = opened(&store, "holds {0}");
+    CHECK(gist_set_take(&store, cursor, sets, 3, &number) == GIST_OK && number == 1);
+    CHECK(sets[0].kind == GIST_ROW && sets[0].number == 1 && sets[0].low == 1 && sets[0].high == 2);
+    CHECK(sets[0].tag == 70);
     gist_drop(&store);
 }
 
@@ -446,6 +522,7 @@ int main(int argc, char **argv)
         other_class();
         intervals();
         refusals();
+        batches();
         pages();
         boxes();
         sets();

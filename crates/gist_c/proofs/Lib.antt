@@ -1,2 +1,4 @@
+mod Ends
+mod Inserting
 mod StoreBoxes
 mod Writing

@@ -1,7 +1,7 @@
 -- What the calls of a store answer and leave, clause by clause.
-use Rattle.std.specs.Prelude.{◌≡◌, ◌≢◌, ◌↔◌, ℕ, ◌+◌, ◌≤◌, ◌<◌, ◌⊎◌, Bool, true, false, List, length, map, Option, Result, Ok, Err, IfOk, IfErr, OnOk, OnErr, IsPermutation}
+use Rattle.std.specs.Prelude.{◌≡◌, ◌≢◌, ◌↔◌, ℕ, ◌+◌, ◌≤◌, ◌<◌, ◌⊎◌, Bool, true, false, List, [], ◌∷◌, length, map, take, slice_get, Option, Some, None, Result, Ok, Err, IfOk, IfErr, OnOk, OnErr, IsPermutation}
 use Rattle.key_class.specs.declared.refusal.Refusal.{Refusal}
-use Rattle.key_class.specs.declared.refusal.Refusal.TheVariants.{OutOfMemory, CommitsFull, NoSuchRow, AlreadyDeleted, FindersFull, CursorsFull, FromFuture}
+use Rattle.key_class.specs.declared.refusal.Refusal.TheVariants.{BadConfig, OutOfMemory, CommitsFull, NoSuchRow, AlreadyDeleted, FindersFull, CursorsFull, FromFuture}
 use Rattle.key_class.specs.Rules.{Rules, satisfies}
 use Rattle.key_class.specs.Queries.{Query}
 use Rattle.query_text.specs.ClassTexts.{Texts}
@@ -13,11 +13,16 @@ use Rattle.change_list.specs.Changes.{IsLegal, NamesNoRow, NamesDead, commit_at,
 use Rattle.gist_c.specs.declared.shown.Shown.{Shown}
 use Rattle.gist_c.specs.Buffers.{written_over}
 use Rattle.gist_c.specs.Shown.{shown_item, shown_commit}
-use Rattle.store.specs.States.{StoreState, Commits, Keeps, IsOpened, IsFullOf, HasFewPages, HasNoCommitLeft, HasNoCommitFor, HasNoFinderFor, RefusesRow, RefusesNext, AddsDead, IsListed, MayRefuseDelete, MayRefuseMove, LacksCursor, Closes, SweepsStore, SweepsStorePart, Nexts, ChangesCursor, with_asking}
+use Rattle.store.specs.States.{StoreState, Commits, Keeps, IsOpened, IsFullOf, HasFewPages, HasNoCommitLeft, HasNoCommitFor, HasNoFinderFor, RefusesRow, RefusesNext, Gave, AddsDead, IsListed, MayRefuseDelete, MayRefuseMove, LacksCursor, Closes, SweepsStore, SweepsStorePart, Nexts, ChangesCursor, with_asking}
 
 -- why no cursor is opened on a text's query
 abbrev pub RefusesOpening : Refusal → Type 0
 RefusesOpening why = (why ≡ CursorsFull) ⊎ IsParseRefusal why
+
+-- a call with a key; where there is none, since its ends are out of order, it is refused, and nothing changes
+abbrev pub WithKey : {K S V : Type 0} → (K → S → Result V Refusal → S → Type 0) → Option K → S → Result V Refusal → S → Type 0
+WithKey call (Some key) old answer new = call key old answer new
+WithKey call None old answer new = (answer ≡ Err BadConfig) × (new ≡ old)
 
 module _ {K A : Type 0} (rules : Rules K A) where
   -- a row is added
@@ -31,6 +36,34 @@ module _ {K A : Type 0} (rules : Rules K A) where
     pub refusals : IfErr answer (RefusesRow new)
     pub legal : IsLegal new.commits
     pub few_pages : HasFewPages new
+
+  module _ {E : Type 0} (key_of : E → Option K) (tag_of : E → ℕ) where
+    -- a row is to be added, which is refused where its ends are out of order
+    abbrev pub InsertsOne : E → StoreState K A → Result ℕ Refusal → StoreState K A → Type 0
+    InsertsOne entry = WithKey (λ key. IsInsert key (tag_of entry)) (key_of entry)
+
+    -- rows are added, one after the other
+    abbrev pub InsertsAll : List E → StoreState K A → StoreState K A → Type 0
+    InsertsAll [] old new = new ≡ old
+    InsertsAll (entry ∷ entries) old new = (mid : StoreState K A) × ((n : ℕ) × InsertsOne entry old (Ok n) mid) × InsertsAll entries mid new
+
+    -- the entry at a place is refused, for some reason
+    pub record RefusesAt (entries : List E) (place : ℕ) (old : StoreState K A) (new : StoreState K A) : Type 0 where
+      pub entry : E
+      pub there : slice_get entries place ≡ Some entry
+      pub why : Refusal
+      pub refused : InsertsOne entry old (Err why) new
+
+    -- the first of some rows are added, and then there is no other, or the next is refused
+    pub record InsertsFirst (entries : List E) (old : StoreState K A) (number : ℕ) (new : StoreState K A) : Type 0 where
+      pub last_added : StoreState K A
+      pub added : InsertsAll (take number entries) old last_added
+      pub ended : ((number ≡ length entries) × (new ≡ last_added)) ⊎ RefusesAt entries number last_added new
+
+    -- rows are to be added, and are refused where the first is
+    pub record IsInserting (entries : List E) (old : StoreState K A) (answer : Result ℕ Refusal) (new : StoreState K A) : Type 0 where
+      pub ok : IfOk answer (λ n. InsertsFirst entries old n new)
+      pub err : IfErr answer (λ why. (entry : E) × (slice_get entries 0 ≡ Some entry) × InsertsOne entry old (Err why) new)
 
   -- a row is deleted
   pub record IsDelete (row : ℕ) (old : StoreState K A) (answer : Result ℕ Refusal) (new : StoreState K A) : Type 0 where
@@ -70,6 +103,22 @@ module _ {K A : Type 0} (rules : Rules K A) where
   pub record ShowsNext {I : Type 0} (item_of : Shown K → I) (cursor : ℕ) (old : StoreState K A) (answer : Result I Refusal) (new : StoreState K A) : Type 0 where
     pub ok : IfOk answer (λ shown. (given : Option (Item K)) × (shown ≡ item_of (shown_item given)) × Nexts rules.is_match old cursor given new)
     pub err : IfErr answer (λ why. RefusesNext rules.is_match old cursor why new)
+
+  -- a cursor gave items, which are counted and stand over the first places of a buffer, until it was full, nothing was left
+  -- or the next was refused
+  pub record Gives {I : Type 0} (item_of : Shown K → I) (cursor : ℕ) (before after : List I) (old : StoreState K A) (number : ℕ) (new : StoreState K A) : Type 0 where
+    pub given : List (Item K)
+    pub last_given : StoreState K A
+    pub gave : Gave rules.is_match old cursor given last_given
+    pub counted : number ≡ length given
+    pub written : after ≡ written_over (map (λ item. item_of (shown_item (Some item))) given) before
+    pub ended : ((number ≡ length before) × (new ≡ last_given)) ⊎ Nexts rules.is_match last_given cursor None new ⊎ ((why : Refusal) × RefusesNext rules.is_match last_given cursor why new)
+
+  -- a cursor is asked for its next items, and is refused where the first is
+  pub record IsTaking {I : Type 0} (item_of : Shown K → I) (cursor : ℕ) (before after : List I) (old : StoreState K A) (answer : Result ℕ Refusal) (new : StoreState K A) : Type 0 where
+    pub ok : IfOk answer (λ n. Gives item_of cursor before after old n new)
+    pub err : IfErr answer (λ why. RefusesNext rules.is_match old cursor why new)
+    pub unfilled : OnErr answer (after ≡ before)
 
   -- dead rows are removed, and counted
   pub record IsSweep (old : StoreState K A) (answer : Result ℕ Refusal) (new : StoreState K A) : Type 0 where

@@ -1,5 +1,5 @@
 -- Calls of a store whose class is known when it is made, and of a handle.
-use Rattle.std.specs.Prelude.{◌≡◌, ◌⊎◌, ℕ, Option, None, IfSome, IsSomeAnd, Result, Ok, Err, length}
+use Rattle.std.specs.Prelude.{◌≡◌, ◌⊎◌, ℕ, Option, None, IfSome, IsSomeAnd, Result, Err, length}
 use Rattle.key_class.specs.declared.refusal.Refusal.{Refusal}
 use Rattle.key_class.specs.declared.refusal.Refusal.TheVariants.{BadConfig}
 use Rattle.key_class.specs.Rules.{Rules}
@@ -79,11 +79,6 @@ module _ {V : Type 0} where
   abbrev pub OfSets : SetCall V → AnyStore → Result V Refusal → AnyStore → Type 0
   OfSets call (Sets old) answer (Sets new) = call old answer new
   OfSets call old answer new = (answer ≡ Err BadConfig) × (new ≡ old)
-
-  -- a call with a key, or with none for this refusal, which is the answer then, and nothing changes
-  abbrev pub WithKey : {K S : Type 0} → (K → S → Result V Refusal → S → Type 0) → Result K Refusal → S → Result V Refusal → S → Type 0
-  WithKey call (Ok key) old answer new = call key old answer new
-  WithKey call (Err why) old answer new = (answer ≡ Err why) × (new ≡ old)
 
   -- a call of a handle's store; a handle of none is refused, and has none then
   pub record OnHandle (call : AnyStore → Result V Refusal → AnyStore → Type 0) (old new : Option AnyStore) (answer : Result V Refusal) : Type 0 where

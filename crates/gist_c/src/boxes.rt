@@ -1,26 +1,20 @@
 //! What can be asked of a store of boxes.
 ghost use Rattle.std.specs.Prelude.{◌≡◌, ◌≢◌, OnErr};
 ghost use Rattle.box_class.specs.Boxes.{box_rules};
+ghost use Rattle.query_text.specs.BoxTexts.{box_of};
 ghost use Rattle.gist_c.specs.Answers.{Tells, TellsFault};
-ghost use Rattle.gist_c.specs.Calls.{IsInsert, IsMove, ShowsNext, ShowsCommit};
-ghost use Rattle.gist_c.specs.Classes.{OnHandle, OfBoxes, WithKey};
-ghost use Rattle.gist_c.specs.BoxRows.{AtBox, IsBox, FindsBoxes, box_item};
+ghost use Rattle.gist_c.specs.Calls.{IsInsert, IsMove, ShowsNext, ShowsCommit, WithKey};
+ghost use Rattle.gist_c.specs.Classes.{OnHandle, OfBoxes};
+ghost use Rattle.gist_c.specs.BoxRows.{FindsBoxes, InsertsBoxes, TakesBoxes, box_item};
 
 use crate::answers::{no_store, tell, tell_fault};
 use crate::any_store::AnyStore;
-use crate::box_rows::{BoxItem, BoxRow};
+use crate::box_rows::{BoxEntry, BoxItem, BoxRow, box_key};
 use crate::calls;
 use crate::handle::Handle;
 use box_class::BoxKey;
 use key_class::Refusal;
 use std::alloc::Global;
-
-/// The box with these ends.
-fn box_key(x1: i32, y1: i32, x2: i32, y2: i32) -> Result<BoxKey, Refusal>
-    ensures { IsBox x1 y1 x2 y2 result }
-{
-    BoxKey::new(x1, y1, x2, y2)
-}
 
 /// Adds a row with a box and a tag, and gives its number.
 #[unsafe(no_mangle)]
@@ -34,9 +28,9 @@ pub extern "C" fn gist_box_insert(
     tag: u64,
     row: &mut u64,
 ) -> u32
-    ensures { AtBox x1 y1 x2 y2 (λ key. Tells result row.old row.new (OnHandle
-        (OfBoxes (WithKey (λ k. IsInsert box_rules k tag) key))
-        store.old.inside.state store.new.inside.state)) }
+    ensures { Tells result row.old row.new (OnHandle
+        (OfBoxes (WithKey (λ key. IsInsert box_rules key tag) (box_of x1 y1 x2 y2)))
+        store.old.inside.state store.new.inside.state) }
 {
     let key = box_key(x1, y1, x2, y2);
     match store.take(alloc) {
@@ -50,12 +44,47 @@ pub extern "C" fn gist_box_insert(
 }
 
 /// Adds a row to a store of boxes.
-fn insert(held: &mut AnyStore, key: Result<BoxKey, Refusal>, tag: u64) -> Result<u64, Refusal>
+fn insert(held: &mut AnyStore, key: Option<BoxKey>, tag: u64) -> Result<u64, Refusal>
     ensures { OfBoxes (WithKey (λ k. IsInsert box_rules k tag) key)
         held.old result held.new }
 {
     match held {
-        AnyStore::Boxes(store) => calls::insert(store, key?, tag),
+        AnyStore::Boxes(store) => match key {
+            Some(key) => calls::insert(store, key, tag),
+            None => Err(Refusal::BadConfig),
+        },
+        _ => Err(Refusal::BadConfig),
+    }
+}
+
+/// Adds rows one after the other, until one is refused, and tells how many were added.
+#[unsafe(no_mangle)]
+pub extern "C" fn gist_box_insert_all(
+    alloc: Global,
+    store: &mut Handle,
+    entries: &[BoxEntry],
+    added: &mut u64,
+) -> u32
+    ensures { Tells result added.old added.new (OnHandle
+        (OfBoxes (InsertsBoxes entries.now))
+        store.old.inside.state store.new.inside.state) }
+{
+    match store.take(alloc) {
+        None => tell(no_store(), added),
+        Some(mut held) => {
+            let inserted = insert_all(&mut held, entries);
+            store.put(held);
+            tell(inserted, added)
+        }
+    }
+}
+
+/// Adds rows to a store of boxes.
+fn insert_all(held: &mut AnyStore, entries: &[BoxEntry]) -> Result<u64, Refusal>
+    ensures { OfBoxes (InsertsBoxes entries.now) held.old result held.new }
+{
+    match held {
+        AnyStore::Boxes(store) => calls::insert_all(store, entries),
         _ => Err(Refusal::BadConfig),
     }
 }
@@ -72,9 +101,9 @@ pub extern "C" fn gist_box_move(
     y2: i32,
     moved: &mut u64,
 ) -> u32
-    ensures { AtBox x1 y1 x2 y2 (λ key. Tells result moved.old moved.new (OnHandle
-        (OfBoxes (WithKey (IsMove box_rules row) key))
-        store.old.inside.state store.new.inside.state)) }
+    ensures { Tells result moved.old moved.new (OnHandle
+        (OfBoxes (WithKey (IsMove box_rules row) (box_of x1 y1 x2 y2)))
+        store.old.inside.state store.new.inside.state) }
 {
     let key = box_key(x1, y1, x2, y2);
     match store.take(alloc) {
@@ -88,11 +117,14 @@ pub extern "C" fn gist_box_move(
 }
 
 /// Moves a row of a store of boxes.
-fn move_row(held: &mut AnyStore, row: u64, key: Result<BoxKey, Refusal>) -> Result<u64, Refusal>
+fn move_row(held: &mut AnyStore, row: u64, key: Option<BoxKey>) -> Result<u64, Refusal>
     ensures { OfBoxes (WithKey (IsMove box_rules row) key) held.old result held.new }
 {
     match held {
-        AnyStore::Boxes(store) => calls::move_row(store, row, key?),
+        AnyStore::Boxes(store) => match key {
+            Some(key) => calls::move_row(store, row, key),
+            None => Err(Refusal::BadConfig),
+        },
         _ => Err(Refusal::BadConfig),
     }
 }
@@ -126,6 +158,42 @@ fn next(held: &mut AnyStore, cursor: u64) -> Result<BoxItem, Refusal>
 {
     match held {
         AnyStore::Boxes(store) => calls::next(store, cursor),
+        _ => Err(Refusal::BadConfig),
+    }
+}
+
+/// Gives a cursor's next items, until the buffer is full, nothing is left or the next is refused, and tells how many they
+/// are.
+#[unsafe(no_mangle)]
+pub extern "C" fn gist_box_take(
+    alloc: Global,
+    store: &mut Handle,
+    cursor: u64,
+    items: &mut [BoxItem],
+    given: &mut u64,
+) -> u32
+    ensures given { Tells result given.old given.new (OnHandle
+        (OfBoxes (TakesBoxes cursor items.old items.new))
+        store.old.inside.state store.new.inside.state) }
+    ensures unfilled { result ≢ 0 → items.new ≡ items.old }
+{
+    match store.take(alloc) {
+        None => tell(no_store(), given),
+        Some(mut held) => {
+            let taken = take(&mut held, cursor, items);
+            store.put(held);
+            tell(taken, given)
+        }
+    }
+}
+
+/// Gives the next items of a cursor of a store of boxes.
+fn take(held: &mut AnyStore, cursor: u64, items: &mut [BoxItem]) -> Result<u64, Refusal>
+    ensures given { OfBoxes (TakesBoxes cursor items.old items.new) held.old result held.new }
+    ensures unfilled { OnErr result (items.new ≡ items.old) }
+{
+    match held {
+        AnyStore::Boxes(store) => calls::take(store, cursor, items),
         _ => Err(Refusal::BadConfig),
     }
 }

@@ -1,6 +1,6 @@
 //! The calls of a store of any class, with what they promise in one word each.
 ghost use Rattle.std.specs.Prelude.{◌≡◌};
-ghost use Rattle.gist_c.specs.Calls.{IsInsert, IsDelete, IsMove, ShowsNext, IsSearch, IsSweep, IsOpening, IsFollowing, IsAsking, IsClosing};
+ghost use Rattle.gist_c.specs.Calls.{IsInsert, IsInserting, InsertsOne, IsDelete, IsMove, ShowsNext, IsTaking, IsSearch, IsSweep, IsOpening, IsFollowing, IsAsking, IsClosing};
 ghost use Rattle.change_list.specs.Changes.{commit_at};
 ghost use Rattle.gist_c.specs.Shown.{shown_commit};
 
@@ -20,6 +20,30 @@ pub fn insert<C: KeyClass>(store: &mut Store<C>, key: C::Key, tag: u64) -> Resul
     ensures { IsInsert C.rules key tag store.old result store.new }
 {
     store.insert(key, tag)
+}
+
+/// Adds a row that C hands in, if its ends are in order.
+fn insert_entry<C: Crossing>(store: &mut Store<C>, entry: &C::CEntry) -> Result<u64, Refusal>
+    ensures { InsertsOne C.rules C.key_of C.tag_of entry.now store.old result store.new }
+{
+    match C::key(entry) {
+        Some(key) => insert(store, key, C::tag(entry)),
+        None => Err(Refusal::BadConfig),
+    }
+}
+
+/// Adds rows one after the other, until one is refused, and tells how many were added.
+pub fn insert_all<C: Crossing>(store: &mut Store<C>, entries: &[C::CEntry]) -> Result<u64, Refusal>
+    ensures { IsInserting C.rules C.key_of C.tag_of entries.now store.old result store.new }
+{
+    for place in 0..entries.len() {
+        match insert_entry::<C>(store, &entries[place]) {
+            Ok(_) => {}
+            Err(why) if place == 0 => return Err(why),
+            Err(_) => return Ok(place as u64),
+        }
+    }
+    Ok(entries.len() as u64)
 }
 
 /// Deletes a row.
@@ -63,6 +87,26 @@ pub fn next<C: Crossing>(store: &mut Store<C>, cursor: u64) -> Result<C::CItem, 
 {
     let item = store.next(cursor)?;
     Ok(C::item(shown::item(item)))
+}
+
+/// Gives a cursor's next items, until a buffer is full, nothing is left or the next is refused, and tells how many they
+/// are.
+pub fn take<C: Crossing>(
+    store: &mut Store<C>,
+    cursor: u64,
+    items: &mut [C::CItem],
+) -> Result<u64, Refusal>
+    ensures { IsTaking C.rules C.item_of cursor items.old items.new store.old result store.new }
+{
+    for place in 0..items.len() {
+        match store.next(cursor) {
+            Ok(Some(item)) => items[place] = C::item(shown::item(Some(item))),
+            Ok(None) => return Ok(place as u64),
+            Err(why) if place == 0 => return Err(why),
+            Err(_) => return Ok(place as u64),
+        }
+    }
+    Ok(items.len() as u64)
 }
 
 /// The commit with a number, as C is given it.

@@ -1,26 +1,20 @@
 //! What can be asked of a store of intervals.
 ghost use Rattle.std.specs.Prelude.{◌≡◌, ◌≢◌, OnErr};
 ghost use Rattle.interval_class.specs.Intervals.{interval_rules};
+ghost use Rattle.query_text.specs.IntervalTexts.{interval_of};
 ghost use Rattle.gist_c.specs.Answers.{Tells, TellsFault};
-ghost use Rattle.gist_c.specs.Calls.{IsInsert, IsMove, ShowsNext, ShowsCommit};
-ghost use Rattle.gist_c.specs.Classes.{OnHandle, OfIntervals, WithKey};
-ghost use Rattle.gist_c.specs.IntervalRows.{AtInterval, IsInterval, FindsIntervals, interval_item};
+ghost use Rattle.gist_c.specs.Calls.{IsInsert, IsMove, ShowsNext, ShowsCommit, WithKey};
+ghost use Rattle.gist_c.specs.Classes.{OnHandle, OfIntervals};
+ghost use Rattle.gist_c.specs.IntervalRows.{FindsIntervals, InsertsIntervals, TakesIntervals, interval_item};
 
 use crate::answers::{no_store, tell, tell_fault};
 use crate::any_store::AnyStore;
 use crate::calls;
 use crate::handle::Handle;
-use crate::interval_rows::{IntervalItem, IntervalRow};
+use crate::interval_rows::{IntervalEntry, IntervalItem, IntervalRow, interval};
 use interval_class::Interval;
 use key_class::Refusal;
 use std::alloc::Global;
-
-/// The interval with these ends.
-fn interval(lo: i64, hi: i64) -> Result<Interval, Refusal>
-    ensures { IsInterval lo hi result }
-{
-    Interval::new(lo, hi)
-}
 
 /// Adds a row with an interval and a tag, and gives its number.
 #[unsafe(no_mangle)]
@@ -32,9 +26,9 @@ pub extern "C" fn gist_interval_insert(
     tag: u64,
     row: &mut u64,
 ) -> u32
-    ensures { AtInterval lo hi (λ key. Tells result row.old row.new (OnHandle
-        (OfIntervals (WithKey (λ k. IsInsert interval_rules k tag) key))
-        store.old.inside.state store.new.inside.state)) }
+    ensures { Tells result row.old row.new (OnHandle
+        (OfIntervals (WithKey (λ key. IsInsert interval_rules key tag) (interval_of lo hi)))
+        store.old.inside.state store.new.inside.state) }
 {
     let key = interval(lo, hi);
     match store.take(alloc) {
@@ -48,12 +42,47 @@ pub extern "C" fn gist_interval_insert(
 }
 
 /// Adds a row to a store of intervals.
-fn insert(held: &mut AnyStore, key: Result<Interval, Refusal>, tag: u64) -> Result<u64, Refusal>
+fn insert(held: &mut AnyStore, key: Option<Interval>, tag: u64) -> Result<u64, Refusal>
     ensures { OfIntervals (WithKey (λ k. IsInsert interval_rules k tag) key)
         held.old result held.new }
 {
     match held {
-        AnyStore::Intervals(store) => calls::insert(store, key?, tag),
+        AnyStore::Intervals(store) => match key {
+            Some(key) => calls::insert(store, key, tag),
+            None => Err(Refusal::BadConfig),
+        },
+        _ => Err(Refusal::BadConfig),
+    }
+}
+
+/// Adds rows one after the other, until one is refused, and tells how many were added.
+#[unsafe(no_mangle)]
+pub extern "C" fn gist_interval_insert_all(
+    alloc: Global,
+    store: &mut Handle,
+    entries: &[IntervalEntry],
+    added: &mut u64,
+) -> u32
+    ensures { Tells result added.old added.new (OnHandle
+        (OfIntervals (InsertsIntervals entries.now))
+        store.old.inside.state store.new.inside.state) }
+{
+    match store.take(alloc) {
+        None => tell(no_store(), added),
+        Some(mut held) => {
+            let inserted = insert_all(&mut held, entries);
+            store.put(held);
+            tell(inserted, added)
+        }
+    }
+}
+
+/// Adds rows to a store of intervals.
+fn insert_all(held: &mut AnyStore, entries: &[IntervalEntry]) -> Result<u64, Refusal>
+    ensures { OfIntervals (InsertsIntervals entries.now) held.old result held.new }
+{
+    match held {
+        AnyStore::Intervals(store) => calls::insert_all(store, entries),
         _ => Err(Refusal::BadConfig),
     }
 }
@@ -68,9 +97,9 @@ pub extern "C" fn gist_interval_move(
     hi: i64,
     moved: &mut u64,
 ) -> u32
-    ensures { AtInterval lo hi (λ key. Tells result moved.old moved.new (OnHandle
-        (OfIntervals (WithKey (IsMove interval_rules row) key))
-        store.old.inside.state store.new.inside.state)) }
+    ensures { Tells result moved.old moved.new (OnHandle
+        (OfIntervals (WithKey (IsMove interval_rules row) (interval_of lo hi)))
+        store.old.inside.state store.new.inside.state) }
 {
     let key = interval(lo, hi);
     match store.take(alloc) {
@@ -84,11 +113,14 @@ pub extern "C" fn gist_interval_move(
 }
 
 /// Moves a row of a store of intervals.
-fn move_row(held: &mut AnyStore, row: u64, key: Result<Interval, Refusal>) -> Result<u64, Refusal>
+fn move_row(held: &mut AnyStore, row: u64, key: Option<Interval>) -> Result<u64, Refusal>
     ensures { OfIntervals (WithKey (IsMove interval_rules row) key) held.old result held.new }
 {
     match held {
-        AnyStore::Intervals(store) => calls::move_row(store, row, key?),
+        AnyStore::Intervals(store) => match key {
+            Some(key) => calls::move_row(store, row, key),
+            None => Err(Refusal::BadConfig),
+        },
         _ => Err(Refusal::BadConfig),
     }
 }
@@ -122,6 +154,42 @@ fn next(held: &mut AnyStore, cursor: u64) -> Result<IntervalItem, Refusal>
 {
     match held {
         AnyStore::Intervals(store) => calls::next(store, cursor),
+        _ => Err(Refusal::BadConfig),
+    }
+}
+
+/// Gives a cursor's next items, until the buffer is full, nothing is left or the next is refused, and tells how many they
+/// are.
+#[unsafe(no_mangle)]
+pub extern "C" fn gist_interval_take(
+    alloc: Global,
+    store: &mut Handle,
+    cursor: u64,
+    items: &mut [IntervalItem],
+    given: &mut u64,
+) -> u32
+    ensures given { Tells result given.old given.new (OnHandle
+        (OfIntervals (TakesIntervals cursor items.old items.new))
+        store.old.inside.state store.new.inside.state) }
+    ensures unfilled { result ≢ 0 → items.new ≡ items.old }
+{
+    match store.take(alloc) {
+        None => tell(no_store(), given),
+        Some(mut held) => {
+            let taken = take(&mut held, cursor, items);
+            store.put(held);
+            tell(taken, given)
+        }
+    }
+}
+
+/// Gives the next items of a cursor of a store of intervals.
+fn take(held: &mut AnyStore, cursor: u64, items: &mut [IntervalItem]) -> Result<u64, Refusal>
+    ensures given { OfIntervals (TakesIntervals cursor items.old items.new) held.old result held.new }
+    ensures unfilled { OnErr result (items.new ≡ items.old) }
+{
+    match held {
+        AnyStore::Intervals(store) => calls::take(store, cursor, items),
         _ => Err(Refusal::BadConfig),
     }
 }

@@ -1,6 +1,6 @@
 //! Rows and items of sets, as C is given them.
 ghost use Rattle.std.specs.Prelude.{◌≡◌};
-ghost use Rattle.gist_c.specs.SetRows.{set_row, set_item, low_of, high_of};
+ghost use Rattle.gist_c.specs.SetRows.{set_row, set_item, entry_elements, elements_of, low_of, high_of};
 
 use crate::crossing::Crossing;
 use crate::shown::Shown;
@@ -17,6 +17,15 @@ pub struct SetRow {
     pub high: u64,
 }
 
+/// A row to be added.
+#[repr(C)]
+#[derive(Clone, Copy)]
+pub struct SetEntry {
+    pub low: u64,
+    pub high: u64,
+    pub tag: u64,
+}
+
 /// An item, or a commit. Where it has no key both masks are 0.
 #[repr(C)]
 #[derive(Clone, Copy)]
@@ -29,14 +38,29 @@ pub struct SetItem {
     pub high: u64,
 }
 
+/// The set with these masks of the numbers below 64 and from 64 on.
+pub fn elements(low: u64, high: u64) -> Elements
+    ensures { result ≡ elements_of low high }
+{
+    Elements {
+        mask: high as u128 * (1 << 64) + low as u128,
+    }
+}
+
 impl Crossing for Sets {
     type CRow = SetRow;
 
     type CItem = SetItem;
 
+    type CEntry = SetEntry;
+
     ghost row_of = { set_row };
 
     ghost item_of = { set_item };
+
+    ghost key_of = { entry_elements };
+
+    ghost tag_of = { λ entry. entry.tag };
 
     fn row(row: Row<Elements>) -> SetRow
         ensures { result ≡ set_row row }
@@ -64,6 +88,18 @@ impl Crossing for Sets {
             low,
             high,
         }
+    }
+
+    fn key(entry: &SetEntry) -> Option<Elements>
+        ensures { result ≡ entry_elements entry.now }
+    {
+        Some(elements(entry.low, entry.high))
+    }
+
+    fn tag(entry: &SetEntry) -> u64
+        ensures { result ≡ entry.now.tag }
+    {
+        entry.tag
     }
 }
 

@@ -4,25 +4,16 @@ ghost use Rattle.set_class.specs.Sets.{set_rules};
 ghost use Rattle.gist_c.specs.Answers.{Tells, TellsFault};
 ghost use Rattle.gist_c.specs.Calls.{IsInsert, IsMove, ShowsNext, ShowsCommit};
 ghost use Rattle.gist_c.specs.Classes.{OnHandle, OfSets};
-ghost use Rattle.gist_c.specs.SetRows.{FindsSets, elements_of, set_item};
+ghost use Rattle.gist_c.specs.SetRows.{FindsSets, InsertsSets, TakesSets, elements_of, set_item};
 
 use crate::answers::{no_store, tell, tell_fault};
 use crate::any_store::AnyStore;
 use crate::calls;
 use crate::handle::Handle;
-use crate::set_rows::{SetItem, SetRow};
+use crate::set_rows::{SetEntry, SetItem, SetRow, elements};
 use key_class::Refusal;
 use set_class::Elements;
 use std::alloc::Global;
-
-/// The set with these masks of the numbers below 64 and from 64 on.
-fn elements(low: u64, high: u64) -> Elements
-    ensures { result ≡ elements_of low high }
-{
-    Elements {
-        mask: high as u128 * (1 << 64) + low as u128,
-    }
-}
 
 /// Adds a row with a set and a tag, and gives its number.
 #[unsafe(no_mangle)]
@@ -56,6 +47,38 @@ fn insert(held: &mut AnyStore, key: Elements, tag: u64) -> Result<u64, Refusal>
 {
     match held {
         AnyStore::Sets(store) => calls::insert(store, key, tag),
+        _ => Err(Refusal::BadConfig),
+    }
+}
+
+/// Adds rows one after the other, until one is refused, and tells how many were added.
+#[unsafe(no_mangle)]
+pub extern "C" fn gist_set_insert_all(
+    alloc: Global,
+    store: &mut Handle,
+    entries: &[SetEntry],
+    added: &mut u64,
+) -> u32
+    ensures { Tells result added.old added.new (OnHandle
+        (OfSets (InsertsSets entries.now))
+        store.old.inside.state store.new.inside.state) }
+{
+    match store.take(alloc) {
+        None => tell(no_store(), added),
+        Some(mut held) => {
+            let inserted = insert_all(&mut held, entries);
+            store.put(held);
+            tell(inserted, added)
+        }
+    }
+}
+
+/// Adds rows to a store of sets.
+fn insert_all(held: &mut AnyStore, entries: &[SetEntry]) -> Result<u64, Refusal>
+    ensures { OfSets (InsertsSets entries.now) held.old result held.new }
+{
+    match held {
+        AnyStore::Sets(store) => calls::insert_all(store, entries),
         _ => Err(Refusal::BadConfig),
     }
 }
@@ -124,6 +147,42 @@ fn next(held: &mut AnyStore, cursor: u64) -> Result<SetItem, Refusal>
 {
     match held {
         AnyStore::Sets(store) => calls::next(store, cursor),
+        _ => Err(Refusal::BadConfig),
+    }
+}
+
+/// Gives a cursor's next items, until the buffer is full, nothing is left or the next is refused, and tells how many they
+/// are.
+#[unsafe(no_mangle)]
+pub extern "C" fn gist_set_take(
+    alloc: Global,
+    store: &mut Handle,
+    cursor: u64,
+    items: &mut [SetItem],
+    given: &mut u64,
+) -> u32
+    ensures given { Tells result given.old given.new (OnHandle
+        (OfSets (TakesSets cursor items.old items.new))
+        store.old.inside.state store.new.inside.state) }
+    ensures unfilled { result ≢ 0 → items.new ≡ items.old }
+{
+    match store.take(alloc) {
+        None => tell(no_store(), given),
+        Some(mut held) => {
+            let taken = take(&mut held, cursor, items);
+            store.put(held);
+            tell(taken, given)
+        }
+    }
+}
+
+/// Gives the next items of a cursor of a store of sets.
+fn take(held: &mut AnyStore, cursor: u64, items: &mut [SetItem]) -> Result<u64, Refusal>
+    ensures given { OfSets (TakesSets cursor items.old items.new) held.old result held.new }
+    ensures unfilled { OnErr result (items.new ≡ items.old) }
+{
+    match held {
+        AnyStore::Sets(store) => calls::take(store, cursor, items),
         _ => Err(Refusal::BadConfig),
     }
 }
