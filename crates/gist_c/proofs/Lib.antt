@@ -1,3 +1,4 @@
+mod Threads
 mod Ends
 mod Inserting
 mod StoreBoxes

@@ -21,6 +21,9 @@ impl Model for Inside {
     ghost also_owns = { λ inside. owned inside.alloc inside.at inside.state };
 }
 
+// What it owns is a store, which may go to another thread.
+unsafe impl Send for Inside {}
+
 impl Inside {
     /// No store.
     pub(crate) fn empty(alloc: Global) -> Inside
