@@ -22,8 +22,9 @@
  *   them, and a handle isn't copied, since two copies would be two owners of one store.
  * - No pointer is null, and each points to a value of its type that may be read, and written where it isn't const, and
  *   that no other pointer of the call points to. A buffer may have the length 0; its pointer isn't null then either.
- * - A handle is given to one call at a time. Two threads that share a store take a lock of their own round each call;
- *   the library has no lock and starts no thread. Different stores need no lock between them.
+ * - A handle is given to one call at a time, on any thread. Threads that share a store take a lock of their own round
+ *   each call, or hand it on by a thread's start or end; the library has no lock and starts no thread. Different stores
+ *   need no lock between them.
  * - No call is made from a signal handler, nor from the forked child of a process with threads.
  * - Memory comes from malloc, realloc and free. They are of one allocator, and align a block to each power of two up to
  *   16 that divides its size.

@@ -1,33 +1,63 @@
 -- A store may go to another thread, whatever its class, and so may what owns it behind a pointer.
-use Prim.Native.Nat.{ℕ}
 use mir.Raw.{raw}
 use base.Fraction.{full_share}
-use base.Fml.{Fml}
 use base.Shift.{Keyless}
+use denote.Exit.{Exit, unchanged, leaves, hidden, under}
 use denote.RattleType.{RattleType}
 use denote.RawPtr.{Ptr, block_ptr, null_ptr}
-use denote.Struct.Declared.{shape}
-use denote.Param.Send.{IsSend, IsSync, sendable, view_send, recorded_send, struct_send}
+use denote.Struct.Struct.{exits_of}
+use denote.Struct.Declared as declared
+use denote.Struct.Owning.{shape, fields, to}
+use denote.Memory.{lone}
+use denote.Param.Send.{IsSend, IsSync, Quiet, AllSend, sendable, owning_send, struct_send, view_send, recorded_send, part_keyless}
 use Rattle.std.specs.Prelude.{Option, Some, None}
 use Rattle.std.specs.Global.{Global}
 use Rattle.std.proofs.Crossing.{frees, crosses}
 use Rattle.std.proofs.alloc.Global.TheSendSync as heap
+use Rattle.interval_class.proofs.interval.Interval.TheSendSync as interval
+use Rattle.interval_class.proofs.atom.Atom.TheSendSync as interval_atom
+use Rattle.box_class.proofs.boxes.BoxKey.TheSendSync as box
+use Rattle.box_class.proofs.atom.Atom.TheSendSync as box_atom
+use Rattle.set_class.proofs.elements.Elements.TheSendSync as set
+use Rattle.set_class.proofs.atom.Atom.TheSendSync as set_atom
+use Rattle.mailbox.proofs.tray.Tray.TheSendSync as tray
 use Rattle.world.proofs.Crossing.{world_send}
+use Rattle.key_class.specs.declared.class.KeyClass as class
+use Rattle.std.specs.declared.clone.Clone as clone
+use Rattle.std.specs.declared.cmp.PartialEq as partial_eq
+use Rattle.store.specs.contracts.store.Store as Store
+use Rattle.store.specs.contracts.store.Store.TheInside as store_inside
 use Rattle.gist_c.specs.Owning.{AnyState, owned}
 use Rattle.gist_c.specs.contracts.any_store.AnyStore as any
-use Rattle.gist_c.specs.contracts.inside.Inside as Inside
-use Rattle.gist_c.specs.contracts.inside.Inside.TheInside as inside
+use Rattle.gist_c.specs.contracts.inside.Inside as inside
+
+module _ (C K A : RattleType) (c : class.Ghosts C.Denot K.Denot A.Denot) (kc : clone.Ghosts K.Denot) (kp : partial_eq.Ghosts K.Denot) (ap : partial_eq.Ghosts A.Denot) where
+  store_send : IsSend K → IsSync K → IsSend A → IsSync A → IsSend (Store.the_row C K A c kc kp ap)
+  store_send sk yk sa ya =
+      view_send (store_inside.the_row C K A c kc kp ap) _ _ _ _
+      (recorded_send (store_inside.the_field C K A c kc kp ap).row _ _ (store_inside.the_type C K A c kc kp ap).to_one
+      (struct_send (declared.shape (store_inside.the_type C K A c kc kp ap)) (
+        search (heap.the_field_send, crosses, sendable) depth 20,
+        (
+          search (world_send, tray.the_send, sendable) depth 20,
+          tt,
+        ),
+      )))
 
 any_send : IsSend any.the_row
-any_send = ?
+any_send = search (store_send, interval.the_send, interval.the_sync, interval_atom.the_send, interval_atom.the_sync, box.the_send, box.the_sync, box_atom.the_send, box_atom.the_sync, set.the_send, set.the_sync, set_atom.the_send, set_atom.the_sync, crosses, sendable) depth 40
 
 owned_keyless : (alloc : Global) (at : Ptr) (state : Option AnyState) → Keyless (owned alloc at state)
 owned_keyless alloc at None = tt
-owned_keyless alloc null_ptr (Some state) = ?
-owned_keyless alloc (block_ptr b o) (Some state) = ?
+owned_keyless alloc null_ptr (Some state) = (tt, frees.frees alloc (raw (lone any.the_row.mir)) null_ptr)
+owned_keyless alloc (block_ptr b o) (Some state) = (part_keyless any.the_row any_send full_share state b o, frees.frees alloc (raw (lone any.the_row.mir)) (block_ptr b o))
 
-fields_send : IsSend inside.the_row
-fields_send = ?
+quiet : {D X : Type 0} (f : D → X) (e : Exit X) → Quiet e → Quiet (hidden (under f e))
+quiet f unchanged q = λ x w. tt
+quiet f (leaves L l S s r₀) q = λ d. q (f d)
 
-pub inside_send : IsSend Inside.the_row
-inside_send = record { owned = λ d vs. ?; leaving = λ k d w. tt }
+pub inside_send : IsSend inside.the_row
+inside_send =
+    let O = inside.the_type in
+    let all : AllSend (fields O) = search (crosses, sendable) depth 20 in
+    owning_send O all (λ d. owned_keyless d.alloc d.at d.state) (λ k. quiet (to O) (exits_of k (fields O)) ((struct_send (shape O) all).leaving k))

@@ -65,3 +65,11 @@ impl Handle {
         *self = Handle::of(store);
     }
 }
+
+/// Nothing is done. It may be called for a type whose values may go to another thread.
+fn may_cross<T: Send>() {}
+
+/// Nothing is done. That it is proved says that a handle, with the store that it has, may go to another thread.
+pub fn handles_may_cross() {
+    may_cross::<Handle>();
+}
