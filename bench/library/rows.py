@@ -17,6 +17,7 @@ import tempfile
 
 HERE = os.path.dirname(os.path.abspath(__file__))
 RULES = ("quadratic", "rstar")
+PLURALS = {"interval": "intervals", "box": "boxes"}
 WHATS = ("insert", "find", "follow", "delete", "find_after")
 
 
@@ -48,7 +49,7 @@ def compare(folder, rules, kind, rows):
     """Prints a table of one kind and number of rows, and gives whether all sums are equal."""
     ours = run(f"{folder}/rows", kind, str(rows))
     theirs = [run(f"{folder}/rtree", rule, kind, str(rows)) for rule in rules]
-    print(f"\n{kind}s, {rows:,} rows: microseconds a call\n{'':12}{'gist':>10}" + "".join(f"{rule + '<16>':>16}" for rule in rules))
+    print(f"\n{PLURALS[kind]}, {rows:,} rows: microseconds a call\n{'':12}{'gist':>10}" + "".join(f"{rule + '<16>':>16}" for rule in rules))
     for what in WHATS:
         print(f"{what:12}{ours[what][0]:10.2f}" + "".join(f"{it[what][0]:16.2f}" if what in it else f"{'':16}" for it in theirs))
     return all(ours[what][1] == it[what][1] for it in theirs for what in it)
@@ -60,7 +61,7 @@ def main():
     asked = parser.parse_args()
     with tempfile.TemporaryDirectory() as folder:
         rules = build(folder)
-        is_equal = [compare(folder, rules, kind, rows) for rows in asked.rows for kind in ("interval", "box")]
+        is_equal = [compare(folder, rules, kind, rows) for rows in asked.rows for kind in PLURALS]
     if not all(is_equal):
         sys.exit("the answers are not equal")
 
