@@ -122,9 +122,9 @@ uint32_t gist_delete(gist_store *store, uint64_t row, uint64_t *commit);
  * Opens a cursor on a query, and gives its number, which no other cursor of the store gets. The cursor gives the rows
  * that match now, in some order, and then the later changes.
  *
- * A query is a text of ASCII bytes, not ended by a 0: `overlaps`, `within`, `holds` and `same` with a key, and `and`,
- * `or`, `not` and round brackets, at most 32 deep and 4,096 bytes long. Keys are written `(9 17)`, `(x1 y1 x2 y2)` and
- * `{2 5 64}`: "overlaps (9 17) and not within (0 9)".
+ * A query is a text of ASCII bytes, which no 0 has to end: `overlaps`, `within`, `holds` and `same` with a key, and
+ * `and`, `or`, `not` and round brackets, at most 32 deep and 4,096 bytes long. Keys are written `(9 17)`,
+ * `(x1 y1 x2 y2)` and `{2 5 64}`: "overlaps (9 17) and not within (0 9)".
  *
  * GIST_QUERY_TEXT, and `fault` gets the place of the byte at which the text is refused, counted from 0;
  * GIST_CURSORS_FULL; GIST_OUT_OF_MEMORY.

@@ -47,14 +47,15 @@ module _ {K A : Type 0} (rules : Rules K A) where
     InsertsAll [] old new = new ≡ old
     InsertsAll (entry ∷ entries) old new = (mid : StoreState K A) × ((n : ℕ) × InsertsOne entry old (Ok n) mid) × InsertsAll entries mid new
 
-    -- the entry at a place is refused, for some reason
+    -- the entry at a place, which isn't the first, is refused for some reason
     pub record RefusesAt (entries : List E) (place : ℕ) (old : StoreState K A) (new : StoreState K A) : Type 0 where
+      pub later : 0 < place
       pub entry : E
       pub there : slice_get entries place ≡ Some entry
       pub why : Refusal
       pub refused : InsertsOne entry old (Err why) new
 
-    -- the first of some rows are added, and then there is no other, or the next is refused
+    -- the first of some rows are added, and then there is no other, or one is refused
     pub record InsertsFirst (entries : List E) (old : StoreState K A) (number : ℕ) (new : StoreState K A) : Type 0 where
       pub last_added : StoreState K A
       pub added : InsertsAll (take number entries) old last_added
@@ -105,14 +106,14 @@ module _ {K A : Type 0} (rules : Rules K A) where
     pub err : IfErr answer (λ why. RefusesNext rules.is_match old cursor why new)
 
   -- a cursor gave items, which are counted and stand over the first places of a buffer, until it was full, nothing was left
-  -- or the next was refused
+  -- or, behind the first, one was refused
   pub record Gives {I : Type 0} (item_of : Shown K → I) (cursor : ℕ) (before after : List I) (old : StoreState K A) (number : ℕ) (new : StoreState K A) : Type 0 where
     pub given : List (Item K)
     pub last_given : StoreState K A
     pub gave : Gave rules.is_match old cursor given last_given
     pub counted : number ≡ length given
     pub written : after ≡ written_over (map (λ item. item_of (shown_item (Some item))) given) before
-    pub ended : ((number ≡ length before) × (new ≡ last_given)) ⊎ Nexts rules.is_match last_given cursor None new ⊎ ((why : Refusal) × RefusesNext rules.is_match last_given cursor why new)
+    pub ended : ((number ≡ length before) × (new ≡ last_given)) ⊎ Nexts rules.is_match last_given cursor None new ⊎ ((0 < number) × (why : Refusal) × RefusesNext rules.is_match last_given cursor why new)
 
   -- a cursor is asked for its next items, and is refused where the first is
   pub record IsTaking {I : Type 0} (item_of : Shown K → I) (cursor : ℕ) (before after : List I) (old : StoreState K A) (answer : Result ℕ Refusal) (new : StoreState K A) : Type 0 where

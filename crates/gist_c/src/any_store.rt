@@ -64,7 +64,8 @@ impl AnyStore {
 
     /// Opens a cursor on the query of a text.
     pub fn open(&mut self, alloc: Global, text: &[u8]) -> Result<u64, Refusal>
-        ensures { OfClass (λ K A rules texts. IsOpening rules texts text.now) self.old result self.new }
+        ensures { OfClass (λ K A rules texts. IsOpening rules texts text.now)
+            self.old result self.new }
     {
         match self {
             AnyStore::Intervals(store) => calls::open(alloc, store, text),

@@ -189,7 +189,8 @@ pub extern "C" fn gist_box_take(
 
 /// Gives the next items of a cursor of a store of boxes.
 fn take(held: &mut AnyStore, cursor: u64, items: &mut [BoxItem]) -> Result<u64, Refusal>
-    ensures given { OfBoxes (TakesBoxes cursor items.old items.new) held.old result held.new }
+    ensures given { OfBoxes (TakesBoxes cursor items.old items.new)
+        held.old result held.new }
     ensures unfilled { OnErr result (items.new ≡ items.old) }
 {
     match held {

@@ -123,7 +123,8 @@ pub fn find<C: Crossing>(
     text: &[u8],
     rows: &mut [C::CRow],
 ) -> Result<u64, Refusal>
-    ensures { IsSearch C.rules C.texts text.now C.row_of rows.old rows.new store.now result store.now }
+    ensures { IsSearch C.rules C.texts text.now C.row_of rows.old rows.new
+        store.now result store.now }
 {
     let query = parse::<C>(alloc, text)?;
     let found = store.find(&query)?;

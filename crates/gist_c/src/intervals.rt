@@ -185,7 +185,8 @@ pub extern "C" fn gist_interval_take(
 
 /// Gives the next items of a cursor of a store of intervals.
 fn take(held: &mut AnyStore, cursor: u64, items: &mut [IntervalItem]) -> Result<u64, Refusal>
-    ensures given { OfIntervals (TakesIntervals cursor items.old items.new) held.old result held.new }
+    ensures given { OfIntervals (TakesIntervals cursor items.old items.new)
+        held.old result held.new }
     ensures unfilled { OnErr result (items.new ≡ items.old) }
 {
     match held {

@@ -178,7 +178,8 @@ pub extern "C" fn gist_set_take(
 
 /// Gives the next items of a cursor of a store of sets.
 fn take(held: &mut AnyStore, cursor: u64, items: &mut [SetItem]) -> Result<u64, Refusal>
-    ensures given { OfSets (TakesSets cursor items.old items.new) held.old result held.new }
+    ensures given { OfSets (TakesSets cursor items.old items.new)
+        held.old result held.new }
     ensures unfilled { OnErr result (items.new ≡ items.old) }
 {
     match held {
