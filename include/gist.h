@@ -156,7 +156,7 @@ uint32_t gist_mark(gist_store *store, uint64_t cursor);
 uint32_t gist_close(gist_store *store, uint64_t cursor);
 
 /*
- * Removes the ended rows that no open cursor needs any more, and tells how many they were. Their memory serves later
+ * Removes the ended rows that no open cursor needs any more, and tells how many they were. That makes room for later
  * rows.
  *
  * GIST_OUT_OF_MEMORY; some of them may be removed then.
