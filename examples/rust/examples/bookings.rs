@@ -9,9 +9,16 @@ use std::thread;
 const DAY: &str = "overlaps (8 18)";
 
 /// Books the room for a guest at each of these hours.
-fn book(bookings: &Mutex<Store<Interval>>, guest: u64, hours: &[(i64, i64)]) -> Result<(), Refusal> {
+fn book(
+    bookings: &Mutex<Store<Interval>>,
+    guest: u64,
+    hours: &[(i64, i64)],
+) -> Result<(), Refusal> {
     for &(lo, hi) in hours {
-        bookings.lock().expect("no clerk panics").insert(Interval { lo, hi }, guest)?;
+        bookings
+            .lock()
+            .expect("no clerk panics")
+            .insert(Interval { lo, hi }, guest)?;
     }
     Ok(())
 }
@@ -20,9 +27,14 @@ fn book(bookings: &Mutex<Store<Interval>>, guest: u64, hours: &[(i64, i64)]) -> 
 fn tell(item: Item<Interval>) -> String {
     match item {
         Item::Row(row) => format!("there: {} to {}, guest {}", row.key.lo, row.key.hi, row.tag),
-        Item::Inserted(row) => format!("comes: {} to {}, guest {}", row.key.lo, row.key.hi, row.tag),
+        Item::Inserted(row) => {
+            format!("comes: {} to {}, guest {}", row.key.lo, row.key.hi, row.tag)
+        }
         Item::Deleted { .. } => "goes".to_string(),
-        Item::Moved { row, .. } => format!("moves: now {} to {}, guest {}", row.key.lo, row.key.hi, row.tag),
+        Item::Moved { row, .. } => format!(
+            "moves: now {} to {}, guest {}",
+            row.key.lo, row.key.hi, row.tag
+        ),
         Item::Mark(commit) => format!("up to date with commit {commit}"),
     }
 }
@@ -39,13 +51,19 @@ fn main() -> Result<(), Box<dyn Error>> {
     thread::scope(|scope| {
         let first = scope.spawn(|| book(&shared, 71, &[(11, 12), (20, 21)]));
         let second = scope.spawn(|| book(&shared, 72, &[(13, 14), (17, 19)]));
-        first.join().expect("no clerk panics").and(second.join().expect("no clerk panics"))
+        first
+            .join()
+            .expect("no clerk panics")
+            .and(second.join().expect("no clerk panics"))
     })?;
     let mut bookings = shared.into_inner()?;
     bookings.move_row(early, Interval { lo: 15, hi: 16 })?;
 
     bookings.mark(display)?;
-    let mut changes = bookings.items(display).map(|item| item.map(tell)).collect::<Result<Vec<_>, _>>()?;
+    let mut changes = bookings
+        .items(display)
+        .map(|item| item.map(tell))
+        .collect::<Result<Vec<_>, _>>()?;
     // what the clerks did may come in another order
     changes.sort();
     println!("{}", changes.join("\n"));

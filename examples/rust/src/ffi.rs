@@ -114,7 +114,13 @@ extern "C" {
     pub fn gist_drop(store: *mut Handle);
     pub fn gist_commits(store: *mut Handle) -> u64;
     pub fn gist_delete(store: *mut Handle, row: u64, commit: *mut u64) -> u32;
-    pub fn gist_open(store: *mut Handle, query: *const c_char, length: usize, cursor: *mut u64, fault: *mut u64) -> u32;
+    pub fn gist_open(
+        store: *mut Handle,
+        query: *const c_char,
+        length: usize,
+        cursor: *mut u64,
+        fault: *mut u64,
+    ) -> u32;
     pub fn gist_open_from(
         store: *mut Handle,
         query: *const c_char,
@@ -127,11 +133,34 @@ extern "C" {
     pub fn gist_close(store: *mut Handle, cursor: u64) -> u32;
     pub fn gist_sweep(store: *mut Handle, removed: *mut u64) -> u32;
 
-    pub fn gist_interval_insert(store: *mut Handle, lo: i64, hi: i64, tag: u64, row: *mut u64) -> u32;
-    pub fn gist_interval_insert_all(store: *mut Handle, entries: *const IntervalEntry, length: usize, added: *mut u64) -> u32;
-    pub fn gist_interval_move(store: *mut Handle, row: u64, lo: i64, hi: i64, moved: *mut u64) -> u32;
+    pub fn gist_interval_insert(
+        store: *mut Handle,
+        lo: i64,
+        hi: i64,
+        tag: u64,
+        row: *mut u64,
+    ) -> u32;
+    pub fn gist_interval_insert_all(
+        store: *mut Handle,
+        entries: *const IntervalEntry,
+        length: usize,
+        added: *mut u64,
+    ) -> u32;
+    pub fn gist_interval_move(
+        store: *mut Handle,
+        row: u64,
+        lo: i64,
+        hi: i64,
+        moved: *mut u64,
+    ) -> u32;
     pub fn gist_interval_next(store: *mut Handle, cursor: u64, item: *mut IntervalItem) -> u32;
-    pub fn gist_interval_take(store: *mut Handle, cursor: u64, items: *mut IntervalItem, room: usize, given: *mut u64) -> u32;
+    pub fn gist_interval_take(
+        store: *mut Handle,
+        cursor: u64,
+        items: *mut IntervalItem,
+        room: usize,
+        given: *mut u64,
+    ) -> u32;
     pub fn gist_interval_commit(store: *mut Handle, number: u64, commit: *mut IntervalItem) -> u32;
     pub fn gist_interval_find(
         store: *mut Handle,
@@ -143,11 +172,38 @@ extern "C" {
         fault: *mut u64,
     ) -> u32;
 
-    pub fn gist_box_insert(store: *mut Handle, x1: i32, y1: i32, x2: i32, y2: i32, tag: u64, row: *mut u64) -> u32;
-    pub fn gist_box_insert_all(store: *mut Handle, entries: *const BoxEntry, length: usize, added: *mut u64) -> u32;
-    pub fn gist_box_move(store: *mut Handle, row: u64, x1: i32, y1: i32, x2: i32, y2: i32, moved: *mut u64) -> u32;
+    pub fn gist_box_insert(
+        store: *mut Handle,
+        x1: i32,
+        y1: i32,
+        x2: i32,
+        y2: i32,
+        tag: u64,
+        row: *mut u64,
+    ) -> u32;
+    pub fn gist_box_insert_all(
+        store: *mut Handle,
+        entries: *const BoxEntry,
+        length: usize,
+        added: *mut u64,
+    ) -> u32;
+    pub fn gist_box_move(
+        store: *mut Handle,
+        row: u64,
+        x1: i32,
+        y1: i32,
+        x2: i32,
+        y2: i32,
+        moved: *mut u64,
+    ) -> u32;
     pub fn gist_box_next(store: *mut Handle, cursor: u64, item: *mut BoxItem) -> u32;
-    pub fn gist_box_take(store: *mut Handle, cursor: u64, items: *mut BoxItem, room: usize, given: *mut u64) -> u32;
+    pub fn gist_box_take(
+        store: *mut Handle,
+        cursor: u64,
+        items: *mut BoxItem,
+        room: usize,
+        given: *mut u64,
+    ) -> u32;
     pub fn gist_box_commit(store: *mut Handle, number: u64, commit: *mut BoxItem) -> u32;
     pub fn gist_box_find(
         store: *mut Handle,
@@ -159,11 +215,24 @@ extern "C" {
         fault: *mut u64,
     ) -> u32;
 
-    pub fn gist_set_insert(store: *mut Handle, low: u64, high: u64, tag: u64, row: *mut u64) -> u32;
-    pub fn gist_set_insert_all(store: *mut Handle, entries: *const SetEntry, length: usize, added: *mut u64) -> u32;
-    pub fn gist_set_move(store: *mut Handle, row: u64, low: u64, high: u64, moved: *mut u64) -> u32;
+    pub fn gist_set_insert(store: *mut Handle, low: u64, high: u64, tag: u64, row: *mut u64)
+        -> u32;
+    pub fn gist_set_insert_all(
+        store: *mut Handle,
+        entries: *const SetEntry,
+        length: usize,
+        added: *mut u64,
+    ) -> u32;
+    pub fn gist_set_move(store: *mut Handle, row: u64, low: u64, high: u64, moved: *mut u64)
+        -> u32;
     pub fn gist_set_next(store: *mut Handle, cursor: u64, item: *mut SetItem) -> u32;
-    pub fn gist_set_take(store: *mut Handle, cursor: u64, items: *mut SetItem, room: usize, given: *mut u64) -> u32;
+    pub fn gist_set_take(
+        store: *mut Handle,
+        cursor: u64,
+        items: *mut SetItem,
+        room: usize,
+        given: *mut u64,
+    ) -> u32;
     pub fn gist_set_commit(store: *mut Handle, number: u64, commit: *mut SetItem) -> u32;
     pub fn gist_set_find(
         store: *mut Handle,

@@ -42,11 +42,21 @@ pub struct RawItem<K> {
 /// A query's bytes, as C takes them.
 pub struct Query(pub *const c_char, pub usize);
 
-/// A class of keys, and its calls. No other type is one.
+/// A class of keys: [`Interval`], [`BoxKey`] or [`Set`]. No other type is one.
+pub trait Key: Calls {}
+
+impl Key for Interval {}
+
+impl Key for BoxKey {}
+
+impl Key for Set {}
+
+/// The calls of a class of keys. Each hands its arguments on to the function of that name, whose conditions its caller
+/// meets.
 ///
 /// # Safety
-/// Each call hands its arguments on to the function of that name, whose conditions the caller meets.
-pub unsafe trait Key: Copy {
+/// The number and the types are those of one class.
+pub unsafe trait Calls: Copy {
     const CLASS: u32;
 
     type CRow: Copy + Default;
@@ -59,13 +69,19 @@ pub unsafe trait Key: Copy {
 
     unsafe fn insert(store: *mut ffi::Handle, key: Self, tag: u64, row: *mut u64) -> u32;
 
-    unsafe fn insert_all(store: *mut ffi::Handle, entries: &[Self::CEntry], added: *mut u64) -> u32;
+    unsafe fn insert_all(store: *mut ffi::Handle, entries: &[Self::CEntry], added: *mut u64)
+        -> u32;
 
     unsafe fn move_row(store: *mut ffi::Handle, row: u64, key: Self, moved: *mut u64) -> u32;
 
     unsafe fn next(store: *mut ffi::Handle, cursor: u64, item: *mut Self::CItem) -> u32;
 
-    unsafe fn take(store: *mut ffi::Handle, cursor: u64, items: &mut [Self::CItem], given: *mut u64) -> u32;
+    unsafe fn take(
+        store: *mut ffi::Handle,
+        cursor: u64,
+        items: &mut [Self::CItem],
+        given: *mut u64,
+    ) -> u32;
 
     unsafe fn commit(store: *mut ffi::Handle, number: u64, commit: *mut Self::CItem) -> u32;
 
@@ -82,7 +98,7 @@ pub unsafe trait Key: Copy {
     fn item(item: Self::CItem) -> RawItem<Self>;
 }
 
-unsafe impl Key for Interval {
+unsafe impl Calls for Interval {
     const CLASS: u32 = 1;
 
     type CRow = ffi::IntervalRow;
@@ -92,14 +108,22 @@ unsafe impl Key for Interval {
     type CEntry = ffi::IntervalEntry;
 
     fn entry(key: Interval, tag: u64) -> ffi::IntervalEntry {
-        ffi::IntervalEntry { lo: key.lo, hi: key.hi, tag }
+        ffi::IntervalEntry {
+            lo: key.lo,
+            hi: key.hi,
+            tag,
+        }
     }
 
     unsafe fn insert(store: *mut ffi::Handle, key: Interval, tag: u64, row: *mut u64) -> u32 {
         ffi::gist_interval_insert(store, key.lo, key.hi, tag, row)
     }
 
-    unsafe fn insert_all(store: *mut ffi::Handle, entries: &[ffi::IntervalEntry], added: *mut u64) -> u32 {
+    unsafe fn insert_all(
+        store: *mut ffi::Handle,
+        entries: &[ffi::IntervalEntry],
+        added: *mut u64,
+    ) -> u32 {
         ffi::gist_interval_insert_all(store, entries.as_ptr(), entries.len(), added)
     }
 
@@ -111,7 +135,12 @@ unsafe impl Key for Interval {
         ffi::gist_interval_next(store, cursor, item)
     }
 
-    unsafe fn take(store: *mut ffi::Handle, cursor: u64, items: &mut [ffi::IntervalItem], given: *mut u64) -> u32 {
+    unsafe fn take(
+        store: *mut ffi::Handle,
+        cursor: u64,
+        items: &mut [ffi::IntervalItem],
+        given: *mut u64,
+    ) -> u32 {
         ffi::gist_interval_take(store, cursor, items.as_mut_ptr(), items.len(), given)
     }
 
@@ -126,21 +155,45 @@ unsafe impl Key for Interval {
         found: *mut u64,
         fault: *mut u64,
     ) -> u32 {
-        ffi::gist_interval_find(store, query.0, query.1, rows.as_mut_ptr(), rows.len(), found, fault)
+        ffi::gist_interval_find(
+            store,
+            query.0,
+            query.1,
+            rows.as_mut_ptr(),
+            rows.len(),
+            found,
+            fault,
+        )
     }
 
     fn row(row: ffi::IntervalRow) -> RawRow<Interval> {
-        let key = Interval { lo: row.lo, hi: row.hi };
-        RawRow { row: row.row, key, tag: row.tag }
+        let key = Interval {
+            lo: row.lo,
+            hi: row.hi,
+        };
+        RawRow {
+            row: row.row,
+            key,
+            tag: row.tag,
+        }
     }
 
     fn item(item: ffi::IntervalItem) -> RawItem<Interval> {
-        let key = Interval { lo: item.lo, hi: item.hi };
-        RawItem { kind: item.kind, number: item.number, ended: item.ended, key, tag: item.tag }
+        let key = Interval {
+            lo: item.lo,
+            hi: item.hi,
+        };
+        RawItem {
+            kind: item.kind,
+            number: item.number,
+            ended: item.ended,
+            key,
+            tag: item.tag,
+        }
     }
 }
 
-unsafe impl Key for BoxKey {
+unsafe impl Calls for BoxKey {
     const CLASS: u32 = 2;
 
     type CRow = ffi::BoxRow;
@@ -150,14 +203,24 @@ unsafe impl Key for BoxKey {
     type CEntry = ffi::BoxEntry;
 
     fn entry(key: BoxKey, tag: u64) -> ffi::BoxEntry {
-        ffi::BoxEntry { x1: key.x1, y1: key.y1, x2: key.x2, y2: key.y2, tag }
+        ffi::BoxEntry {
+            x1: key.x1,
+            y1: key.y1,
+            x2: key.x2,
+            y2: key.y2,
+            tag,
+        }
     }
 
     unsafe fn insert(store: *mut ffi::Handle, key: BoxKey, tag: u64, row: *mut u64) -> u32 {
         ffi::gist_box_insert(store, key.x1, key.y1, key.x2, key.y2, tag, row)
     }
 
-    unsafe fn insert_all(store: *mut ffi::Handle, entries: &[ffi::BoxEntry], added: *mut u64) -> u32 {
+    unsafe fn insert_all(
+        store: *mut ffi::Handle,
+        entries: &[ffi::BoxEntry],
+        added: *mut u64,
+    ) -> u32 {
         ffi::gist_box_insert_all(store, entries.as_ptr(), entries.len(), added)
     }
 
@@ -169,7 +232,12 @@ unsafe impl Key for BoxKey {
         ffi::gist_box_next(store, cursor, item)
     }
 
-    unsafe fn take(store: *mut ffi::Handle, cursor: u64, items: &mut [ffi::BoxItem], given: *mut u64) -> u32 {
+    unsafe fn take(
+        store: *mut ffi::Handle,
+        cursor: u64,
+        items: &mut [ffi::BoxItem],
+        given: *mut u64,
+    ) -> u32 {
         ffi::gist_box_take(store, cursor, items.as_mut_ptr(), items.len(), given)
     }
 
@@ -184,17 +252,45 @@ unsafe impl Key for BoxKey {
         found: *mut u64,
         fault: *mut u64,
     ) -> u32 {
-        ffi::gist_box_find(store, query.0, query.1, rows.as_mut_ptr(), rows.len(), found, fault)
+        ffi::gist_box_find(
+            store,
+            query.0,
+            query.1,
+            rows.as_mut_ptr(),
+            rows.len(),
+            found,
+            fault,
+        )
     }
 
     fn row(row: ffi::BoxRow) -> RawRow<BoxKey> {
-        let key = BoxKey { x1: row.x1, y1: row.y1, x2: row.x2, y2: row.y2 };
-        RawRow { row: row.row, key, tag: row.tag }
+        let key = BoxKey {
+            x1: row.x1,
+            y1: row.y1,
+            x2: row.x2,
+            y2: row.y2,
+        };
+        RawRow {
+            row: row.row,
+            key,
+            tag: row.tag,
+        }
     }
 
     fn item(item: ffi::BoxItem) -> RawItem<BoxKey> {
-        let key = BoxKey { x1: item.x1, y1: item.y1, x2: item.x2, y2: item.y2 };
-        RawItem { kind: item.kind, number: item.number, ended: item.ended, key, tag: item.tag }
+        let key = BoxKey {
+            x1: item.x1,
+            y1: item.y1,
+            x2: item.x2,
+            y2: item.y2,
+        };
+        RawItem {
+            kind: item.kind,
+            number: item.number,
+            ended: item.ended,
+            key,
+            tag: item.tag,
+        }
     }
 }
 
@@ -212,7 +308,7 @@ impl Set {
     }
 }
 
-unsafe impl Key for Set {
+unsafe impl Calls for Set {
     const CLASS: u32 = 3;
 
     type CRow = ffi::SetRow;
@@ -222,14 +318,22 @@ unsafe impl Key for Set {
     type CEntry = ffi::SetEntry;
 
     fn entry(key: Set, tag: u64) -> ffi::SetEntry {
-        ffi::SetEntry { low: key.low(), high: key.high(), tag }
+        ffi::SetEntry {
+            low: key.low(),
+            high: key.high(),
+            tag,
+        }
     }
 
     unsafe fn insert(store: *mut ffi::Handle, key: Set, tag: u64, row: *mut u64) -> u32 {
         ffi::gist_set_insert(store, key.low(), key.high(), tag, row)
     }
 
-    unsafe fn insert_all(store: *mut ffi::Handle, entries: &[ffi::SetEntry], added: *mut u64) -> u32 {
+    unsafe fn insert_all(
+        store: *mut ffi::Handle,
+        entries: &[ffi::SetEntry],
+        added: *mut u64,
+    ) -> u32 {
         ffi::gist_set_insert_all(store, entries.as_ptr(), entries.len(), added)
     }
 
@@ -241,7 +345,12 @@ unsafe impl Key for Set {
         ffi::gist_set_next(store, cursor, item)
     }
 
-    unsafe fn take(store: *mut ffi::Handle, cursor: u64, items: &mut [ffi::SetItem], given: *mut u64) -> u32 {
+    unsafe fn take(
+        store: *mut ffi::Handle,
+        cursor: u64,
+        items: &mut [ffi::SetItem],
+        given: *mut u64,
+    ) -> u32 {
         ffi::gist_set_take(store, cursor, items.as_mut_ptr(), items.len(), given)
     }
 
@@ -256,15 +365,33 @@ unsafe impl Key for Set {
         found: *mut u64,
         fault: *mut u64,
     ) -> u32 {
-        ffi::gist_set_find(store, query.0, query.1, rows.as_mut_ptr(), rows.len(), found, fault)
+        ffi::gist_set_find(
+            store,
+            query.0,
+            query.1,
+            rows.as_mut_ptr(),
+            rows.len(),
+            found,
+            fault,
+        )
     }
 
     fn row(row: ffi::SetRow) -> RawRow<Set> {
-        RawRow { row: row.row, key: Set::of(row.low, row.high), tag: row.tag }
+        RawRow {
+            row: row.row,
+            key: Set::of(row.low, row.high),
+            tag: row.tag,
+        }
     }
 
     fn item(item: ffi::SetItem) -> RawItem<Set> {
         let key = Set::of(item.low, item.high);
-        RawItem { kind: item.kind, number: item.number, ended: item.ended, key, tag: item.tag }
+        RawItem {
+            kind: item.kind,
+            number: item.number,
+            ended: item.ended,
+            key,
+            tag: item.tag,
+        }
     }
 }

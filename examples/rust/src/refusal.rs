@@ -65,7 +65,8 @@ impl fmt::Display for Refusal {
     fn fmt(&self, f: &mut fmt::Formatter<'_>) -> fmt::Result {
         let mut name = [0u8; 16];
         // SAFETY: the buffer has that many bytes.
-        let length = unsafe { ffi::gist_refusal_name(self.number(), name.as_mut_ptr().cast(), name.len()) };
+        let length =
+            unsafe { ffi::gist_refusal_name(self.number(), name.as_mut_ptr().cast(), name.len()) };
         f.write_str(std::str::from_utf8(&name[..length]).map_err(|_| fmt::Error)?)?;
         match self {
             Refusal::QueryText(byte) => write!(f, " at byte {byte}"),

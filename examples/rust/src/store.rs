@@ -20,7 +20,12 @@ pub struct Limits {
 /// What is good for many rows, and the greatest numbers of pages and commits.
 impl Default for Limits {
     fn default() -> Limits {
-        Limits { fan: 32, least: 12, pages: 65_536, commits: 16_777_216 }
+        Limits {
+            fan: 32,
+            least: 12,
+            pages: 65_536,
+            commits: 16_777_216,
+        }
     }
 }
 
@@ -86,12 +91,22 @@ fn told<T>(answer: u32, value: T, fault: u64) -> Result<T, Refusal> {
 
 /// What a cursor gave, or none where nothing is left.
 fn item_of<K>(item: RawItem<K>) -> Option<Item<K>> {
-    let row = Row { row: item.number, key: item.key, tag: item.tag };
+    let row = Row {
+        row: item.number,
+        key: item.key,
+        tag: item.tag,
+    };
     match item.kind {
         1 => Some(Item::Row(row)),
         2 => Some(Item::Inserted(row)),
-        3 => Some(Item::Deleted { commit: item.number, row: item.ended }),
-        4 => Some(Item::Moved { row, ended: item.ended }),
+        3 => Some(Item::Deleted {
+            commit: item.number,
+            row: item.ended,
+        }),
+        4 => Some(Item::Moved {
+            row,
+            ended: item.ended,
+        }),
         5 => Some(Item::Mark(item.number)),
         _ => None,
     }
@@ -115,9 +130,19 @@ impl<K: Key> Store<K> {
             pages: limits.pages,
             commits: limits.commits,
         };
-        let mut handle = ffi::Handle { is_open: false, inside: std::ptr::null_mut() };
+        let mut handle = ffi::Handle {
+            is_open: false,
+            inside: std::ptr::null_mut(),
+        };
         let answer = unsafe { ffi::gist_new(&mut handle, K::CLASS, &limits) };
-        told(answer, Store { handle, keys: PhantomData }, 0)
+        told(
+            answer,
+            Store {
+                handle,
+                keys: PhantomData,
+            },
+            0,
+        )
     }
 
     /// How many commits there are.
@@ -131,9 +156,15 @@ impl<K: Key> Store<K> {
         let _always_told = unsafe { K::commit(&mut self.handle, number, &mut told) };
         let told = K::item(told);
         match told.kind {
-            2 => Some(Commit::Insert { key: told.key, tag: told.tag }),
+            2 => Some(Commit::Insert {
+                key: told.key,
+                tag: told.tag,
+            }),
             3 => Some(Commit::Delete { row: told.ended }),
-            4 => Some(Commit::Move { row: told.ended, key: told.key }),
+            4 => Some(Commit::Move {
+                row: told.ended,
+                key: told.key,
+            }),
             _ => None,
         }
     }
@@ -185,27 +216,44 @@ impl<K: Key> Store<K> {
         }
         rows.truncate(found);
         let rows = rows.into_iter().map(K::row);
-        Ok(rows.map(|it| Row { row: it.row, key: it.key, tag: it.tag }).collect())
+        Ok(rows
+            .map(|it| Row {
+                row: it.row,
+                key: it.key,
+                tag: it.tag,
+            })
+            .collect())
     }
 
     /// Fills a buffer with the rows that a query asks for, as many as fit, and tells how many there are.
     fn find_into(&mut self, query: &str, rows: &mut [K::CRow]) -> Result<usize, Refusal> {
         let (mut found, mut fault) = (0, 0);
-        let answer = unsafe { K::find(&mut self.handle, bytes(query), rows, &mut found, &mut fault) };
+        let answer =
+            unsafe { K::find(&mut self.handle, bytes(query), rows, &mut found, &mut fault) };
         told(answer, found as usize, fault)
     }
 
     /// Opens a cursor at the present commits.
     pub fn open(&mut self, query: &str) -> Result<Cursor, Refusal> {
         let (mut cursor, mut fault, Query(text, length)) = (0, 0, bytes(query));
-        let answer = unsafe { ffi::gist_open(&mut self.handle, text, length, &mut cursor, &mut fault) };
+        let answer =
+            unsafe { ffi::gist_open(&mut self.handle, text, length, &mut cursor, &mut fault) };
         told(answer, Cursor(cursor), fault)
     }
 
     /// Opens a cursor that gives the changes after a commit, and no row that was there.
     pub fn open_from(&mut self, query: &str, commit: u64) -> Result<Cursor, Refusal> {
         let (mut cursor, mut fault, Query(text, length)) = (0, 0, bytes(query));
-        let answer = unsafe { ffi::gist_open_from(&mut self.handle, text, length, commit, &mut cursor, &mut fault) };
+        let answer = unsafe {
+            ffi::gist_open_from(
+                &mut self.handle,
+                text,
+                length,
+                commit,
+                &mut cursor,
+                &mut fault,
+            )
+        };
         told(answer, Cursor(cursor), fault)
     }
 
@@ -223,12 +271,19 @@ impl<K: Key> Store<K> {
         let mut given = 0;
         let answer = unsafe { K::take(&mut self.handle, cursor.0, &mut items, &mut given) };
         items.truncate(told(answer, given as usize, 0)?);
-        Ok(items.into_iter().filter_map(|item| item_of(K::item(item))).collect())
+        Ok(items
+            .into_iter()
+            .filter_map(|item| item_of(K::item(item)))
+            .collect())
     }
 
     /// What a cursor gives, until nothing is left. Another such iterator goes on where this one ended.
     pub fn items(&mut self, cursor: Cursor) -> Items<'_, K> {
-        Items { store: self, cursor, is_over: false }
+        Items {
+            store: self,
+            cursor,
+            is_over: false,
+        }
     }
 
     /// Asks a cursor for a mark.
@@ -291,19 +346,45 @@ mod tests {
         assert_eq!(store.delete(2)?, 3);
         store.mark(cursor)?;
         let given: Vec<_> = store.items(cursor).collect::<Result<_, _>>()?;
-        let first = Row { row: 1, key: interval(1, 5), tag: 70 };
-        let second = Row { row: 2, key: interval(2, 3), tag: 70 };
+        let first = Row {
+            row: 1,
+            key: interval(1, 5),
+            tag: 70,
+        };
+        let second = Row {
+            row: 2,
+            key: interval(2, 3),
+            tag: 70,
+        };
         let wanted = [
             Item::Row(first),
-            Item::Moved { row: second, ended: 1 },
+            Item::Moved {
+                row: second,
+                ended: 1,
+            },
             Item::Deleted { commit: 3, row: 2 },
             Item::Mark(3),
         ];
         assert_eq!(given, wanted);
         let follower = store.open_from("overlaps (0 9)", 2)?;
-        assert_eq!(store.next(follower)?, Some(Item::Deleted { commit: 3, row: 2 }));
-        assert_eq!(store.commit(1), Some(Commit::Insert { key: interval(1, 5), tag: 70 }));
-        assert_eq!(store.commit(2), Some(Commit::Move { row: 1, key: interval(2, 3) }));
+        assert_eq!(
+            store.next(follower)?,
+            Some(Item::Deleted { commit: 3, row: 2 })
+        );
+        assert_eq!(
+            store.commit(1),
+            Some(Commit::Insert {
+                key: interval(1, 5),
+                tag: 70
+            })
+        );
+        assert_eq!(
+            store.commit(2),
+            Some(Commit::Move {
+                row: 1,
+                key: interval(2, 3)
+            })
+        );
         assert_eq!(store.commit(3), Some(Commit::Delete { row: 2 }));
         assert_eq!(store.commit(4), None);
         assert_eq!(store.sweep()?, 2);
@@ -315,7 +396,12 @@ mod tests {
     #[test]
     fn many_rows_and_items_go_by_one_call() -> Result<(), Refusal> {
         let mut store = Store::new(Limits::default())?;
-        let rows = [(interval(1, 2), 70), (interval(3, 4), 71), (interval(6, 5), 72), (interval(7, 8), 73)];
+        let rows = [
+            (interval(1, 2), 70),
+            (interval(3, 4), 71),
+            (interval(6, 5), 72),
+            (interval(7, 8), 73),
+        ];
         assert_eq!(store.insert_all(&rows), (1..3, Err(Refusal::BadConfig)));
         assert_eq!(store.insert_all(&rows[..2]), (3..5, Ok(())));
         let cursor = store.open_from("overlaps (0 9)", 0)?;
@@ -345,13 +431,32 @@ mod tests {
     #[test]
     fn every_class_has_a_store() -> Result<(), Refusal> {
         let mut boxes = Store::new(Limits::default())?;
-        let key = BoxKey { x1: -1, y1: 2, x2: 3, y2: 4 };
+        let key = BoxKey {
+            x1: -1,
+            y1: 2,
+            x2: 3,
+            y2: 4,
+        };
         boxes.insert(key, 7)?;
-        assert_eq!(boxes.find("holds (0 3 0 3)")?, [Row { row: 1, key, tag: 7 }]);
+        assert_eq!(
+            boxes.find("holds (0 3 0 3)")?,
+            [Row {
+                row: 1,
+                key,
+                tag: 7
+            }]
+        );
         let mut sets = Store::new(Limits::default())?;
         let key = Set(1 << 127 | 1 << 5);
         sets.insert(key, 8)?;
-        assert_eq!(sets.find("same {5 127}")?, [Row { row: 1, key, tag: 8 }]);
+        assert_eq!(
+            sets.find("same {5 127}")?,
+            [Row {
+                row: 1,
+                key,
+                tag: 8
+            }]
+        );
         Ok(())
     }
 
@@ -360,11 +465,17 @@ mod tests {
         let mut store = Store::new(Limits::default())?;
         assert_eq!(store.insert(interval(2, 1), 0), Err(Refusal::BadConfig));
         assert_eq!(store.find("same (2 1)"), Err(Refusal::QueryText(5)));
-        assert_eq!(store.find("same (2 1)").unwrap_err().to_string(), "QueryText at byte 5");
+        assert_eq!(
+            store.find("same (2 1)").unwrap_err().to_string(),
+            "QueryText at byte 5"
+        );
         assert_eq!(store.delete(1).unwrap_err().to_string(), "NoSuchRow");
         assert_eq!(store.open_from("same (1 1)", 1), Err(Refusal::FromFuture));
         assert_eq!(store.commits(), 0);
-        let none = Limits { commits: 0, ..Limits::default() };
+        let none = Limits {
+            commits: 0,
+            ..Limits::default()
+        };
         assert_eq!(Store::<Interval>::new(none).err(), Some(Refusal::BadConfig));
         Ok(())
     }
@@ -377,7 +488,11 @@ mod tests {
                 let store = &store;
                 scope.spawn(move || {
                     for n in 0..250 {
-                        store.lock().unwrap().insert(interval(n, n), writer).unwrap();
+                        store
+                            .lock()
+                            .unwrap()
+                            .insert(interval(n, n), writer)
+                            .unwrap();
                     }
                 });
             }
