@@ -8,6 +8,7 @@ ghost use Rattle.world.specs.Calls.{reply_of_asking, reply_of_closing, reply_of_
 ghost use Rattle.world.specs.States.{IsAtWork};
 ghost use Rattle.world.specs.Steps.{Acts, Opens, follow_tests, is_bad_opening, is_full_of_cursors, open_tests};
 
+use crate::places::let_go;
 use crate::world::World;
 use change_list::Item;
 use cursor::{Cursor, Turned};
@@ -187,7 +188,7 @@ impl<C: KeyClass, O: Outlet<C::Key>> World<C, O> {
             (reply_of_closing C O O.End result) self.new }
     {
         let at = self.place_of(c)?;
-        self.cursors.remove(at);
+        let_go(&mut self.cursors, at);
         Ok(())
     }
 }

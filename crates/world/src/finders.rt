@@ -8,7 +8,7 @@ ghost use Rattle.world.specs.States.{Meets};
 ghost use Rattle.world.specs.Steps.{Acts, FirstFails, Step, VisitsFor, find_tests};
 
 use crate::commit::{LeafChange, commit};
-use crate::places::place_of;
+use crate::places::{let_go, place_of};
 use crate::reply::{Reply, Stamped};
 use crate::world::World;
 use change_list::Status;
@@ -92,7 +92,7 @@ impl<C: KeyClass, O: Outlet<C::Key>> World<C, O> {
         let alloc = self.allocator();
         let change = LeafChange::Bury(u64::from(page), self.finders[at].row());
         let number = commit(alloc, &mut self.search, &mut self.changes, change)?;
-        self.finders.remove(at);
+        let_go(&mut self.finders, at);
         Ok(Stamped::new(number, seat, change.write()))
     }
 
@@ -139,7 +139,7 @@ impl<C: KeyClass, O: Outlet<C::Key>> World<C, O> {
         };
         let change = LeafChange::Move(u64::from(page), row, leaf, key, found.tag);
         let number = commit(alloc, &mut self.search, &mut self.changes, change)?;
-        self.finders.remove(at);
+        let_go(&mut self.finders, at);
         Ok(Stamped::new(number, seat, change.write()))
     }
 
@@ -148,7 +148,7 @@ impl<C: KeyClass, O: Outlet<C::Key>> World<C, O> {
     {
         match place_of(self.finders.as_slice(), f) {
             Some(place) => {
-                self.finders.remove(place);
+                let_go(&mut self.finders, place);
                 return Reply::Unfound;
             }
             None => return Reply::Refused(Refusal::NoSuchFinder),

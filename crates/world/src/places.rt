@@ -1,5 +1,5 @@
 //! Lists whose members have serials that rise.
-ghost use Rattle.std.specs.Prelude.{◌≡◌, ℕ};
+ghost use Rattle.std.specs.Prelude.{◌≡◌, ◌<◌, ℕ, remove, vec_len};
 ghost use Rattle.world.specs.Serials.{Rise, IsPlaceOf};
 
 use cursor::Cursor;
@@ -51,4 +51,16 @@ pub(crate) fn place_of<T: Numbered>(members: &[T], serial: u64) -> Option<usize>
         }
     }
     None
+}
+
+/// Lets go of the member at a place. The last of a list is dropped where it lies.
+pub(crate) fn let_go<T: Drop>(members: &mut Vec<T>, at: usize)
+    requires { at < vec_len members.old }
+    ensures { members.new.items ≡ remove members.old.items at }
+{
+    if at + 1 == members.len() {
+        members.truncate(at);
+    } else {
+        members.remove(at);
+    }
 }

@@ -39,8 +39,8 @@ commit-requires-clause-takes g c =
     let there = (meets_on g.C.KeyClass.rules.is_cover _ c.self.invariant c.args.f m.here.value c.args.page m.here.found m.finds).leaf in
     subst (λ p. is_leaf c.self.inside.search.tree p ≡ true) (sym c.from.ensures) there
 
-pub remove-requires : goal.remove-requires
-remove-requires g c =
+pub let_go-requires : goal.let_go-requires
+let_go-requires g c =
     let m = subst (λ s. Meets s c.args.f c.args.at c.args.page) (sym c.self.view_is) c.requires in
     let l = finder_within g.C.KeyClass.rules.is_cover _ c.self.invariant c.args.f c.args.at m.here in
     grind (arith, common_steps)
@@ -54,7 +54,7 @@ invariant_of-self-2 g c =
     let buried : c.commit.new.search ≡ with_death c.self.inside.search c.args.page c.row.result (length c.self.inside.changes + 1)
     = c.in_ok-number.ensures.changed ∙ ap (λ p. with_death c.self.inside.search p c.row.result (length c.self.inside.changes + 1)) c.from.ensures in
     let change = bury_change g.C.KeyClass.rules.is_cover _ c.self.invariant c.args.f c.args.at c.args.page m c.args.seat (record { number = length c.self.inside.changes + 1; seat = c.args.seat; write = Delete c.row.result })
-    c.commit.new.search c.commit.new.commits c.remove.new.self.items c.row.result (length c.self.inside.changes + 1) row refl buried c.in_ok-number.ensures.committed c.remove.ensures.items refl in
+    c.commit.new.search c.commit.new.commits c.let_go.new.members.items c.row.result (length c.self.inside.changes + 1) row refl buried c.in_ok-number.ensures.committed c.let_go.ensures refl in
     buries_sound g.C.KeyClass.rules.is_cover _ c.self.invariant c.args.seat c.args.f _ _ passed change
 
 pub returns : goal.returns
@@ -68,7 +68,7 @@ returns g c =
     rw (← c.self.view_is) (record {
       passed = meets_passes g.C.KeyClass.rules.is_cover _ c.self.invariant c.args.f c.args.at c.args.page m (omega (arith, c.if-len-self.false, c.len.ensures.len));
       change = bury_change g.C.KeyClass.rules.is_cover _ c.self.invariant c.args.f c.args.at c.args.page m c.args.seat _
-          c.commit.new.search c.commit.new.commits c.remove.new.self.items c.row.result (length c.self.inside.changes + 1) row refl buried c.in_ok-number.ensures.committed c.remove.ensures.items stamped;
+          c.commit.new.search c.commit.new.commits c.let_go.new.members.items c.row.result (length c.self.inside.changes + 1) row refl buried c.in_ok-number.ensures.committed c.let_go.ensures stamped;
     })
 
 pub returns-in_err-number : goal.returns-in_err-number

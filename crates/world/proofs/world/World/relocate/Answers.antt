@@ -56,8 +56,8 @@ commit-requires-clause-takes g c =
     let there = (meets_on g.C.KeyClass.rules.is_cover _ c.self.invariant c.args.f m.here.value c.args.page m.here.found m.finds).leaf in
     (subst (λ p. is_leaf c.self.inside.search.tree p ≡ true) (sym c.from-2.ensures) there, sym c.place_refusal.ensures ∙ c.in_default.is)
 
-pub remove-requires : goal.remove-requires
-remove-requires g c =
+pub let_go-requires : goal.let_go-requires
+let_go-requires g c =
     let m = subst (λ s. Meets s c.args.f c.args.at c.args.page) (sym c.self.view_is) c.requires in
     let l = finder_within g.C.KeyClass.rules.is_cover _ c.self.invariant c.args.f c.args.at m.here in
     grind (arith, common_steps)
@@ -73,7 +73,7 @@ invariant_of-self-2 g c =
     let moved : c.commit.new.search ≡ with_move c.self.inside.search c.args.page c.row-row.result (length c.self.inside.changes + 1) c.args.leaf entry
     = c.in_ok-number.ensures.changed ∙ ap (λ p. with_move c.self.inside.search p c.row-row.result (length c.self.inside.changes + 1) c.args.leaf entry) c.from-2.ensures in
     let change = move_change g.C.KeyClass.rules.is_cover _ c.self.invariant c.args.f c.args.at c.args.page m c.args.seat c.args.leaf c.args.key (record { number = length c.self.inside.changes + 1; seat = c.args.seat; write = Move c.row-row.result c.args.key })
-    c.commit.new.search c.commit.new.commits c.remove.new.self.items c.row-row.result (length c.self.inside.changes + 1) c.in-Some-row.found row refl found moved c.in_ok-number.ensures.committed c.remove.ensures.items refl in
+    c.commit.new.search c.commit.new.commits c.let_go.new.members.items c.row-row.result (length c.self.inside.changes + 1) c.in-Some-row.found row refl found moved c.in_ok-number.ensures.committed c.let_go.ensures refl in
     moves_sound g.C.KeyClass.rules.is_cover _ c.self.invariant c.args.seat c.args.f c.args.leaf c.args.key _ _ passed change
 
 pub returns : goal.returns
@@ -89,7 +89,7 @@ returns g c =
     rw (← c.self.view_is) (record {
       passed = move_passes g.C.KeyClass.rules.is_cover _ c.self.invariant c.args.f c.args.at c.args.page m c.args.leaf c.args.key (sym c.place_refusal.ensures ∙ c.in_default.is) (omega (arith, c.if-len-self.false, c.len.ensures.len));
       change = move_change g.C.KeyClass.rules.is_cover _ c.self.invariant c.args.f c.args.at c.args.page m c.args.seat c.args.leaf c.args.key _
-          c.commit.new.search c.commit.new.commits c.remove.new.self.items c.row-row.result (length c.self.inside.changes + 1) c.in-Some-row.found row refl found moved c.in_ok-number.ensures.committed c.remove.ensures.items stamped;
+          c.commit.new.search c.commit.new.commits c.let_go.new.members.items c.row-row.result (length c.self.inside.changes + 1) c.in-Some-row.found row refl found moved c.in_ok-number.ensures.committed c.let_go.ensures stamped;
     })
 
 pub returns-in_err-number : goal.returns-in_err-number
