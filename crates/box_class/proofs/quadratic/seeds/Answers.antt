@@ -1,4 +1,4 @@
-use Rattle.std.proofs.Common.{◌+◌, ◌-◌, length, arith}
+use Rattle.std.proofs.Common.{◌+◌, ◌-◌, ◌*◌, ◌/◌, length, arith}
 use Rattle.box_class.proofs.Bounds.{pair_within, row_within}
 use Rattle.box_class.proofs.quadratic.seeds.Goals as goal
 
@@ -8,7 +8,7 @@ waste-most-requires g c =
 
 pub most_waste-here-requires : goal.most_waste-here-requires
 most_waste-here-requires g c = record {
-  small = row_within g.A.Area.limit c.index-keys-i.result c.args.keys.now c.loop-i.i (c.loop-i.i + 1) (length c.args.keys.now - (c.loop-i.i + 1)) c.requires.small (omega arith) c.index-keys-i.is;
+  small = row_within g.A.Area.limit c.index-keys-i.result c.args.keys.now c.loop-i.i ((c.loop-i.i + 1) / 8 * 8) (length c.args.keys.now - (c.loop-i.i + 1) / 8 * 8) c.requires.small (omega arith) c.index-keys-i.is;
 }
 
 pub first_waste-requires-clause-small : goal.first_waste-requires-clause-small
