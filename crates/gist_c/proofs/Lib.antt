@@ -2,4 +2,8 @@ mod Threads
 mod Ends
 mod Inserting
 mod StoreBoxes
+mod TakerBoxes
+mod TakerThreads
+mod WorldBoxes
+mod WorldThreads
 mod Writing

@@ -80,7 +80,7 @@ module _ {V : Type 0} where
   OfSets call (Sets old) answer (Sets new) = call old answer new
   OfSets call old answer new = (answer ≡ Err BadConfig) × (new ≡ old)
 
-  -- a call of a handle's store; a handle of none is refused, and has none then
-  pub record OnHandle (call : AnyStore → Result V Refusal → AnyStore → Type 0) (old new : Option AnyStore) (answer : Result V Refusal) : Type 0 where
+  -- a call of what a handle has, a store, a world or a taker; a handle of none is refused, and has none then
+  pub record OnHandle {S : Type 0} (call : S → Result V Refusal → S → Type 0) (old new : Option S) (answer : Result V Refusal) : Type 0 where
     pub none : old ≡ None → (answer ≡ Err BadConfig) × (new ≡ None)
     pub called : IfSome old (λ before. IsSomeAnd new (λ after. call before answer after))

@@ -8,3 +8,7 @@ pub mod IntervalRows
 pub mod Names
 pub mod SetRows
 pub mod Shown
+pub mod TakerOwning
+pub mod WorldCalls
+pub mod WorldClasses
+pub mod WorldOwning

@@ -20,6 +20,7 @@ abbrev pub owned : Global → Ptr → Option AnyState → Fml
 owned alloc at None = ftrue
 owned alloc at (Some state) = box_owns (ghosts.dealloc_token alloc) the_row at state
 
-abbrev pub is_held : Option AnyState → Bool
+-- whether a handle has what it is for
+abbrev pub is_held : {X : Type 0} → Option X → Bool
 is_held None = false
 is_held (Some state) = true

@@ -67,7 +67,7 @@ impl Handle {
 }
 
 /// Nothing is done. It may be called for a type whose values may go to another thread.
-fn may_cross<T: Send>() {}
+pub(crate) fn may_cross<T: Send>() {}
 
 /// Nothing is done. That it is proved says that a handle, with the store that it has, may go to another thread.
 pub fn handles_may_cross() {

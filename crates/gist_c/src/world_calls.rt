@@ -1,0 +1,145 @@
+//! The calls of a world of any class, and of its takers, with what they promise in one word each.
+ghost use Rattle.std.specs.Prelude.{◌≡◌, [], IfOk};
+ghost use Rattle.gist_c.specs.Calls.{IsInsert, IsDelete, IsMove, IsSearch, IsSweep, ShowsCommit};
+ghost use Rattle.gist_c.specs.WorldCalls.{IsReading, IsRingFollowing, IsRingOpening, IsStoreCall, IsTurn, ShowsTaken, serial_of};
+ghost use Rattle.shared_store.specs.Shared.{Asks, Closes};
+
+use crate::buffers::write_rows;
+use crate::crossing::Crossing;
+use crate::shown;
+use cursor::Turned;
+use key_class::limits::MAX_ROOM;
+use key_class::{KeyClass, Refusal};
+use query_text::{ClassText, parse};
+use shared_store::{SharedStore, Taker};
+use std::alloc::Global;
+
+/// Adds a row.
+pub fn insert<C: KeyClass>(
+    world: &mut SharedStore<C>,
+    key: C::Key,
+    tag: u64,
+) -> Result<u64, Refusal>
+    ensures { IsStoreCall C.rules (IsInsert C.rules key tag) world.old result world.new }
+{
+    world.insert(key, tag)
+}
+
+/// Deletes a row.
+pub fn delete<C: KeyClass>(world: &mut SharedStore<C>, row: u64) -> Result<u64, Refusal>
+    ensures { IsStoreCall C.rules (IsDelete C.rules row) world.old result world.new }
+{
+    world.delete(row)
+}
+
+/// Moves a row.
+pub fn move_row<C: KeyClass>(
+    world: &mut SharedStore<C>,
+    row: u64,
+    key: C::Key,
+) -> Result<u64, Refusal>
+    ensures { IsStoreCall C.rules (IsMove C.rules row key) world.old result world.new }
+{
+    world.move_row(row, key)
+}
+
+/// Sweeps the dead rows that no scan needs.
+pub fn sweep<C: KeyClass>(world: &mut SharedStore<C>) -> Result<u64, Refusal>
+    ensures { IsStoreCall C.rules (IsSweep C.rules) world.old result world.new }
+{
+    world.sweep_all()
+}
+
+/// The commit with a number, as C is given it.
+pub fn commit<C: Crossing>(world: &SharedStore<C>, number: u64) -> Result<C::CItem, Refusal>
+    ensures { IsReading C.rules (ShowsCommit C.item_of number) world.now result world.now }
+{
+    Ok(C::item(shown::commit(number, world.commit(number))))
+}
+
+/// Puts the live rows that the query of a text asks for into a buffer, as many as fit, and tells how many there are.
+pub fn find<C: Crossing>(
+    alloc: Global,
+    world: &SharedStore<C>,
+    text: &[u8],
+    rows: &mut [C::CRow],
+) -> Result<u64, Refusal>
+    ensures { IsReading C.rules (IsSearch C.rules C.texts text.now C.row_of rows.old rows.new)
+        world.now result world.now }
+{
+    let query = parse::<C>(alloc, text)?;
+    let found = world.find(&query)?;
+    write_rows::<C>(rows, &found);
+    Ok(found.len() as u64)
+}
+
+/// Opens a cursor on the query of a text, with a ring of that room.
+pub fn open<C: ClassText>(
+    alloc: Global,
+    world: &mut SharedStore<C>,
+    text: &[u8],
+    room: u64,
+) -> Result<(u64, Taker<C::Key>), Refusal>
+    ensures opened { IsRingOpening C.rules C.texts text.now room
+        world.old (serial_of result) world.new }
+    ensures fresh { IfOk result (λ made. made.1.taken ≡ []) }
+{
+    if room == 0 || room > MAX_ROOM {
+        return Err(Refusal::BadConfig);
+    }
+    let query = parse::<C>(alloc, text)?;
+    world.open(query, room)
+}
+
+/// Opens a cursor on the query of a text that follows a commit, with a ring of that room.
+pub fn open_from<C: ClassText>(
+    alloc: Global,
+    world: &mut SharedStore<C>,
+    text: &[u8],
+    room: u64,
+    commit: u64,
+) -> Result<(u64, Taker<C::Key>), Refusal>
+    ensures opened { IsRingFollowing C.rules C.texts text.now room commit
+        world.old (serial_of result) world.new }
+    ensures fresh { IfOk result (λ made. made.1.taken ≡ []) }
+{
+    if room == 0 || room > MAX_ROOM {
+        return Err(Refusal::BadConfig);
+    }
+    let query = parse::<C>(alloc, text)?;
+    world.open_from(query, room, commit)
+}
+
+/// Turns a cursor once, and tells whether an item was sent into its ring.
+pub fn step<C: KeyClass>(world: &mut SharedStore<C>, cursor: u64) -> Result<bool, Refusal>
+    ensures { IsTurn C.rules C cursor world.old result world.new }
+{
+    match world.turn(cursor) {
+        Ok(Turned::Offered) => return Ok(true),
+        Ok(Turned::Visited(_)) => return Ok(false),
+        Ok(Turned::Passed(_)) => return Ok(false),
+        Err(why) => return Err(why),
+    }
+}
+
+/// Asks a cursor for a mark.
+pub fn mark<C: KeyClass>(world: &mut SharedStore<C>, cursor: u64) -> Result<(), Refusal>
+    ensures { Asks C.rules C cursor world.old result world.new }
+{
+    world.ask_mark(cursor)
+}
+
+/// Closes a cursor.
+pub fn close<C: KeyClass>(world: &mut SharedStore<C>, cursor: u64) -> Result<(), Refusal>
+    ensures { Closes C.rules C cursor world.old result world.new }
+{
+    world.close(cursor)
+}
+
+/// Takes an item out of a ring, as C is given it.
+pub fn take<C: Crossing>(taker: &mut Taker<C::Key>) -> Result<C::CItem, Refusal>
+    ensures { ShowsTaken C.item_of taker.old result taker.new }
+{
+    let given = taker.take();
+    Ok(C::item(shown::item(given)))
+}
