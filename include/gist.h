@@ -431,6 +431,183 @@ uint32_t gist_set_find(gist_store *store, const char *query, size_t length, gist
  */
 uint32_t gist_set_commit(gist_store *store, uint64_t number, gist_set_item *commit);
 
+/* --- worlds over rings, for several threads --- */
+
+/*
+ * A world is a store whose cursors send their items into rings. Who steps a cursor and who takes its items may be two
+ * threads: gist_step makes one turn of the cursor, and one of gist_interval_pop, gist_box_pop and gist_set_pop takes one
+ * item out of the ring, without the world and without a lock, and waits for nobody.
+ *
+ *     gist_world world = GIST_NO_WORLD;
+ *     gist_taker taker = GIST_NO_TAKER;
+ *     ...
+ *     gist_world_new(&world, GIST_INTERVALS, &limits)
+ *     gist_world_open(&world, query, strlen(query), 64, &taker, &cursor, &fault)
+ *
+ *     one thread, or several under a lock of their own:    another thread, which takes no lock:
+ *         gist_interval_world_insert(&world, ...)               gist_interval_pop(&taker, &item)
+ *         gist_step(&world, cursor, &sent)
+ *
+ * What every caller must keep, beside what the head of this file says
+ * ------------------------------------------------------------------
+ * - The handle of a world is given to one call at a time, as every handle: threads that share a world take a lock of
+ *   their own round each call of it. That is the one condition on them. The handle of a taker isn't the world's: calls
+ *   with it go on beside calls with the world, and beside those with other takers. They too are one at a time for each
+ *   taker.
+ * - An opening has both handles. Until it returns, the taker's is given to no other call.
+ * - A world and its takers may be dropped in any order.
+ *
+ * The items of a ring come out in the order in which they were sent, each once. A ring that is full takes nothing:
+ * gist_step is refused with GIST_NO_ROOM then, nothing changes, and the item is sent by a later turn.
+ */
+
+/* A handle of a world, or of none. */
+typedef struct gist_world {
+    bool is_open;
+    void *inside;
+} gist_world;
+
+/* A handle of a taker, from which the items of one ring are taken, or of none. */
+typedef struct gist_taker {
+    bool is_open;
+    void *inside;
+} gist_taker;
+
+/* What handles are before their first use: they have no world and no taker. */
+#define GIST_NO_WORLD {false, NULL}
+#define GIST_NO_TAKER {false, NULL}
+
+/* What gist_step answers, beside the refusals above. */
+enum {
+    GIST_NO_ROOM = 18, /* the ring is full */
+    GIST_IDLE = 19     /* the cursor has nothing to do: all was sent, and no mark is asked for */
+};
+
+/* Makes an empty world of a class for a handle that has none, as gist_new makes a store. */
+uint32_t gist_world_new(gist_world *world, uint32_t class_of_keys, const gist_limits *limits);
+
+/*
+ * Drops the world of a handle, if it has one. The handle has none then, and may be given to gist_world_new again. What
+ * its rings were sent can still be taken.
+ */
+void gist_world_drop(gist_world *world);
+
+/* Whether the handle has a world. */
+bool gist_world_is_open(const gist_world *world);
+
+/* How many commits the world has; 0 where the handle has none. */
+uint64_t gist_world_commits(gist_world *world);
+
+/* Deletes a row, and gives the commit's number, as gist_delete. */
+uint32_t gist_world_delete(gist_world *world, uint64_t row, uint64_t *commit);
+
+/*
+ * Opens a cursor on a query, with a ring of that room: 1 to 4,096 items. Gives the cursor's number, and puts the ring's
+ * taker into a handle that has none. By its turns the cursor sends the rows that match now, in some order, and then the
+ * later changes, as that of gist_open gives them.
+ *
+ * GIST_BAD_CONFIG where the room is out of its range or the handle has a taker already; else as gist_open.
+ */
+uint32_t gist_world_open(gist_world *world, const char *query, size_t length, uint64_t room, gist_taker *taker,
+                         uint64_t *cursor, uint64_t *fault);
+
+/*
+ * Opens a cursor that follows a commit, as gist_open_from, with a ring of that room. As gist_world_open;
+ * GIST_FROM_FUTURE where there are fewer commits than that, before GIST_CURSORS_FULL.
+ */
+uint32_t gist_world_open_from(gist_world *world, const char *query, size_t length, uint64_t room, uint64_t commit,
+                              gist_taker *taker, uint64_t *cursor, uint64_t *fault);
+
+/*
+ * Turns a cursor once: it reads one page, sends one item into its ring, or passes one commit that its query doesn't ask
+ * for. Tells whether an item was sent. GIST_OK may be followed by a further turn; each one that isn't refused lessens
+ * what is to be done, so without further changes there is an end.
+ *
+ * GIST_IDLE where nothing is to be done; GIST_NO_ROOM where the ring is full; GIST_NO_SUCH_CURSOR, GIST_CURSOR_CLOSED;
+ * GIST_OUT_OF_MEMORY, and the next call goes on. Nothing changes then.
+ */
+uint32_t gist_step(gist_world *world, uint64_t cursor, bool *sent);
+
+/*
+ * Asks a cursor for a mark, as gist_mark: it sends the mark into its ring once what was there is sent.
+ *
+ * GIST_NO_SUCH_CURSOR, GIST_CURSOR_CLOSED.
+ */
+uint32_t gist_world_mark(gist_world *world, uint64_t cursor);
+
+/*
+ * Closes a cursor. It sends nothing more; what it sent can still be taken.
+ *
+ * GIST_NO_SUCH_CURSOR, GIST_CURSOR_CLOSED.
+ */
+uint32_t gist_world_close(gist_world *world, uint64_t cursor);
+
+/* Removes the ended rows that no open cursor needs any more, as gist_sweep. */
+uint32_t gist_world_sweep(gist_world *world, uint64_t *removed);
+
+/*
+ * Drops the taker of a handle, if it has one. The handle has none then, and may be given to an opening again. The cursor
+ * stays open until it is closed, and its ring fills up.
+ */
+void gist_taker_drop(gist_taker *taker);
+
+/* Whether the handle has a taker. */
+bool gist_taker_is_open(const gist_taker *taker);
+
+/* Adds a row to a world of intervals, as gist_interval_insert. */
+uint32_t gist_interval_world_insert(gist_world *world, int64_t lo, int64_t hi, uint64_t tag, uint64_t *row);
+
+/* Moves a row of a world of intervals, as gist_interval_move. */
+uint32_t gist_interval_world_move(gist_world *world, uint64_t row, int64_t lo, int64_t hi, uint64_t *moved);
+
+/* Finds rows of a world of intervals, as gist_interval_find. */
+uint32_t gist_interval_world_find(gist_world *world, const char *query, size_t length, gist_interval_row *rows,
+                                  size_t room, uint64_t *found, uint64_t *fault);
+
+/* Tells a commit of a world of intervals, as gist_interval_commit. */
+uint32_t gist_interval_world_commit(gist_world *world, uint64_t number, gist_interval_item *commit);
+
+/*
+ * Takes the next item out of a ring of intervals, or tells GIST_NOTHING where none is there.
+ *
+ * GIST_BAD_CONFIG where the handle has no taker, or one of another class.
+ */
+uint32_t gist_interval_pop(gist_taker *taker, gist_interval_item *item);
+
+/* Adds a row to a world of boxes, as gist_box_insert. */
+uint32_t gist_box_world_insert(gist_world *world, int32_t x1, int32_t y1, int32_t x2, int32_t y2, uint64_t tag,
+                               uint64_t *row);
+
+/* Moves a row of a world of boxes, as gist_box_move. */
+uint32_t gist_box_world_move(gist_world *world, uint64_t row, int32_t x1, int32_t y1, int32_t x2, int32_t y2,
+                             uint64_t *moved);
+
+/* Finds rows of a world of boxes, as gist_box_find. */
+uint32_t gist_box_world_find(gist_world *world, const char *query, size_t length, gist_box_row *rows, size_t room,
+                             uint64_t *found, uint64_t *fault);
+
+/* Tells a commit of a world of boxes, as gist_box_commit. */
+uint32_t gist_box_world_commit(gist_world *world, uint64_t number, gist_box_item *commit);
+
+/* Takes the next item out of a ring of boxes, as gist_interval_pop. */
+uint32_t gist_box_pop(gist_taker *taker, gist_box_item *item);
+
+/* Adds a row to a world of sets, as gist_set_insert. */
+uint32_t gist_set_world_insert(gist_world *world, uint64_t low, uint64_t high, uint64_t tag, uint64_t *row);
+
+/* Moves a row of a world of sets, as gist_set_move. */
+uint32_t gist_set_world_move(gist_world *world, uint64_t row, uint64_t low, uint64_t high, uint64_t *moved);
+
+/* Finds rows of a world of sets, as gist_set_find. */
+uint32_t gist_set_world_find(gist_world *world, const char *query, size_t length, gist_set_row *rows, size_t room,
+                             uint64_t *found, uint64_t *fault);
+
+/* Tells a commit of a world of sets, as gist_set_commit. */
+uint32_t gist_set_world_commit(gist_world *world, uint64_t number, gist_set_item *commit);
+
+/* Takes the next item out of a ring of sets, as gist_interval_pop. */
+uint32_t gist_set_pop(gist_taker *taker, gist_set_item *item);
+
 #ifdef __cplusplus
 }
 #endif
