@@ -34,7 +34,7 @@ pub extern "C" fn gist_box_world_insert(
 ) -> u32
     ensures { Tells result row.old row.new (OnHandle
         (OfBoxWorld (WithKey (λ key. IsStoreCall box_rules (IsInsert box_rules key tag))
-            (box_of x1 y1 x2 y2)))
+        (box_of x1 y1 x2 y2)))
         world.old.inside.state world.new.inside.state) }
 {
     let key = box_key(x1, y1, x2, y2);
@@ -76,7 +76,7 @@ pub extern "C" fn gist_box_world_move(
 ) -> u32
     ensures { Tells result moved.old moved.new (OnHandle
         (OfBoxWorld (WithKey (λ key. IsStoreCall box_rules (IsMove box_rules row key))
-            (box_of x1 y1 x2 y2)))
+        (box_of x1 y1 x2 y2)))
         world.old.inside.state world.new.inside.state) }
 {
     let key = box_key(x1, y1, x2, y2);
@@ -165,12 +165,7 @@ pub extern "C" fn gist_box_world_find(
 }
 
 /// Finds rows of a world of boxes.
-fn find(
-    alloc: Global,
-    held: &AnyWorld,
-    query: &[u8],
-    rows: &mut [BoxRow],
-) -> Result<u64, Refusal>
+fn find(alloc: Global, held: &AnyWorld, query: &[u8], rows: &mut [BoxRow]) -> Result<u64, Refusal>
     ensures found { OfBoxWorld (IsReading box_rules (FindsBoxes query.now rows.old rows.new))
         held.now result held.now }
     ensures unfilled { OnErr result (rows.new ≡ rows.old) }
@@ -183,11 +178,7 @@ fn find(
 
 /// Takes an item out of a ring, or tells that none was seen. It needs no world, and waits for nobody.
 #[unsafe(no_mangle)]
-pub extern "C" fn gist_box_pop(
-    alloc: Global,
-    taker: &mut TakerHandle,
-    item: &mut BoxItem,
-) -> u32
+pub extern "C" fn gist_box_pop(alloc: Global, taker: &mut TakerHandle, item: &mut BoxItem) -> u32
     ensures { Tells result item.old item.new (OnHandle
         (OfBoxTaker (ShowsTaken box_item))
         taker.old.inside.state taker.new.inside.state) }

@@ -32,7 +32,7 @@ pub extern "C" fn gist_interval_world_insert(
 ) -> u32
     ensures { Tells result row.old row.new (OnHandle
         (OfIntervalWorld (WithKey (λ key. IsStoreCall interval_rules (IsInsert interval_rules key tag))
-            (interval_of lo hi)))
+        (interval_of lo hi)))
         world.old.inside.state world.new.inside.state) }
 {
     let key = interval(lo, hi);
@@ -72,7 +72,7 @@ pub extern "C" fn gist_interval_world_move(
 ) -> u32
     ensures { Tells result moved.old moved.new (OnHandle
         (OfIntervalWorld (WithKey (λ key. IsStoreCall interval_rules (IsMove interval_rules row key))
-            (interval_of lo hi)))
+        (interval_of lo hi)))
         world.old.inside.state world.new.inside.state) }
 {
     let key = interval(lo, hi);

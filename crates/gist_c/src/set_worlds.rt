@@ -150,12 +150,7 @@ pub extern "C" fn gist_set_world_find(
 }
 
 /// Finds rows of a world of sets.
-fn find(
-    alloc: Global,
-    held: &AnyWorld,
-    query: &[u8],
-    rows: &mut [SetRow],
-) -> Result<u64, Refusal>
+fn find(alloc: Global, held: &AnyWorld, query: &[u8], rows: &mut [SetRow]) -> Result<u64, Refusal>
     ensures found { OfSetWorld (IsReading set_rules (FindsSets query.now rows.old rows.new))
         held.now result held.now }
     ensures unfilled { OnErr result (rows.new ≡ rows.old) }
@@ -168,11 +163,7 @@ fn find(
 
 /// Takes an item out of a ring, or tells that none was seen. It needs no world, and waits for nobody.
 #[unsafe(no_mangle)]
-pub extern "C" fn gist_set_pop(
-    alloc: Global,
-    taker: &mut TakerHandle,
-    item: &mut SetItem,
-) -> u32
+pub extern "C" fn gist_set_pop(alloc: Global, taker: &mut TakerHandle, item: &mut SetItem) -> u32
     ensures { Tells result item.old item.new (OnHandle
         (OfSetTaker (ShowsTaken set_item))
         taker.old.inside.state taker.new.inside.state) }

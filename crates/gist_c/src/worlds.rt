@@ -146,8 +146,8 @@ pub extern "C" fn gist_world_open(
 ) -> u32
     ensures opened { is_held taker.old.inside.state ≡ false
         → Tells result cursor.old cursor.new (TellsFault fault.old fault.new (OnHandle
-            (OfWorld (λ C K A rules texts. IsRingOpening rules texts query.now room))
-            world.old.inside.state world.new.inside.state)) }
+        (OfWorld (λ C K A rules texts. IsRingOpening rules texts query.now room))
+        world.old.inside.state world.new.inside.state)) }
     ensures taker { result ≡ 0 → HasTaker world.new.inside.state taker.new.inside.state }
     ensures kept { result ≢ 0 → taker.new.inside.state ≡ taker.old.inside.state }
     ensures held { is_held taker.old.inside.state ≡ true → (result ≡ 2)
@@ -203,8 +203,8 @@ pub extern "C" fn gist_world_open_from(
 ) -> u32
     ensures opened { is_held taker.old.inside.state ≡ false
         → Tells result cursor.old cursor.new (TellsFault fault.old fault.new (OnHandle
-            (OfWorld (λ C K A rules texts. IsRingFollowing rules texts query.now room commit))
-            world.old.inside.state world.new.inside.state)) }
+        (OfWorld (λ C K A rules texts. IsRingFollowing rules texts query.now room commit))
+        world.old.inside.state world.new.inside.state)) }
     ensures taker { result ≡ 0 → HasTaker world.new.inside.state taker.new.inside.state }
     ensures kept { result ≢ 0 → taker.new.inside.state ≡ taker.old.inside.state }
     ensures held { is_held taker.old.inside.state ≡ true → (result ≡ 2)
@@ -306,11 +306,7 @@ pub extern "C" fn gist_world_close(alloc: Global, world: &mut WorldHandle, curso
 
 /// Removes the dead rows that no scan needs, and tells how many they were.
 #[unsafe(no_mangle)]
-pub extern "C" fn gist_world_sweep(
-    alloc: Global,
-    world: &mut WorldHandle,
-    removed: &mut u64,
-) -> u32
+pub extern "C" fn gist_world_sweep(alloc: Global, world: &mut WorldHandle, removed: &mut u64) -> u32
     ensures { Tells result removed.old removed.new (OnHandle
         (OfWorld (λ C K A rules texts. IsStoreCall rules (IsSweep rules)))
         world.old.inside.state world.new.inside.state) }

@@ -218,11 +218,7 @@ impl<C: KeyClass> SharedStore<C> {
     /// # Errors
     /// `BadConfig` where the room isn't from 1 to 4,096 or the query is deeper than 32, else `CursorsFull`, else want of
     /// memory.
-    pub fn open(
-        &mut self,
-        query: Pred<C::Atom>,
-        room: u64,
-    ) -> Result<(u64, Taker<C::Key>), Refusal>
+    pub fn open(&mut self, query: Pred<C::Atom>, room: u64) -> Result<(u64, Taker<C::Key>), Refusal>
         ensures ok { IfOk result (λ made.
             Opens self.old (opened_cursor self.old query room) made.0 self.new) }
         ensures fresh { IfOk result (λ made. made.1.taken ≡ []) }
