@@ -3,10 +3,7 @@ use Rattle.std.proofs.Common.{◌≡◌, ℕ, List, Some, refl, ap, ◌∙◌, s
 use Rattle.key_class.specs.Rules.{Rules}
 use Rattle.mailbox.specs.Rings.{ring_rule}
 use Rattle.cursor.specs.OpenCursors.{OpenCursor}
-use Rattle.world.specs.Calls.{IsOneStep}
-use Rattle.world.specs.declared.event.Event.{Event}
-use Rattle.world.specs.declared.reply.Reply.{Reply}
-use Rattle.world.specs.Promises.{MailboxesFit}
+use Rattle.world.specs.Promises.{KeepsMailboxes, MailboxesFit}
 use Rattle.world.specs.Resting.{Rests}
 use Rattle.world.specs.Serials.{member}
 use Rattle.world.specs.States.{State, cursor_at}
@@ -24,5 +21,5 @@ module _ {K A : Type 0} (rules : Rules K A) (old new : State K A) where
   rests_shared rests finders shared = record { no_finder = finders ∙ shared.no_finder; rings = rings_fit rests shared.rings }
 
   -- an event that opens a cursor
-  pub opened_shared : {C O E : Type 0} (e : Event C K A) (r : Reply C O K A E) (cursor : OpenCursor K A) (c : ℕ) → IsOneStep C O E rules ring_rule 0 old e r new → Opens old cursor c new → IsShared rules old → IsShared rules new
-  opened_shared e r cursor c step opens shared = record { no_finder = ap (λ (s : State K A). s.finders) opens.after ∙ shared.no_finder; rings = step.mailboxes refl shared.rings }
+  pub opened_shared : (cursor : OpenCursor K A) (c : ℕ) → KeepsMailboxes rules ring_rule old new → Opens old cursor c new → IsShared rules old → IsShared rules new
+  opened_shared cursor c keeps opens shared = record { no_finder = ap (λ (s : State K A). s.finders) opens.after ∙ shared.no_finder; rings = keeps refl shared.rings }
