@@ -1,6 +1,7 @@
 mod Threads
 mod Ends
 mod Inserting
+mod Openings
 mod StoreBoxes
 mod TakerBoxes
 mod TakerThreads
