@@ -6,22 +6,33 @@ use Rattle.key_class.specs.Refusals.{number_of}
 use Rattle.key_class.specs.declared.refusal.Refusal.{Refusal}
 use Rattle.key_class.specs.declared.refusal.Refusal.TheVariants.{OutOfMemory, BadConfig, PagesFull, CommitsFull, CursorsFull, FindersFull, NotHere, NodeFull, TooFew, Uncovered, Owed, Unhung, BadSides, NoSuchRow, AlreadyDeleted, NoSuchCursor, CursorClosed, NoRoom, Idle, NoSuchFinder, QueryText, Line, FromFuture}
 use Rattle.query_text.specs.ClassTexts.{Texts}
+use Rattle.query_text.specs.Grammar.{RefusesText, IsParseRefusal}
 use Rattle.world.specs.States.{State}
 use Rattle.gist_c.specs.Answers.{code_of}
-use Rattle.gist_c.specs.WorldCalls.{IsRingOpening, IsRingFollowing}
+use Rattle.gist_c.specs.WorldCalls.{IsBadRoom, IsRingOpening, IsRingFollowing, RefusesRing, RefusesFollowing}
 use Rattle.gist_c.specs.WorldClasses.{OfWorld}
 use Rattle.gist_c.specs.declared.any_world.AnyWorld.{AnyWorld}
 use Rattle.gist_c.specs.declared.any_world.AnyWorld.TheVariants.{Intervals, Boxes, Sets}
 
+module _ {K A : Type 0} (rules : Rules K A) (texts : Texts K A) (text : List ℕ) (room : ℕ) (old : State K A) where
+  pub text_refused : (why : Refusal) → IsParseRefusal why → ((place : ℕ) → why ≡ QueryText place → RefusesText texts text place) → RefusesRing rules texts text room old why
+  text_refused why (inl o) refused = record { bad = λ e. absurd (cc); refused = refused; full = λ e. absurd (cc); refusals = inr (inr (inl o)) }
+  text_refused why (inr q) refused = record { bad = λ e. absurd (let n = q.1 in cc); refused = refused; full = λ e. absurd (let n = q.1 in cc); refusals = inr (inr (inr q)) }
+
+  module _ (commit : ℕ) where
+    pub text_refused_from : (why : Refusal) → IsParseRefusal why → ((place : ℕ) → why ≡ QueryText place → RefusesText texts text place) → RefusesFollowing rules texts text room commit old why
+    text_refused_from why (inl o) refused = record { bad = λ e. absurd (cc); refused = refused; future = λ e. absurd (cc); full = λ e. absurd (cc); refusals = inr (inr (inr (inl o))) }
+    text_refused_from why (inr q) refused = record { bad = λ e. absurd (let n = q.1 in cc); refused = refused; future = λ e. absurd (let n = q.1 in cc); full = λ e. absurd (let n = q.1 in cc); refusals = inr (inr (inr (inr q))) }
+
+-- for want of a place no cursor is opened, whatever the class
 module _ (text : List ℕ) (room : ℕ) where
   module _ {K A : Type 0} (rules : Rules K A) (texts : Texts K A) (s : State K A) where
     no_opening : IsRingOpening rules texts text room s (Err OutOfMemory) s
-    no_opening = record { ok = tt; err = refl; bad = λ e. absurd (cc); not_bad = tt; refused = λ place e. absurd (cc); full = λ e. absurd (cc); not_full = tt; refusals = inr (inr (inl refl)) }
+    no_opening = record { ok = tt; err = text_refused rules texts text room s OutOfMemory (inl refl) (λ place e. absurd (cc)); unchanged = refl }
 
     no_following : (commit : ℕ) → IsRingFollowing rules texts text room commit s (Err OutOfMemory) s
-    no_following commit = record { ok = tt; err = refl; bad = λ e. absurd (cc); not_bad = tt; refused = λ place e. absurd (cc); future = λ e. absurd (cc); not_future = tt; full = λ e. absurd (cc); not_full = tt; refusals = inr (inr (inr (inl refl))) }
+    no_following commit = record { ok = tt; there = tt; err = text_refused_from rules texts text room s commit OutOfMemory (inl refl) (λ place e. absurd (cc)); unchanged = refl }
 
-  -- for want of a place no cursor is opened, whatever the class
   pub unopened : (world : AnyWorld) → OfWorld (λ C K A rules texts. IsRingOpening rules texts text room) world (Err OutOfMemory) world
   unopened (Intervals s) = no_opening _ _ s
   unopened (Boxes s) = no_opening _ _ s

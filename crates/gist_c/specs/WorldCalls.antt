@@ -6,9 +6,9 @@ use Rattle.key_class.specs.Queries.{query_of}
 use Rattle.key_class.specs.Rules.{Rules}
 use Rattle.key_class.specs.declared.pred.Pred.{Pred}
 use Rattle.key_class.specs.declared.refusal.Refusal.{Refusal}
-use Rattle.key_class.specs.declared.refusal.Refusal.TheVariants.{BadConfig, CursorsFull, FromFuture}
+use Rattle.key_class.specs.declared.refusal.Refusal.TheVariants.{BadConfig, CursorsFull, FromFuture, QueryText}
 use Rattle.query_text.specs.ClassTexts.{Texts}
-use Rattle.query_text.specs.Grammar.{SpellsText, RefusesText, IfQueryText}
+use Rattle.query_text.specs.Grammar.{SpellsText, RefusesText}
 use Rattle.change_list.specs.declared.item.Item.{Item}
 use Rattle.cursor.specs.OpenCursors.{OpenCursor}
 use Rattle.cursor.specs.declared.cursor.Turned.{Turned}
@@ -33,12 +33,6 @@ has_sent (Ok (turned.Visited page)) = Ok false
 has_sent (Ok (turned.Passed n)) = Ok false
 has_sent (Err why) = Err why
 
-module _ {V T : Type 0} where
-  -- an opening's answer without the ring's taker
-  abbrev pub serial_of : Result (V × T) Refusal → Result V Refusal
-  serial_of (Ok made) = Ok made.0
-  serial_of (Err why) = Err why
-
 module _ {K A : Type 0} (rules : Rules K A) where
   -- a call of the store that a world shows, which sends nothing into a ring
   pub record IsStoreCall {V : Type 0} (call : StoreState K A → Result V Refusal → StoreState K A → Type 0) (old : State K A) (answer : Result V Refusal) (new : State K A) : Type 0 where
@@ -62,30 +56,36 @@ module _ {K A : Type 0} (rules : Rules K A) where
       pub query : Pred A
       pub spelled : SpellsText texts text (query_of query)
       pub opened : Opens old (cursor_for query) cursor new
+      pub right_room : ¬ IsBadRoom room
+      pub not_full : ¬ IsFullOf (shared_state rules old)
+
+    -- why none is opened at the present commits
+    pub record RefusesRing (old : State K A) (why : Refusal) : Type 0 where
+      pub bad : why ≡ BadConfig → IsBadRoom room
+      pub refused : (place : ℕ) → why ≡ QueryText place → RefusesText texts text place
+      pub full : why ≡ CursorsFull → IsFullOf (shared_state rules old)
+      pub refusals : (why ≡ BadConfig) ⊎ RefusesOpening why
 
     -- a cursor is opened at the present commits, with a ring of that room
     pub record IsRingOpening (old : State K A) (answer : Result ℕ Refusal) (new : State K A) : Type 0 where
       pub ok : IfOk answer (λ c. OpensRing (λ query. opened_cursor old query room) old c new)
-      pub err : OnErr answer (new ≡ old)
-      pub bad : (answer ≡ Err BadConfig) → IsBadRoom room
-      pub not_bad : OnOk answer (¬ IsBadRoom room)
-      pub refused : IfQueryText answer (RefusesText texts text)
-      pub full : (answer ≡ Err CursorsFull) → IsFullOf (shared_state rules old)
-      pub not_full : OnOk answer (¬ IsFullOf (shared_state rules old))
-      pub refusals : IfErr answer (λ why. (why ≡ BadConfig) ⊎ RefusesOpening why)
+      pub err : IfErr answer (λ why. RefusesRing old why)
+      pub unchanged : OnErr answer (new ≡ old)
 
-    -- a cursor is opened that follows a commit, with a ring of that room
+    -- why none is opened that follows a commit
+    pub record RefusesFollowing (commit : ℕ) (old : State K A) (why : Refusal) : Type 0 where
+      pub bad : why ≡ BadConfig → IsBadRoom room
+      pub refused : (place : ℕ) → why ≡ QueryText place → RefusesText texts text place
+      pub future : why ≡ FromFuture → length old.commits < commit
+      pub full : why ≡ CursorsFull → (commit ≤ length old.commits) × IsFullOf (shared_state rules old)
+      pub refusals : (why ≡ BadConfig) ⊎ (why ≡ FromFuture) ⊎ RefusesOpening why
+
+    -- a cursor is opened that follows a commit, which is there, with a ring of that room
     pub record IsRingFollowing (commit : ℕ) (old : State K A) (answer : Result ℕ Refusal) (new : State K A) : Type 0 where
       pub ok : IfOk answer (λ c. OpensRing (λ query. following_cursor old query room commit) old c new)
-      pub err : OnErr answer (new ≡ old)
-      pub bad : (answer ≡ Err BadConfig) → IsBadRoom room
-      pub not_bad : OnOk answer (¬ IsBadRoom room)
-      pub refused : IfQueryText answer (RefusesText texts text)
-      pub future : (answer ≡ Err FromFuture) → length old.commits < commit
-      pub not_future : OnOk answer (commit ≤ length old.commits)
-      pub full : (answer ≡ Err CursorsFull) → (commit ≤ length old.commits) × IsFullOf (shared_state rules old)
-      pub not_full : OnOk answer (¬ IsFullOf (shared_state rules old))
-      pub refusals : IfErr answer (λ why. (why ≡ BadConfig) ⊎ (why ≡ FromFuture) ⊎ RefusesOpening why)
+      pub there : OnOk answer (commit ≤ length old.commits)
+      pub err : IfErr answer (λ why. RefusesFollowing commit old why)
+      pub unchanged : OnErr answer (new ≡ old)
 
 -- a taker is asked for an item, which is shown, or that none was seen
 pub record ShowsTaken {K I : Type 0} (item_of : Shown K → I) (old : TakerState K) (answer : Result I Refusal) (new : TakerState K) : Type 0 where

@@ -1,11 +1,11 @@
-ghost use Rattle.std.specs.Prelude.{◌≡◌, ◌↔◌, Err, IfOk, IfErr};
+ghost use Rattle.std.specs.Prelude.{◌≡◌, ◌↔◌, Err, IfOk, IfErr, OnOk};
 ghost use Rattle.key_class.specs.declared.refusal.Refusal.TheVariants.{BadConfig, OutOfMemory};
 ghost use Rattle.key_class.specs.Refusals.{IsEither};
 ghost use Rattle.change_list.specs.Configs.{IsWithinLimits};
 ghost use Rattle.shared_store.specs.Shared.{Asks, Closes};
 ghost use Rattle.gist_c.specs.Calls.{IsDelete, IsSweep};
 ghost use Rattle.gist_c.specs.Classes.{IsClass};
-ghost use Rattle.gist_c.specs.WorldCalls.{IsRingFollowing, IsRingOpening, IsStoreCall, IsTurn, serial_of};
+ghost use Rattle.gist_c.specs.WorldCalls.{IsRingFollowing, IsRingOpening, IsStoreCall, IsTurn};
 ghost use Rattle.gist_c.specs.WorldClasses.{IsFreshFor, IsNewWorld, OfWorld, RingsFit, commits_of_world};
 
 use crate::any_taker::AnyTaker;
@@ -68,60 +68,86 @@ impl AnyWorld {
         }
     }
 
-    /// Opens a cursor on the query of a text, with a ring of that room: its serial, and the ring's taker.
+    /// Opens a cursor on the query of a text, with a ring of that room: its serial. The ring's taker comes into the place.
     pub fn open(
         &mut self,
         alloc: Global,
         text: &[u8],
         room: u64,
-    ) -> Result<(u64, AnyTaker), Refusal>
+        place: &mut AnyTaker,
+    ) -> Result<u64, Refusal>
         ensures opened { OfWorld (λ C K A rules texts. IsRingOpening rules texts text.now room)
-            self.old (serial_of result) self.new }
-        ensures taker { IfOk result (λ made. IsFreshFor self.new made.1) }
+            self.old result self.new }
+        ensures taker { OnOk result (IsFreshFor self.new place.new) }
     {
         match self {
-            AnyWorld::Intervals(world) => {
-                let (cursor, taker) = world_calls::open(alloc, world, text, room)?;
-                Ok((cursor, AnyTaker::Intervals(taker)))
-            }
-            AnyWorld::Boxes(world) => {
-                let (cursor, taker) = world_calls::open(alloc, world, text, room)?;
-                Ok((cursor, AnyTaker::Boxes(taker)))
-            }
-            AnyWorld::Sets(world) => {
-                let (cursor, taker) = world_calls::open(alloc, world, text, room)?;
-                Ok((cursor, AnyTaker::Sets(taker)))
-            }
+            AnyWorld::Intervals(world) => match world_calls::open(alloc, world, text, room) {
+                Ok((cursor, taker)) => {
+                    *place = AnyTaker::Intervals(taker);
+                    return Ok(cursor);
+                }
+                Err(why) => return Err(why),
+            },
+            AnyWorld::Boxes(world) => match world_calls::open(alloc, world, text, room) {
+                Ok((cursor, taker)) => {
+                    *place = AnyTaker::Boxes(taker);
+                    return Ok(cursor);
+                }
+                Err(why) => return Err(why),
+            },
+            AnyWorld::Sets(world) => match world_calls::open(alloc, world, text, room) {
+                Ok((cursor, taker)) => {
+                    *place = AnyTaker::Sets(taker);
+                    return Ok(cursor);
+                }
+                Err(why) => return Err(why),
+            },
         }
     }
 
-    /// Opens a cursor on the query of a text that follows a commit, with a ring of that room: its serial, and the ring's
-    /// taker.
+    /// Opens a cursor on the query of a text that follows a commit, with a ring of that room: its serial. The ring's taker
+    /// comes into the place.
     pub fn open_from(
         &mut self,
         alloc: Global,
         text: &[u8],
         room: u64,
         commit: u64,
-    ) -> Result<(u64, AnyTaker), Refusal>
+        place: &mut AnyTaker,
+    ) -> Result<u64, Refusal>
         ensures opened { OfWorld
             (λ C K A rules texts. IsRingFollowing rules texts text.now room commit)
-            self.old (serial_of result) self.new }
-        ensures taker { IfOk result (λ made. IsFreshFor self.new made.1) }
+            self.old result self.new }
+        ensures taker { OnOk result (IsFreshFor self.new place.new) }
     {
         match self {
-            AnyWorld::Intervals(world) => {
-                let (cursor, taker) = world_calls::open_from(alloc, world, text, room, commit)?;
-                Ok((cursor, AnyTaker::Intervals(taker)))
-            }
-            AnyWorld::Boxes(world) => {
-                let (cursor, taker) = world_calls::open_from(alloc, world, text, room, commit)?;
-                Ok((cursor, AnyTaker::Boxes(taker)))
-            }
-            AnyWorld::Sets(world) => {
-                let (cursor, taker) = world_calls::open_from(alloc, world, text, room, commit)?;
-                Ok((cursor, AnyTaker::Sets(taker)))
-            }
+            AnyWorld::Intervals(world) => match world_calls::open_from(
+                alloc, world, text, room, commit,
+            ) {
+                Ok((cursor, taker)) => {
+                    *place = AnyTaker::Intervals(taker);
+                    return Ok(cursor);
+                }
+                Err(why) => return Err(why),
+            },
+            AnyWorld::Boxes(world) => match world_calls::open_from(
+                alloc, world, text, room, commit,
+            ) {
+                Ok((cursor, taker)) => {
+                    *place = AnyTaker::Boxes(taker);
+                    return Ok(cursor);
+                }
+                Err(why) => return Err(why),
+            },
+            AnyWorld::Sets(world) => match world_calls::open_from(
+                alloc, world, text, room, commit,
+            ) {
+                Ok((cursor, taker)) => {
+                    *place = AnyTaker::Sets(taker);
+                    return Ok(cursor);
+                }
+                Err(why) => return Err(why),
+            },
         }
     }
 

@@ -1,14 +1,14 @@
 //! The calls of a world of any class, and of its takers, with what they promise in one word each.
-ghost use Rattle.std.specs.Prelude.{◌≡◌, [], IfOk};
+ghost use Rattle.std.specs.Prelude.{◌≡◌, ◌≤◌, [], length, IfErr, IfOk, OnErr, OnOk};
 ghost use Rattle.gist_c.specs.Calls.{IsInsert, IsDelete, IsMove, IsSearch, IsSweep, ShowsCommit};
-ghost use Rattle.gist_c.specs.WorldCalls.{IsReading, IsRingFollowing, IsRingOpening, IsStoreCall, IsTurn, ShowsTaken, serial_of};
+ghost use Rattle.gist_c.specs.WorldCalls.{IsReading, IsStoreCall, IsTurn, OpensRing, RefusesFollowing, RefusesRing, ShowsTaken};
 ghost use Rattle.shared_store.specs.Shared.{Asks, Closes};
+ghost use Rattle.world.specs.Steps.{following_cursor, opened_cursor};
 
 use crate::buffers::write_rows;
 use crate::crossing::Crossing;
 use crate::shown;
 use cursor::Turned;
-use key_class::limits::MAX_ROOM;
 use key_class::{KeyClass, Refusal};
 use query_text::{ClassText, parse};
 use shared_store::{SharedStore, Taker};
@@ -73,25 +73,30 @@ pub fn find<C: Crossing>(
     Ok(found.len() as u64)
 }
 
-/// Opens a cursor on the query of a text, with a ring of that room.
+/// Opens a cursor on the query of a text, with a ring of that room: its serial, and the ring's taker.
 pub fn open<C: ClassText>(
     alloc: Global,
     world: &mut SharedStore<C>,
     text: &[u8],
     room: u64,
 ) -> Result<(u64, Taker<C::Key>), Refusal>
-    ensures opened { IsRingOpening C.rules C.texts text.now room
-        world.old (serial_of result) world.new }
+    ensures ok { IfOk result (λ made. OpensRing C.rules C.texts text.now room
+        (λ query. opened_cursor world.old query room) world.old made.0 world.new) }
     ensures fresh { IfOk result (λ made. made.1.taken ≡ []) }
+    ensures err { IfErr result (λ why. RefusesRing C.rules C.texts text.now room world.old why) }
+    ensures unchanged { OnErr result (world.new ≡ world.old) }
 {
-    if room == 0 || room > MAX_ROOM {
-        return Err(Refusal::BadConfig);
+    let query = match parse::<C>(alloc, text) {
+        Ok(query) => query,
+        Err(why) => return Err(why),
+    };
+    match world.open(query, room) {
+        Ok((cursor, taker)) => return Ok((cursor, taker)),
+        Err(why) => return Err(why),
     }
-    let query = parse::<C>(alloc, text)?;
-    world.open(query, room)
 }
 
-/// Opens a cursor on the query of a text that follows a commit, with a ring of that room.
+/// Opens a cursor on the query of a text that follows a commit, with a ring of that room: its serial, and the ring's taker.
 pub fn open_from<C: ClassText>(
     alloc: Global,
     world: &mut SharedStore<C>,
@@ -99,15 +104,22 @@ pub fn open_from<C: ClassText>(
     room: u64,
     commit: u64,
 ) -> Result<(u64, Taker<C::Key>), Refusal>
-    ensures opened { IsRingFollowing C.rules C.texts text.now room commit
-        world.old (serial_of result) world.new }
+    ensures ok { IfOk result (λ made. OpensRing C.rules C.texts text.now room
+        (λ query. following_cursor world.old query room commit) world.old made.0 world.new) }
+    ensures there { OnOk result (commit ≤ length world.old.commits) }
     ensures fresh { IfOk result (λ made. made.1.taken ≡ []) }
+    ensures err { IfErr result
+        (λ why. RefusesFollowing C.rules C.texts text.now room commit world.old why) }
+    ensures unchanged { OnErr result (world.new ≡ world.old) }
 {
-    if room == 0 || room > MAX_ROOM {
-        return Err(Refusal::BadConfig);
+    let query = match parse::<C>(alloc, text) {
+        Ok(query) => query,
+        Err(why) => return Err(why),
+    };
+    match world.open_from(query, room, commit) {
+        Ok((cursor, taker)) => return Ok((cursor, taker)),
+        Err(why) => return Err(why),
     }
-    let query = parse::<C>(alloc, text)?;
-    world.open_from(query, room, commit)
 }
 
 /// Turns a cursor once, and tells whether an item was sent into its ring.

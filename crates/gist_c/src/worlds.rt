@@ -1,12 +1,12 @@
 //! What can be asked of a world of any class, and of a taker of its rings.
-ghost use Rattle.std.specs.Prelude.{◌≡◌, ◌≢◌, ◌↔◌, ◌≤◌, true, false, Some, None, IfOk, IfSome, IsSomeAnd, OnErr, OnOk};
+ghost use Rattle.std.specs.Prelude.{◌≡◌, ◌≢◌, ◌↔◌, ◌≤◌, true, false, None, IfSome, IsSomeAnd, OnErr, OnOk};
 ghost use Rattle.change_list.specs.Configs.{IsWithinLimits};
 ghost use Rattle.shared_store.specs.Shared.{Asks, Closes};
 ghost use Rattle.gist_c.specs.Answers.{TellsCode, Tells, TellsFault};
 ghost use Rattle.gist_c.specs.Calls.{IsDelete, IsSweep};
 ghost use Rattle.gist_c.specs.Classes.{OnHandle, IsClass, config_of};
 ghost use Rattle.gist_c.specs.Owning.{is_held};
-ghost use Rattle.gist_c.specs.WorldCalls.{IsRingFollowing, IsRingOpening, IsStoreCall, IsTurn, serial_of};
+ghost use Rattle.gist_c.specs.WorldCalls.{IsRingFollowing, IsRingOpening, IsStoreCall, IsTurn};
 ghost use Rattle.gist_c.specs.WorldClasses.{HasTaker, IsFreshFor, IsNewWorld, OfWorld, RingsFit, commits_of_world};
 
 use crate::answers::{code, no_store, tell, tell_fault};
@@ -114,24 +114,6 @@ pub extern "C" fn gist_world_delete(
     }
 }
 
-/// Puts the taker of an opening into the place that was made for it, and that into a handle that has none.
-fn keep(
-    taker: &mut TakerHandle,
-    place: Box<AnyTaker>,
-    made: Result<(u64, AnyTaker), Refusal>,
-) -> Result<u64, Refusal>
-    requires { taker.old.inside.state ≡ None }
-    ensures serial { result ≡ serial_of made }
-    ensures taker { IfOk made (λ opened. taker.new.inside.state ≡ Some opened.1) }
-    ensures kept { OnErr made (taker.new.inside.state ≡ None) }
-{
-    let (cursor, end) = made?;
-    let mut place = place;
-    *place = end;
-    taker.put(place);
-    Ok(cursor)
-}
-
 /// Opens a cursor at the present commits, on the query of a text, with a ring of that room, and puts the ring's taker into a
 /// handle that has none. Where the text is refused, `fault` gets the place of the byte.
 #[unsafe(no_mangle)]
@@ -182,10 +164,16 @@ fn open(
     ensures taker { OnOk result (IsSomeAnd taker.new.inside.state (IsFreshFor held.new)) }
     ensures kept { OnErr result (taker.new.inside.state ≡ None) }
 {
-    let Ok(place) = Box::new(alloc, AnyTaker::Awaited) else {
+    let Ok(mut place) = Box::new(alloc, AnyTaker::Awaited) else {
         return Err(Refusal::OutOfMemory);
     };
-    keep(taker, place, held.open(alloc, query, room))
+    match held.open(alloc, query, room, &mut place) {
+        Ok(cursor) => {
+            taker.put(place);
+            return Ok(cursor);
+        }
+        Err(why) => return Err(why),
+    }
 }
 
 /// Opens a cursor that follows a commit, on the query of a text, with a ring of that room, and puts the ring's taker into a
@@ -241,10 +229,16 @@ fn open_from(
     ensures taker { OnOk result (IsSomeAnd taker.new.inside.state (IsFreshFor held.new)) }
     ensures kept { OnErr result (taker.new.inside.state ≡ None) }
 {
-    let Ok(place) = Box::new(alloc, AnyTaker::Awaited) else {
+    let Ok(mut place) = Box::new(alloc, AnyTaker::Awaited) else {
         return Err(Refusal::OutOfMemory);
     };
-    keep(taker, place, held.open_from(alloc, query, room, commit))
+    match held.open_from(alloc, query, room, commit, &mut place) {
+        Ok(cursor) => {
+            taker.put(place);
+            return Ok(cursor);
+        }
+        Err(why) => return Err(why),
+    }
 }
 
 /// Turns a cursor once: it visits one page of its scan, sends one item into its ring, or passes one commit. Tells whether an

@@ -15,7 +15,7 @@ ghost use Rattle.shared_store.specs.Shared.{Turns, Asks, Closes, shared_state};
 use crate::taker::Taker;
 use change_list::{Config, Row, Write};
 use cursor::Turned;
-use key_class::limits::MAX_DEPTH;
+use key_class::limits::{MAX_DEPTH, MAX_ROOM};
 use key_class::{KeyClass, Pred, Refusal};
 use mailbox::Ring;
 use std::alloc::Global;
@@ -228,8 +228,13 @@ impl<C: KeyClass> SharedStore<C> {
             ↔ HasNoCursorFor (shared_state C.rules self.old) (query_of query) room }
         ensures refusals { IfErr result RefusesCursor }
     {
-        let (serial, end) = self.world.open_cursor(query, room)?;
-        Ok((serial, Taker::new(end)))
+        if room == 0 || room > MAX_ROOM {
+            return Err(Refusal::BadConfig);
+        }
+        match self.world.open_cursor(query, room) {
+            Ok((serial, end)) => return Ok((serial, Taker::new(end))),
+            Err(refusal) => return Err(refusal),
+        }
     }
 
     /// Opens a cursor that follows a commit, with a ring of that room: it sends the changes after the commit, and no row of
@@ -255,8 +260,13 @@ impl<C: KeyClass> SharedStore<C> {
             ↔ HasNoFollowerFor (shared_state C.rules self.old) (query_of query) room commit }
         ensures refusals { IfErr result RefusesFollower }
     {
-        let (serial, end) = self.world.follow_commit(query, room, commit)?;
-        Ok((serial, Taker::new(end)))
+        if room == 0 || room > MAX_ROOM {
+            return Err(Refusal::BadConfig);
+        }
+        match self.world.follow_commit(query, room, commit) {
+            Ok((serial, end)) => return Ok((serial, Taker::new(end))),
+            Err(refusal) => return Err(refusal),
+        }
     }
 
     /// Turns a cursor once: it visits one page of its scan, sends one item into its ring, or passes one commit.

@@ -5,6 +5,7 @@ use Rattle.mailbox.specs.Rings.{ring_rule}
 use Rattle.change_list.specs.declared.write.Write.TheVariants.{Delete}
 use Rattle.world.specs.Resting.{deaths}
 use Rattle.store.proofs.Keeping.{on_ok, on_errs, commits_write, keeps, dead_rows_permuted}
+use Rattle.shared_store.proofs.Sharing.{rests_shared}
 use Rattle.shared_store.proofs.shared_store.SharedStore.delete.Goals as goal
 
 pub returns-clause-ok : goal.returns-clause-ok
@@ -26,3 +27,6 @@ returns-clause-finders_full g c =
       λ e. let h = f.0 e in (h.0, h.1, ⊎_elim (λ a. absurd (none a)) (λ b. b) h.2),
       λ h. f.1 (h.0, h.1, inr h.2),
     )
+
+pub invariant_of-self : goal.invariant_of-self
+invariant_of-self g c = rests_shared g.C.KeyClass.rules c.self.inside.world c.delete-deleted.new.world c.delete-deleted.ensures.rests c.delete-deleted.ensures.finders c.self.invariant

@@ -2,6 +2,7 @@ use Rattle.mailbox.specs.Rings.{ring_rule}
 use Rattle.change_list.specs.declared.write.Write.TheVariants.{Insert}
 use Rattle.world.specs.Resting.{deaths}
 use Rattle.store.proofs.Keeping.{on_ok, on_err, commits_write, keeps, dead_rows_permuted}
+use Rattle.shared_store.proofs.Sharing.{rests_shared}
 use Rattle.shared_store.proofs.shared_store.SharedStore.insert.Goals as goal
 
 pub returns-clause-ok : goal.returns-clause-ok
@@ -12,3 +13,6 @@ returns-clause-dead g c = rw (← c.self.view_is) (on_ok c.insert-inserted.resul
 
 pub returns-clause-err : goal.returns-clause-err
 returns-clause-err g c = rw (← c.self.view_is) (on_err c.insert-inserted.result (λ e. keeps g.C.KeyClass.rules ring_rule c.self.inside.world c.insert-inserted.new.world c.insert-inserted.ensures.rests e c.insert-inserted.ensures.dead) c.insert-inserted.ensures.unchanged)
+
+pub invariant_of-self : goal.invariant_of-self
+invariant_of-self g c = rests_shared g.C.KeyClass.rules c.self.inside.world c.insert-inserted.new.world c.insert-inserted.ensures.rests c.insert-inserted.ensures.finders c.self.invariant

@@ -3,6 +3,7 @@ use Rattle.mailbox.specs.Rings.{ring_rule}
 use Rattle.change_list.specs.declared.write.Write.TheVariants.{Move}
 use Rattle.world.specs.Resting.{deaths}
 use Rattle.store.proofs.Keeping.{on_ok, on_errs, commits_write, keeps, dead_rows_permuted}
+use Rattle.shared_store.proofs.Sharing.{rests_shared}
 use Rattle.shared_store.proofs.shared_store.SharedStore.move_row.Goals as goal
 
 pub returns-clause-ok : goal.returns-clause-ok
@@ -15,3 +16,6 @@ pub returns-clause-err : goal.returns-clause-err
 returns-clause-err g c =
     rw (← c.self.view_is)
     (on_errs c.move_row-moved.result (λ e d. keeps g.C.KeyClass.rules ring_rule c.self.inside.world c.move_row-moved.new.world c.move_row-moved.ensures.rests e d) c.move_row-moved.ensures.unchanged c.move_row-moved.ensures.dead_kept)
+
+pub invariant_of-self : goal.invariant_of-self
+invariant_of-self g c = rests_shared g.C.KeyClass.rules c.self.inside.world c.move_row-moved.new.world c.move_row-moved.ensures.rests c.move_row-moved.ensures.finders c.self.invariant
