@@ -506,7 +506,8 @@ uint32_t gist_world_delete(gist_world *world, uint64_t row, uint64_t *commit);
  * taker into a handle that has none. By its turns the cursor sends the rows that match now, in some order, and then the
  * later changes, as that of gist_open gives them.
  *
- * GIST_BAD_CONFIG where the room is out of its range or the handle has a taker already; else as gist_open.
+ * As gist_open; GIST_BAD_CONFIG where the room is out of its range or the handle has a taker already. The handle of the
+ * taker is as it was then.
  */
 uint32_t gist_world_open(gist_world *world, const char *query, size_t length, uint64_t room, gist_taker *taker,
                          uint64_t *cursor, uint64_t *fault);

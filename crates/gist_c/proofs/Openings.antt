@@ -1,15 +1,22 @@
 -- An opening that finds no place for its ring's taker, and what the number of an answer tells of it.
-use Rattle.std.proofs.Common.{◌≡◌, ◌≢◌, ℕ, List, Result, Ok, Err, inl, inr, refl, arith}
+use Rattle.std.proofs.Common.{◌≡◌, ◌≢◌, ◌⊎◌, ℕ, List, Result, Ok, Err, inl, inr, refl, arith}
 use Rattle.std.specs.Prelude.{OnOk, OnErr}
 use Rattle.key_class.specs.Rules.{Rules}
+use Rattle.key_class.specs.Queries.{Query, query_of}
+use Rattle.key_class.specs.declared.pred.Pred.{Pred}
 use Rattle.key_class.specs.Refusals.{number_of}
 use Rattle.key_class.specs.declared.refusal.Refusal.{Refusal}
 use Rattle.key_class.specs.declared.refusal.Refusal.TheVariants.{OutOfMemory, BadConfig, PagesFull, CommitsFull, CursorsFull, FindersFull, NotHere, NodeFull, TooFew, Uncovered, Owed, Unhung, BadSides, NoSuchRow, AlreadyDeleted, NoSuchCursor, CursorClosed, NoRoom, Idle, NoSuchFinder, QueryText, Line, FromFuture}
 use Rattle.query_text.specs.ClassTexts.{Texts}
-use Rattle.query_text.specs.Grammar.{RefusesText, IsParseRefusal}
+use Rattle.query_text.specs.Grammar.{SpellsText, RefusesText, IsParseRefusal}
+use Rattle.cursor.specs.OpenCursors.{OpenCursor}
 use Rattle.world.specs.States.{State}
+use Rattle.world.specs.Steps.{Opens}
+use Rattle.store.specs.States.{HasNoCursorFor, HasNoFollowerFor, IsBadOpening, IsFromFuture, IsFullOf, RefusesCursor, RefusesFollower}
+use Rattle.shared_store.specs.Shared.{shared_state}
+use Rattle.gist_c.specs.Calls.{RefusesOpening}
 use Rattle.gist_c.specs.Answers.{code_of}
-use Rattle.gist_c.specs.WorldCalls.{IsBadRoom, IsRingOpening, IsRingFollowing, RefusesRing, RefusesFollowing}
+use Rattle.gist_c.specs.WorldCalls.{IsBadRoom, IsRingOpening, IsRingFollowing, OpensRing, RefusesRing, RefusesFollowing}
 use Rattle.gist_c.specs.WorldClasses.{OfWorld}
 use Rattle.gist_c.specs.declared.any_world.AnyWorld.{AnyWorld}
 use Rattle.gist_c.specs.declared.any_world.AnyWorld.TheVariants.{Intervals, Boxes, Sets}
@@ -23,6 +30,59 @@ module _ {K A : Type 0} (rules : Rules K A) (texts : Texts K A) (text : List ℕ
     pub text_refused_from : (why : Refusal) → IsParseRefusal why → ((place : ℕ) → why ≡ QueryText place → RefusesText texts text place) → RefusesFollowing rules texts text room commit old why
     text_refused_from why (inl o) refused = record { bad = λ e. absurd (cc); refused = refused; future = λ e. absurd (cc); full = λ e. absurd (cc); refusals = inr (inr (inr (inl o))) }
     text_refused_from why (inr q) refused = record { bad = λ e. absurd (let n = q.1 in cc); refused = refused; future = λ e. absurd (let n = q.1 in cc); full = λ e. absurd (let n = q.1 in cc); refusals = inr (inr (inr (inr q))) }
+
+  narrowed : (q : Query A) → SpellsText texts text q → IsBadOpening q room → IsBadRoom room
+  narrowed q spelled (inl zero) = inl zero
+  narrowed q spelled (inr (inl more)) = inr more
+  narrowed q spelled (inr (inr deep)) = let shallow = spelled.query.shallow in absurd (omega (arith, deep, shallow))
+
+  widened : (q : Query A) → IsBadRoom room → IsBadOpening q room
+  widened q (inl zero) = inl zero
+  widened q (inr more) = inr (inl more)
+
+  no_text : (why : Refusal) → RefusesCursor why → (place : ℕ) → why ≡ QueryText place → RefusesText texts text place
+  no_text why (inl bad) place e = absurd (cc)
+  no_text why (inr (inl full)) place e = absurd (cc)
+  no_text why (inr (inr wanting)) place e = absurd (cc)
+
+  told : (why : Refusal) → RefusesCursor why → (why ≡ BadConfig) ⊎ RefusesOpening why
+  told why (inl bad) = inl bad
+  told why (inr (inl full)) = inr (inl full)
+  told why (inr (inr wanting)) = inr (inr (inl wanting))
+
+  -- why a store over rings opens no cursor on the query of the text
+  pub opening_refused : (why : Refusal) (q : Query A) → SpellsText texts text q → (why ≡ BadConfig → IsBadOpening q room) → (why ≡ CursorsFull → HasNoCursorFor (shared_state rules old) q room) → RefusesCursor why → RefusesRing rules texts text room old why
+  opening_refused why q spelled bad full cause = record {
+    bad = λ e. narrowed q spelled (bad e);
+    refused = no_text why cause;
+    full = λ e. (full e).1;
+    refusals = told why cause;
+  }
+
+  no_text_from : (why : Refusal) → RefusesFollower why → (place : ℕ) → why ≡ QueryText place → RefusesText texts text place
+  no_text_from why (inl future) place e = absurd (cc)
+  no_text_from why (inr cause) place e = no_text why cause place e
+
+  told_from : (why : Refusal) → RefusesFollower why → (why ≡ BadConfig) ⊎ (why ≡ FromFuture) ⊎ RefusesOpening why
+  told_from why (inl future) = inr (inl future)
+  told_from why (inr (inl bad)) = inl bad
+  told_from why (inr (inr (inl full))) = inr (inr (inl full))
+  told_from why (inr (inr (inr wanting))) = inr (inr (inr (inl wanting)))
+
+  pub following_refused : (commit : ℕ) (why : Refusal) (q : Query A) → SpellsText texts text q → (why ≡ BadConfig → IsBadOpening q room) → (why ≡ FromFuture → IsFromFuture (shared_state rules old) q room commit)
+      → (why ≡ CursorsFull → HasNoFollowerFor (shared_state rules old) q room commit) → RefusesFollower why → RefusesFollowing rules texts text room commit old why
+  following_refused commit why q spelled bad future full cause = record {
+    bad = λ e. narrowed q spelled (bad e);
+    refused = no_text_from why cause;
+    future = λ e. (future e).1;
+    full = λ e. let f = full e in (f.1, f.2);
+    refusals = told_from why cause;
+  }
+
+  -- a cursor that is opened on the query of the text
+  pub opens_ring : (cursor_for : Pred A → OpenCursor K A) (query : Pred A) (cursor : ℕ) (new : State K A) → SpellsText texts text (query_of query) → Opens old (cursor_for query) cursor new
+      → (IsBadOpening (query_of query) room → ⊥) → (IsFullOf (shared_state rules old) → ⊥) → OpensRing rules texts text room cursor_for old cursor new
+  opens_ring cursor_for query cursor new spelled opened right unfull = record { query = query; spelled = spelled; opened = opened; right_room = λ bad. right (widened (query_of query) bad); not_full = unfull }
 
 -- for want of a place no cursor is opened, whatever the class
 module _ (text : List ℕ) (room : ℕ) where
