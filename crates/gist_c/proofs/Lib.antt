@@ -1,5 +1,5 @@
+mod Batches
 mod Threads
 mod Ends
-mod Inserting
 mod StoreBoxes
 mod Writing

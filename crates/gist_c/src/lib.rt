@@ -3,9 +3,11 @@
 
 mod answers;
 mod any_store;
+mod atoms;
 mod box_rows;
 mod boxes;
 mod buffers;
+mod by_atom;
 mod calls;
 mod crossing;
 mod handle;
@@ -15,6 +17,7 @@ mod intervals;
 mod limits;
 mod names;
 mod parts;
+mod relations;
 mod set_rows;
 mod sets;
 mod shown;
