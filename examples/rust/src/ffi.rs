@@ -114,6 +114,12 @@ extern "C" {
     pub fn gist_drop(store: *mut Handle);
     pub fn gist_commits(store: *mut Handle) -> u64;
     pub fn gist_delete(store: *mut Handle, row: u64, commit: *mut u64) -> u32;
+    pub fn gist_delete_all(
+        store: *mut Handle,
+        rows: *const u64,
+        length: usize,
+        deleted: *mut u64,
+    ) -> u32;
     pub fn gist_open(
         store: *mut Handle,
         query: *const c_char,
@@ -171,6 +177,22 @@ extern "C" {
         found: *mut u64,
         fault: *mut u64,
     ) -> u32;
+    pub fn gist_interval_find_by(
+        store: *mut Handle,
+        relation: u32,
+        lo: i64,
+        hi: i64,
+        rows: *mut IntervalRow,
+        room: usize,
+        found: *mut u64,
+    ) -> u32;
+    pub fn gist_interval_open_by(
+        store: *mut Handle,
+        relation: u32,
+        lo: i64,
+        hi: i64,
+        cursor: *mut u64,
+    ) -> u32;
 
     pub fn gist_box_insert(
         store: *mut Handle,
@@ -214,6 +236,26 @@ extern "C" {
         found: *mut u64,
         fault: *mut u64,
     ) -> u32;
+    pub fn gist_box_find_by(
+        store: *mut Handle,
+        relation: u32,
+        x1: i32,
+        y1: i32,
+        x2: i32,
+        y2: i32,
+        rows: *mut BoxRow,
+        room: usize,
+        found: *mut u64,
+    ) -> u32;
+    pub fn gist_box_open_by(
+        store: *mut Handle,
+        relation: u32,
+        x1: i32,
+        y1: i32,
+        x2: i32,
+        y2: i32,
+        cursor: *mut u64,
+    ) -> u32;
 
     pub fn gist_set_insert(store: *mut Handle, low: u64, high: u64, tag: u64, row: *mut u64)
         -> u32;
@@ -242,5 +284,21 @@ extern "C" {
         room: usize,
         found: *mut u64,
         fault: *mut u64,
+    ) -> u32;
+    pub fn gist_set_find_by(
+        store: *mut Handle,
+        relation: u32,
+        low: u64,
+        high: u64,
+        rows: *mut SetRow,
+        room: usize,
+        found: *mut u64,
+    ) -> u32;
+    pub fn gist_set_open_by(
+        store: *mut Handle,
+        relation: u32,
+        low: u64,
+        high: u64,
+        cursor: *mut u64,
     ) -> u32;
 }

@@ -39,6 +39,20 @@ pub struct RawItem<K> {
     pub tag: u64,
 }
 
+/// A relation of a row's key to a key that is asked for. Each is that of the same word in a query.
+#[derive(Clone, Copy, Debug, PartialEq, Eq, Hash)]
+#[repr(u32)]
+pub enum Relation {
+    /// They have a point, or an element, in common.
+    Overlaps = 1,
+    /// The row's key is within the key that is asked for.
+    Within = 2,
+    /// The row's key holds the key that is asked for.
+    Holds = 3,
+    /// They are the same.
+    Same = 4,
+}
+
 /// A query's bytes, as C takes them.
 pub struct Query(pub *const c_char, pub usize);
 
@@ -91,6 +105,21 @@ pub unsafe trait Calls: Copy {
         rows: &mut [Self::CRow],
         found: *mut u64,
         fault: *mut u64,
+    ) -> u32;
+
+    unsafe fn find_by(
+        store: *mut ffi::Handle,
+        relation: Relation,
+        key: Self,
+        rows: &mut [Self::CRow],
+        found: *mut u64,
+    ) -> u32;
+
+    unsafe fn open_by(
+        store: *mut ffi::Handle,
+        relation: Relation,
+        key: Self,
+        cursor: *mut u64,
     ) -> u32;
 
     fn row(row: Self::CRow) -> RawRow<Self>;
@@ -164,6 +193,33 @@ unsafe impl Calls for Interval {
             found,
             fault,
         )
+    }
+
+    unsafe fn find_by(
+        store: *mut ffi::Handle,
+        relation: Relation,
+        key: Interval,
+        rows: &mut [ffi::IntervalRow],
+        found: *mut u64,
+    ) -> u32 {
+        ffi::gist_interval_find_by(
+            store,
+            relation as u32,
+            key.lo,
+            key.hi,
+            rows.as_mut_ptr(),
+            rows.len(),
+            found,
+        )
+    }
+
+    unsafe fn open_by(
+        store: *mut ffi::Handle,
+        relation: Relation,
+        key: Interval,
+        cursor: *mut u64,
+    ) -> u32 {
+        ffi::gist_interval_open_by(store, relation as u32, key.lo, key.hi, cursor)
     }
 
     fn row(row: ffi::IntervalRow) -> RawRow<Interval> {
@@ -260,6 +316,43 @@ unsafe impl Calls for BoxKey {
             rows.len(),
             found,
             fault,
+        )
+    }
+
+    unsafe fn find_by(
+        store: *mut ffi::Handle,
+        relation: Relation,
+        key: BoxKey,
+        rows: &mut [ffi::BoxRow],
+        found: *mut u64,
+    ) -> u32 {
+        ffi::gist_box_find_by(
+            store,
+            relation as u32,
+            key.x1,
+            key.y1,
+            key.x2,
+            key.y2,
+            rows.as_mut_ptr(),
+            rows.len(),
+            found,
+        )
+    }
+
+    unsafe fn open_by(
+        store: *mut ffi::Handle,
+        relation: Relation,
+        key: BoxKey,
+        cursor: *mut u64,
+    ) -> u32 {
+        ffi::gist_box_open_by(
+            store,
+            relation as u32,
+            key.x1,
+            key.y1,
+            key.x2,
+            key.y2,
+            cursor,
         )
     }
 
@@ -374,6 +467,33 @@ unsafe impl Calls for Set {
             found,
             fault,
         )
+    }
+
+    unsafe fn find_by(
+        store: *mut ffi::Handle,
+        relation: Relation,
+        key: Set,
+        rows: &mut [ffi::SetRow],
+        found: *mut u64,
+    ) -> u32 {
+        ffi::gist_set_find_by(
+            store,
+            relation as u32,
+            key.low(),
+            key.high(),
+            rows.as_mut_ptr(),
+            rows.len(),
+            found,
+        )
+    }
+
+    unsafe fn open_by(
+        store: *mut ffi::Handle,
+        relation: Relation,
+        key: Set,
+        cursor: *mut u64,
+    ) -> u32 {
+        ffi::gist_set_open_by(store, relation as u32, key.low(), key.high(), cursor)
     }
 
     fn row(row: ffi::SetRow) -> RawRow<Set> {
