@@ -216,6 +216,12 @@ typedef struct gist_interval_item {
     int64_t hi;
 } gist_interval_item;
 
+/* A key of a store of intervals: the ends of an interval. */
+typedef struct gist_interval_key {
+    int64_t lo;
+    int64_t hi;
+} gist_interval_key;
+
 /*
  * Adds a row, and gives its number, which is the commit's.
  *
@@ -268,14 +274,28 @@ uint32_t gist_interval_find(gist_store *store, const char *query, size_t length,
                        uint64_t *found, uint64_t *fault);
 
 /*
- * Puts the rows whose keys have a relation to a key into a buffer, and tells how many there are: a gist_interval_find of
- * that query without its text, which takes less time.
+ * Puts the rows whose keys have a relation to a key into a buffer, and tells how many there are: a gist_interval_find
+ * of that query without its text, which takes less time.
  *
  * GIST_BAD_CONFIG where the ends are out of order or no relation has the number; GIST_OUT_OF_MEMORY. The buffer stays
  * as it is then.
  */
 uint32_t gist_interval_find_by(gist_store *store, uint32_t relation, int64_t lo, int64_t hi,
                                gist_interval_row *rows, size_t room, uint64_t *found);
+
+/*
+ * Puts the rows that have a relation to each of many keys into a buffer, as gist_interval_find_by does for one, those
+ * of a key behind those of the key before, and tells how many keys were answered. The rows of the key with the place i,
+ * counted from 0, end before the place ends[i] of the buffer, and begin where those of the key before end. A key isn't
+ * answered, nor is any behind it, where its rows don't all fit, where `ends` has no place for it, or where it is
+ * refused and isn't the first. What is behind the rows and behind the ends stays.
+ *
+ * GIST_BAD_CONFIG where the first key's ends are out of order or no relation has the number; GIST_OUT_OF_MEMORY. Both
+ * buffers stay as they are then.
+ */
+uint32_t gist_interval_find_all(gist_store *store, uint32_t relation, const gist_interval_key *keys, size_t length,
+                                gist_interval_row *rows, size_t room, uint64_t *ends, size_t places,
+                                uint64_t *answered);
 
 /*
  * Opens a cursor on the rows whose keys have a relation to a key, as gist_open does on a query.
@@ -322,6 +342,14 @@ typedef struct gist_box_item {
     int32_t x2;
     int32_t y2;
 } gist_box_item;
+
+/* A key of a store of boxes: the ends of a box. */
+typedef struct gist_box_key {
+    int32_t x1;
+    int32_t y1;
+    int32_t x2;
+    int32_t y2;
+} gist_box_key;
 
 /*
  * Adds a row, and gives its number, which is the commit's.
@@ -385,6 +413,19 @@ uint32_t gist_box_find_by(gist_store *store, uint32_t relation, int32_t x1, int3
                           gist_box_row *rows, size_t room, uint64_t *found);
 
 /*
+ * Puts the rows that have a relation to each of many keys into a buffer, as gist_box_find_by does for one, those
+ * of a key behind those of the key before, and tells how many keys were answered. The rows of the key with the place i,
+ * counted from 0, end before the place ends[i] of the buffer, and begin where those of the key before end. A key isn't
+ * answered, nor is any behind it, where its rows don't all fit, where `ends` has no place for it, or where it is
+ * refused and isn't the first. What is behind the rows and behind the ends stays.
+ *
+ * GIST_BAD_CONFIG where the first key's ends are out of order or no relation has the number; GIST_OUT_OF_MEMORY. Both
+ * buffers stay as they are then.
+ */
+uint32_t gist_box_find_all(gist_store *store, uint32_t relation, const gist_box_key *keys, size_t length,
+                           gist_box_row *rows, size_t room, uint64_t *ends, size_t places, uint64_t *answered);
+
+/*
  * Opens a cursor on the rows whose keys have a relation to a key, as gist_open does on a query.
  *
  * GIST_BAD_CONFIG where the ends are out of order or no relation has the number; GIST_CURSORS_FULL; GIST_OUT_OF_MEMORY.
@@ -427,6 +468,12 @@ typedef struct gist_set_item {
     uint64_t low;
     uint64_t high;
 } gist_set_item;
+
+/* A key of a store of sets: the masks of a set. */
+typedef struct gist_set_key {
+    uint64_t low;
+    uint64_t high;
+} gist_set_key;
 
 /*
  * Adds a row, and gives its number, which is the commit's.
@@ -484,6 +531,18 @@ uint32_t gist_set_find(gist_store *store, const char *query, size_t length, gist
  */
 uint32_t gist_set_find_by(gist_store *store, uint32_t relation, uint64_t low, uint64_t high, gist_set_row *rows,
                           size_t room, uint64_t *found);
+
+/*
+ * Puts the rows that have a relation to each of many keys into a buffer, as gist_set_find_by does for one, those
+ * of a key behind those of the key before, and tells how many keys were answered. The rows of the key with the place i,
+ * counted from 0, end before the place ends[i] of the buffer, and begin where those of the key before end. A key isn't
+ * answered, nor is any behind it, where its rows don't all fit, where `ends` has no place for it, or where it is
+ * refused and isn't the first. What is behind the rows and behind the ends stays.
+ *
+ * GIST_BAD_CONFIG where no relation has the number; GIST_OUT_OF_MEMORY. Both buffers stay as they are then.
+ */
+uint32_t gist_set_find_all(gist_store *store, uint32_t relation, const gist_set_key *keys, size_t length,
+                           gist_set_row *rows, size_t room, uint64_t *ends, size_t places, uint64_t *answered);
 
 /*
  * Opens a cursor on the rows whose keys have a relation to a key, as gist_open does on a query.

@@ -86,6 +86,10 @@ static void no_store(void)
     gist_interval_entry interval_entry = {1, 2, 3};
     gist_box_entry box_entry = {1, 2, 3, 4, 5};
     gist_set_entry set_entry = {1, 2, 3};
+    gist_interval_key interval_key = {1, 2};
+    gist_box_key box_key = {1, 2, 3, 4};
+    gist_set_key set_key = {1, 2};
+    uint64_t end = UNTOUCHED;
 
     CHECK(!gist_is_open(&none));
     CHECK(gist_commits(&none) == 0);
@@ -123,6 +127,10 @@ static void no_store(void)
     CHECK(gist_box_open_by(&none, GIST_SAME, 1, 2, 3, 4, &number) == GIST_BAD_CONFIG);
     CHECK(gist_set_find_by(&none, GIST_SAME, 1, 2, &set_row, 1, &number) == GIST_BAD_CONFIG);
     CHECK(gist_set_open_by(&none, GIST_SAME, 1, 2, &number) == GIST_BAD_CONFIG);
+    CHECK(gist_interval_find_all(&none, 1, &interval_key, 1, &interval_row, 1, &end, 1, &number) == GIST_BAD_CONFIG);
+    CHECK(gist_box_find_all(&none, 1, &box_key, 1, &box_row, 1, &end, 1, &number) == GIST_BAD_CONFIG);
+    CHECK(gist_set_find_all(&none, 1, &set_key, 1, &set_row, 1, &end, 1, &number) == GIST_BAD_CONFIG);
+    CHECK(end == UNTOUCHED);
     CHECK(number == UNTOUCHED && fault == UNTOUCHED);
     CHECK(interval.number == UNTOUCHED && box.number == UNTOUCHED && set.number == UNTOUCHED);
     CHECK(interval_row.row == UNTOUCHED && box_row.row == UNTOUCHED && set_row.row == UNTOUCHED);
@@ -168,6 +176,10 @@ static void other_class(void)
     gist_interval_entry interval_entry = {1, 2, 3};
     gist_box_entry box_entry = {1, 2, 3, 4, 5};
     gist_set_entry set_entry = {1, 2, 3};
+    gist_interval_key interval_key = {1, 2};
+    gist_box_key box_key = {1, 2, 3, 4};
+    gist_set_key set_key = {1, 2};
+    uint64_t end = UNTOUCHED;
 
     CHECK(gist_new(&intervals, GIST_INTERVALS, &SMALL) == GIST_OK);
     CHECK(gist_new(&boxes, GIST_BOXES, &SMALL) == GIST_OK);
@@ -199,6 +211,10 @@ static void other_class(void)
     CHECK(gist_box_open_by(&intervals, GIST_SAME, 1, 2, 3, 4, &number) == GIST_BAD_CONFIG);
     CHECK(gist_set_find_by(&intervals, GIST_SAME, 1, 2, &set_row, 1, &number) == GIST_BAD_CONFIG);
     CHECK(gist_set_open_by(&boxes, GIST_SAME, 1, 2, &number) == GIST_BAD_CONFIG);
+    CHECK(gist_interval_find_all(&sets, 1, &interval_key, 1, &interval_row, 1, &end, 1, &number) == GIST_BAD_CONFIG);
+    CHECK(gist_box_find_all(&intervals, 1, &box_key, 1, &box_row, 1, &end, 1, &number) == GIST_BAD_CONFIG);
+    CHECK(gist_set_find_all(&boxes, 1, &set_key, 1, &set_row, 1, &end, 1, &number) == GIST_BAD_CONFIG);
+    CHECK(end == UNTOUCHED);
     CHECK(number == UNTOUCHED && fault == UNTOUCHED);
     CHECK(interval.number == UNTOUCHED && box.number == UNTOUCHED && set.number == UNTOUCHED);
     CHECK(interval_row.row == UNTOUCHED && box_row.row == UNTOUCHED && set_row.row == UNTOUCHED);
@@ -501,6 +517,71 @@ static void relations(void)
     gist_drop(&store);
 }
 
+/* Many keys a call: those whose rows fit are answered, up to the first whose rows don't or that is refused. */
+static void many_keys(void)
+{
+    static const gist_interval_key keys[] = {{4, 5}, {11, 99}, {1, 4}, {9, 1}, {10, 10}};
+    static const gist_box_key box_keys[] = {{1, 2, 1, 2}, {6, 7, 9, 9}};
+    static const gist_set_key set_keys[] = {{2, 0}, {0, 1}, {0, 0}};
+    gist_store store = GIST_NO_STORE;
+    gist_interval_row rows[8];
+    gist_box_row box_rows[2];
+    gist_set_row set_rows[8];
+    uint64_t number, ends[5];
+
+    memset(rows, 0, sizeof rows);
+    memset(ends, 0, sizeof ends);
+    CHECK(gist_new(&store, GIST_INTERVALS, &SMALL) == GIST_OK);
+    CHECK(gist_interval_insert(&store, 1, 4, 70, &number) == GIST_OK);
+    CHECK(gist_interval_insert(&store, 3, 5, 71, &number) == GIST_OK);
+    CHECK(gist_interval_insert(&store, 4, 10, 72, &number) == GIST_OK);
+
+    rows[6].row = ends[3] = UNTOUCHED;
+    CHECK(gist_interval_find_all(&store, GIST_OVERLAPS, keys, 5, rows, 8, ends, 5, &number) == GIST_OK);
+    CHECK(number == 3 && ends[0] == 3 && ends[1] == 3 && ends[2] == 6 && ends[3] == UNTOUCHED);
+    for (unsigned at = 0; at < 6; at++)
+        CHECK(rows[at].row == at % 3 + 1 && rows[at].tag == 70 + at % 3);
+    CHECK(rows[0].lo == 1 && rows[0].hi == 4 && rows[5].lo == 4 && rows[5].hi == 10 && rows[6].row == UNTOUCHED);
+
+    rows[3].row = ends[2] = UNTOUCHED;
+    CHECK(gist_interval_find_all(&store, GIST_OVERLAPS, keys, 3, rows, 5, ends, 5, &number) == GIST_OK);
+    CHECK(number == 2 && ends[1] == 3 && ends[2] == UNTOUCHED && rows[3].row == UNTOUCHED);
+    CHECK(gist_interval_find_all(&store, GIST_OVERLAPS, keys, 3, rows, 8, ends, 2, &number) == GIST_OK);
+    CHECK(number == 2 && ends[2] == UNTOUCHED && rows[3].row == UNTOUCHED);
+    CHECK(gist_interval_find_all(&store, GIST_OVERLAPS, keys, 3, rows, 6, ends, 3, &number) == GIST_OK);
+    CHECK(number == 3 && ends[2] == 6 && rows[3].row == 1);
+    CHECK(gist_interval_find_all(&store, GIST_WITHIN, keys + 4, 1, rows, 0, ends, 1, &number) == GIST_OK);
+    CHECK(number == 1 && ends[0] == 0);
+    CHECK(gist_interval_find_all(&store, GIST_HOLDS, keys + 4, 1, rows, 1, ends, 1, &number) == GIST_OK);
+    CHECK(number == 1 && ends[0] == 1 && rows[0].row == 3);
+    CHECK(gist_interval_find_all(&store, GIST_SAME, keys + 2, 1, rows, 0, ends, 1, &number) == GIST_OK);
+    CHECK(number == 0 && ends[0] == 1);
+    CHECK(gist_interval_find_all(&store, 0, keys, 0, rows, 8, ends, 5, &number) == GIST_OK && number == 0);
+    CHECK(gist_interval_find_all(&store, 0, keys, 1, rows, 8, ends, 0, &number) == GIST_OK && number == 0);
+    number = UNTOUCHED;
+    CHECK(gist_interval_find_all(&store, 5, keys, 5, rows, 8, ends, 5, &number) == GIST_BAD_CONFIG);
+    CHECK(gist_interval_find_all(&store, GIST_SAME, keys + 3, 2, rows, 8, ends, 5, &number) == GIST_BAD_CONFIG);
+    CHECK(number == UNTOUCHED && ends[0] == 1 && rows[0].row == 3);
+    gist_drop(&store);
+
+    CHECK(gist_new(&store, GIST_BOXES, &SMALL) == GIST_OK);
+    CHECK(gist_box_insert(&store, 1, 2, 3, 4, 70, &number) == GIST_OK);
+    CHECK(gist_box_insert(&store, 2, 3, 6, 7, 71, &number) == GIST_OK);
+    CHECK(gist_box_find_all(&store, GIST_OVERLAPS, box_keys, 2, box_rows, 2, ends, 5, &number) == GIST_OK);
+    CHECK(number == 2 && ends[0] == 1 && ends[1] == 2 && box_rows[0].row == 1 && box_rows[1].row == 2);
+    CHECK(box_rows[0].y1 == 2 && box_rows[1].x2 == 6 && box_rows[1].tag == 71);
+    gist_drop(&store);
+
+    CHECK(gist_new(&store, GIST_SETS, &SMALL) == GIST_OK);
+    CHECK(gist_set_insert(&store, 6, 1, 70, &number) == GIST_OK);
+    CHECK(gist_set_insert(&store, 2, 0, 71, &number) == GIST_OK);
+    CHECK(gist_set_find_all(&store, GIST_HOLDS, set_keys, 3, set_rows, 8, ends, 5, &number) == GIST_OK);
+    CHECK(number == 3 && ends[0] == 2 && ends[1] == 3 && ends[2] == 5);
+    CHECK(set_rows[0].row == 1 && set_rows[1].row == 2 && set_rows[2].row == 1 && set_rows[4].row == 2);
+    CHECK(set_rows[2].low == 6 && set_rows[2].high == 1 && set_rows[4].tag == 71);
+    gist_drop(&store);
+}
+
 /* Many deletes a call: the first row that is refused ends a call, and another tells why. */
 static void deletes(void)
 {
@@ -663,6 +744,7 @@ static void refused_memory(void)
     gist_interval_item item = {0};
     gist_interval_row rows[64];
     static const uint64_t ended[] = {6, 7, 8, 9, 10};
+    static const gist_interval_key asked[] = {{30, 30}, {90, 90}, {11, 11}};
     uint64_t number, cursor, other, fault, seen = 0;
 
     AGAIN(gist_new(&store, GIST_INTERVALS, &SMALL));
@@ -688,6 +770,12 @@ static void refused_memory(void)
     rows[0].row = 0;
     AGAIN(gist_interval_find_by(&store, GIST_OVERLAPS, 0, 99, rows, 64, &number));
     CHECK(number == 30 && rows[0].row == 11 && rows[29].row == 51);
+    for (uint64_t done = 0; done < 3; done += number) {
+        uint64_t ends[3];
+
+        AGAIN(gist_interval_find_all(&store, GIST_SAME, asked + done, 3 - done, rows, 64, ends, 3, &number));
+        CHECK(number > 0 && ends[number - 1] == number && rows[number - 1].lo == asked[done + number - 1].lo);
+    }
     AGAIN(gist_interval_open_by(&store, GIST_SAME, 90, 90, &other));
     CHECK(other == cursor + 1);
     AGAIN(gist_interval_next(&store, other, &item));
@@ -708,6 +796,7 @@ int main(int argc, char **argv)
         refusals();
         batches();
         relations();
+        many_keys();
         deletes();
         pages();
         boxes();

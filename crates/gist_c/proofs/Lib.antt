@@ -1,5 +1,6 @@
 mod Batches
 mod Threads
 mod Ends
+mod ManyFinds
 mod StoreBoxes
 mod Writing

@@ -7,6 +7,7 @@ pub mod Calls
 pub mod Classes
 pub mod Finds
 pub mod IntervalRows
+pub mod ManyFinds
 pub mod Names
 pub mod Relations
 pub mod SetRows

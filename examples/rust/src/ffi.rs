@@ -19,6 +19,13 @@ pub struct Limits {
 
 #[repr(C)]
 #[derive(Clone, Copy)]
+pub struct IntervalKey {
+    pub lo: i64,
+    pub hi: i64,
+}
+
+#[repr(C)]
+#[derive(Clone, Copy)]
 pub struct IntervalEntry {
     pub lo: i64,
     pub hi: i64,
@@ -43,6 +50,15 @@ pub struct IntervalItem {
     pub tag: u64,
     pub lo: i64,
     pub hi: i64,
+}
+
+#[repr(C)]
+#[derive(Clone, Copy)]
+pub struct BoxKey {
+    pub x1: i32,
+    pub y1: i32,
+    pub x2: i32,
+    pub y2: i32,
 }
 
 #[repr(C)]
@@ -77,6 +93,13 @@ pub struct BoxItem {
     pub y1: i32,
     pub x2: i32,
     pub y2: i32,
+}
+
+#[repr(C)]
+#[derive(Clone, Copy)]
+pub struct SetKey {
+    pub low: u64,
+    pub high: u64,
 }
 
 #[repr(C)]
@@ -186,6 +209,17 @@ extern "C" {
         room: usize,
         found: *mut u64,
     ) -> u32;
+    pub fn gist_interval_find_all(
+        store: *mut Handle,
+        relation: u32,
+        keys: *const IntervalKey,
+        length: usize,
+        rows: *mut IntervalRow,
+        room: usize,
+        ends: *mut u64,
+        places: usize,
+        answered: *mut u64,
+    ) -> u32;
     pub fn gist_interval_open_by(
         store: *mut Handle,
         relation: u32,
@@ -247,6 +281,17 @@ extern "C" {
         room: usize,
         found: *mut u64,
     ) -> u32;
+    pub fn gist_box_find_all(
+        store: *mut Handle,
+        relation: u32,
+        keys: *const BoxKey,
+        length: usize,
+        rows: *mut BoxRow,
+        room: usize,
+        ends: *mut u64,
+        places: usize,
+        answered: *mut u64,
+    ) -> u32;
     pub fn gist_box_open_by(
         store: *mut Handle,
         relation: u32,
@@ -293,6 +338,17 @@ extern "C" {
         rows: *mut SetRow,
         room: usize,
         found: *mut u64,
+    ) -> u32;
+    pub fn gist_set_find_all(
+        store: *mut Handle,
+        relation: u32,
+        keys: *const SetKey,
+        length: usize,
+        rows: *mut SetRow,
+        room: usize,
+        ends: *mut u64,
+        places: usize,
+        answered: *mut u64,
     ) -> u32;
     pub fn gist_set_open_by(
         store: *mut Handle,

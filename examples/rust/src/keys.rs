@@ -79,6 +79,10 @@ pub unsafe trait Calls: Copy {
 
     type CEntry: Copy;
 
+    type CKey: Copy;
+
+    fn key(self) -> Self::CKey;
+
     fn entry(key: Self, tag: u64) -> Self::CEntry;
 
     unsafe fn insert(store: *mut ffi::Handle, key: Self, tag: u64, row: *mut u64) -> u32;
@@ -115,6 +119,15 @@ pub unsafe trait Calls: Copy {
         found: *mut u64,
     ) -> u32;
 
+    unsafe fn find_all(
+        store: *mut ffi::Handle,
+        relation: Relation,
+        keys: &[Self::CKey],
+        rows: &mut [Self::CRow],
+        ends: &mut [u64],
+        answered: *mut u64,
+    ) -> u32;
+
     unsafe fn open_by(
         store: *mut ffi::Handle,
         relation: Relation,
@@ -135,6 +148,15 @@ unsafe impl Calls for Interval {
     type CItem = ffi::IntervalItem;
 
     type CEntry = ffi::IntervalEntry;
+
+    type CKey = ffi::IntervalKey;
+
+    fn key(self) -> ffi::IntervalKey {
+        ffi::IntervalKey {
+            lo: self.lo,
+            hi: self.hi,
+        }
+    }
 
     fn entry(key: Interval, tag: u64) -> ffi::IntervalEntry {
         ffi::IntervalEntry {
@@ -213,6 +235,27 @@ unsafe impl Calls for Interval {
         )
     }
 
+    unsafe fn find_all(
+        store: *mut ffi::Handle,
+        relation: Relation,
+        keys: &[ffi::IntervalKey],
+        rows: &mut [ffi::IntervalRow],
+        ends: &mut [u64],
+        answered: *mut u64,
+    ) -> u32 {
+        ffi::gist_interval_find_all(
+            store,
+            relation as u32,
+            keys.as_ptr(),
+            keys.len(),
+            rows.as_mut_ptr(),
+            rows.len(),
+            ends.as_mut_ptr(),
+            ends.len(),
+            answered,
+        )
+    }
+
     unsafe fn open_by(
         store: *mut ffi::Handle,
         relation: Relation,
@@ -257,6 +300,17 @@ unsafe impl Calls for BoxKey {
     type CItem = ffi::BoxItem;
 
     type CEntry = ffi::BoxEntry;
+
+    type CKey = ffi::BoxKey;
+
+    fn key(self) -> ffi::BoxKey {
+        ffi::BoxKey {
+            x1: self.x1,
+            y1: self.y1,
+            x2: self.x2,
+            y2: self.y2,
+        }
+    }
 
     fn entry(key: BoxKey, tag: u64) -> ffi::BoxEntry {
         ffi::BoxEntry {
@@ -339,6 +393,27 @@ unsafe impl Calls for BoxKey {
         )
     }
 
+    unsafe fn find_all(
+        store: *mut ffi::Handle,
+        relation: Relation,
+        keys: &[ffi::BoxKey],
+        rows: &mut [ffi::BoxRow],
+        ends: &mut [u64],
+        answered: *mut u64,
+    ) -> u32 {
+        ffi::gist_box_find_all(
+            store,
+            relation as u32,
+            keys.as_ptr(),
+            keys.len(),
+            rows.as_mut_ptr(),
+            rows.len(),
+            ends.as_mut_ptr(),
+            ends.len(),
+            answered,
+        )
+    }
+
     unsafe fn open_by(
         store: *mut ffi::Handle,
         relation: Relation,
@@ -409,6 +484,15 @@ unsafe impl Calls for Set {
     type CItem = ffi::SetItem;
 
     type CEntry = ffi::SetEntry;
+
+    type CKey = ffi::SetKey;
+
+    fn key(self) -> ffi::SetKey {
+        ffi::SetKey {
+            low: self.low(),
+            high: self.high(),
+        }
+    }
 
     fn entry(key: Set, tag: u64) -> ffi::SetEntry {
         ffi::SetEntry {
@@ -484,6 +568,27 @@ unsafe impl Calls for Set {
             rows.as_mut_ptr(),
             rows.len(),
             found,
+        )
+    }
+
+    unsafe fn find_all(
+        store: *mut ffi::Handle,
+        relation: Relation,
+        keys: &[ffi::SetKey],
+        rows: &mut [ffi::SetRow],
+        ends: &mut [u64],
+        answered: *mut u64,
+    ) -> u32 {
+        ffi::gist_set_find_all(
+            store,
+            relation as u32,
+            keys.as_ptr(),
+            keys.len(),
+            rows.as_mut_ptr(),
+            rows.len(),
+            ends.as_mut_ptr(),
+            ends.len(),
+            answered,
         )
     }
 

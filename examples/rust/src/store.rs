@@ -244,6 +244,43 @@ impl<K: Key> Store<K> {
         self.all_rows(|store, rows| store.find_by_into(relation, key, rows))
     }
 
+    /// The rows whose keys have a relation to each of many keys, by one call where there is room for them. Those of a key
+    /// are by rising number.
+    pub fn find_all(
+        &mut self,
+        relation: Relation,
+        keys: &[K],
+    ) -> Result<Vec<Vec<Row<K>>>, Refusal> {
+        let keys: Vec<_> = keys.iter().map(|key| key.key()).collect();
+        let mut rows = vec![K::CRow::default(); Self::ROOM * keys.len().max(1)];
+        let mut ends = vec![0; keys.len()];
+        let mut all = Vec::with_capacity(keys.len());
+        while all.len() < keys.len() {
+            let (rest, mut answered) = (&keys[all.len()..], 0);
+            let answer = unsafe {
+                K::find_all(
+                    &mut self.handle,
+                    relation,
+                    rest,
+                    &mut rows,
+                    &mut ends,
+                    &mut answered,
+                )
+            };
+            let answered = told(answer, answered as usize, 0)?;
+            if answered == 0 {
+                rows.resize(2 * rows.len(), K::CRow::default());
+            }
+            let mut begin = 0;
+            for &end in &ends[..answered] {
+                let found = rows[begin..end as usize].iter();
+                all.push(found.map(|&row| row_of(K::row(row))).collect());
+                begin = end as usize;
+            }
+        }
+        Ok(all)
+    }
+
     /// What a search puts into a buffer, which is made as long as it has to be.
     fn all_rows<S>(&mut self, search: S) -> Result<Vec<Row<K>>, Refusal>
     where
@@ -511,6 +548,26 @@ mod tests {
     }
 
     #[test]
+    fn many_keys_are_asked_for_by_one_call() -> Result<(), Refusal> {
+        let mut store = Store::new(Limits::default())?;
+        for n in 0..1_000 {
+            store.insert(interval(n, n + n % 5), n as u64)?;
+        }
+        let keys: Vec<_> = (0..40).map(|n| interval(n, n * n)).collect();
+        let found = store.find_all(Overlaps, &keys)?;
+        assert_eq!(found.len(), keys.len());
+        for (rows, &key) in found.iter().zip(&keys) {
+            assert_eq!(rows, &store.find_by(Overlaps, key)?);
+        }
+        assert_eq!(store.find_all(Overlaps, &[])?.len(), 0);
+        let all = store.find_all(Within, &[interval(0, 2_000)])?;
+        assert_eq!(all[0].len(), 1_000);
+        let refused = store.find_all(Same, &[interval(1, 1), interval(2, 1)]);
+        assert_eq!(refused, Err(Refusal::BadConfig));
+        Ok(())
+    }
+
+    #[test]
     fn many_rows_are_deleted_by_one_call() -> Result<(), Refusal> {
         let mut store = Store::new(Limits::default())?;
         for n in 0..6 {
@@ -546,6 +603,7 @@ mod tests {
             }]
         );
         assert_eq!(boxes.find_by(Within, key)?.len(), 1);
+        assert_eq!(boxes.find_all(Same, &[key, key])?.concat().len(), 2);
         let cursor = boxes.open_by(Same, key)?;
         assert_eq!(boxes.items(cursor).count(), 1);
         let mut sets = Store::new(Limits::default())?;
@@ -560,6 +618,7 @@ mod tests {
             }]
         );
         assert_eq!(sets.find_by(Holds, Set(1 << 127))?.len(), 1);
+        assert_eq!(sets.find_all(Holds, &[Set(1), Set(0)])?.concat().len(), 1);
         let cursor = sets.open_by(Overlaps, Set(1 << 5))?;
         assert_eq!(sets.items(cursor).count(), 1);
         Ok(())
