@@ -1,4 +1,4 @@
-use Rattle.std.proofs.Common.{◌++◌, ◌∷◌, [], take, sym, ap, ◌∙◌, arith}
+use Rattle.std.proofs.Common.{get_or, take, arith}
 use Rattle.std.proofs.lemmas.List.{take_more}
 use Rattle.gist_c.specs.Calls.{IsDelete}
 use Rattle.gist_c.proofs.Batches.{does_push}
@@ -9,6 +9,5 @@ loop-place-preserved g c =
     let one = IsDelete g.C.KeyClass.rules in
     let rows = c.args.rows.now in
     let place = c.loop-place.place in
-    let row = c.index-rows-place.result in
-    let more = take_more rows place row (omega (arith, c.loop-place-test.true)) ∙ ap (λ x. take place rows ++ x ∷ []) (sym c.index-rows-place.is) in
-    rw more (does_push one (take place rows) row c.args.store.now c.loop-place.store c.delete.new.store c.in-Ok.field-0 c.loop-place.invariant c.in-Ok.ensures)
+    let more = take_more rows place 0 (omega (arith, c.loop-place-test.true)) in
+    rw more (does_push one (take place rows) (get_or rows place 0) c.args.store.now c.loop-place.store c.delete.new.store c.in-Ok.field-0 c.loop-place.invariant c.in-Ok.ensures)
