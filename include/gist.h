@@ -51,7 +51,7 @@ extern "C" {
 enum {
     GIST_OK = 0,
     GIST_OUT_OF_MEMORY = 1,    /* memory was wanting in this call */
-    GIST_BAD_CONFIG = 2,       /* a limit out of its range, ends out of order, no store, or a store of another class */
+    GIST_BAD_CONFIG = 2,       /* a limit out of range, ends out of order, no such relation, no store, another class */
     GIST_PAGES_FULL = 3,       /* fewer than two pages are left */
     GIST_COMMITS_FULL = 4,     /* there are as many commits as the limit */
     GIST_CURSORS_FULL = 5,     /* 256 cursors are open, or 4,294,967,295 were opened */
@@ -119,6 +119,14 @@ uint64_t gist_commits(gist_store *store);
 uint32_t gist_delete(gist_store *store, uint64_t row, uint64_t *commit);
 
 /*
+ * Deletes rows one after the other, until one is refused, and tells how many were deleted. Their commits are the next
+ * ones, and the last is gist_commits(store). Where fewer were deleted than there are, a call with the others tells why.
+ *
+ * As gist_delete, where the first row is refused.
+ */
+uint32_t gist_delete_all(gist_store *store, const uint64_t *rows, size_t length, uint64_t *deleted);
+
+/*
  * Opens a cursor on a query, and gives its number, which no other cursor of the store gets. The cursor gives the rows
  * that match now, in some order, and then the later changes.
  *
@@ -163,6 +171,14 @@ uint32_t gist_close(gist_store *store, uint64_t cursor);
  */
 uint32_t gist_sweep(gist_store *store, uint64_t *removed);
 
+/* The relations of a row's key to a key that is asked for. Each is that of the same word in a query. */
+enum {
+    GIST_OVERLAPS = 1, /* they have a point, or an element, in common */
+    GIST_WITHIN = 2,   /* the row's key is within the key that is asked for */
+    GIST_HOLDS = 3,    /* the row's key holds the key that is asked for */
+    GIST_SAME = 4      /* they are the same */
+};
+
 /* What an item tells. A class's item has a key of that class beside `kind`, `number`, `ended` and `tag`. */
 enum {
     GIST_NOTHING = 0,  /* nothing is left; all else is 0 */
@@ -199,6 +215,12 @@ typedef struct gist_interval_item {
     int64_t lo;
     int64_t hi;
 } gist_interval_item;
+
+/* A key of a store of intervals: the ends of an interval. */
+typedef struct gist_interval_key {
+    int64_t lo;
+    int64_t hi;
+} gist_interval_key;
 
 /*
  * Adds a row, and gives its number, which is the commit's.
@@ -252,6 +274,37 @@ uint32_t gist_interval_find(gist_store *store, const char *query, size_t length,
                        uint64_t *found, uint64_t *fault);
 
 /*
+ * Puts the rows whose keys have a relation to a key into a buffer, and tells how many there are: a gist_interval_find
+ * of that query without its text, which takes less time.
+ *
+ * GIST_BAD_CONFIG where the ends are out of order or no relation has the number; GIST_OUT_OF_MEMORY. The buffer stays
+ * as it is then.
+ */
+uint32_t gist_interval_find_by(gist_store *store, uint32_t relation, int64_t lo, int64_t hi,
+                               gist_interval_row *rows, size_t room, uint64_t *found);
+
+/*
+ * Puts the rows that have a relation to each of many keys into a buffer, as gist_interval_find_by does for one, those
+ * of a key behind those of the key before, and tells how many keys were answered. The rows of the key with the place i,
+ * counted from 0, end before the place ends[i] of the buffer, and begin where those of the key before end. A key isn't
+ * answered, nor is any behind it, where its rows don't all fit, where `ends` has no place for it, or where it is
+ * refused and isn't the first. What is behind the rows and behind the ends stays.
+ *
+ * GIST_BAD_CONFIG where the first key's ends are out of order or no relation has the number; GIST_OUT_OF_MEMORY. Both
+ * buffers stay as they are then.
+ */
+uint32_t gist_interval_find_all(gist_store *store, uint32_t relation, const gist_interval_key *keys, size_t length,
+                                gist_interval_row *rows, size_t room, uint64_t *ends, size_t places,
+                                uint64_t *answered);
+
+/*
+ * Opens a cursor on the rows whose keys have a relation to a key, as gist_open does on a query.
+ *
+ * GIST_BAD_CONFIG where the ends are out of order or no relation has the number; GIST_CURSORS_FULL; GIST_OUT_OF_MEMORY.
+ */
+uint32_t gist_interval_open_by(gist_store *store, uint32_t relation, int64_t lo, int64_t hi, uint64_t *cursor);
+
+/*
  * Tells the commit with a number, as an item of the kind GIST_INSERTED, GIST_DELETED or GIST_MOVED, or GIST_NOTHING
  * where there is none. The commit of a move has no tag, which is 0 then: the row's is that of the row that it ends.
  */
@@ -289,6 +342,14 @@ typedef struct gist_box_item {
     int32_t x2;
     int32_t y2;
 } gist_box_item;
+
+/* A key of a store of boxes: the ends of a box. */
+typedef struct gist_box_key {
+    int32_t x1;
+    int32_t y1;
+    int32_t x2;
+    int32_t y2;
+} gist_box_key;
 
 /*
  * Adds a row, and gives its number, which is the commit's.
@@ -342,6 +403,37 @@ uint32_t gist_box_find(gist_store *store, const char *query, size_t length, gist
                        uint64_t *found, uint64_t *fault);
 
 /*
+ * Puts the rows whose keys have a relation to a key into a buffer, and tells how many there are: a gist_box_find of
+ * that query without its text, which takes less time.
+ *
+ * GIST_BAD_CONFIG where the ends are out of order or no relation has the number; GIST_OUT_OF_MEMORY. The buffer stays
+ * as it is then.
+ */
+uint32_t gist_box_find_by(gist_store *store, uint32_t relation, int32_t x1, int32_t y1, int32_t x2, int32_t y2,
+                          gist_box_row *rows, size_t room, uint64_t *found);
+
+/*
+ * Puts the rows that have a relation to each of many keys into a buffer, as gist_box_find_by does for one, those
+ * of a key behind those of the key before, and tells how many keys were answered. The rows of the key with the place i,
+ * counted from 0, end before the place ends[i] of the buffer, and begin where those of the key before end. A key isn't
+ * answered, nor is any behind it, where its rows don't all fit, where `ends` has no place for it, or where it is
+ * refused and isn't the first. What is behind the rows and behind the ends stays.
+ *
+ * GIST_BAD_CONFIG where the first key's ends are out of order or no relation has the number; GIST_OUT_OF_MEMORY. Both
+ * buffers stay as they are then.
+ */
+uint32_t gist_box_find_all(gist_store *store, uint32_t relation, const gist_box_key *keys, size_t length,
+                           gist_box_row *rows, size_t room, uint64_t *ends, size_t places, uint64_t *answered);
+
+/*
+ * Opens a cursor on the rows whose keys have a relation to a key, as gist_open does on a query.
+ *
+ * GIST_BAD_CONFIG where the ends are out of order or no relation has the number; GIST_CURSORS_FULL; GIST_OUT_OF_MEMORY.
+ */
+uint32_t gist_box_open_by(gist_store *store, uint32_t relation, int32_t x1, int32_t y1, int32_t x2, int32_t y2,
+                          uint64_t *cursor);
+
+/*
  * Tells the commit with a number, as an item of the kind GIST_INSERTED, GIST_DELETED or GIST_MOVED, or GIST_NOTHING
  * where there is none. The commit of a move has no tag, which is 0 then: the row's is that of the row that it ends.
  */
@@ -376,6 +468,12 @@ typedef struct gist_set_item {
     uint64_t low;
     uint64_t high;
 } gist_set_item;
+
+/* A key of a store of sets: the masks of a set. */
+typedef struct gist_set_key {
+    uint64_t low;
+    uint64_t high;
+} gist_set_key;
 
 /*
  * Adds a row, and gives its number, which is the commit's.
@@ -424,6 +522,34 @@ uint32_t gist_set_take(gist_store *store, uint64_t cursor, gist_set_item *items,
  */
 uint32_t gist_set_find(gist_store *store, const char *query, size_t length, gist_set_row *rows, size_t room,
                        uint64_t *found, uint64_t *fault);
+
+/*
+ * Puts the rows whose keys have a relation to a key into a buffer, and tells how many there are: a gist_set_find of
+ * that query without its text, which takes less time.
+ *
+ * GIST_BAD_CONFIG where no relation has the number; GIST_OUT_OF_MEMORY. The buffer stays as it is then.
+ */
+uint32_t gist_set_find_by(gist_store *store, uint32_t relation, uint64_t low, uint64_t high, gist_set_row *rows,
+                          size_t room, uint64_t *found);
+
+/*
+ * Puts the rows that have a relation to each of many keys into a buffer, as gist_set_find_by does for one, those
+ * of a key behind those of the key before, and tells how many keys were answered. The rows of the key with the place i,
+ * counted from 0, end before the place ends[i] of the buffer, and begin where those of the key before end. A key isn't
+ * answered, nor is any behind it, where its rows don't all fit, where `ends` has no place for it, or where it is
+ * refused and isn't the first. What is behind the rows and behind the ends stays.
+ *
+ * GIST_BAD_CONFIG where no relation has the number; GIST_OUT_OF_MEMORY. Both buffers stay as they are then.
+ */
+uint32_t gist_set_find_all(gist_store *store, uint32_t relation, const gist_set_key *keys, size_t length,
+                           gist_set_row *rows, size_t room, uint64_t *ends, size_t places, uint64_t *answered);
+
+/*
+ * Opens a cursor on the rows whose keys have a relation to a key, as gist_open does on a query.
+ *
+ * GIST_BAD_CONFIG where no relation has the number; GIST_CURSORS_FULL; GIST_OUT_OF_MEMORY.
+ */
+uint32_t gist_set_open_by(gist_store *store, uint32_t relation, uint64_t low, uint64_t high, uint64_t *cursor);
 
 /*
  * Tells the commit with a number, as an item of the kind GIST_INSERTED, GIST_DELETED or GIST_MOVED, or GIST_NOTHING

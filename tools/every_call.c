@@ -75,6 +75,7 @@ static void names(void)
 static void no_store(void)
 {
     gist_store none = GIST_NO_STORE;
+    const uint64_t row = 1;
     uint64_t number = UNTOUCHED, fault = UNTOUCHED;
     gist_interval_item interval = {.number = UNTOUCHED};
     gist_box_item box = {.number = UNTOUCHED};
@@ -85,6 +86,10 @@ static void no_store(void)
     gist_interval_entry interval_entry = {1, 2, 3};
     gist_box_entry box_entry = {1, 2, 3, 4, 5};
     gist_set_entry set_entry = {1, 2, 3};
+    gist_interval_key interval_key = {1, 2};
+    gist_box_key box_key = {1, 2, 3, 4};
+    gist_set_key set_key = {1, 2};
+    uint64_t end = UNTOUCHED;
 
     CHECK(!gist_is_open(&none));
     CHECK(gist_commits(&none) == 0);
@@ -115,6 +120,17 @@ static void no_store(void)
     CHECK(gist_box_take(&none, 1, &box, 1, &number) == GIST_BAD_CONFIG);
     CHECK(gist_set_insert_all(&none, &set_entry, 1, &number) == GIST_BAD_CONFIG);
     CHECK(gist_set_take(&none, 1, &set, 1, &number) == GIST_BAD_CONFIG);
+    CHECK(gist_delete_all(&none, &row, 1, &number) == GIST_BAD_CONFIG);
+    CHECK(gist_interval_find_by(&none, GIST_SAME, 1, 2, &interval_row, 1, &number) == GIST_BAD_CONFIG);
+    CHECK(gist_interval_open_by(&none, GIST_SAME, 1, 2, &number) == GIST_BAD_CONFIG);
+    CHECK(gist_box_find_by(&none, GIST_SAME, 1, 2, 3, 4, &box_row, 1, &number) == GIST_BAD_CONFIG);
+    CHECK(gist_box_open_by(&none, GIST_SAME, 1, 2, 3, 4, &number) == GIST_BAD_CONFIG);
+    CHECK(gist_set_find_by(&none, GIST_SAME, 1, 2, &set_row, 1, &number) == GIST_BAD_CONFIG);
+    CHECK(gist_set_open_by(&none, GIST_SAME, 1, 2, &number) == GIST_BAD_CONFIG);
+    CHECK(gist_interval_find_all(&none, 1, &interval_key, 1, &interval_row, 1, &end, 1, &number) == GIST_BAD_CONFIG);
+    CHECK(gist_box_find_all(&none, 1, &box_key, 1, &box_row, 1, &end, 1, &number) == GIST_BAD_CONFIG);
+    CHECK(gist_set_find_all(&none, 1, &set_key, 1, &set_row, 1, &end, 1, &number) == GIST_BAD_CONFIG);
+    CHECK(end == UNTOUCHED);
     CHECK(number == UNTOUCHED && fault == UNTOUCHED);
     CHECK(interval.number == UNTOUCHED && box.number == UNTOUCHED && set.number == UNTOUCHED);
     CHECK(interval_row.row == UNTOUCHED && box_row.row == UNTOUCHED && set_row.row == UNTOUCHED);
@@ -160,6 +176,10 @@ static void other_class(void)
     gist_interval_entry interval_entry = {1, 2, 3};
     gist_box_entry box_entry = {1, 2, 3, 4, 5};
     gist_set_entry set_entry = {1, 2, 3};
+    gist_interval_key interval_key = {1, 2};
+    gist_box_key box_key = {1, 2, 3, 4};
+    gist_set_key set_key = {1, 2};
+    uint64_t end = UNTOUCHED;
 
     CHECK(gist_new(&intervals, GIST_INTERVALS, &SMALL) == GIST_OK);
     CHECK(gist_new(&boxes, GIST_BOXES, &SMALL) == GIST_OK);
@@ -185,6 +205,16 @@ static void other_class(void)
     CHECK(gist_box_take(&intervals, 1, &box, 1, &number) == GIST_BAD_CONFIG);
     CHECK(gist_set_insert_all(&intervals, &set_entry, 1, &number) == GIST_BAD_CONFIG);
     CHECK(gist_set_take(&boxes, 1, &set, 1, &number) == GIST_BAD_CONFIG);
+    CHECK(gist_interval_find_by(&boxes, GIST_SAME, 1, 2, &interval_row, 1, &number) == GIST_BAD_CONFIG);
+    CHECK(gist_interval_open_by(&sets, GIST_SAME, 1, 2, &number) == GIST_BAD_CONFIG);
+    CHECK(gist_box_find_by(&sets, GIST_SAME, 1, 2, 3, 4, &box_row, 1, &number) == GIST_BAD_CONFIG);
+    CHECK(gist_box_open_by(&intervals, GIST_SAME, 1, 2, 3, 4, &number) == GIST_BAD_CONFIG);
+    CHECK(gist_set_find_by(&intervals, GIST_SAME, 1, 2, &set_row, 1, &number) == GIST_BAD_CONFIG);
+    CHECK(gist_set_open_by(&boxes, GIST_SAME, 1, 2, &number) == GIST_BAD_CONFIG);
+    CHECK(gist_interval_find_all(&sets, 1, &interval_key, 1, &interval_row, 1, &end, 1, &number) == GIST_BAD_CONFIG);
+    CHECK(gist_box_find_all(&intervals, 1, &box_key, 1, &box_row, 1, &end, 1, &number) == GIST_BAD_CONFIG);
+    CHECK(gist_set_find_all(&boxes, 1, &set_key, 1, &set_row, 1, &end, 1, &number) == GIST_BAD_CONFIG);
+    CHECK(end == UNTOUCHED);
     CHECK(number == UNTOUCHED && fault == UNTOUCHED);
     CHECK(interval.number == UNTOUCHED && box.number == UNTOUCHED && set.number == UNTOUCHED);
     CHECK(interval_row.row == UNTOUCHED && box_row.row == UNTOUCHED && set_row.row == UNTOUCHED);
@@ -370,6 +400,231 @@ static void batches(void)
     gist_drop(&store);
 }
 
+/* Every relation, by its number and a key, and none that is no relation. */
+static void relations(void)
+{
+    static const struct {
+        uint32_t relation;
+        int64_t lo, hi;
+        uint64_t wanted[4], count;
+    } asked[] = {
+        {GIST_OVERLAPS, 4, 5, {1, 2, 3}, 3}, {GIST_OVERLAPS, 10, 10, {3}, 1},  {GIST_OVERLAPS, 11, 99, {0}, 0},
+        {GIST_WITHIN, 1, 5, {1, 2}, 2},      {GIST_WITHIN, 0, 99, {1, 2, 3}, 3}, {GIST_WITHIN, 5, 5, {0}, 0},
+        {GIST_HOLDS, 4, 5, {2, 3}, 2},       {GIST_HOLDS, 1, 1, {1}, 1},       {GIST_HOLDS, 1, 10, {0}, 0},
+        {GIST_SAME, 4, 10, {3}, 1},          {GIST_SAME, 4, 9, {0}, 0},
+    };
+    gist_limits few = {.fan = 4, .least = 2, .pages = 1000, .commits = 4};
+    gist_store store = GIST_NO_STORE;
+    gist_interval_row rows[4] = {{.row = UNTOUCHED}};
+    gist_box_row box_rows[2] = {{.row = UNTOUCHED}};
+    gist_set_row set_rows[2] = {{.row = UNTOUCHED}};
+    gist_interval_item item;
+    gist_box_item box;
+    gist_set_item set;
+    uint64_t number, cursor;
+
+    CHECK(gist_new(&store, GIST_INTERVALS, &few) == GIST_OK);
+    CHECK(gist_interval_find_by(&store, GIST_OVERLAPS, INT64_MIN, INT64_MAX, rows, 4, &number) == GIST_OK);
+    CHECK(number == 0 && rows[0].row == UNTOUCHED);
+    CHECK(gist_interval_insert(&store, 1, 4, 70, &number) == GIST_OK);
+    CHECK(gist_interval_insert(&store, 3, 5, 71, &number) == GIST_OK);
+    CHECK(gist_interval_insert(&store, 4, 10, 72, &number) == GIST_OK);
+    for (size_t i = 0; i < sizeof asked / sizeof asked[0]; i++) {
+        uint64_t seen = 0;
+
+        rows[asked[i].count].row = UNTOUCHED;
+        CHECK(gist_interval_find_by(&store, asked[i].relation, asked[i].lo, asked[i].hi, rows, 4, &number) == GIST_OK);
+        CHECK(number == asked[i].count && rows[asked[i].count].row == UNTOUCHED);
+        for (uint64_t at = 0; at < number; at++)
+            CHECK(rows[at].row == asked[i].wanted[at] && rows[at].tag == 69 + rows[at].row);
+        CHECK(gist_interval_open_by(&store, asked[i].relation, asked[i].lo, asked[i].hi, &cursor) == GIST_OK);
+        CHECK(cursor == i + 1);
+        for (;;) {
+            CHECK(gist_interval_next(&store, cursor, &item) == GIST_OK);
+            if (item.kind == GIST_NOTHING)
+                break;
+            CHECK(item.kind == GIST_ROW);
+            seen |= 1u << item.number;
+        }
+        for (uint64_t at = 0; at < number; at++)
+            seen ^= 1u << asked[i].wanted[at];
+        CHECK(seen == 0);
+    }
+    rows[0].row = rows[1].row = UNTOUCHED;
+    CHECK(gist_interval_find_by(&store, GIST_WITHIN, 0, 9, rows, 1, &number) == GIST_OK && number == 2);
+    CHECK(rows[0].row == 1 && rows[0].lo == 1 && rows[0].hi == 4 && rows[1].row == UNTOUCHED);
+    CHECK(gist_interval_find_by(&store, GIST_WITHIN, 0, 99, rows, 0, &number) == GIST_OK && number == 3);
+    number = UNTOUCHED;
+    CHECK(gist_interval_find_by(&store, 0, 1, 9, rows, 4, &number) == GIST_BAD_CONFIG);
+    CHECK(gist_interval_find_by(&store, 5, 1, 9, rows, 4, &number) == GIST_BAD_CONFIG);
+    CHECK(gist_interval_find_by(&store, UINT32_MAX, 1, 9, rows, 4, &number) == GIST_BAD_CONFIG);
+    CHECK(gist_interval_find_by(&store, GIST_OVERLAPS, 9, 1, rows, 4, &number) == GIST_BAD_CONFIG);
+    CHECK(gist_interval_open_by(&store, 0, 1, 9, &number) == GIST_BAD_CONFIG);
+    CHECK(gist_interval_open_by(&store, 5, 1, 9, &number) == GIST_BAD_CONFIG);
+    CHECK(gist_interval_open_by(&store, GIST_HOLDS, 9, 1, &number) == GIST_BAD_CONFIG);
+    CHECK(number == UNTOUCHED && rows[0].row == 1 && rows[1].row == UNTOUCHED);
+    CHECK(gist_interval_insert(&store, 5, 5, 73, &number) == GIST_OK && number == 4);
+    CHECK(gist_interval_next(&store, 1, &item) == GIST_OK && interval_is(&item, GIST_INSERTED, 4, 0, 5, 5, 73));
+    CHECK(gist_interval_next(&store, 2, &item) == GIST_OK && item.kind == GIST_NOTHING);
+    for (uint64_t more = sizeof asked / sizeof asked[0]; more < 256; more++)
+        CHECK(gist_interval_open_by(&store, GIST_SAME, 0, 0, &cursor) == GIST_OK);
+    CHECK(gist_interval_open_by(&store, GIST_SAME, 0, 0, &cursor) == GIST_CURSORS_FULL && cursor == 256);
+    gist_drop(&store);
+
+    CHECK(gist_new(&store, GIST_BOXES, &SMALL) == GIST_OK);
+    CHECK(gist_box_insert(&store, 1, 2, 3, 4, 70, &number) == GIST_OK);
+    CHECK(gist_box_insert(&store, 2, 3, 6, 7, 71, &number) == GIST_OK);
+    CHECK(gist_box_find_by(&store, GIST_OVERLAPS, 3, 4, 9, 9, box_rows, 2, &number) == GIST_OK && number == 2);
+    CHECK(box_rows[0].row == 1 && box_rows[0].tag == 70 && box_rows[0].x1 == 1 && box_rows[0].y2 == 4);
+    CHECK(box_rows[1].row == 2 && box_rows[1].tag == 71 && box_rows[1].y1 == 3 && box_rows[1].x2 == 6);
+    CHECK(gist_box_find_by(&store, GIST_WITHIN, 2, 3, 9, 9, box_rows, 2, &number) == GIST_OK && number == 1);
+    CHECK(box_rows[0].row == 2);
+    CHECK(gist_box_find_by(&store, GIST_HOLDS, 1, 2, 1, 2, box_rows, 2, &number) == GIST_OK && number == 1);
+    CHECK(box_rows[0].row == 1);
+    CHECK(gist_box_find_by(&store, GIST_SAME, 2, 3, 6, 7, box_rows, 2, &number) == GIST_OK && number == 1);
+    CHECK(box_rows[0].row == 2);
+    CHECK(gist_box_open_by(&store, GIST_SAME, 1, 2, 3, 4, &cursor) == GIST_OK && cursor == 1);
+    CHECK(gist_box_next(&store, cursor, &box) == GIST_OK && box.kind == GIST_ROW && box.number == 1);
+    CHECK(gist_box_next(&store, cursor, &box) == GIST_OK && box.kind == GIST_NOTHING);
+    number = UNTOUCHED;
+    CHECK(gist_box_find_by(&store, 5, 1, 2, 3, 4, box_rows, 2, &number) == GIST_BAD_CONFIG);
+    CHECK(gist_box_find_by(&store, GIST_SAME, 3, 2, 1, 4, box_rows, 2, &number) == GIST_BAD_CONFIG);
+    CHECK(gist_box_find_by(&store, GIST_SAME, 1, 4, 3, 2, box_rows, 2, &number) == GIST_BAD_CONFIG);
+    CHECK(gist_box_open_by(&store, 0, 1, 2, 3, 4, &number) == GIST_BAD_CONFIG);
+    CHECK(gist_box_open_by(&store, GIST_SAME, 1, 4, 3, 2, &number) == GIST_BAD_CONFIG);
+    CHECK(number == UNTOUCHED && box_rows[0].row == 2);
+    gist_drop(&store);
+
+    CHECK(gist_new(&store, GIST_SETS, &SMALL) == GIST_OK);
+    CHECK(gist_set_insert(&store, 6, 1, 70, &number) == GIST_OK);
+    CHECK(gist_set_insert(&store, 4, 0, 71, &number) == GIST_OK);
+    CHECK(gist_set_find_by(&store, GIST_OVERLAPS, 12, 0, set_rows, 2, &number) == GIST_OK && number == 2);
+    CHECK(set_rows[0].row == 1 && set_rows[0].tag == 70 && set_rows[0].low == 6 && set_rows[0].high == 1);
+    CHECK(set_rows[1].row == 2 && set_rows[1].tag == 71 && set_rows[1].low == 4 && set_rows[1].high == 0);
+    CHECK(gist_set_find_by(&store, GIST_WITHIN, 5, 0, set_rows, 2, &number) == GIST_OK && number == 1);
+    CHECK(set_rows[0].row == 2);
+    CHECK(gist_set_find_by(&store, GIST_HOLDS, 0, 1, set_rows, 2, &number) == GIST_OK && number == 1);
+    CHECK(set_rows[0].row == 1);
+    CHECK(gist_set_find_by(&store, GIST_SAME, 4, 0, set_rows, 2, &number) == GIST_OK && number == 1);
+    CHECK(set_rows[0].row == 2);
+    CHECK(gist_set_open_by(&store, GIST_HOLDS, 2, 1, &cursor) == GIST_OK && cursor == 1);
+    CHECK(gist_set_next(&store, cursor, &set) == GIST_OK && set.kind == GIST_ROW && set.number == 1);
+    CHECK(gist_set_next(&store, cursor, &set) == GIST_OK && set.kind == GIST_NOTHING);
+    number = UNTOUCHED;
+    CHECK(gist_set_find_by(&store, 0, 4, 0, set_rows, 2, &number) == GIST_BAD_CONFIG);
+    CHECK(gist_set_open_by(&store, 5, 4, 0, &number) == GIST_BAD_CONFIG);
+    CHECK(number == UNTOUCHED && set_rows[0].row == 2);
+    gist_drop(&store);
+}
+
+/* Many keys a call: those whose rows fit are answered, up to the first whose rows don't or that is refused. */
+static void many_keys(void)
+{
+    static const gist_interval_key keys[] = {{4, 5}, {11, 99}, {1, 4}, {9, 1}, {10, 10}};
+    static const gist_box_key box_keys[] = {{1, 2, 1, 2}, {6, 7, 9, 9}};
+    static const gist_set_key set_keys[] = {{2, 0}, {0, 1}, {0, 0}};
+    gist_store store = GIST_NO_STORE;
+    gist_interval_row rows[8];
+    gist_box_row box_rows[2];
+    gist_set_row set_rows[8];
+    uint64_t number, ends[5];
+
+    memset(rows, 0, sizeof rows);
+    memset(ends, 0, sizeof ends);
+    CHECK(gist_new(&store, GIST_INTERVALS, &SMALL) == GIST_OK);
+    CHECK(gist_interval_insert(&store, 1, 4, 70, &number) == GIST_OK);
+    CHECK(gist_interval_insert(&store, 3, 5, 71, &number) == GIST_OK);
+    CHECK(gist_interval_insert(&store, 4, 10, 72, &number) == GIST_OK);
+
+    rows[6].row = ends[3] = UNTOUCHED;
+    CHECK(gist_interval_find_all(&store, GIST_OVERLAPS, keys, 5, rows, 8, ends, 5, &number) == GIST_OK);
+    CHECK(number == 3 && ends[0] == 3 && ends[1] == 3 && ends[2] == 6 && ends[3] == UNTOUCHED);
+    for (unsigned at = 0; at < 6; at++)
+        CHECK(rows[at].row == at % 3 + 1 && rows[at].tag == 70 + at % 3);
+    CHECK(rows[0].lo == 1 && rows[0].hi == 4 && rows[5].lo == 4 && rows[5].hi == 10 && rows[6].row == UNTOUCHED);
+
+    rows[3].row = ends[2] = UNTOUCHED;
+    CHECK(gist_interval_find_all(&store, GIST_OVERLAPS, keys, 3, rows, 5, ends, 5, &number) == GIST_OK);
+    CHECK(number == 2 && ends[1] == 3 && ends[2] == UNTOUCHED && rows[3].row == UNTOUCHED);
+    CHECK(gist_interval_find_all(&store, GIST_OVERLAPS, keys, 3, rows, 8, ends, 2, &number) == GIST_OK);
+    CHECK(number == 2 && ends[2] == UNTOUCHED && rows[3].row == UNTOUCHED);
+    CHECK(gist_interval_find_all(&store, GIST_OVERLAPS, keys, 3, rows, 6, ends, 3, &number) == GIST_OK);
+    CHECK(number == 3 && ends[2] == 6 && rows[3].row == 1);
+    CHECK(gist_interval_find_all(&store, GIST_WITHIN, keys + 4, 1, rows, 0, ends, 1, &number) == GIST_OK);
+    CHECK(number == 1 && ends[0] == 0);
+    CHECK(gist_interval_find_all(&store, GIST_HOLDS, keys + 4, 1, rows, 1, ends, 1, &number) == GIST_OK);
+    CHECK(number == 1 && ends[0] == 1 && rows[0].row == 3);
+    CHECK(gist_interval_find_all(&store, GIST_SAME, keys + 2, 1, rows, 0, ends, 1, &number) == GIST_OK);
+    CHECK(number == 0 && ends[0] == 1);
+    CHECK(gist_interval_find_all(&store, 0, keys, 0, rows, 8, ends, 5, &number) == GIST_OK && number == 0);
+    CHECK(gist_interval_find_all(&store, 0, keys, 1, rows, 8, ends, 0, &number) == GIST_OK && number == 0);
+    number = UNTOUCHED;
+    CHECK(gist_interval_find_all(&store, 5, keys, 5, rows, 8, ends, 5, &number) == GIST_BAD_CONFIG);
+    CHECK(gist_interval_find_all(&store, GIST_SAME, keys + 3, 2, rows, 8, ends, 5, &number) == GIST_BAD_CONFIG);
+    CHECK(number == UNTOUCHED && ends[0] == 1 && rows[0].row == 3);
+    gist_drop(&store);
+
+    CHECK(gist_new(&store, GIST_BOXES, &SMALL) == GIST_OK);
+    CHECK(gist_box_insert(&store, 1, 2, 3, 4, 70, &number) == GIST_OK);
+    CHECK(gist_box_insert(&store, 2, 3, 6, 7, 71, &number) == GIST_OK);
+    CHECK(gist_box_find_all(&store, GIST_OVERLAPS, box_keys, 2, box_rows, 2, ends, 5, &number) == GIST_OK);
+    CHECK(number == 2 && ends[0] == 1 && ends[1] == 2 && box_rows[0].row == 1 && box_rows[1].row == 2);
+    CHECK(box_rows[0].y1 == 2 && box_rows[1].x2 == 6 && box_rows[1].tag == 71);
+    gist_drop(&store);
+
+    CHECK(gist_new(&store, GIST_SETS, &SMALL) == GIST_OK);
+    CHECK(gist_set_insert(&store, 6, 1, 70, &number) == GIST_OK);
+    CHECK(gist_set_insert(&store, 2, 0, 71, &number) == GIST_OK);
+    CHECK(gist_set_find_all(&store, GIST_HOLDS, set_keys, 3, set_rows, 8, ends, 5, &number) == GIST_OK);
+    CHECK(number == 3 && ends[0] == 2 && ends[1] == 3 && ends[2] == 5);
+    CHECK(set_rows[0].row == 1 && set_rows[1].row == 2 && set_rows[2].row == 1 && set_rows[4].row == 2);
+    CHECK(set_rows[2].low == 6 && set_rows[2].high == 1 && set_rows[4].tag == 71);
+    gist_drop(&store);
+}
+
+/* Many deletes a call: the first row that is refused ends a call, and another tells why. */
+static void deletes(void)
+{
+    static const uint64_t rows[] = {2, 5, 2, 4};
+    gist_limits few = {.fan = 4, .least = 2, .pages = 1000, .commits = 9};
+    gist_store store = GIST_NO_STORE;
+    gist_interval_item item;
+    gist_interval_row left[6];
+    uint64_t number;
+
+    CHECK(gist_new(&store, GIST_INTERVALS, &few) == GIST_OK);
+    for (int64_t n = 1; n <= 6; n++)
+        CHECK(gist_interval_insert(&store, n, n, 0, &number) == GIST_OK);
+    CHECK(gist_delete_all(&store, rows, 0, &number) == GIST_OK && number == 0);
+    CHECK(gist_delete_all(&store, rows, 4, &number) == GIST_OK && number == 2);
+    CHECK(gist_commits(&store) == 8);
+    number = UNTOUCHED;
+    CHECK(gist_delete_all(&store, rows + 2, 2, &number) == GIST_ALREADY_DELETED && number == UNTOUCHED);
+    CHECK(gist_delete_all(&store, rows + 3, 1, &number) == GIST_OK && number == 1);
+    number = UNTOUCHED;
+    CHECK(gist_delete_all(&store, (const uint64_t[]){1}, 1, &number) == GIST_COMMITS_FULL);
+    CHECK(gist_delete_all(&store, (const uint64_t[]){10}, 1, &number) == GIST_NO_SUCH_ROW && number == UNTOUCHED);
+    CHECK(gist_interval_commit(&store, 7, &item) == GIST_OK && interval_is(&item, GIST_DELETED, 7, 2, 0, 0, 0));
+    CHECK(gist_interval_commit(&store, 8, &item) == GIST_OK && interval_is(&item, GIST_DELETED, 8, 5, 0, 0, 0));
+    CHECK(gist_interval_commit(&store, 9, &item) == GIST_OK && interval_is(&item, GIST_DELETED, 9, 4, 0, 0, 0));
+    CHECK(gist_interval_find_by(&store, GIST_OVERLAPS, 0, 9, left, 6, &number) == GIST_OK && number == 3);
+    CHECK(left[0].row == 1 && left[1].row == 3 && left[2].row == 6);
+    gist_drop(&store);
+
+    CHECK(gist_new(&store, GIST_BOXES, &SMALL) == GIST_OK);
+    CHECK(gist_box_insert(&store, 1, 2, 3, 4, 0, &number) == GIST_OK);
+    CHECK(gist_delete_all(&store, (const uint64_t[]){1, 1}, 2, &number) == GIST_OK && number == 1);
+    CHECK(gist_commits(&store) == 2);
+    gist_drop(&store);
+
+    CHECK(gist_new(&store, GIST_SETS, &SMALL) == GIST_OK);
+    CHECK(gist_set_insert(&store, 1, 2, 0, &number) == GIST_OK);
+    CHECK(gist_set_insert(&store, 3, 4, 0, &number) == GIST_OK);
+    CHECK(gist_delete_all(&store, (const uint64_t[]){2, 1}, 2, &number) == GIST_OK && number == 2);
+    CHECK(gist_commits(&store) == 4);
+    gist_drop(&store);
+}
+
 /* One page has room for four rows, and there is no other. */
 static void pages(void)
 {
@@ -488,15 +743,19 @@ static void refused_memory(void)
     gist_store store = GIST_NO_STORE;
     gist_interval_item item = {0};
     gist_interval_row rows[64];
-    uint64_t number, cursor, fault, seen = 0;
+    static const uint64_t ended[] = {6, 7, 8, 9, 10};
+    static const gist_interval_key asked[] = {{30, 30}, {90, 90}, {11, 11}};
+    uint64_t number, cursor, other, fault, seen = 0;
 
     AGAIN(gist_new(&store, GIST_INTERVALS, &SMALL));
     AGAIN(gist_open(&store, "overlaps (0 99) and not same (5 5)", 34, &cursor, &fault));
     for (int64_t n = 1; n <= 40; n++)
         AGAIN(gist_interval_insert(&store, n, n, 0, &number));
     CHECK(gist_commits(&store) == 40);
-    for (uint64_t row = 1; row <= 10; row++)
+    for (uint64_t row = 1; row <= 5; row++)
         AGAIN(gist_delete(&store, row, &number));
+    for (uint64_t done = 0; done < 5; done += number)
+        AGAIN(gist_delete_all(&store, ended + done, 5 - done, &number));
     AGAIN(gist_interval_move(&store, 20, 90, 90, &number));
     CHECK(gist_commits(&store) == 51);
     do {
@@ -508,6 +767,19 @@ static void refused_memory(void)
     AGAIN(gist_sweep(&store, &number));
     AGAIN(gist_interval_find(&store, "overlaps (0 99)", 15, rows, 64, &number, &fault));
     CHECK(number == 30 && rows[0].row == 11 && rows[29].row == 51);
+    rows[0].row = 0;
+    AGAIN(gist_interval_find_by(&store, GIST_OVERLAPS, 0, 99, rows, 64, &number));
+    CHECK(number == 30 && rows[0].row == 11 && rows[29].row == 51);
+    for (uint64_t done = 0; done < 3; done += number) {
+        uint64_t ends[3];
+
+        AGAIN(gist_interval_find_all(&store, GIST_SAME, asked + done, 3 - done, rows, 64, ends, 3, &number));
+        CHECK(number > 0 && ends[number - 1] == number && rows[number - 1].lo == asked[done + number - 1].lo);
+    }
+    AGAIN(gist_interval_open_by(&store, GIST_SAME, 90, 90, &other));
+    CHECK(other == cursor + 1);
+    AGAIN(gist_interval_next(&store, other, &item));
+    CHECK(item.kind == GIST_ROW && item.number == 51);
     gist_drop(&store);
 }
 
@@ -523,6 +795,9 @@ int main(int argc, char **argv)
         intervals();
         refusals();
         batches();
+        relations();
+        many_keys();
+        deletes();
         pages();
         boxes();
         sets();

@@ -96,7 +96,10 @@ struct Intervals {
     static std::uint32_t insert(gist_store* store, const Key& key, std::uint64_t* row) {
         return gist_interval_insert(store, key.lo, key.hi, 0, row);
     }
-    static std::uint32_t find(gist_store* store, const std::string& query, std::vector<Row>& rows, std::uint64_t* count) {
+    static std::uint32_t find(gist_store* store, const Key& key, std::vector<Row>& rows, std::uint64_t* count) {
+        return gist_interval_find_by(store, GIST_OVERLAPS, key.lo, key.hi, rows.data(), rows.size(), count);
+    }
+    static std::uint32_t find_text(gist_store* store, const std::string& query, std::vector<Row>& rows, std::uint64_t* count) {
         std::uint64_t fault;
         return gist_interval_find(store, query.data(), query.size(), rows.data(), rows.size(), count, &fault);
     }
@@ -138,7 +141,10 @@ struct Boxes {
     static std::uint32_t insert(gist_store* store, const Key& key, std::uint64_t* row) {
         return gist_box_insert(store, key.x1, key.y1, key.x2, key.y2, 0, row);
     }
-    static std::uint32_t find(gist_store* store, const std::string& query, std::vector<Row>& rows, std::uint64_t* count) {
+    static std::uint32_t find(gist_store* store, const Key& key, std::vector<Row>& rows, std::uint64_t* count) {
+        return gist_box_find_by(store, GIST_OVERLAPS, key.x1, key.y1, key.x2, key.y2, rows.data(), rows.size(), count);
+    }
+    static std::uint32_t find_text(gist_store* store, const std::string& query, std::vector<Row>& rows, std::uint64_t* count) {
         std::uint64_t fault;
         return gist_box_find(store, query.data(), query.size(), rows.data(), rows.size(), count, &fault);
     }
@@ -164,13 +170,15 @@ class Store {
         std::uint64_t commit;
         expect(gist_delete(&store, row, &commit), "gist_delete");
     }
-    Found find(const typename Kind::Key&, const std::string& query) {
+    Found find(const typename Kind::Key& wanted) {
         std::uint64_t count = 0;
-        expect(Kind::find(&store, query, rows, &count), "find");
-        if (count > rows.size()) fail("a find has more rows than the buffer");
-        Found found;
-        for (std::uint64_t at = 0; at < count; at += 1) found.add(rows[at].row);
-        return found;
+        expect(Kind::find(&store, wanted, rows, &count), "find_by");
+        return first(count);
+    }
+    Found find_text(const std::string& query) {
+        std::uint64_t count = 0;
+        expect(Kind::find_text(&store, query, rows, &count), "find");
+        return first(count);
     }
     std::uint64_t open(const typename Kind::Key& wanted) {
         std::uint64_t cursor, fault;
@@ -188,6 +196,13 @@ class Store {
     }
 
   private:
+    Found first(std::uint64_t count) const {
+        if (count > rows.size()) fail("a find has more rows than the buffer");
+        Found found;
+        for (std::uint64_t at = 0; at < count; at += 1) found.add(rows[at].row);
+        return found;
+    }
+
     gist_store store = {};
     std::vector<typename Kind::Row> rows;
 };
@@ -217,7 +232,7 @@ class Boost {
     void erase(std::uint64_t row, const typename Kind::Key& key) {
         if (tree.remove(Value(box_of(key), row)) != 1) fail("boost lacks a row");
     }
-    Found find(const typename Kind::Key& wanted, const std::string&) {
+    Found find(const typename Kind::Key& wanted) {
         rows.clear();
         tree.query(bgi::intersects(box_of(wanted)), std::back_inserter(rows));
         Found found;
@@ -254,7 +269,7 @@ template <class Kind>
 struct Work {
     std::vector<typename Kind::Key> keys, later;
     std::vector<typename Kind::Key> wanted, followed;
-    // The queries for what is wanted: to write them is the caller's work, and isn't measured
+    // The same as texts: to write them is the caller's work, and isn't measured
     std::vector<std::string> texts;
     std::vector<std::uint64_t> ended;
 
@@ -287,20 +302,24 @@ std::vector<Phase> common_phases(Tree& tree, const Work<Kind>& work) {
         for (std::uint64_t at = 0; at < work.keys.size(); at += 1) tree.insert(at + 1, work.keys[at]);
     }));
     phases.push_back(timed("find of ten", work.wanted.size(), [&](Phase& phase) {
-        for (std::size_t at = 0; at < work.wanted.size(); at += 1) phase.found.push_back(tree.find(work.wanted[at], work.texts[at]));
+        for (const auto& wanted : work.wanted) phase.found.push_back(tree.find(wanted));
     }));
     phases.push_back(timed("delete", work.ended.size(), [&](Phase&) {
         for (std::uint64_t row : work.ended) tree.erase(row, work.keys[row - 1]);
     }));
     phases.push_back(timed("find of five", work.wanted.size(), [&](Phase& phase) {
-        for (std::size_t at = 0; at < work.wanted.size(); at += 1) phase.found.push_back(tree.find(work.wanted[at], work.texts[at]));
+        for (const auto& wanted : work.wanted) phase.found.push_back(tree.find(wanted));
     }));
     return phases;
 }
 
-// What only gist has: cursors that first give a snapshot, and then follow
+// What only gist has: finds by a text, and cursors that first give a snapshot, and then follow
 template <class Kind>
-void following_phases(Store<Kind>& store, const Work<Kind>& work, std::vector<Phase>& phases) {
+void own_phases(Store<Kind>& store, const Work<Kind>& work, std::vector<Phase>& phases) {
+    phases.push_back(timed("find of five, text", work.texts.size(), [&](Phase& phase) {
+        for (const auto& text : work.texts) phase.found.push_back(store.find_text(text));
+    }));
+    if (!(phases.back().found == phases[phases.size() - 2].found)) fail("a text finds other rows");
     std::vector<std::uint64_t> cursors;
     for (const auto& followed : work.followed) cursors.push_back(store.open(followed));
     auto follow = [&](const char* name) {
@@ -323,7 +342,7 @@ std::vector<Phase> best_of(std::uint64_t turns, const Work<Kind>& work) {
     for (std::uint64_t turn = 0; turn < turns; turn += 1) {
         auto tree = std::make_unique<Tree>();
         std::vector<Phase> phases = common_phases<Kind>(*tree, work);
-        if constexpr (std::is_same_v<Tree, Store<Kind>>) following_phases(*tree, work, phases);
+        if constexpr (std::is_same_v<Tree, Store<Kind>>) own_phases(*tree, work, phases);
         for (std::size_t at = 0; at < phases.size(); at += 1) {
             if (turn == 0) best.push_back(phases[at]);
             best[at].taken = std::min(best[at].taken, phases[at].taken);

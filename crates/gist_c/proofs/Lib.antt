@@ -1,6 +1,7 @@
+mod Batches
 mod Threads
 mod Ends
-mod Inserting
+mod ManyFinds
 mod Openings
 mod StoreBoxes
 mod TakerBoxes

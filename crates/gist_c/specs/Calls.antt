@@ -1,17 +1,19 @@
 -- What the calls of a store answer and leave, clause by clause.
-use Rattle.std.specs.Prelude.{◌≡◌, ◌≢◌, ◌↔◌, ℕ, ◌+◌, ◌≤◌, ◌<◌, ◌⊎◌, Bool, true, false, List, [], ◌∷◌, length, map, take, slice_get, Option, Some, None, Result, Ok, Err, IfOk, IfErr, OnOk, OnErr, IsPermutation}
+use Rattle.std.specs.Prelude.{◌≡◌, ◌≢◌, ◌↔◌, ℕ, ◌+◌, ◌≤◌, ◌<◌, ◌⊎◌, Bool, true, false, List, length, map, Option, Some, None, Result, Ok, Err, IfOk, IfErr, OnOk, OnErr, IsPermutation}
 use Rattle.key_class.specs.declared.refusal.Refusal.{Refusal}
 use Rattle.key_class.specs.declared.refusal.Refusal.TheVariants.{BadConfig, OutOfMemory, CommitsFull, NoSuchRow, AlreadyDeleted, FindersFull, CursorsFull, FromFuture}
-use Rattle.key_class.specs.Rules.{Rules, satisfies}
+use Rattle.key_class.specs.Rules.{Rules}
 use Rattle.key_class.specs.Queries.{Query}
 use Rattle.query_text.specs.ClassTexts.{Texts}
 use Rattle.query_text.specs.Grammar.{SpellsText, RefusesText, IfQueryText, IsParseRefusal}
 use Rattle.change_list.specs.declared.write.Write.TheVariants.{Insert, Delete, Move}
 use Rattle.change_list.specs.declared.item.Item.{Item}
 use Rattle.change_list.specs.declared.item.Row.{Row}
-use Rattle.change_list.specs.Changes.{IsLegal, NamesNoRow, NamesDead, commit_at, snapshot}
+use Rattle.change_list.specs.Changes.{IsLegal, NamesNoRow, NamesDead, commit_at}
 use Rattle.gist_c.specs.declared.shown.Shown.{Shown}
+use Rattle.gist_c.specs.Batches.{IsBatch}
 use Rattle.gist_c.specs.Buffers.{written_over}
+use Rattle.gist_c.specs.Finds.{ShowsRows}
 use Rattle.gist_c.specs.Shown.{shown_item, shown_commit}
 use Rattle.store.specs.States.{StoreState, Commits, Keeps, IsOpened, IsFullOf, HasFewPages, HasNoCommitLeft, HasNoCommitFor, HasNoFinderFor, RefusesRow, RefusesNext, Gave, AddsDead, IsListed, MayRefuseDelete, MayRefuseMove, LacksCursor, Closes, SweepsStore, SweepsStorePart, Nexts, ChangesCursor, with_asking}
 
@@ -19,7 +21,7 @@ use Rattle.store.specs.States.{StoreState, Commits, Keeps, IsOpened, IsFullOf, H
 abbrev pub RefusesOpening : Refusal → Type 0
 RefusesOpening why = (why ≡ CursorsFull) ⊎ IsParseRefusal why
 
--- a call with a key; where there is none, since its ends are out of order, it is refused, and nothing changes
+-- a call with a key or an atom; where there is none, since ends are out of order or no relation has the number, it is refused, and nothing changes
 abbrev pub WithKey : {K S V : Type 0} → (K → S → Result V Refusal → S → Type 0) → Option K → S → Result V Refusal → S → Type 0
 WithKey call (Some key) old answer new = call key old answer new
 WithKey call None old answer new = (answer ≡ Err BadConfig) × (new ≡ old)
@@ -42,29 +44,9 @@ module _ {K A : Type 0} (rules : Rules K A) where
     abbrev pub InsertsOne : E → StoreState K A → Result ℕ Refusal → StoreState K A → Type 0
     InsertsOne entry = WithKey (λ key. IsInsert key (tag_of entry)) (key_of entry)
 
-    -- rows are added, one after the other
-    abbrev pub InsertsAll : List E → StoreState K A → StoreState K A → Type 0
-    InsertsAll [] old new = new ≡ old
-    InsertsAll (entry ∷ entries) old new = (mid : StoreState K A) × ((n : ℕ) × InsertsOne entry old (Ok n) mid) × InsertsAll entries mid new
-
-    -- the entry at a place, which isn't the first, is refused for some reason
-    pub record RefusesAt (entries : List E) (place : ℕ) (old : StoreState K A) (new : StoreState K A) : Type 0 where
-      pub later : 0 < place
-      pub entry : E
-      pub there : slice_get entries place ≡ Some entry
-      pub why : Refusal
-      pub refused : InsertsOne entry old (Err why) new
-
-    -- the first of some rows are added, and then there is no other, or one is refused
-    pub record InsertsFirst (entries : List E) (old : StoreState K A) (number : ℕ) (new : StoreState K A) : Type 0 where
-      pub last_added : StoreState K A
-      pub added : InsertsAll (take number entries) old last_added
-      pub ended : ((number ≡ length entries) × (new ≡ last_added)) ⊎ RefusesAt entries number last_added new
-
-    -- rows are to be added, and are refused where the first is
-    pub record IsInserting (entries : List E) (old : StoreState K A) (answer : Result ℕ Refusal) (new : StoreState K A) : Type 0 where
-      pub ok : IfOk answer (λ n. InsertsFirst entries old n new)
-      pub err : IfErr answer (λ why. (entry : E) × (slice_get entries 0 ≡ Some entry) × InsertsOne entry old (Err why) new)
+    -- rows are to be added, one after the other
+    abbrev pub IsInserting : List E → StoreState K A → Result ℕ Refusal → StoreState K A → Type 0
+    IsInserting entries = IsBatch InsertsOne entries
 
   -- a row is deleted
   pub record IsDelete (row : ℕ) (old : StoreState K A) (answer : Result ℕ Refusal) (new : StoreState K A) : Type 0 where
@@ -82,6 +64,10 @@ module _ {K A : Type 0} (rules : Rules K A) where
     pub finders : new.finders ≤ old.finders + 1
     pub legal : IsLegal new.commits
     pub few_pages : HasFewPages new
+
+  -- rows are to be deleted, one after the other
+  abbrev pub IsDeleting : List ℕ → StoreState K A → Result ℕ Refusal → StoreState K A → Type 0
+  IsDeleting rows = IsBatch IsDelete rows
 
   -- a row is moved
   pub record IsMove (row : ℕ) (key : K) (old : StoreState K A) (answer : Result ℕ Refusal) (new : StoreState K A) : Type 0 where
@@ -154,18 +140,11 @@ module _ {K A : Type 0} (rules : Rules K A) where
       pub not_full : OnOk answer (¬ IsFullOf old)
       pub refusals : IfErr answer (λ why. (why ≡ FromFuture) ⊎ RefusesOpening why)
 
-    -- the text asks for a query, which these live rows satisfy
-    pub record Finds (state : StoreState K A) (rows : List (Row K)) : Type 0 where
+    -- the text asks for a query, whose live rows are shown
+    pub record Shows {R : Type 0} (row_of : Row K → R) (state : StoreState K A) (before after : List R) (number : ℕ) : Type 0 where
       pub query : Query A
       pub spelled : SpellsText texts text query
-      pub found : rows ≡ snapshot (satisfies rules query) (length state.commits) state.commits
-
-    -- the live rows that a text asks for are counted, and stand over the first places of a buffer, by rising number
-    pub record Shows {R : Type 0} (row_of : Row K → R) (state : StoreState K A) (before after : List R) (number : ℕ) : Type 0 where
-      pub rows : List (Row K)
-      pub found : Finds state rows
-      pub counted : number ≡ length rows
-      pub written : after ≡ written_over (map row_of rows) before
+      pub shown : ShowsRows rules query row_of state before after number
 
     -- the live rows that a text asks for are shown in a buffer
     pub record IsSearch {R : Type 0} (row_of : Row K → R) (before after : List R) (old : StoreState K A) (answer : Result ℕ Refusal) (new : StoreState K A) : Type 0 where

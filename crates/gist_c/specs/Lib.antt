@@ -1,11 +1,15 @@
 pub mod Owning
 pub mod Answers
+pub mod Batches
 pub mod BoxRows
 pub mod Buffers
 pub mod Calls
 pub mod Classes
+pub mod Finds
 pub mod IntervalRows
+pub mod ManyFinds
 pub mod Names
+pub mod Relations
 pub mod SetRows
 pub mod Shown
 pub mod TakerOwning

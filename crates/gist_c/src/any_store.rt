@@ -2,7 +2,7 @@ ghost use Rattle.std.specs.Prelude.{◌≡◌, ◌↔◌, Err, IfOk, IfErr};
 ghost use Rattle.key_class.specs.declared.refusal.Refusal.TheVariants.{BadConfig, OutOfMemory};
 ghost use Rattle.key_class.specs.Refusals.{IsEither};
 ghost use Rattle.change_list.specs.Configs.{IsWithinLimits};
-ghost use Rattle.gist_c.specs.Calls.{IsDelete, IsOpening, IsFollowing, IsAsking, IsClosing, IsSweep};
+ghost use Rattle.gist_c.specs.Calls.{IsDelete, IsDeleting, IsOpening, IsFollowing, IsAsking, IsClosing, IsSweep};
 ghost use Rattle.gist_c.specs.Classes.{OfClass, IsClass, IsNewOf, commits_in};
 
 use crate::calls;
@@ -59,6 +59,17 @@ impl AnyStore {
             AnyStore::Intervals(store) => calls::delete(store, row),
             AnyStore::Boxes(store) => calls::delete(store, row),
             AnyStore::Sets(store) => calls::delete(store, row),
+        }
+    }
+
+    /// Deletes rows one after the other, until one is refused, and tells how many were deleted.
+    pub fn delete_all(&mut self, rows: &[u64]) -> Result<u64, Refusal>
+        ensures { OfClass (λ K A rules texts. IsDeleting rules rows.now) self.old result self.new }
+    {
+        match self {
+            AnyStore::Intervals(store) => calls::delete_all(store, rows),
+            AnyStore::Boxes(store) => calls::delete_all(store, rows),
+            AnyStore::Sets(store) => calls::delete_all(store, rows),
         }
     }
 

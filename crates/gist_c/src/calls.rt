@@ -1,6 +1,6 @@
 //! The calls of a store of any class, with what they promise in one word each.
 ghost use Rattle.std.specs.Prelude.{◌≡◌};
-ghost use Rattle.gist_c.specs.Calls.{IsInsert, IsInserting, InsertsOne, IsDelete, IsMove, ShowsNext, IsTaking, IsSearch, IsSweep, IsOpening, IsFollowing, IsAsking, IsClosing};
+ghost use Rattle.gist_c.specs.Calls.{IsInsert, IsInserting, InsertsOne, IsDelete, IsDeleting, IsMove, ShowsNext, IsTaking, IsSearch, IsSweep, IsOpening, IsFollowing, IsAsking, IsClosing};
 ghost use Rattle.change_list.specs.Changes.{commit_at};
 ghost use Rattle.gist_c.specs.Shown.{shown_commit};
 
@@ -13,7 +13,7 @@ use std::alloc::Global;
 use store::Store;
 
 /// A cursor's room, which has no meaning in a store.
-const ROOM: u64 = 1;
+pub const ROOM: u64 = 1;
 
 /// Adds a row.
 pub fn insert<C: KeyClass>(store: &mut Store<C>, key: C::Key, tag: u64) -> Result<u64, Refusal>
@@ -51,6 +51,20 @@ pub fn delete<C: KeyClass>(store: &mut Store<C>, row: u64) -> Result<u64, Refusa
     ensures { IsDelete C.rules row store.old result store.new }
 {
     store.delete(row)
+}
+
+/// Deletes rows one after the other, until one is refused, and tells how many were deleted.
+pub fn delete_all<C: KeyClass>(store: &mut Store<C>, rows: &[u64]) -> Result<u64, Refusal>
+    ensures { IsDeleting C.rules rows.now store.old result store.new }
+{
+    for place in 0..rows.len() {
+        match delete(store, rows[place]) {
+            Ok(_) => {}
+            Err(why) if place == 0 => return Err(why),
+            Err(_) => return Ok(place as u64),
+        }
+    }
+    Ok(rows.len() as u64)
 }
 
 /// Moves a row.

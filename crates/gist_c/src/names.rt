@@ -1,6 +1,6 @@
 //! The names of refusals.
 ghost use Rattle.std.specs.Prelude.{◌≡◌, ◌<◌, ◌⊎◌, IfSome, IfNone};
-ghost use Rattle.key_class.specs.Refusals.{number_of, name_of};
+ghost use Rattle.key_class.specs.Refusals.{number_of};
 ghost use Rattle.gist_c.specs.Names.{IsNameOf, TellsName};
 
 use crate::buffers::write_over;

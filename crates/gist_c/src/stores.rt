@@ -1,10 +1,9 @@
 //! What can be asked of a store of any class.
 ghost use Rattle.std.specs.Prelude.{◌≡◌, ◌≢◌, ◌↔◌, ◌≤◌, true, false, None, IfSome, IsSomeAnd};
-ghost use Rattle.key_class.specs.Refusals.{number_of};
 ghost use Rattle.change_list.specs.Configs.{IsWithinLimits};
 ghost use Rattle.gist_c.specs.Owning.{is_held};
 ghost use Rattle.gist_c.specs.Answers.{TellsCode, Tells, TellsFault};
-ghost use Rattle.gist_c.specs.Calls.{IsDelete, IsOpening, IsFollowing, IsAsking, IsClosing, IsSweep};
+ghost use Rattle.gist_c.specs.Calls.{IsDelete, IsDeleting, IsOpening, IsFollowing, IsAsking, IsClosing, IsSweep};
 ghost use Rattle.gist_c.specs.Classes.{OnHandle, OfClass, IsClass, IsNewOf, commits_in, config_of};
 
 use crate::answers::{code, no_store, tell, tell_fault};
@@ -94,6 +93,28 @@ pub extern "C" fn gist_delete(alloc: Global, store: &mut Handle, row: u64, commi
             let deleted = held.delete(row);
             store.put(held);
             tell(deleted, commit)
+        }
+    }
+}
+
+/// Deletes rows one after the other, until one is refused, and tells how many were deleted.
+#[unsafe(no_mangle)]
+pub extern "C" fn gist_delete_all(
+    alloc: Global,
+    store: &mut Handle,
+    rows: &[u64],
+    deleted: &mut u64,
+) -> u32
+    ensures { Tells result deleted.old deleted.new (OnHandle
+        (OfClass (λ K A rules texts. IsDeleting rules rows.now))
+        store.old.inside.state store.new.inside.state) }
+{
+    match store.take(alloc) {
+        None => tell(no_store(), deleted),
+        Some(mut held) => {
+            let answer = held.delete_all(rows);
+            store.put(held);
+            tell(answer, deleted)
         }
     }
 }

@@ -19,6 +19,13 @@ pub struct Limits {
 
 #[repr(C)]
 #[derive(Clone, Copy)]
+pub struct IntervalKey {
+    pub lo: i64,
+    pub hi: i64,
+}
+
+#[repr(C)]
+#[derive(Clone, Copy)]
 pub struct IntervalEntry {
     pub lo: i64,
     pub hi: i64,
@@ -43,6 +50,15 @@ pub struct IntervalItem {
     pub tag: u64,
     pub lo: i64,
     pub hi: i64,
+}
+
+#[repr(C)]
+#[derive(Clone, Copy)]
+pub struct BoxKey {
+    pub x1: i32,
+    pub y1: i32,
+    pub x2: i32,
+    pub y2: i32,
 }
 
 #[repr(C)]
@@ -81,6 +97,13 @@ pub struct BoxItem {
 
 #[repr(C)]
 #[derive(Clone, Copy)]
+pub struct SetKey {
+    pub low: u64,
+    pub high: u64,
+}
+
+#[repr(C)]
+#[derive(Clone, Copy)]
 pub struct SetEntry {
     pub low: u64,
     pub high: u64,
@@ -114,6 +137,12 @@ extern "C" {
     pub fn gist_drop(store: *mut Handle);
     pub fn gist_commits(store: *mut Handle) -> u64;
     pub fn gist_delete(store: *mut Handle, row: u64, commit: *mut u64) -> u32;
+    pub fn gist_delete_all(
+        store: *mut Handle,
+        rows: *const u64,
+        length: usize,
+        deleted: *mut u64,
+    ) -> u32;
     pub fn gist_open(
         store: *mut Handle,
         query: *const c_char,
@@ -171,6 +200,33 @@ extern "C" {
         found: *mut u64,
         fault: *mut u64,
     ) -> u32;
+    pub fn gist_interval_find_by(
+        store: *mut Handle,
+        relation: u32,
+        lo: i64,
+        hi: i64,
+        rows: *mut IntervalRow,
+        room: usize,
+        found: *mut u64,
+    ) -> u32;
+    pub fn gist_interval_find_all(
+        store: *mut Handle,
+        relation: u32,
+        keys: *const IntervalKey,
+        length: usize,
+        rows: *mut IntervalRow,
+        room: usize,
+        ends: *mut u64,
+        places: usize,
+        answered: *mut u64,
+    ) -> u32;
+    pub fn gist_interval_open_by(
+        store: *mut Handle,
+        relation: u32,
+        lo: i64,
+        hi: i64,
+        cursor: *mut u64,
+    ) -> u32;
 
     pub fn gist_box_insert(
         store: *mut Handle,
@@ -214,6 +270,37 @@ extern "C" {
         found: *mut u64,
         fault: *mut u64,
     ) -> u32;
+    pub fn gist_box_find_by(
+        store: *mut Handle,
+        relation: u32,
+        x1: i32,
+        y1: i32,
+        x2: i32,
+        y2: i32,
+        rows: *mut BoxRow,
+        room: usize,
+        found: *mut u64,
+    ) -> u32;
+    pub fn gist_box_find_all(
+        store: *mut Handle,
+        relation: u32,
+        keys: *const BoxKey,
+        length: usize,
+        rows: *mut BoxRow,
+        room: usize,
+        ends: *mut u64,
+        places: usize,
+        answered: *mut u64,
+    ) -> u32;
+    pub fn gist_box_open_by(
+        store: *mut Handle,
+        relation: u32,
+        x1: i32,
+        y1: i32,
+        x2: i32,
+        y2: i32,
+        cursor: *mut u64,
+    ) -> u32;
 
     pub fn gist_set_insert(store: *mut Handle, low: u64, high: u64, tag: u64, row: *mut u64)
         -> u32;
@@ -242,5 +329,32 @@ extern "C" {
         room: usize,
         found: *mut u64,
         fault: *mut u64,
+    ) -> u32;
+    pub fn gist_set_find_by(
+        store: *mut Handle,
+        relation: u32,
+        low: u64,
+        high: u64,
+        rows: *mut SetRow,
+        room: usize,
+        found: *mut u64,
+    ) -> u32;
+    pub fn gist_set_find_all(
+        store: *mut Handle,
+        relation: u32,
+        keys: *const SetKey,
+        length: usize,
+        rows: *mut SetRow,
+        room: usize,
+        ends: *mut u64,
+        places: usize,
+        answered: *mut u64,
+    ) -> u32;
+    pub fn gist_set_open_by(
+        store: *mut Handle,
+        relation: u32,
+        low: u64,
+        high: u64,
+        cursor: *mut u64,
     ) -> u32;
 }

@@ -39,6 +39,20 @@ pub struct RawItem<K> {
     pub tag: u64,
 }
 
+/// A relation of a row's key to a key that is asked for. Each is that of the same word in a query.
+#[derive(Clone, Copy, Debug, PartialEq, Eq, Hash)]
+#[repr(u32)]
+pub enum Relation {
+    /// They have a point, or an element, in common.
+    Overlaps = 1,
+    /// The row's key is within the key that is asked for.
+    Within = 2,
+    /// The row's key holds the key that is asked for.
+    Holds = 3,
+    /// They are the same.
+    Same = 4,
+}
+
 /// A query's bytes, as C takes them.
 pub struct Query(pub *const c_char, pub usize);
 
@@ -64,6 +78,10 @@ pub unsafe trait Calls: Copy {
     type CItem: Copy + Default;
 
     type CEntry: Copy;
+
+    type CKey: Copy;
+
+    fn key(self) -> Self::CKey;
 
     fn entry(key: Self, tag: u64) -> Self::CEntry;
 
@@ -93,6 +111,30 @@ pub unsafe trait Calls: Copy {
         fault: *mut u64,
     ) -> u32;
 
+    unsafe fn find_by(
+        store: *mut ffi::Handle,
+        relation: Relation,
+        key: Self,
+        rows: &mut [Self::CRow],
+        found: *mut u64,
+    ) -> u32;
+
+    unsafe fn find_all(
+        store: *mut ffi::Handle,
+        relation: Relation,
+        keys: &[Self::CKey],
+        rows: &mut [Self::CRow],
+        ends: &mut [u64],
+        answered: *mut u64,
+    ) -> u32;
+
+    unsafe fn open_by(
+        store: *mut ffi::Handle,
+        relation: Relation,
+        key: Self,
+        cursor: *mut u64,
+    ) -> u32;
+
     fn row(row: Self::CRow) -> RawRow<Self>;
 
     fn item(item: Self::CItem) -> RawItem<Self>;
@@ -106,6 +148,15 @@ unsafe impl Calls for Interval {
     type CItem = ffi::IntervalItem;
 
     type CEntry = ffi::IntervalEntry;
+
+    type CKey = ffi::IntervalKey;
+
+    fn key(self) -> ffi::IntervalKey {
+        ffi::IntervalKey {
+            lo: self.lo,
+            hi: self.hi,
+        }
+    }
 
     fn entry(key: Interval, tag: u64) -> ffi::IntervalEntry {
         ffi::IntervalEntry {
@@ -166,6 +217,54 @@ unsafe impl Calls for Interval {
         )
     }
 
+    unsafe fn find_by(
+        store: *mut ffi::Handle,
+        relation: Relation,
+        key: Interval,
+        rows: &mut [ffi::IntervalRow],
+        found: *mut u64,
+    ) -> u32 {
+        ffi::gist_interval_find_by(
+            store,
+            relation as u32,
+            key.lo,
+            key.hi,
+            rows.as_mut_ptr(),
+            rows.len(),
+            found,
+        )
+    }
+
+    unsafe fn find_all(
+        store: *mut ffi::Handle,
+        relation: Relation,
+        keys: &[ffi::IntervalKey],
+        rows: &mut [ffi::IntervalRow],
+        ends: &mut [u64],
+        answered: *mut u64,
+    ) -> u32 {
+        ffi::gist_interval_find_all(
+            store,
+            relation as u32,
+            keys.as_ptr(),
+            keys.len(),
+            rows.as_mut_ptr(),
+            rows.len(),
+            ends.as_mut_ptr(),
+            ends.len(),
+            answered,
+        )
+    }
+
+    unsafe fn open_by(
+        store: *mut ffi::Handle,
+        relation: Relation,
+        key: Interval,
+        cursor: *mut u64,
+    ) -> u32 {
+        ffi::gist_interval_open_by(store, relation as u32, key.lo, key.hi, cursor)
+    }
+
     fn row(row: ffi::IntervalRow) -> RawRow<Interval> {
         let key = Interval {
             lo: row.lo,
@@ -201,6 +300,17 @@ unsafe impl Calls for BoxKey {
     type CItem = ffi::BoxItem;
 
     type CEntry = ffi::BoxEntry;
+
+    type CKey = ffi::BoxKey;
+
+    fn key(self) -> ffi::BoxKey {
+        ffi::BoxKey {
+            x1: self.x1,
+            y1: self.y1,
+            x2: self.x2,
+            y2: self.y2,
+        }
+    }
 
     fn entry(key: BoxKey, tag: u64) -> ffi::BoxEntry {
         ffi::BoxEntry {
@@ -263,6 +373,64 @@ unsafe impl Calls for BoxKey {
         )
     }
 
+    unsafe fn find_by(
+        store: *mut ffi::Handle,
+        relation: Relation,
+        key: BoxKey,
+        rows: &mut [ffi::BoxRow],
+        found: *mut u64,
+    ) -> u32 {
+        ffi::gist_box_find_by(
+            store,
+            relation as u32,
+            key.x1,
+            key.y1,
+            key.x2,
+            key.y2,
+            rows.as_mut_ptr(),
+            rows.len(),
+            found,
+        )
+    }
+
+    unsafe fn find_all(
+        store: *mut ffi::Handle,
+        relation: Relation,
+        keys: &[ffi::BoxKey],
+        rows: &mut [ffi::BoxRow],
+        ends: &mut [u64],
+        answered: *mut u64,
+    ) -> u32 {
+        ffi::gist_box_find_all(
+            store,
+            relation as u32,
+            keys.as_ptr(),
+            keys.len(),
+            rows.as_mut_ptr(),
+            rows.len(),
+            ends.as_mut_ptr(),
+            ends.len(),
+            answered,
+        )
+    }
+
+    unsafe fn open_by(
+        store: *mut ffi::Handle,
+        relation: Relation,
+        key: BoxKey,
+        cursor: *mut u64,
+    ) -> u32 {
+        ffi::gist_box_open_by(
+            store,
+            relation as u32,
+            key.x1,
+            key.y1,
+            key.x2,
+            key.y2,
+            cursor,
+        )
+    }
+
     fn row(row: ffi::BoxRow) -> RawRow<BoxKey> {
         let key = BoxKey {
             x1: row.x1,
@@ -316,6 +484,15 @@ unsafe impl Calls for Set {
     type CItem = ffi::SetItem;
 
     type CEntry = ffi::SetEntry;
+
+    type CKey = ffi::SetKey;
+
+    fn key(self) -> ffi::SetKey {
+        ffi::SetKey {
+            low: self.low(),
+            high: self.high(),
+        }
+    }
 
     fn entry(key: Set, tag: u64) -> ffi::SetEntry {
         ffi::SetEntry {
@@ -374,6 +551,54 @@ unsafe impl Calls for Set {
             found,
             fault,
         )
+    }
+
+    unsafe fn find_by(
+        store: *mut ffi::Handle,
+        relation: Relation,
+        key: Set,
+        rows: &mut [ffi::SetRow],
+        found: *mut u64,
+    ) -> u32 {
+        ffi::gist_set_find_by(
+            store,
+            relation as u32,
+            key.low(),
+            key.high(),
+            rows.as_mut_ptr(),
+            rows.len(),
+            found,
+        )
+    }
+
+    unsafe fn find_all(
+        store: *mut ffi::Handle,
+        relation: Relation,
+        keys: &[ffi::SetKey],
+        rows: &mut [ffi::SetRow],
+        ends: &mut [u64],
+        answered: *mut u64,
+    ) -> u32 {
+        ffi::gist_set_find_all(
+            store,
+            relation as u32,
+            keys.as_ptr(),
+            keys.len(),
+            rows.as_mut_ptr(),
+            rows.len(),
+            ends.as_mut_ptr(),
+            ends.len(),
+            answered,
+        )
+    }
+
+    unsafe fn open_by(
+        store: *mut ffi::Handle,
+        relation: Relation,
+        key: Set,
+        cursor: *mut u64,
+    ) -> u32 {
+        ffi::gist_set_open_by(store, relation as u32, key.low(), key.high(), cursor)
     }
 
     fn row(row: ffi::SetRow) -> RawRow<Set> {

@@ -1,5 +1,5 @@
 use crate::ffi;
-use crate::keys::{Key, Query, RawItem};
+use crate::keys::{Key, Query, RawItem, RawRow, Relation};
 use crate::refusal::Refusal;
 use std::marker::PhantomData;
 use std::ops::Range;
@@ -86,6 +86,15 @@ fn told<T>(answer: u32, value: T, fault: u64) -> Result<T, Refusal> {
         Ok(value)
     } else {
         Err(Refusal::of(answer, fault))
+    }
+}
+
+/// A row, as C told it.
+fn row_of<K>(row: RawRow<K>) -> Row<K> {
+    Row {
+        row: row.row,
+        key: row.key,
+        tag: row.tag,
     }
 }
 
@@ -206,23 +215,85 @@ impl<K: Key> Store<K> {
         told(answer, moved, 0)
     }
 
+    /// Deletes rows one after the other, in one call, and gives their commits' numbers. Where one is refused, the refusal
+    /// stands beside the numbers of those before it, which were made.
+    pub fn delete_all(&mut self, rows: &[u64]) -> (Range<u64>, Result<(), Refusal>) {
+        let first = self.commits() + 1;
+        let mut all = 0;
+        loop {
+            let mut deleted = 0;
+            let rest = &rows[all..];
+            let answer = unsafe {
+                ffi::gist_delete_all(&mut self.handle, rest.as_ptr(), rest.len(), &mut deleted)
+            };
+            all += deleted as usize;
+            if answer != 0 || all == rows.len() {
+                return (first..first + all as u64, told(answer, (), 0));
+            }
+        }
+    }
+
     /// The rows that a query asks for, by rising number.
     pub fn find(&mut self, query: &str) -> Result<Vec<Row<K>>, Refusal> {
+        self.all_rows(|store, rows| store.find_into(query, rows))
+    }
+
+    /// The rows whose keys have a relation to a key, by rising number. It takes less time than to find them by a query,
+    /// since no text is read.
+    pub fn find_by(&mut self, relation: Relation, key: K) -> Result<Vec<Row<K>>, Refusal> {
+        self.all_rows(|store, rows| store.find_by_into(relation, key, rows))
+    }
+
+    /// The rows whose keys have a relation to each of many keys, by one call where there is room for them. Those of a key
+    /// are by rising number.
+    pub fn find_all(
+        &mut self,
+        relation: Relation,
+        keys: &[K],
+    ) -> Result<Vec<Vec<Row<K>>>, Refusal> {
+        let keys: Vec<_> = keys.iter().map(|key| key.key()).collect();
+        let mut rows = vec![K::CRow::default(); Self::ROOM * keys.len().max(1)];
+        let mut ends = vec![0; keys.len()];
+        let mut all = Vec::with_capacity(keys.len());
+        while all.len() < keys.len() {
+            let (rest, mut answered) = (&keys[all.len()..], 0);
+            let answer = unsafe {
+                K::find_all(
+                    &mut self.handle,
+                    relation,
+                    rest,
+                    &mut rows,
+                    &mut ends,
+                    &mut answered,
+                )
+            };
+            let answered = told(answer, answered as usize, 0)?;
+            if answered == 0 {
+                rows.resize(2 * rows.len(), K::CRow::default());
+            }
+            let mut begin = 0;
+            for &end in &ends[..answered] {
+                let found = rows[begin..end as usize].iter();
+                all.push(found.map(|&row| row_of(K::row(row))).collect());
+                begin = end as usize;
+            }
+        }
+        Ok(all)
+    }
+
+    /// What a search puts into a buffer, which is made as long as it has to be.
+    fn all_rows<S>(&mut self, search: S) -> Result<Vec<Row<K>>, Refusal>
+    where
+        S: Fn(&mut Self, &mut [K::CRow]) -> Result<usize, Refusal>,
+    {
         let mut rows = vec![K::CRow::default(); Self::ROOM];
-        let found = self.find_into(query, &mut rows)?;
+        let found = search(self, &mut rows)?;
         if found > rows.len() {
             rows.resize(found, K::CRow::default());
-            self.find_into(query, &mut rows)?;
+            search(self, &mut rows)?;
         }
         rows.truncate(found);
-        let rows = rows.into_iter().map(K::row);
-        Ok(rows
-            .map(|it| Row {
-                row: it.row,
-                key: it.key,
-                tag: it.tag,
-            })
-            .collect())
+        Ok(rows.into_iter().map(|row| row_of(K::row(row))).collect())
     }
 
     /// Fills a buffer with the rows that a query asks for, as many as fit, and tells how many there are.
@@ -233,12 +304,31 @@ impl<K: Key> Store<K> {
         told(answer, found as usize, fault)
     }
 
+    /// Fills a buffer with the rows whose keys have a relation to a key, as many as fit, and tells how many there are.
+    fn find_by_into(
+        &mut self,
+        relation: Relation,
+        key: K,
+        rows: &mut [K::CRow],
+    ) -> Result<usize, Refusal> {
+        let mut found = 0;
+        let answer = unsafe { K::find_by(&mut self.handle, relation, key, rows, &mut found) };
+        told(answer, found as usize, 0)
+    }
+
     /// Opens a cursor at the present commits.
     pub fn open(&mut self, query: &str) -> Result<Cursor, Refusal> {
         let (mut cursor, mut fault, Query(text, length)) = (0, 0, bytes(query));
         let answer =
             unsafe { ffi::gist_open(&mut self.handle, text, length, &mut cursor, &mut fault) };
         told(answer, Cursor(cursor), fault)
+    }
+
+    /// Opens a cursor at the present commits, on the rows whose keys have a relation to a key.
+    pub fn open_by(&mut self, relation: Relation, key: K) -> Result<Cursor, Refusal> {
+        let mut cursor = 0;
+        let answer = unsafe { K::open_by(&mut self.handle, relation, key, &mut cursor) };
+        told(answer, Cursor(cursor), 0)
     }
 
     /// Opens a cursor that gives the changes after a commit, and no row that was there.
@@ -332,6 +422,7 @@ mod tests {
     use crate::{BoxKey, Interval, Set};
     use std::sync::Mutex;
     use std::thread;
+    use Relation::{Holds, Overlaps, Same, Within};
 
     fn interval(lo: i64, hi: i64) -> Interval {
         Interval { lo, hi }
@@ -429,6 +520,71 @@ mod tests {
     }
 
     #[test]
+    fn a_relation_and_a_key_are_a_query() -> Result<(), Refusal> {
+        let mut store = Store::new(Limits::default())?;
+        for n in 0..1_000 {
+            store.insert(interval(n, n + n % 5), n as u64)?;
+        }
+        let asked = [
+            (Overlaps, "overlaps"),
+            (Within, "within"),
+            (Holds, "holds"),
+            (Same, "same"),
+        ];
+        for (relation, word) in asked {
+            for key in [interval(8, 8), interval(100, 899), interval(444, 448)] {
+                let query = format!("{word} ({} {})", key.lo, key.hi);
+                let rows = store.find_by(relation, key)?;
+                assert_eq!(rows, store.find(&query)?, "{query}");
+                let cursor = store.open_by(relation, key)?;
+                assert_eq!(store.items(cursor).count(), rows.len(), "{query}");
+                store.close(cursor)?;
+            }
+        }
+        assert_eq!(store.find_by(Same, interval(444, 448))?[0].row, 445);
+        assert_eq!(store.find_by(Same, interval(2, 1)), Err(Refusal::BadConfig));
+        assert_eq!(store.open_by(Same, interval(2, 1)), Err(Refusal::BadConfig));
+        Ok(())
+    }
+
+    #[test]
+    fn many_keys_are_asked_for_by_one_call() -> Result<(), Refusal> {
+        let mut store = Store::new(Limits::default())?;
+        for n in 0..1_000 {
+            store.insert(interval(n, n + n % 5), n as u64)?;
+        }
+        let keys: Vec<_> = (0..40).map(|n| interval(n, n * n)).collect();
+        let found = store.find_all(Overlaps, &keys)?;
+        assert_eq!(found.len(), keys.len());
+        for (rows, &key) in found.iter().zip(&keys) {
+            assert_eq!(rows, &store.find_by(Overlaps, key)?);
+        }
+        assert_eq!(store.find_all(Overlaps, &[])?.len(), 0);
+        let all = store.find_all(Within, &[interval(0, 2_000)])?;
+        assert_eq!(all[0].len(), 1_000);
+        let refused = store.find_all(Same, &[interval(1, 1), interval(2, 1)]);
+        assert_eq!(refused, Err(Refusal::BadConfig));
+        Ok(())
+    }
+
+    #[test]
+    fn many_rows_are_deleted_by_one_call() -> Result<(), Refusal> {
+        let mut store = Store::new(Limits::default())?;
+        for n in 0..6 {
+            store.insert(interval(n, n), 0)?;
+        }
+        assert_eq!(store.delete_all(&[]), (7..7, Ok(())));
+        assert_eq!(store.delete_all(&[4, 2]), (7..9, Ok(())));
+        let refused = Err(Refusal::AlreadyDeleted);
+        assert_eq!(store.delete_all(&[1, 3, 4, 5]), (9..11, refused));
+        assert_eq!(store.delete_all(&[0]), (11..11, Err(Refusal::NoSuchRow)));
+        assert_eq!(store.commit(10), Some(Commit::Delete { row: 3 }));
+        let left = store.find_by(Within, interval(0, 9))?;
+        assert!(left.iter().map(|it| it.row).eq([5, 6]));
+        Ok(())
+    }
+
+    #[test]
     fn every_class_has_a_store() -> Result<(), Refusal> {
         let mut boxes = Store::new(Limits::default())?;
         let key = BoxKey {
@@ -446,6 +602,10 @@ mod tests {
                 tag: 7
             }]
         );
+        assert_eq!(boxes.find_by(Within, key)?.len(), 1);
+        assert_eq!(boxes.find_all(Same, &[key, key])?.concat().len(), 2);
+        let cursor = boxes.open_by(Same, key)?;
+        assert_eq!(boxes.items(cursor).count(), 1);
         let mut sets = Store::new(Limits::default())?;
         let key = Set(1 << 127 | 1 << 5);
         sets.insert(key, 8)?;
@@ -457,6 +617,10 @@ mod tests {
                 tag: 8
             }]
         );
+        assert_eq!(sets.find_by(Holds, Set(1 << 127))?.len(), 1);
+        assert_eq!(sets.find_all(Holds, &[Set(1), Set(0)])?.concat().len(), 1);
+        let cursor = sets.open_by(Overlaps, Set(1 << 5))?;
+        assert_eq!(sets.items(cursor).count(), 1);
         Ok(())
     }
 

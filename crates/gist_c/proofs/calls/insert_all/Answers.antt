@@ -1,15 +1,14 @@
 use Rattle.std.proofs.Common.{◌++◌, ◌∷◌, [], take, sym, ap, ◌∙◌, arith}
 use Rattle.std.proofs.lemmas.List.{take_more}
-use Rattle.gist_c.proofs.Inserting.{inserts_push}
+use Rattle.gist_c.specs.Calls.{InsertsOne}
+use Rattle.gist_c.proofs.Batches.{does_push}
 use Rattle.gist_c.proofs.calls.insert_all.Goals as goal
 
 pub loop-place-preserved : goal.loop-place-preserved
 loop-place-preserved g c =
-    let rules = g.C.KeyClass.rules in
-    let key_of = g.C.Crossing.key_of in
-    let tag_of = g.C.Crossing.tag_of in
+    let one = InsertsOne g.C.KeyClass.rules g.C.Crossing.key_of g.C.Crossing.tag_of in
     let entries = c.args.entries.now in
     let place = c.loop-place.place in
     let entry = c.index-entries-place.result in
     let more = take_more entries place entry (omega (arith, c.loop-place-test.true)) ∙ ap (λ x. take place entries ++ x ∷ []) (sym c.index-entries-place.is) in
-    rw more (inserts_push rules key_of tag_of (take place entries) entry c.args.store.now c.loop-place.store c.insert_entry.new.store c.in-Ok.field-0 c.loop-place.invariant c.in-Ok.ensures)
+    rw more (does_push one (take place entries) entry c.args.store.now c.loop-place.store c.insert_entry.new.store c.in-Ok.field-0 c.loop-place.invariant c.in-Ok.ensures)
