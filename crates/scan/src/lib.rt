@@ -5,6 +5,7 @@
 mod branch_test;
 mod key_test;
 mod laws;
+mod picks;
 mod prepared;
 mod rows;
 mod stack;

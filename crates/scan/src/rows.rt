@@ -4,6 +4,7 @@ ghost use Rattle.scan.specs.Scanning.{is_seen, seen, row_of};
 ghost use Rattle.scan.specs.QueryVisits.{seen_by};
 
 use crate::key_test::{KeyTest, OneAtom};
+use crate::picks::{AT_A_TIME, accepted_bits, note_picked};
 use change_list::Row;
 use key_class::{KeyClass, Pred};
 use row_version::Entry;
@@ -71,8 +72,27 @@ pub fn note_rows<C: KeyClass>(
     }
 }
 
-/// Appends the rows that are there after the first `commit` commits and pass the test, in their order.
+/// Appends the rows that are there after the first `commit` commits and pass the test, in their order. A page of a store
+/// has no more entries than are tested at a time.
 fn note_accepted<C: KeyClass, T: KeyTest<C>>(
+    entries: &[Entry<C::Key>],
+    test: &T,
+    commit: u32,
+    rows: &mut Vec<Row<C::Key>>,
+)
+    requires room { vec_len rows.old + length entries.now ≤ vec_capacity rows.old }
+    ensures { rows.new.items ≡ rows.old.items ++ seen (T.accepts test.now) commit entries.now }
+{
+    if entries.len() <= AT_A_TIME {
+        let accepted = accepted_bits::<C, T>(entries, test);
+        note_picked(entries, accepted, commit, rows);
+    } else {
+        note_one_by_one::<C, T>(entries, test, commit, rows);
+    }
+}
+
+/// Appends the rows that are there after the first `commit` commits and pass the test, of any number of entries.
+fn note_one_by_one<C: KeyClass, T: KeyTest<C>>(
     entries: &[Entry<C::Key>],
     test: &T,
     commit: u32,
@@ -102,7 +122,7 @@ pub fn holds_row<K>(entries: &[Entry<K>], row: u32) -> bool
     entries.iter().any(|entry| entry.row() == row)
 }
 
-fn row_of<K: Copy>(entry: &Entry<K>) -> Row<K>
+pub(crate) fn row_of<K: Copy>(entry: &Entry<K>) -> Row<K>
     ensures { result ≡ row_of entry.now }
 {
     Row {

@@ -1,13 +1,15 @@
-ghost use Rattle.std.specs.Prelude.{◌≡◌, ◌≢◌, ◌<◌, ◌↔◌, ℕ, ◌+◌, ◌++◌, [], length, true, option_to_list, IfOk, OnOk, OnErr, MatchOption, IsTrue, false};
+ghost use Rattle.std.specs.Prelude.{◌≡◌, ◌≢◌, ◌<◌, ◌≤◌, ◌↔◌, ℕ, ◌+◌, ◌++◌, [], length, true, option_to_list, IfOk, OnOk, OnErr, MatchOption, IsTrue, false};
 ghost use Rattle.std.specs.Arc.{arc_value};
 ghost use Rattle.smallvec.specs.SmallVec.{HasRoomFor};
 ghost use Rattle.page_table.specs.Stacks.{IsStack, root_stack};
+ghost use Rattle.page_table.specs.Trees.{page_at};
 ghost use Rattle.scan.specs.Finding.{LacksNext, KeepsFinding, SeekLowersWork, PushesCovering, SeeksNext};
 ghost use Rattle.scan.specs.Scanning.{IsNext, GoesOn, PushesSome, with_memo, children_on, HasWanted, KeepsWanted};
 ghost use Rattle.scan.specs.QueryVisits.{GoesOnBy, AddsUp, Prepares, GrowsBy, Tallies, IsStillNext, Notes, VisitPushes, VisitsOn, VisitsBy, PushesBy, MakesVisit, VisitLowersWork};
 
 use crate::branch_test::{BranchTest, Covering};
 use crate::key_test::OneAtom;
+use crate::picks::{AT_A_TIME, push_picked, wanted_bits};
 use crate::prepared::PreparedVisit;
 use crate::rows::{holds_row, note_rows, seen_rows};
 use change_list::Row;
@@ -292,8 +294,52 @@ impl Stack {
         }
     }
 
-    /// Puts what follows a page in the place of its item, the last.
+    /// Puts what follows a page in the place of its item, the last. A page of a store has no more branches than are tested
+    /// at a time.
     fn go_on<C: KeyClass, T: BranchTest<C>>(
+        &mut self,
+        table: &PageTable<C::Key>,
+        item: StackItem,
+        test: &T,
+    ) -> Result<(), AllocError>
+        requires next { IsNext self.old item }
+        requires exists { item.page < length table.now.pages }
+        ensures ok { OnOk result (GoesOn (T.wants test.now) table.now self.old item self.new) }
+        ensures refused { OnErr result (self.new ≡ self.old) }
+        ensures memory { OnErr result (PushesSome (T.wants test.now) table.now self.old) }
+    {
+        if table.page(item.page).branches().len() <= AT_A_TIME {
+            return self.go_on_by_bits::<C, T>(table, item, test);
+        }
+        self.go_on_one_by_one::<C, T>(table, item, test)
+    }
+
+    /// Goes on from a page that has no more branches than are tested at a time.
+    fn go_on_by_bits<C: KeyClass, T: BranchTest<C>>(
+        &mut self,
+        table: &PageTable<C::Key>,
+        item: StackItem,
+        test: &T,
+    ) -> Result<(), AllocError>
+        requires next { IsNext self.old item }
+        requires exists { item.page < length table.now.pages }
+        requires few { length (page_at table.now item.page).branches ≤ 64 }
+        ensures ok { OnOk result (GoesOn (T.wants test.now) table.now self.old item self.new) }
+        ensures refused { OnErr result (self.new ≡ self.old) }
+        ensures memory { OnErr result (PushesSome (T.wants test.now) table.now self.old) }
+    {
+        let page = table.page(item.page);
+        let branches = page.branches();
+        let wanted = wanted_bits::<C, T>(branches, test);
+        make_room(&mut self.items, wanted.count_ones() as usize)?;
+        self.items.pop();
+        push_link(&mut self.items, page.followed(item.memo), item.memo);
+        push_picked(&mut self.items, branches, wanted, table.counter());
+        Ok(())
+    }
+
+    /// Goes on from a page with any number of branches.
+    fn go_on_one_by_one<C: KeyClass, T: BranchTest<C>>(
         &mut self,
         table: &PageTable<C::Key>,
         item: StackItem,

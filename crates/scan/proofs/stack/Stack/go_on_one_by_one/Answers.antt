@@ -4,7 +4,7 @@ use Rattle.page_table.specs.Trees.{page_at}
 use Rattle.scan.proofs.Visiting.{room_popped, goes_on_made}
 use Rattle.scan.specs.Scanning.{IsNext, child_items}
 use Rattle.scan.proofs.Growing.{on_err, pushes_some}
-use Rattle.scan.proofs.stack.Stack.go_on.Goals as goal
+use Rattle.scan.proofs.stack.Stack.go_on_one_by_one.Goals as goal
 
 pub push_children-requires : goal.push_children-requires
 push_children-requires g c =

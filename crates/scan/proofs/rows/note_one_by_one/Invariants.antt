@@ -1,7 +1,7 @@
 use Rattle.std.proofs.Common.{◌≡◌, ◌+◌, ◌≤◌, ◌++◌, drop, length}
 use Rattle.std.specs.Prelude.{vec_capacity, vec_len}
 use Rattle.scan.specs.Scanning.{seen}
-use Rattle.scan.proofs.rows.note_accepted.Given as goal
+use Rattle.scan.proofs.rows.note_one_by_one.Given as goal
 
 abbrev pub invariant-loop-entry : goal.invariant-loop-entry
 invariant-loop-entry g l =

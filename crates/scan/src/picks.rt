@@ -1,0 +1,100 @@
+ghost use Rattle.std.specs.Prelude.{◌≡◌, ◌+◌, ◌≤◌, ◌++◌, filter, length, map, reverse, vec_capacity, vec_len};
+ghost use Rattle.smallvec.specs.SmallVec.{HasRoomFor};
+ghost use Rattle.row_version.specs.Entries.{visible_at};
+ghost use Rattle.scan.specs.Picks.{HasBitsFor, item_of_child, picked};
+ghost use Rattle.scan.specs.Scanning.{row_of};
+
+use crate::branch_test::BranchTest;
+use crate::key_test::KeyTest;
+use crate::rows::row_of;
+use crate::stack::StackItem;
+use change_list::Row;
+use key_class::KeyClass;
+use node::Branch;
+use row_version::Entry;
+use smallvec::SmallVec;
+
+/// Of how many entries or branches the bits of a number tell which pass a test.
+pub(crate) const AT_A_TIME: usize = 64;
+
+/// The entries whose keys are accepted, by bits: the lowest is the first entry's. The loop does nothing but test, so no
+/// entry's test waits for another's answer.
+pub(crate) fn accepted_bits<C: KeyClass, T: KeyTest<C>>(entries: &[Entry<C::Key>], test: &T) -> u64
+    requires few { length entries.now ≤ 64 }
+    ensures within { HasBitsFor entries.now result }
+    ensures accepted { picked result entries.now
+        ≡ filter (λ entry. T.accepts test.now entry.key) entries.now }
+{
+    let mut bits = 0;
+    let mut place = entries.len();
+    while place > 0 {
+        place -= 1;
+        bits = 2 * bits + u64::from(test.is_accepted(entries[place].key()));
+    }
+    bits
+}
+
+/// The branches whose bounds are wanted, by bits: the lowest is the last branch's.
+pub(crate) fn wanted_bits<C: KeyClass, T: BranchTest<C>>(branches: &[Branch<C::Key>], test: &T) -> u64
+    requires few { length branches.now ≤ 64 }
+    ensures within { HasBitsFor (reverse branches.now) result }
+    ensures wanted { picked result (reverse branches.now)
+        ≡ filter (λ branch. T.wants test.now branch.key) (reverse branches.now) }
+{
+    let mut bits = 0;
+    for branch in branches {
+        bits = 2 * bits + u64::from(test.is_wanted(branch.key));
+    }
+    bits
+}
+
+/// Appends the rows of the picked entries that are there after the first `commit` commits, in their order.
+pub(crate) fn note_picked<K: Copy>(
+    entries: &[Entry<K>],
+    mut bits: u64,
+    commit: u32,
+    rows: &mut Vec<Row<K>>,
+)
+    requires few { length entries.now ≤ 64 }
+    requires within { HasBitsFor entries.now bits }
+    requires room { vec_len rows.old + length entries.now ≤ vec_capacity rows.old }
+    ensures { rows.new.items
+        ≡ rows.old.items ++ map row_of (filter (visible_at commit) (picked bits entries.now)) }
+{
+    let mut place = 0;
+    while bits != 0 {
+        let passed = bits.trailing_zeros();
+        place += passed as usize;
+        let entry = &entries[place];
+        if entry.visible_at(commit) {
+            rows.push_reserved(row_of(entry));
+        }
+        place += 1;
+        bits = bits >> passed >> 1;
+    }
+}
+
+/// Pushes the children of the picked branches, the lowest bit being the last branch's.
+pub(crate) fn push_picked<K: Copy>(
+    items: &mut SmallVec<StackItem, 32>,
+    branches: &[Branch<K>],
+    mut bits: u64,
+    memo: u32,
+)
+    requires few { length branches.now ≤ 64 }
+    requires within { HasBitsFor (reverse branches.now) bits }
+    requires room { HasRoomFor items.old (length (picked bits (reverse branches.now))) }
+    ensures { items.new.items
+        ≡ items.old.items ++ map (item_of_child memo) (picked bits (reverse branches.now)) }
+{
+    let mut place = branches.len();
+    while bits != 0 {
+        let passed = bits.trailing_zeros();
+        place -= passed as usize + 1;
+        items.push_reserved(StackItem {
+            page: branches[place].child,
+            memo,
+        });
+        bits = bits >> passed >> 1;
+    }
+}
