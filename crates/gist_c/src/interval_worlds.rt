@@ -31,7 +31,8 @@ pub extern "C" fn gist_interval_world_insert(
     row: &mut u64,
 ) -> u32
     ensures { Tells result row.old row.new (OnHandle
-        (OfIntervalWorld (WithKey (λ key. IsStoreCall interval_rules (IsInsert interval_rules key tag))
+        (OfIntervalWorld
+        (WithKey (λ key. IsStoreCall interval_rules (IsInsert interval_rules key tag))
         (interval_of lo hi)))
         world.old.inside.state world.new.inside.state) }
 {
@@ -48,7 +49,8 @@ pub extern "C" fn gist_interval_world_insert(
 
 /// Adds a row to a world of intervals.
 fn insert(held: &mut AnyWorld, key: Option<Interval>, tag: u64) -> Result<u64, Refusal>
-    ensures { OfIntervalWorld (WithKey (λ k. IsStoreCall interval_rules (IsInsert interval_rules k tag)) key)
+    ensures { OfIntervalWorld
+        (WithKey (λ k. IsStoreCall interval_rules (IsInsert interval_rules k tag)) key)
         held.old result held.new }
 {
     match held {
@@ -71,7 +73,8 @@ pub extern "C" fn gist_interval_world_move(
     moved: &mut u64,
 ) -> u32
     ensures { Tells result moved.old moved.new (OnHandle
-        (OfIntervalWorld (WithKey (λ key. IsStoreCall interval_rules (IsMove interval_rules row key))
+        (OfIntervalWorld
+        (WithKey (λ key. IsStoreCall interval_rules (IsMove interval_rules row key))
         (interval_of lo hi)))
         world.old.inside.state world.new.inside.state) }
 {
@@ -88,7 +91,8 @@ pub extern "C" fn gist_interval_world_move(
 
 /// Moves a row of a world of intervals.
 fn move_row(held: &mut AnyWorld, row: u64, key: Option<Interval>) -> Result<u64, Refusal>
-    ensures { OfIntervalWorld (WithKey (λ k. IsStoreCall interval_rules (IsMove interval_rules row k)) key)
+    ensures { OfIntervalWorld
+        (WithKey (λ k. IsStoreCall interval_rules (IsMove interval_rules row k)) key)
         held.old result held.new }
 {
     match held {
@@ -167,7 +171,8 @@ fn find(
     query: &[u8],
     rows: &mut [IntervalRow],
 ) -> Result<u64, Refusal>
-    ensures found { OfIntervalWorld (IsReading interval_rules (FindsIntervals query.now rows.old rows.new))
+    ensures found { OfIntervalWorld
+        (IsReading interval_rules (FindsIntervals query.now rows.old rows.new))
         held.now result held.now }
     ensures unfilled { OnErr result (rows.new ≡ rows.old) }
 {

@@ -46,7 +46,8 @@ pub extern "C" fn gist_set_world_insert(
 
 /// Adds a row to a world of sets.
 fn insert(held: &mut AnyWorld, key: Elements, tag: u64) -> Result<u64, Refusal>
-    ensures { OfSetWorld (IsStoreCall set_rules (IsInsert set_rules key tag)) held.old result held.new }
+    ensures { OfSetWorld (IsStoreCall set_rules (IsInsert set_rules key tag))
+        held.old result held.new }
 {
     match held {
         AnyWorld::Sets(world) => world_calls::insert(world, key, tag),
@@ -81,7 +82,8 @@ pub extern "C" fn gist_set_world_move(
 
 /// Moves a row of a world of sets.
 fn move_row(held: &mut AnyWorld, row: u64, key: Elements) -> Result<u64, Refusal>
-    ensures { OfSetWorld (IsStoreCall set_rules (IsMove set_rules row key)) held.old result held.new }
+    ensures { OfSetWorld (IsStoreCall set_rules (IsMove set_rules row key))
+        held.old result held.new }
 {
     match held {
         AnyWorld::Sets(world) => world_calls::move_row(world, row, key),
