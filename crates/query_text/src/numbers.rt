@@ -84,11 +84,10 @@ fn natural(bytes: &[u8]) -> Option<u64>
 fn integer(bytes: &[u8]) -> Option<i64>
     ensures { result ≡ number_within least_i64 most_i64 (number (number_value bytes.now)) }
 {
-    let size = magnitude(digits_of(bytes))?;
-    if is_negative(bytes) {
-        return 0_i64.checked_sub_unsigned(size);
+    match bytes {
+        [b'-', digits @ ..] => 0_i64.checked_sub_unsigned(magnitude(digits)?),
+        _ => i64::try_from(magnitude(bytes)?).ok(),
     }
-    i64::try_from(size).ok()
 }
 
 impl Lexeme {
