@@ -1,22 +1,45 @@
-ghost use Rattle.std.specs.Prelude.{◌≡◌, ◌↔◌, pos, ◌≤◌, ◌<◌, ◌^◌, ◌-◌, ◌+◌, ◌*◌, IsTrue, Some, None};
+ghost use Rattle.std.specs.Prelude.{◌≡◌, ◌↔◌, pos, ◌≤◌, ◌<◌, ◌^◌, ◌-◌, ◌+◌, ◌*◌, length, IsTrue, Some, None};
 ghost use Rattle.std.specs.Option.{option_map};
 ghost use Rattle.query_text.specs.Tokens.{is_negative, digits_of, word, number, token_in, number_value, number_within, decimal_value_after, least_i32, most_i32, least_i64, most_i64, FitsOrNone, u64_number};
 
 use crate::lexeme::{Kind, Lexeme};
 
+/// So many digits don't bring a number to 2^64.
+const FEW: usize = 17;
+
+fn digit_value(digit: u8) -> u64
+    ensures is { result ≡ digit - 48 }
+    ensures small { result ≤ 207 }
+{
+    u64::from(digit).saturating_sub(u64::from(b'0'))
+}
+
+/// The number that few digits write.
+fn few_digits(digits: &[u8]) -> u64
+    requires few { length digits.now ≤ 17 }
+    ensures { result ≡ decimal_value_after 0 digits.now }
+{
+    let mut value = 0;
+    for digit in digits {
+        value = value * 10 + digit_value(*digit);
+    }
+    value
+}
+
 /// The number that one more digit makes, unless it is 2^64 or more.
 fn with_digit(value: u64, digit: u8) -> Option<u64>
     ensures { FitsOrNone (λ n. n) (value * 10 + (digit - 48)) result }
 {
-    value
-        .checked_mul(10)?
-        .checked_add(u64::from(digit.saturating_sub(b'0')))
+    value.checked_mul(10)?.checked_add(digit_value(digit))
 }
 
 /// The number that digits write, unless it is 2^64 or more.
 fn magnitude(digits: &[u8]) -> Option<u64>
     ensures { FitsOrNone (λ n. n) (decimal_value_after 0 digits.now) result }
 {
+    if digits.len() <= FEW {
+        return Some(few_digits(digits));
+    }
     let mut value = 0;
     for digit in digits {
         let Some(next) = with_digit(value, *digit) else {
@@ -61,11 +84,10 @@ fn natural(bytes: &[u8]) -> Option<u64>
 fn integer(bytes: &[u8]) -> Option<i64>
     ensures { result ≡ number_within least_i64 most_i64 (number (number_value bytes.now)) }
 {
-    let size = magnitude(digits_of(bytes))?;
-    if is_negative(bytes) {
-        return 0_i64.checked_sub_unsigned(size);
+    match bytes {
+        [b'-', digits @ ..] => 0_i64.checked_sub_unsigned(magnitude(digits)?),
+        _ => i64::try_from(magnitude(bytes)?).ok(),
     }
-    i64::try_from(size).ok()
 }
 
 impl Lexeme {

@@ -43,14 +43,21 @@ fn front_of(bytes: &[u8]) -> Front
     let [first, rest @ ..] = bytes else {
         return Front::Nothing;
     };
+    // A line has the most of spaces, digits and letters: these are asked for first.
+    if *first == b' ' {
+        return Front::Space;
+    }
+    if matches!(*first, b'0'..=b'9') {
+        return Front::Found(Kind::Number, digits(rest) + 1);
+    }
+    if matches!(*first, b'a'..=b'z') {
+        return Front::Found(Kind::Word, letters(rest) + 1);
+    }
     match *first {
-        b' ' => Front::Space,
         b'(' => Front::Found(Kind::OpenBracket, 1),
         b')' => Front::Found(Kind::CloseBracket, 1),
         b'{' => Front::Found(Kind::OpenBrace, 1),
         b'}' => Front::Found(Kind::CloseBrace, 1),
-        b'a'..=b'z' => Front::Found(Kind::Word, letters(rest) + 1),
-        b'0'..=b'9' => Front::Found(Kind::Number, digits(rest) + 1),
         b'-' if starts_with_digit(rest) => Front::Found(Kind::Number, digits(rest) + 1),
         _ => Front::NoToken,
     }
