@@ -1,10 +1,13 @@
-use Rattle.std.proofs.Common.{◌≡◌, ℕ, ◌<◌, ◌+◌, ◌≤◌, true, List, ◌∷◌, length, slice_index_or, take, drop, arith, ⊎_elim, subst, sym, ◌∙◌}
+use Rattle.std.specs.Ordering.{nat_cmp, is_lt, ord_max}
+use Rattle.std.proofs.lemmas.Int.{to_z-of_z}
+use mir.Val.{SFits}
+use Rattle.std.proofs.Common.{◌≡◌, ℕ, ◌<◌, ◌+◌, ◌≤◌, ◌≤ℤ◌, ℤ, Bool, true, false, cond, w32, to_z, of_z, ap, List, ◌∷◌, length, slice_index_or, take, drop, arith, ⊎_elim, subst, sym, ◌∙◌}
 use Rattle.std.proofs.lemmas.Bool.{cases_eq}
 use Rattle.std.proofs.lemmas.List.{get_or_default}
 use Rattle.std.proofs.lemmas.List.Elements.{All-head, All-tail, All-cons, All-take, All-drop}
 use Rattle.box_class.specs.declared.boxes.BoxKey.{BoxKey}
-use Rattle.box_class.specs.Boxes.{is_cover, size_of, union_of}
-use Rattle.box_class.specs.BoxLaws.{size_of-le, union_is_least, union_covers_left, union_covers_right, covers_through}
+use Rattle.box_class.specs.Boxes.{is_cover, extent_of, size_of, union_of}
+use Rattle.box_class.specs.BoxLaws.{cover_from, extent_of-le, size_of-le, union_is_least, union_covers_left, union_covers_right, covers_through}
 use Rattle.box_class.specs.OpenPlaces.{HaveBoundWithin}
 
 -- the bound covers the first n keys
@@ -23,11 +26,37 @@ covers_more b x n keys h r f k e l =
     covers_through grown b (slice_index_or keys k e) (union_covers_left b x) (f k e (omega (arith, l, q))))
     (cases_eq k n)
 
+-- on each axis a bound is at least as long as what it covers
+pub across_within : (b k : BoxKey) → is_cover b k ≡ true → extent_of k.x1 k.x2 ≤ extent_of b.x1 b.x2
+across_within b k h = let p = cover_from b k h in extent_of-le k.x1 k.x2 b.x1 b.x2 k.x_ordered p.0 p.1
+
+pub along_within : (b k : BoxKey) → is_cover b k ≡ true → extent_of k.y1 k.y2 ≤ extent_of b.y1 b.y2
+along_within b k h = let p = cover_from b k h in extent_of-le k.y1 k.y2 b.y1 b.y2 k.y_ordered p.2 p.3
+
+either_below : (t : Bool) (a b n : ℕ) → a + 1 ≤ n → b + 1 ≤ n → cond t a b + 1 ≤ n
+either_below true a b n p q = p
+either_below false a b n p q = q
+
+-- the larger of two numbers is below what both are below
+pub larger_below : (a b n : ℕ) → a + 1 ≤ n → b + 1 ≤ n → ord_max nat_cmp a b + 1 ≤ n
+larger_below a b n p q = either_below (is_lt (nat_cmp b a)) a b n p q
+
+-- what a function reads of two ends in order
+pub order_read : (a b : ℤ) → SFits w32 a → SFits w32 b → a ≤ℤ b → to_z w32 (of_z w32 a) ≤ℤ to_z w32 (of_z w32 b)
+order_read a b f g h = subst (λ (x : ℤ). x ≤ℤ to_z w32 (of_z w32 b)) (sym (to_z-of_z w32 a f)) (subst (λ (y : ℤ). a ≤ℤ y) (sym (to_z-of_z w32 b g)) h)
+
+pub extent_read : (a b : ℤ) (r : ℕ) → SFits w32 a → SFits w32 b → r + 1 ≡ extent_of (to_z w32 (of_z w32 a)) (to_z w32 (of_z w32 b)) → r + 1 ≡ extent_of a b
+extent_read a b r f g e = e ∙ ap (λ x. extent_of x (to_z w32 (of_z w32 b))) (to_z-of_z w32 a f) ∙ ap (extent_of a) (to_z-of_z w32 b g)
+
+-- ends inside others are no further apart
+pub extent_below : (a b c d : ℤ) (r : ℕ) → r + 1 ≡ extent_of a b → a ≤ℤ b → c ≤ℤ a → b ≤ℤ d → r + 1 ≤ extent_of c d
+extent_below a b c d r e o h k = omega (arith, e, extent_of-le a b c d o h k)
+
 -- two boxes that one covers have a common bound no larger
 common_within : (limit : ℕ) (bound a b : BoxKey) → size_of bound ≤ limit → is_cover bound a ≡ true → is_cover bound b ≡ true → size_of (union_of a b) ≤ limit
 common_within limit bound a b s p q = omega (arith, s, size_of-le bound (union_of a b) (union_is_least a b bound p q))
 
-covered_read : (bound x : BoxKey) (keys : List BoxKey) (i : ℕ) → ((k : ℕ) (d : BoxKey) → k < length keys → is_cover bound (slice_index_or keys k d) ≡ true) → i < length keys → x ≡ slice_index_or keys i x → is_cover bound x ≡ true
+pub covered_read : (bound x : BoxKey) (keys : List BoxKey) (i : ℕ) → ((k : ℕ) (d : BoxKey) → k < length keys → is_cover bound (slice_index_or keys k d) ≡ true) → i < length keys → x ≡ slice_index_or keys i x → is_cover bound x ≡ true
 covered_read bound x keys i f l r = subst (λ (y : BoxKey). is_cover bound y ≡ true) (sym r) (f i x l)
 
 pub pair_within : (limit : ℕ) (keys : List BoxKey) (i j : ℕ) (a b : BoxKey) → HaveBoundWithin limit keys → i < length keys → j < length keys → a ≡ slice_index_or keys i a → b ≡ slice_index_or keys j b → size_of (union_of a b) ≤ limit

@@ -1,4 +1,4 @@
-ghost use Rattle.std.specs.Prelude.{◌≡◌, ℕ, ◌+◌, ◌≤◌, ◌^◌, ℤ};
+ghost use Rattle.std.specs.Prelude.{◌≡◌, ℕ, ◌+◌, ◌*◌, ◌≤◌, ◌^◌, ℤ, pos, ◌-ℤ◌};
 ghost use Rattle.box_class.specs.Boxes.{size_of, union_of, waste_between, distance};
 
 use crate::boxes::BoxKey;
@@ -24,6 +24,12 @@ pub trait Area: Copy + Ord {
     fn waste(a: BoxKey, b: BoxKey) -> Self::Waste
         requires { size_of (union_of a b) ≤ limit }
         ensures { waste_of result ≡ waste_between a b };
+
+    /// What a box of so many columns and rows has beside a key.
+    fn beside(columns: u64, rows: u64, key: BoxKey) -> Self::Waste
+        requires small { columns * rows ≤ limit }
+        requires key { size_of key ≤ limit }
+        ensures { waste_of result ≡ pos (columns * rows) -ℤ pos (size_of key) };
 
     /// What a bound gains by a key.
     fn gain(bound: BoxKey, key: BoxKey) -> Self
@@ -53,6 +59,10 @@ impl Area for u32 {
         (both - i64::from(u32::of(a)) - i64::from(u32::of(b))) as i32
     }
 
+    fn beside(columns: u64, rows: u64, key: BoxKey) -> i32 {
+        ((columns * rows) as i64 - i64::from(u32::of(key))) as i32
+    }
+
     fn gain(bound: BoxKey, key: BoxKey) -> u32 {
         u32::of(union(bound, key)) - u32::of(bound)
     }
@@ -79,6 +89,10 @@ impl Area for u64 {
         u64::of(union(a, b)) as i64 - u64::of(a) as i64 - u64::of(b) as i64
     }
 
+    fn beside(columns: u64, rows: u64, key: BoxKey) -> i64 {
+        (columns * rows) as i64 - u64::of(key) as i64
+    }
+
     fn gain(bound: BoxKey, key: BoxKey) -> u64 {
         u64::of(union(bound, key)) - u64::of(bound)
     }
@@ -103,6 +117,10 @@ impl Area for u128 {
 
     fn waste(a: BoxKey, b: BoxKey) -> i128 {
         area(union(a, b)) as i128 - area(a) as i128 - area(b) as i128
+    }
+
+    fn beside(columns: u64, rows: u64, key: BoxKey) -> i128 {
+        (u128::from(columns) * u128::from(rows)) as i128 - area(key) as i128
     }
 
     fn gain(bound: BoxKey, key: BoxKey) -> u128 {
