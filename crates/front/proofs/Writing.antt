@@ -1,10 +1,11 @@
 -- Answers that are gathered, one behind the other, and written.
-use Rattle.std.proofs.Common.{◌≡◌, ◌+◌, ◌<◌, ℕ, suc, zero, List, [], ◌∷◌, ◌++◌, length, get_or, take, drop, Option, Result, Ok, Err, arith, refl, sym, ap, ◌∙◌, subst, append_assoc, take-append-drop}
+use Rattle.std.proofs.Common.{◌≡◌, ℕ, List, [], ◌++◌, take, drop, Option, Result, Ok, Err, refl, sym, ap, ◌∙◌, subst, append_assoc, take-append-drop}
 use Rattle.std.specs.List.{flat_map}
 use Rattle.std.specs.Result.{IsErr}
 use Rattle.std.specs.Io.KnownBytes.{Appends, Keeps}
 use Rattle.std.proofs.KnownBytes.{Appends-nil, Appends-trans, Appends-kept}
 use Rattle.std.proofs.lemmas.List.{append-nil}
+use Rattle.std.proofs.lemmas.List.Concat.{flat_map-append}
 use Rattle.front.specs.Written.{WritesAllBut, WritesBeginning, Writes, WritesOrFails}
 
 -- nothing is written yet
@@ -73,22 +74,21 @@ then_sent r w0 w1 w2 g0 g1 g2 text a h = subst (λ t. WritesOrFails r w0 g0 w2 g
 pub more_fails : (w0 w1 : Option (List ℕ)) (g more : List ℕ) → WritesBeginning w0 w1 (g ++ []) → WritesBeginning w0 w1 (g ++ more)
 more_fails w0 w1 g more h = subst (λ l. WritesBeginning w0 w1 (l ++ more)) (append-nil g) (beginning_of w0 w1 (g ++ []) more h)
 
-pub flat_map_next : {X : Type 0} (f : X → List ℕ) (xs : List X) (i : ℕ) (x : X) → i < length xs → x ≡ get_or xs i x → flat_map f (take (i + 1) xs) ≡ flat_map f (take i xs) ++ f x
-flat_map_next f [] i x l e = absurd (omega (arith, l))
-flat_map_next f (y ∷ xs) zero x l e = append-nil (f y) ∙ ap f (sym e)
-flat_map_next f (y ∷ xs) (suc i) x l e =
-    let s : suc i + 1 ≡ suc (i + 1) = omega arith in
-    ap (λ k. flat_map f (take k (y ∷ xs))) s ∙ ap (λ t. f y ++ t) (flat_map_next f xs i x (omega (arith, l)) e) ∙ sym (append_assoc (f y) (flat_map f (take i xs)) (f x))
+-- the texts of all things but the rest were written
+pub record HasWritten {X : Type 0} (f : X → List ℕ) (all rest : List X) (w0 : Option (List ℕ)) (g0 : List ℕ) (w1 : Option (List ℕ)) (g1 : List ℕ) : Type 0 where
+  pub done : List X
+  pub parts : all ≡ done ++ rest
+  pub written : Writes w0 g0 w1 g1 (flat_map f done)
 
--- the texts of the first of some things, and those of the others
-pub flat_map_parted : {X : Type 0} (f : X → List ℕ) (xs : List X) (i : ℕ) → flat_map f (take i xs) ++ flat_map f (drop i xs) ≡ flat_map f xs
-flat_map_parted f [] zero = refl
-flat_map_parted f [] (suc i) = refl
-flat_map_parted f (y ∷ xs) zero = refl
-flat_map_parted f (y ∷ xs) (suc i) = append_assoc (f y) (flat_map f (take i xs)) (flat_map f (drop i xs)) ∙ ap (λ t. f y ++ t) (flat_map_parted f xs i)
+-- the texts of some more were written
+pub more_of : {X : Type 0} (f : X → List ℕ) (all some rest left : List X) (w0 w1 w2 : Option (List ℕ)) (g0 g1 g2 : List ℕ) → rest ≡ some ++ left → HasWritten f all rest w0 g0 w1 g1 → Writes w1 g1 w2 g2 (flat_map f some) → HasWritten f all left w0 g0 w2 g2
+more_of f all some rest left w0 w1 w2 g0 g1 g2 e h a = record {
+  done = h.done ++ some;
+  parts = h.parts ∙ ap (λ l. h.done ++ l) e ∙ sym (append_assoc h.done some left);
+  written = subst (λ t. Writes w0 g0 w2 g2 t) (sym (flat_map-append f h.done some)) (writes_both w0 w1 w2 g0 g1 g2 (flat_map f h.done) (flat_map f some) h.written a);
+}
 
--- the texts of the first things were written, and the writer failed in those of the others
-pub fails_among : {X : Type 0} (f : X → List ℕ) (xs : List X) (i : ℕ) (w0 w1 w2 : Option (List ℕ)) (g0 g1 : List ℕ) → Writes w0 g0 w1 g1 (flat_map f (take i xs)) → WritesBeginning w1 w2 (g1 ++ flat_map f (drop i xs))
-    → WritesBeginning w0 w2 (g0 ++ flat_map f xs)
-fails_among f xs i w0 w1 w2 g0 g1 a h =
-    subst (λ t. WritesBeginning w0 w2 (g0 ++ t)) (flat_map_parted f xs i) (fails_behind w0 w1 w2 g0 g1 (flat_map f (take i xs)) (flat_map f (drop i xs)) a h)
+-- the writer failed in the texts of the rest
+pub fails_in_rest : {X : Type 0} (f : X → List ℕ) (all rest : List X) (w0 w1 w2 : Option (List ℕ)) (g0 g1 : List ℕ) → HasWritten f all rest w0 g0 w1 g1 → WritesBeginning w1 w2 (g1 ++ flat_map f rest) → WritesBeginning w0 w2 (g0 ++ flat_map f all)
+fails_in_rest f all rest w0 w1 w2 g0 g1 h a =
+    subst (λ t. WritesBeginning w0 w2 (g0 ++ t)) (sym (ap (flat_map f) h.parts ∙ flat_map-append f h.done rest)) (fails_behind w0 w1 w2 g0 g1 (flat_map f h.done) (flat_map f rest) h.written a)

@@ -3,9 +3,9 @@ use Rattle.std.specs.Prelude.{◌≡◌, ℕ, ◌<◌, List, ◌++◌, length, O
 use Rattle.std.specs.Io.KnownBytes.{Appends}
 use Rattle.arrayvec.specs.ArrayVec.{ArrayVec}
 
--- behind what is gathered there is room for a line
+-- behind what is gathered there is room for a line, and for as many rows as are put together
 abbrev pub HasRoomForLine : List ℕ → Type 0
-HasRoomForLine gathered = length gathered < 512
+HasRoomForLine gathered = length gathered < 4096
 
 -- the writer took these bytes in their order, all but the rest
 abbrev pub WritesAllBut : Option (List ℕ) → Option (List ℕ) → List ℕ → List ℕ → Type 0

@@ -14,10 +14,13 @@ use query_text::{ClassText, Line, append, append_number};
 use std::io::{ErrorKind, Write};
 
 /// How many bytes of answers are gathered before they are written.
-const GATHERED: usize = 512;
+const GATHERED: usize = 4_096;
 
-/// The room for fewer bytes than are written at once, and for one line more, which has at most 473.
-const ANSWERS: usize = 1_024;
+/// The room for fewer bytes than are written at once, and for as many lines of rows as are put together.
+const ANSWERS: usize = 8_192;
+
+/// How many rows are put together: their lines have at most 450 bytes each.
+const TOGETHER: usize = 8;
 
 /// Answers that are gathered, in an array: no memory is asked for them.
 pub type Gathered = ArrayVec<u8, ANSWERS>;
@@ -80,7 +83,7 @@ pub fn send_enough<W: Write>(writer: &mut W, gathered: &mut Gathered) -> Result<
 
 /// Appends a number and the line's feed.
 fn append_last(gathered: &mut Gathered, number: u64)
-    requires room { length gathered.old.items + 21 ≤ 1024 }
+    requires room { length gathered.old.items + 21 ≤ 8192 }
     ensures { gathered.new.items ≡ gathered.old.items ++ (decimal number ++ codes "\n") }
 {
     let mut ending = [b'\n'; 21];
@@ -91,7 +94,7 @@ fn append_last(gathered: &mut Gathered, number: u64)
 /// Appends a line of some words and a number.
 #[inline]
 pub fn append_numbered(gathered: &mut Gathered, words: &[u8], number: u64)
-    requires room { length gathered.old.items + (length words.now + 21) ≤ 1024 }
+    requires room { length gathered.old.items + (length words.now + 21) ≤ 8192 }
     ensures { gathered.new.items ≡ gathered.old.items ++ numbered_line words.now number }
 {
     append(gathered, words);
@@ -100,7 +103,7 @@ pub fn append_numbered(gathered: &mut Gathered, words: &[u8], number: u64)
 
 /// Appends a line of some words and two numbers.
 pub fn append_pair(gathered: &mut Gathered, words: &[u8], first: u64, second: u64)
-    requires room { length gathered.old.items + (length words.now + 42) ≤ 1024 }
+    requires room { length gathered.old.items + (length words.now + 42) ≤ 8192 }
     ensures { gathered.new.items ≡ gathered.old.items ++ pair_line words.now first second }
 {
     append(gathered, words);
@@ -108,12 +111,12 @@ pub fn append_pair(gathered: &mut Gathered, words: &[u8], first: u64, second: u6
     append_numbered(gathered, b" ", second);
 }
 
-/// Puts a row's key, its tag and the line's feed into a line.
+/// Puts a row's key, its tag and the line's feed in front of what `line` has.
 #[inline]
 fn put_content<C: ClassText>(line: &mut Line, row: &Row<C::Key>)
-    requires empty { line.old ≡ [] }
-    ensures text { line.new ≡ content_text C.texts.key_text row.now ++ codes "\n" }
-    ensures short { length line.new ≤ 425 }
+    requires room { length line.old ≤ 3200 }
+    ensures text { line.new ≡ content_text C.texts.key_text row.now ++ (codes "\n" ++ line.old) }
+    ensures short { length line.new ≤ length line.old + 425 }
 {
     line.put_byte(b'\n');
     line.put_number(row.tag);
@@ -121,12 +124,12 @@ fn put_content<C: ClassText>(line: &mut Line, row: &Row<C::Key>)
     C::put_text(row.key, line);
 }
 
-/// Puts a row's number, its key, its tag and the line's feed into a line.
+/// Puts a row's number, its key, its tag and the line's feed in front of what `line` has.
 #[inline]
 fn put_row<C: ClassText>(line: &mut Line, row: &Row<C::Key>)
-    requires empty { line.old ≡ [] }
-    ensures text { line.new ≡ row_text C.texts.key_text row.now ++ codes "\n" }
-    ensures short { length line.new ≤ 446 }
+    requires room { length line.old ≤ 3200 }
+    ensures text { line.new ≡ row_text C.texts.key_text row.now ++ (codes "\n" ++ line.old) }
+    ensures short { length line.new ≤ length line.old + 446 }
 {
     put_content::<C>(line, row);
     line.put_byte(b' ');
@@ -141,6 +144,32 @@ fn append_row_line<C: ClassText>(gathered: &mut Gathered, line: &mut Line, row: 
     line.clear();
     put_row::<C>(line, row);
     line.put(b"row ");
+    append(gathered, line.as_slice());
+}
+
+/// Puts the lines of rows in place of what `line` has, the last row's first.
+fn put_rows<C: ClassText>(line: &mut Line, rows: &[Row<C::Key>])
+    requires few { length rows.now ≤ 8 }
+    ensures text { line.new ≡ flat_map (row_line C.texts.key_text) rows.now }
+    ensures short { length line.new ≤ 3600 }
+{
+    line.clear();
+    let mut place = rows.len();
+    while place > 0 {
+        place -= 1;
+        put_row::<C>(line, &rows[place]);
+        line.put(b"row ");
+    }
+}
+
+/// Appends the lines of rows, which are written in place of what `line` has.
+fn append_rows<C: ClassText>(gathered: &mut Gathered, line: &mut Line, rows: &[Row<C::Key>])
+    requires few { length rows.now ≤ 8 }
+    requires room { HasRoomForLine gathered.old.items }
+    ensures { gathered.new.items
+        ≡ gathered.old.items ++ flat_map (row_line C.texts.key_text) rows.now }
+{
+    put_rows::<C>(line, rows);
     append(gathered, line.as_slice());
 }
 
@@ -253,7 +282,8 @@ fn rows_of<K>(reply: &Reply<K>) -> &[Row<K>]
     }
 }
 
-/// Writes a line for each row, behind the answers that are gathered. Each is written in place of what `line` has.
+/// Writes a line for each row, behind the answers that are gathered. They are written in place of what `line` has, some
+/// together.
 ///
 /// # Errors
 /// `Write` where the writer failed. It took a beginning of what was gathered.
@@ -269,9 +299,12 @@ fn write_rows<C: ClassText, W: Write>(
     ensures room { OnOk result (HasRoomForLine gathered.new.items) }
     ensures err { IfErr result (λ e. e ≡ Fault.Write) }
 {
-    for row in rows {
-        append_row_line::<C>(gathered, line, row);
+    let mut rest = rows;
+    while !rest.is_empty() {
+        let (some, others) = rest.split_at(rest.len().min(TOGETHER));
+        append_rows::<C>(gathered, line, some);
         send_enough(writer, gathered)?;
+        rest = others;
     }
     Ok(())
 }

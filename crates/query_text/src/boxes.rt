@@ -23,7 +23,7 @@ fn point<'a>(text: &[u8], lexemes: &'a [Lexeme]) -> Result<((i32, i32), &'a [Lex
 
 /// Puts the numbers of a point into a line.
 fn put_point(line: &mut Line, x: i32, y: i32)
-    requires room { length line.old + 41 ≤ 512 }
+    requires room { length line.old + 41 ≤ 4096 }
     ensures numbers { line.new ≡ point_text x y ++ line.old }
     ensures short { length line.new ≤ length line.old + 41 }
 {

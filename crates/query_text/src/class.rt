@@ -25,7 +25,7 @@ pub trait ClassText: KeyClass {
 
     /// Puts the key's text into a line, in front of what it has. No key's text has more than 403 bytes.
     fn put_text(key: Self::Key, line: &mut Line)
-        requires room { length line.old ≤ 64 }
+        requires room { length line.old ≤ 3600 }
         ensures text { line.new ≡ texts.key_text key ++ line.old }
         ensures short { length line.new ≤ length line.old + 403 }
         ensures read_back { ReadsBack texts.key_at (texts.key_text key) key };

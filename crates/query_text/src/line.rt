@@ -1,14 +1,14 @@
-//! Lines that are written from their end to their beginning.
+//! Lines, one or several, that are written from their end to their beginning.
 ghost use Rattle.std.specs.Prelude.{◌≡◌, ◌+◌, ◌≤◌, [], ◌∷◌, ◌++◌, length, decimal};
 ghost use Rattle.std.specs.Fmt.{signed_decimal};
 
 use itoa::write_digits;
 use std::marker::Model;
 
-/// How many bytes a line may have.
-pub const LINE: usize = 512;
+/// How many bytes may be put into a line: some lines of rows fit, which go out together.
+pub const LINE: usize = 4_096;
 
-/// The bytes of a line, or of its end: what is put into it comes in front of what it has.
+/// The bytes of lines, or of their end: what is put into it comes in front of what it has.
 #[derive(Drop)]
 pub struct Line {
     bytes: [u8; LINE],
@@ -22,7 +22,7 @@ impl Model for Line {
 
     ghost view = { λ l. drop l.start l.bytes };
 
-    ghost invariant = { λ l. l.start ≤ 512 };
+    ghost invariant = { λ l. l.start ≤ 4096 };
 }
 
 impl Line {
@@ -54,7 +54,7 @@ impl Line {
     /// Puts a byte in front of the others.
     #[inline]
     pub fn put_byte(&mut self, byte: u8)
-        requires room { length self.old + 1 ≤ 512 }
+        requires room { length self.old + 1 ≤ 4096 }
         ensures { self.new ≡ byte ∷ self.old }
     {
         self.start -= 1;
@@ -64,7 +64,7 @@ impl Line {
     /// Puts bytes in front of the others.
     #[inline]
     pub fn put(&mut self, bytes: &[u8])
-        requires room { length self.old + length bytes.now ≤ 512 }
+        requires room { length self.old + length bytes.now ≤ 4096 }
         ensures { self.new ≡ bytes.now ++ self.old }
     {
         let end = self.start;
@@ -75,7 +75,7 @@ impl Line {
     /// Puts the digits of a number in front of the bytes.
     #[inline]
     pub fn put_number(&mut self, number: u64)
-        requires room { length self.old + 20 ≤ 512 }
+        requires room { length self.old + 20 ≤ 4096 }
         ensures digits { self.new ≡ decimal number ++ self.old }
         ensures short { length self.new ≤ length self.old + 20 }
     {
@@ -85,7 +85,7 @@ impl Line {
     /// Puts a number, with its minus where it has one, in front of the bytes.
     #[inline]
     pub fn put_signed(&mut self, number: i64)
-        requires room { length self.old + 20 ≤ 512 }
+        requires room { length self.old + 20 ≤ 4096 }
         ensures digits { self.new ≡ signed_decimal number ++ self.old }
         ensures short { length self.new ≤ length self.old + 20 }
     {

@@ -58,7 +58,7 @@ fn greatest(mask: u128) -> u8
 
 /// Puts an element into a line, and a space in front of it, unless it is the first of its set.
 fn put_element(line: &mut Line, element: u8, is_first: bool)
-    requires room { length line.old ≤ 466 }
+    requires room { length line.old ≤ 4002 }
     ensures { line.new ≡ element_text element is_first ++ line.old }
 {
     line.put_number(u64::from(element));
@@ -69,7 +69,7 @@ fn put_element(line: &mut Line, element: u8, is_first: bool)
 
 /// Puts the elements of a mask into a line, the greatest first, and so in front of it the others.
 fn put_elements(line: &mut Line, mask: u128)
-    requires room { length line.old ≤ 65 }
+    requires room { length line.old ≤ 3601 }
     ensures { line.new ≡ spaced (elements_below 128 mask) ++ line.old }
 {
     let mut rest = mask;

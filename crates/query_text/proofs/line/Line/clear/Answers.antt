@@ -3,4 +3,4 @@ use Rattle.std.proofs.lemmas.List.{drop_all}
 use Rattle.query_text.proofs.line.Line.clear.Goals as goal
 
 pub returns : goal.returns
-returns c = drop_all 512 c.self.inside.bytes (search rules)
+returns c = drop_all 4096 c.self.inside.bytes (search rules)
