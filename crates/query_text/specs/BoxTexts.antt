@@ -1,5 +1,5 @@
 -- The text of a box: the lower ends and then the upper ends, between round brackets.
-use Rattle.std.specs.Prelude.{ℕ, ℤ, int_le, List, ◌++◌, Option, Some, codes}
+use Rattle.std.specs.Prelude.{ℕ, ℤ, int_le, List, ◌++◌, Option, Some, Ok, codes}
 use Rattle.std.specs.Int.Signed.{le_z_yes}
 use Rattle.std.specs.Fmt.{signed_decimal}
 use Rattle.key_class.specs.declared.sides.Rel.{Rel}
@@ -13,6 +13,13 @@ use Rattle.query_text.specs.ClassTexts.{Texts}
 abbrev pub box_of : ℤ → ℤ → ℤ → ℤ → Option BoxKey
 box_of x1 y1 x2 y2 =
     when (int_le x1 x2) (λ h. when (int_le y1 y2) (λ k. Some (record { x1 = x1; y1 = y1; x2 = x2; y2 = y2; x_ordered = le_z_yes h; y_ordered = le_z_yes k })))
+
+-- the numbers of a point
+unfoldable pub point_at : ℕ → List Placed → Reading (ℤ × ℤ)
+point_at len ts = do
+  x ← number_at least_i32 most_i32 len ts
+  y ← number_at least_i32 most_i32 len x.1
+  Ok ((x.0, y.0), y.1)
 
 -- Ends that are out of order are refused at the opening bracket, once the closing one was read.
 unfoldable pub box_at : ℕ → List Placed → Reading BoxKey

@@ -1,5 +1,6 @@
-ghost use Rattle.std.specs.Prelude.{◌≡◌, ◌+◌, ◌≤◌, ◌++◌, length, refl};
-ghost use Rattle.query_text.specs.BoxTexts.{box_at, box_texts, point_text};
+ghost use Rattle.std.specs.Prelude.{◌≡◌, ◌+◌, ◌<◌, ◌≤◌, ◌++◌, length, refl, IfOk};
+ghost use Rattle.query_text.specs.BoxTexts.{box_at, box_texts, point_at, point_text};
+ghost use Rattle.query_text.specs.Keys.{GivesRead};
 ghost use Rattle.query_text.specs.KeyLengths.{box_leaves_fewer};
 
 use crate::class::ClassText;
@@ -8,6 +9,17 @@ use crate::line::Line;
 use crate::reader::{close_bracket, open_bracket, signed_32};
 use box_class::{Atom, BoxKey, Boxes};
 use key_class::Rel;
+
+/// The numbers of a point at the front, and the lexemes behind them.
+#[tactic(auto, unfolding(crate::specs::BoxTexts::point_at))]
+fn point<'a>(text: &[u8], lexemes: &'a [Lexeme]) -> Result<((i32, i32), &'a [Lexeme]), usize>
+    ensures gives { GivesRead point_at text.now lexemes.now result }
+    ensures shorter { IfOk result (λ r. length r.1.now < length lexemes.now) }
+{
+    let (x, rest) = signed_32(text, lexemes)?;
+    let (y, rest) = signed_32(text, rest)?;
+    Ok(((x, y), rest))
+}
 
 /// Puts the numbers of a point into a line.
 fn put_point(line: &mut Line, x: i32, y: i32)
@@ -26,10 +38,8 @@ impl ClassText for Boxes {
     #[tactic(auto, unfolding(crate::specs::BoxTexts::box_at))]
     fn read_key<'a>(text: &[u8], lexemes: &'a [Lexeme]) -> Result<(BoxKey, &'a [Lexeme]), usize> {
         let (place, rest) = open_bracket(text, lexemes)?;
-        let (x1, rest) = signed_32(text, rest)?;
-        let (y1, rest) = signed_32(text, rest)?;
-        let (x2, rest) = signed_32(text, rest)?;
-        let (y2, rest) = signed_32(text, rest)?;
+        let ((x1, y1), rest) = point(text, rest)?;
+        let ((x2, y2), rest) = point(text, rest)?;
         let (_, rest) = close_bracket(text, rest)?;
         match BoxKey::new(x1, y1, x2, y2) {
             Ok(key) => Ok((key, rest)),

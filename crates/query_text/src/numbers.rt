@@ -1,6 +1,6 @@
 ghost use Rattle.std.specs.Prelude.{◌≡◌, ◌↔◌, pos, ◌≤◌, ◌<◌, ◌^◌, ◌-◌, ◌+◌, ◌*◌, length, IsTrue, Some, None};
 ghost use Rattle.std.specs.Option.{option_map};
-ghost use Rattle.query_text.specs.Tokens.{is_negative, digits_of, word, number, token_in, number_value, number_within, decimal_value_after, least_i32, most_i32, least_i64, most_i64, FitsOrNone, u64_number};
+ghost use Rattle.query_text.specs.Tokens.{word, number, token_in, number_value, number_within, decimal_value_after, least_i32, most_i32, least_i64, most_i64, FitsOrNone, u64_number};
 
 use crate::lexeme::{Kind, Lexeme};
 
@@ -50,34 +50,17 @@ fn magnitude(digits: &[u8]) -> Option<u64>
     Some(value)
 }
 
-fn is_negative(bytes: &[u8]) -> bool
-    ensures { result ≡ is_negative bytes.now }
-{
-    match bytes {
-        [] => false,
-        [first, ..] => *first == b'-',
-    }
-}
-
-/// The digits behind the minus, if there is one.
-fn digits_of(bytes: &[u8]) -> &[u8]
-    ensures { result.now ≡ digits_of bytes.now }
-{
-    match bytes {
-        [b'-', digits @ ..] => digits,
-        _ => bytes,
-    }
-}
-
 /// The number that bytes write, where it is one of 64 bits without a sign.
 fn natural(bytes: &[u8]) -> Option<u64>
     ensures { option_map pos result ≡ u64_number (number (number_value bytes.now)) }
 {
-    let size = magnitude(digits_of(bytes))?;
-    if is_negative(bytes) && size > 0 {
-        return None;
+    match bytes {
+        [b'-', digits @ ..] => match magnitude(digits)? {
+            0 => Some(0),
+            _ => None,
+        },
+        _ => magnitude(bytes),
     }
-    Some(size)
 }
 
 /// The number that bytes write, where it is one of 64 bits with a sign.

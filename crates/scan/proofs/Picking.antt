@@ -1,5 +1,5 @@
 -- How the bits that tell some of a list are made, and how those that they tell are taken one by one.
-use Rattle.std.proofs.Common.{◌≡◌, ℕ, zero, suc, ◌+◌, ◌-◌, ◌*◌, ◌/◌, ◌%◌, ◌^◌, ◌<◌, ◌≤◌, ◌==◌, ◌⊎◌, inl, inr, ◌&&◌, Bool, true, false, cond, List, [], ◌∷◌, ◌++◌, length, map, filter, reverse, take, drop, get_or, refl, sym, ap, ap₂, ◌∙◌, arith, subst, pow-suc, append_assoc, length-drop, length-take}
+use Rattle.std.proofs.Common.{◌≡◌, ℕ, zero, suc, ◌+◌, ◌-◌, ◌*◌, ◌/◌, ◌%◌, ◌^◌, ◌<◌, ◌≤◌, ◌==◌, ◌&&◌, Bool, true, false, cond, List, [], ◌∷◌, ◌++◌, length, map, filter, reverse, take, drop, get_or, refl, sym, ap, ap₂, ◌∙◌, arith, subst, pow-suc, append_assoc, length-drop, length-take}
 use Rattle.std.proofs.lemmas.List.{append-nil, map-append, drop-drop, get_or-drop, length-reverse, drop_all, drop_more, reverse-append, take_more}
 use Rattle.std.proofs.lemmas.List.Elements.{filter-append}
 use Rattle.std.proofs.lemmas.Nat.{ones_cat}

@@ -35,7 +35,10 @@ pub(crate) fn accepted_bits<C: KeyClass, T: KeyTest<C>>(entries: &[Entry<C::Key>
 }
 
 /// The branches whose bounds are wanted, by bits: the lowest is the last branch's.
-pub(crate) fn wanted_bits<C: KeyClass, T: BranchTest<C>>(branches: &[Branch<C::Key>], test: &T) -> u64
+pub(crate) fn wanted_bits<C: KeyClass, T: BranchTest<C>>(
+    branches: &[Branch<C::Key>],
+    test: &T,
+) -> u64
     requires few { length branches.now ≤ 64 }
     ensures within { HasBitsFor (reverse branches.now) result }
     ensures wanted { picked result (reverse branches.now)

@@ -1,4 +1,4 @@
-use Rattle.std.proofs.Common.{◌≡◌, ◌+◌, ◌/◌, ◌^◌, ◌<◌, ◌≤◌, ◌++◌, ◌∷◌, ◌∙◌, [], ℕ, List, arith, ap, drop, length, map, filter, rules, sym, length-drop}
+use Rattle.std.proofs.Common.{◌+◌, ◌/◌, ◌^◌, ◌<◌, ◌++◌, ◌∷◌, ◌∙◌, [], arith, ap, drop, map, filter, sym, length-drop}
 use Rattle.std.specs.Prelude.{vec_capacity, vec_len}
 use Rattle.std.proofs.lemmas.List.{append-nil}
 use lib.Count.{count_trailing_zeros}

@@ -1,4 +1,4 @@
-use Rattle.std.proofs.Common.{◌≡◌, ◌+◌, ◌-◌, ◌/◌, ◌^◌, ◌<◌, ◌≤◌, ◌++◌, ◌∷◌, ◌∙◌, [], ℕ, arith, ap, append_assoc, length, length-append, map, reverse, rules, sym, take}
+use Rattle.std.proofs.Common.{◌+◌, ◌-◌, ◌/◌, ◌^◌, ◌<◌, ◌++◌, ◌∷◌, ◌∙◌, [], arith, ap, append_assoc, length, length-append, map, reverse, rules, sym, take}
 use Rattle.std.proofs.lemmas.List.{append-nil}
 use lib.Count.{count_trailing_zeros}
 use Rattle.scan.specs.Picks.{item_of_child, picked}

@@ -1,4 +1,4 @@
-use Rattle.std.proofs.Common.{arith, ap, ◌∙◌, length, length-take, reverse, take}
+use Rattle.std.proofs.Common.{arith, length-take, reverse, take}
 use Rattle.std.proofs.lemmas.List.{length-reverse}
 use Rattle.scan.proofs.Picking.{bit_fits, bits_behind, bits_fit, none_of_none, told_behind}
 use Rattle.scan.proofs.picks.wanted_bits.Goals as goal

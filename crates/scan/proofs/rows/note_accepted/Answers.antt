@@ -1,4 +1,4 @@
-use Rattle.std.proofs.Common.{◌++◌, ◌∙◌, ap, filter, map, rules}
+use Rattle.std.proofs.Common.{◌++◌, ◌∙◌, ap, filter, map}
 use Rattle.row_version.specs.Entries.{visible_at}
 use Rattle.scan.specs.Scanning.{row_of}
 use Rattle.scan.proofs.Picking.{seen_rows}

@@ -1,4 +1,4 @@
-use Rattle.std.proofs.Common.{rules, length, sym, ap, ◌∙◌, ◌≡◌, ◌≢◌, ◌++◌, ◌≤◌, ◌<◌, [], List, ℕ, filter, map, reverse, subst, arith}
+use Rattle.std.proofs.Common.{rules, length, sym, ap, ◌∙◌, ◌≡◌, ◌≢◌, ◌++◌, ◌≤◌, ◌<◌, [], List, map, reverse, subst, arith}
 use Rattle.std.proofs.lemmas.List.{length-map}
 use Rattle.std.specs.Prelude.{count_ones}
 use Rattle.smallvec.specs.SmallVec.{HasRoomFor}
@@ -33,9 +33,9 @@ returns-clause-ok g c =
     let bits = c.wanted_bits-wanted.result in
     let before = c.push_link.new.items.items in
     let pushed =
-        c.push_picked.ensures ∙ ap (λ n. before ++ map (item_of_child n) (picked bits (reverse branches))) c.counter.ensures
-        ∙ ap (λ l. before ++ map (item_of_child counter) l) c.wanted_bits-wanted.ensures.wanted
-        ∙ ap (λ l. before ++ l) (wanted_items wants counter branches) in
+    c.push_picked.ensures ∙ ap (λ n. before ++ map (item_of_child n) (picked bits (reverse branches))) c.counter.ensures
+    ∙ ap (λ l. before ++ map (item_of_child counter) l) c.wanted_bits-wanted.ensures.wanted
+    ∙ ap (λ l. before ++ l) (wanted_items wants counter branches) in
     goes_on_made wants c.args.table.now old c.make_room.new.items.items c.pop.new.self.items before c.push_picked.new.items.items c.args.item c.item.inside.memo _ c.page-page.result.now
     c.requires.next (c.make_room.ensures.items ∙ c.self.view_is) c.pop.ensures.rest (ap (λ i. i.memo) c.item.view_is) (search rules) c.push_link.ensures.pushed (search rules)
     (pushed ∙ ap (λ bs. before ++ child_items wants counter bs) c.branches-branches.ensures)
