@@ -1,7 +1,7 @@
-use Rattle.std.proofs.Common.{◌≡◌, ap, arith, length, length-append, subst, sym, ◌∙◌}
+use Rattle.std.proofs.Common.{ap, arith, length, length-append}
 use Rattle.std.proofs.lemmas.Bool.{false≢true}
-use Rattle.box_class.proofs.Bounds.{among_pushed, among_within, AreAmong}
-use Rattle.box_class.proofs.Places.{AreOpenBelow, places_pushed, places_kept, places_all}
+use Rattle.box_class.proofs.Bounds.{among_pushed, among_within}
+use Rattle.box_class.proofs.Places.{places_pushed, places_kept, places_all}
 use Rattle.box_class.proofs.quadratic.open_entries.Goals as goal
 use Rattle.box_class.proofs.quadratic.open_entries.Goals.{then-is_open+in_ok-push+in_ok-push-2, else-is_open}
 
