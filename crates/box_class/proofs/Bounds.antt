@@ -1,10 +1,11 @@
+use Rattle.std.specs.List.{swap_remove}
 use Rattle.std.specs.Ordering.{nat_cmp, is_lt, ord_max}
 use Rattle.std.proofs.lemmas.Int.{to_z-of_z}
 use mir.Val.{SFits}
-use Rattle.std.proofs.Common.{◌≡◌, ℕ, ◌<◌, ◌+◌, ◌≤◌, ◌≤ℤ◌, ℤ, Bool, true, false, cond, w32, to_z, of_z, ap, List, ◌∷◌, length, slice_index_or, take, drop, arith, ⊎_elim, subst, sym, ◌∙◌}
+use Rattle.std.proofs.Common.{◌≡◌, ℕ, ◌<◌, ◌+◌, ◌-◌, ◌++◌, [], All, slice_set, ◌≤◌, ◌≤ℤ◌, ℤ, Bool, true, false, cond, w32, to_z, of_z, ap, List, ◌∷◌, length, slice_index_or, take, drop, arith, ⊎_elim, subst, sym, ◌∙◌}
 use Rattle.std.proofs.lemmas.Bool.{cases_eq}
 use Rattle.std.proofs.lemmas.List.{get_or_default}
-use Rattle.std.proofs.lemmas.List.Elements.{All-head, All-tail, All-cons, All-take, All-drop}
+use Rattle.std.proofs.lemmas.List.Elements.{All-head, All-tail, All-cons, All-take, All-drop, All-set, All-push}
 use Rattle.box_class.specs.declared.boxes.BoxKey.{BoxKey}
 use Rattle.box_class.specs.Boxes.{is_cover, extent_of, size_of, union_of}
 use Rattle.box_class.specs.BoxLaws.{cover_from, extent_of-le, size_of-le, union_is_least, union_covers_left, union_covers_right, covers_through}
@@ -86,3 +87,36 @@ pub row_within : (limit : ℕ) (x : BoxKey) (keys : List BoxKey) (i n m : ℕ) �
 row_within limit x keys i n m w p r =
     let P = λ (k : BoxKey). is_cover w.0 k ≡ true in
     (w.0, w.1, All-cons P x (take m (drop n keys)) (covered_read w.0 x keys i w.2 p r) (All-take P m (drop n keys) (All-drop P n keys w.2)))
+
+-- what holds of all of them holds of those that are left once one is taken out
+kept : (P : BoxKey → Type 0) (keys : List BoxKey) (n : ℕ) (x : BoxKey) → n < length keys → All P keys → All P (swap_remove keys n x)
+kept P keys n x l h =
+    let last = slice_index_or keys (length keys - 1) x in
+    All-take P (length keys - 1) (slice_set keys n last) (All-set P keys n last (h (length keys - 1) x (omega (arith, l))) h)
+
+kept_within : (limit : ℕ) (b : BoxKey) (keys : List BoxKey) (n : ℕ) (x : BoxKey) → HaveBoundWithin limit (b ∷ keys) → n < length keys → HaveBoundWithin limit (b ∷ swap_remove keys n x)
+kept_within limit b keys n x w l =
+    let P = λ (k : BoxKey). is_cover w.0 k ≡ true in
+    (w.0, w.1, All-cons P b (swap_remove keys n x) (All-head P b keys w.2) (kept P keys n x l (All-tail P b keys w.2)))
+
+pub left_within : (limit : ℕ) (b x : BoxKey) (old new : List BoxKey) (n : ℕ) → HaveBoundWithin limit (b ∷ old) → n < length old → new ≡ swap_remove old n x → HaveBoundWithin limit (b ∷ new)
+left_within limit b x old new n w l e = subst (λ keys. HaveBoundWithin limit (b ∷ keys)) (sym e) (kept_within limit b old n x w l)
+
+pub put_within : (limit : ℕ) (b x grown : BoxKey) (old new : List BoxKey) (n : ℕ) → HaveBoundWithin limit (b ∷ old) → n < length old → x ≡ slice_index_or old n x → new ≡ swap_remove old n x → grown ≡ union_of b x → HaveBoundWithin limit (grown ∷ new)
+put_within limit b x grown old new n w l r e g =
+    subst (λ bound. HaveBoundWithin limit (bound ∷ new)) (sym g)
+    (left_within limit (union_of b x) x old new n (grown_within limit b x old n w l r) l e)
+
+-- any bound of the keys is one of the others
+abbrev pub AreAmong : List BoxKey → List BoxKey → Type 0
+AreAmong keys others = (b : BoxKey) → All (λ k. is_cover b k ≡ true) keys → All (λ k. is_cover b k ≡ true) others
+
+pub among_pushed : (keys old new : List BoxKey) (i : ℕ) (x : BoxKey) → new ≡ old ++ x ∷ [] → i < length keys → x ≡ slice_index_or keys i x → AreAmong keys old → AreAmong keys new
+among_pushed keys old new i x e l r f b h =
+    let P = λ (k : BoxKey). is_cover b k ≡ true in
+    subst (All P) (sym e) (All-push P old x (f b h) (covered_read b x keys i h l r))
+
+pub among_within : (limit : ℕ) (b : BoxKey) (keys others : List BoxKey) → AreAmong keys others → HaveBoundWithin limit (b ∷ keys) → HaveBoundWithin limit (b ∷ others)
+among_within limit b keys others f w =
+    let P = λ (k : BoxKey). is_cover w.0 k ≡ true in
+    (w.0, w.1, All-cons P b others (All-head P b keys w.2) (f w.0 (All-tail P b keys w.2)))

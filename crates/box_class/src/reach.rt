@@ -47,8 +47,8 @@ impl Reach {
         A::beside(self.columns(key), self.rows(key), key)
     }
 
-    /// The most columns that a common bound of the key and another has. Its ends are both those of one of them, or one is
-    /// the key's.
+    /// The most columns that a common bound of the key and another has. Its ends are both those of one of them, or one end
+    /// is the key's and the other at most the bound's.
     fn columns(self, key: BoxKey) -> u64
         requires covered { is_cover self.bound key ≡ true }
         requires across { self.across + 1 ≤ extent_of self.bound.x1 self.bound.x2 }

@@ -9,11 +9,3 @@ open_entries-requires-clause-left_small g c =
 pub open_entries-requires-clause-right_small : goal.open_entries-requires-clause-right_small
 open_entries-requires-clause-right_small g c =
     seed_within g.A.Area.limit c.index-keys-j.result c.args.keys.now c.seeds-i.result.1 (c.args.bound, c.requires.small, c.requires.covered) (omega arith) c.index-keys-j.is
-
-pub part_rest-rest-requires-clause-left_small : goal.part_rest-rest-requires-clause-left_small
-part_rest-rest-requires-clause-left_small g c =
-    seed_within g.A.Area.limit c.index-keys-i.result c.args.keys.now c.seeds-i.result.0 (c.args.bound, c.requires.small, c.requires.covered) (omega arith) c.index-keys-i.is
-
-pub part_rest-rest-requires-clause-right_small : goal.part_rest-rest-requires-clause-right_small
-part_rest-rest-requires-clause-right_small g c =
-    seed_within g.A.Area.limit c.index-keys-j.result c.args.keys.now c.seeds-i.result.1 (c.args.bound, c.requires.small, c.requires.covered) (omega arith) c.index-keys-j.is

@@ -1,4 +1,4 @@
-use Rattle.std.proofs.Common.{◌+◌, ◌≤◌, ◌≤ℤ◌, rules, arith}
+use Rattle.std.proofs.Common.{rules, arith}
 use Rattle.std.proofs.lemmas.Int.{ints}
 use Rattle.box_class.specs.Boxes.{extent_of}
 use Rattle.box_class.specs.BoxLaws.{cover_from}
