@@ -691,6 +691,20 @@ uint32_t gist_interval_world_move(gist_world *world, uint64_t row, int64_t lo, i
 uint32_t gist_interval_world_find(gist_world *world, const char *query, size_t length, gist_interval_row *rows,
                                   size_t room, uint64_t *found, uint64_t *fault);
 
+/* Finds the rows of a world of intervals whose keys have a relation to a key, as gist_interval_find_by. */
+uint32_t gist_interval_world_find_by(gist_world *world, uint32_t relation, int64_t lo, int64_t hi,
+                                     gist_interval_row *rows, size_t room, uint64_t *found);
+
+/*
+ * Opens a cursor on the rows of a world of intervals whose keys have a relation to a key, with a ring of that room, and
+ * puts the ring's taker into a handle that has none, as gist_world_open does on a query.
+ *
+ * GIST_BAD_CONFIG where the ends are out of order, no relation has the number, the room is out of its range or the
+ * handle has a taker already; GIST_CURSORS_FULL; GIST_OUT_OF_MEMORY. The handle of the taker is as it was then.
+ */
+uint32_t gist_interval_world_open_by(gist_world *world, uint32_t relation, int64_t lo, int64_t hi, uint64_t room,
+                                     gist_taker *taker, uint64_t *cursor);
+
 /* Tells a commit of a world of intervals, as gist_interval_commit. */
 uint32_t gist_interval_world_commit(gist_world *world, uint64_t number, gist_interval_item *commit);
 
@@ -713,6 +727,14 @@ uint32_t gist_box_world_move(gist_world *world, uint64_t row, int32_t x1, int32_
 uint32_t gist_box_world_find(gist_world *world, const char *query, size_t length, gist_box_row *rows, size_t room,
                              uint64_t *found, uint64_t *fault);
 
+/* Finds the rows of a world of boxes whose keys have a relation to a key, as gist_box_find_by. */
+uint32_t gist_box_world_find_by(gist_world *world, uint32_t relation, int32_t x1, int32_t y1, int32_t x2, int32_t y2,
+                                gist_box_row *rows, size_t room, uint64_t *found);
+
+/* Opens a cursor on the rows of a world of boxes whose keys have a relation to a key, as gist_interval_world_open_by. */
+uint32_t gist_box_world_open_by(gist_world *world, uint32_t relation, int32_t x1, int32_t y1, int32_t x2, int32_t y2,
+                                uint64_t room, gist_taker *taker, uint64_t *cursor);
+
 /* Tells a commit of a world of boxes, as gist_box_commit. */
 uint32_t gist_box_world_commit(gist_world *world, uint64_t number, gist_box_item *commit);
 
@@ -728,6 +750,14 @@ uint32_t gist_set_world_move(gist_world *world, uint64_t row, uint64_t low, uint
 /* Finds rows of a world of sets, as gist_set_find. */
 uint32_t gist_set_world_find(gist_world *world, const char *query, size_t length, gist_set_row *rows, size_t room,
                              uint64_t *found, uint64_t *fault);
+
+/* Finds the rows of a world of sets whose keys have a relation to a key, as gist_set_find_by. */
+uint32_t gist_set_world_find_by(gist_world *world, uint32_t relation, uint64_t low, uint64_t high, gist_set_row *rows,
+                                size_t room, uint64_t *found);
+
+/* Opens a cursor on the rows of a world of sets whose keys have a relation to a key, as gist_interval_world_open_by. */
+uint32_t gist_set_world_open_by(gist_world *world, uint32_t relation, uint64_t low, uint64_t high, uint64_t room,
+                                gist_taker *taker, uint64_t *cursor);
 
 /* Tells a commit of a world of sets, as gist_set_commit. */
 uint32_t gist_set_world_commit(gist_world *world, uint64_t number, gist_set_item *commit);

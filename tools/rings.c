@@ -79,16 +79,22 @@ static void no_world(void)
     CHECK(gist_interval_world_insert(&none, 1, 2, 3, &number) == GIST_BAD_CONFIG);
     CHECK(gist_interval_world_move(&none, 1, 1, 2, &number) == GIST_BAD_CONFIG);
     CHECK(gist_interval_world_find(&none, "x", 1, &interval_row, 1, &number, &fault) == GIST_BAD_CONFIG);
+    CHECK(gist_interval_world_find_by(&none, GIST_SAME, 1, 2, &interval_row, 1, &number) == GIST_BAD_CONFIG);
+    CHECK(gist_interval_world_open_by(&none, GIST_SAME, 1, 2, 1, &taker, &number) == GIST_BAD_CONFIG);
     CHECK(gist_interval_world_commit(&none, 1, &interval) == GIST_BAD_CONFIG);
     CHECK(gist_interval_pop(&taker, &interval) == GIST_BAD_CONFIG);
     CHECK(gist_box_world_insert(&none, 1, 2, 3, 4, 5, &number) == GIST_BAD_CONFIG);
     CHECK(gist_box_world_move(&none, 1, 1, 2, 3, 4, &number) == GIST_BAD_CONFIG);
     CHECK(gist_box_world_find(&none, "x", 1, &box_row, 1, &number, &fault) == GIST_BAD_CONFIG);
+    CHECK(gist_box_world_find_by(&none, GIST_SAME, 1, 2, 3, 4, &box_row, 1, &number) == GIST_BAD_CONFIG);
+    CHECK(gist_box_world_open_by(&none, GIST_SAME, 1, 2, 3, 4, 1, &taker, &number) == GIST_BAD_CONFIG);
     CHECK(gist_box_world_commit(&none, 1, &box) == GIST_BAD_CONFIG);
     CHECK(gist_box_pop(&taker, &box) == GIST_BAD_CONFIG);
     CHECK(gist_set_world_insert(&none, 1, 2, 3, &number) == GIST_BAD_CONFIG);
     CHECK(gist_set_world_move(&none, 1, 1, 2, &number) == GIST_BAD_CONFIG);
     CHECK(gist_set_world_find(&none, "x", 1, &set_row, 1, &number, &fault) == GIST_BAD_CONFIG);
+    CHECK(gist_set_world_find_by(&none, GIST_SAME, 1, 2, &set_row, 1, &number) == GIST_BAD_CONFIG);
+    CHECK(gist_set_world_open_by(&none, GIST_SAME, 1, 2, 1, &taker, &number) == GIST_BAD_CONFIG);
     CHECK(gist_set_world_commit(&none, 1, &set) == GIST_BAD_CONFIG);
     CHECK(gist_set_pop(&taker, &set) == GIST_BAD_CONFIG);
     CHECK(number == UNTOUCHED && fault == UNTOUCHED);
@@ -126,7 +132,7 @@ static void limits(void)
 static void other_class(void)
 {
     gist_world intervals = GIST_NO_WORLD, boxes = GIST_NO_WORLD, sets = GIST_NO_WORLD;
-    gist_taker interval_taker = GIST_NO_TAKER, box_taker = GIST_NO_TAKER, set_taker = GIST_NO_TAKER;
+    gist_taker interval_taker = GIST_NO_TAKER, box_taker = GIST_NO_TAKER, set_taker = GIST_NO_TAKER, none = GIST_NO_TAKER;
     uint64_t number = UNTOUCHED, fault = UNTOUCHED;
     gist_interval_item interval = {.number = UNTOUCHED};
     gist_box_item box = {.number = UNTOUCHED};
@@ -144,22 +150,29 @@ static void other_class(void)
     CHECK(gist_interval_world_insert(&boxes, 1, 2, 3, &number) == GIST_BAD_CONFIG);
     CHECK(gist_interval_world_move(&sets, 1, 1, 2, &number) == GIST_BAD_CONFIG);
     CHECK(gist_interval_world_find(&boxes, "x", 1, &interval_row, 1, &number, &fault) == GIST_BAD_CONFIG);
+    CHECK(gist_interval_world_find_by(&boxes, GIST_SAME, 1, 2, &interval_row, 1, &number) == GIST_BAD_CONFIG);
+    CHECK(gist_interval_world_open_by(&sets, GIST_SAME, 1, 2, 1, &none, &number) == GIST_BAD_CONFIG);
     CHECK(gist_interval_world_commit(&sets, 1, &interval) == GIST_BAD_CONFIG);
     CHECK(gist_interval_pop(&box_taker, &interval) == GIST_BAD_CONFIG);
     CHECK(gist_box_world_insert(&sets, 1, 2, 3, 4, 5, &number) == GIST_BAD_CONFIG);
     CHECK(gist_box_world_move(&intervals, 1, 1, 2, 3, 4, &number) == GIST_BAD_CONFIG);
     CHECK(gist_box_world_find(&sets, "x", 1, &box_row, 1, &number, &fault) == GIST_BAD_CONFIG);
+    CHECK(gist_box_world_find_by(&sets, GIST_SAME, 1, 2, 3, 4, &box_row, 1, &number) == GIST_BAD_CONFIG);
+    CHECK(gist_box_world_open_by(&intervals, GIST_SAME, 1, 2, 3, 4, 1, &none, &number) == GIST_BAD_CONFIG);
     CHECK(gist_box_world_commit(&intervals, 1, &box) == GIST_BAD_CONFIG);
     CHECK(gist_box_pop(&set_taker, &box) == GIST_BAD_CONFIG);
     CHECK(gist_set_world_insert(&intervals, 1, 2, 3, &number) == GIST_BAD_CONFIG);
     CHECK(gist_set_world_move(&boxes, 1, 1, 2, &number) == GIST_BAD_CONFIG);
     CHECK(gist_set_world_find(&intervals, "x", 1, &set_row, 1, &number, &fault) == GIST_BAD_CONFIG);
+    CHECK(gist_set_world_find_by(&intervals, GIST_SAME, 1, 2, &set_row, 1, &number) == GIST_BAD_CONFIG);
+    CHECK(gist_set_world_open_by(&boxes, GIST_SAME, 1, 2, 1, &none, &number) == GIST_BAD_CONFIG);
     CHECK(gist_set_world_commit(&boxes, 1, &set) == GIST_BAD_CONFIG);
     CHECK(gist_set_pop(&interval_taker, &set) == GIST_BAD_CONFIG);
     CHECK(number == UNTOUCHED && fault == UNTOUCHED);
     CHECK(interval.number == UNTOUCHED && box.number == UNTOUCHED && set.number == UNTOUCHED);
     CHECK(interval_row.row == UNTOUCHED && box_row.row == UNTOUCHED && set_row.row == UNTOUCHED);
     CHECK(gist_world_commits(&intervals) == 0 && gist_world_commits(&boxes) == 0 && gist_world_commits(&sets) == 0);
+    CHECK(!gist_taker_is_open(&none));
     CHECK(gist_interval_pop(&interval_taker, &interval) == GIST_OK && interval.kind == GIST_NOTHING);
     CHECK(gist_box_pop(&box_taker, &box) == GIST_OK && box.kind == GIST_NOTHING);
     CHECK(gist_set_pop(&set_taker, &set) == GIST_OK && set.kind == GIST_NOTHING);
@@ -293,6 +306,98 @@ static void sets(void)
     CHECK(gist_set_world_commit(&world, 3, &item) == GIST_OK && item.kind == GIST_MOVED && item.ended == 2);
     gist_taker_drop(&taker);
     gist_world_drop(&world);
+}
+
+/* Finds and cursors by a relation and a key, and what refuses them. */
+static void relations(void)
+{
+    gist_world world = GIST_NO_WORLD;
+    gist_taker taker = GIST_NO_TAKER, other = GIST_NO_TAKER;
+    gist_interval_item item;
+    gist_box_item box;
+    gist_set_item set;
+    gist_interval_row rows[3] = {{.row = UNTOUCHED}};
+    gist_box_row box_rows[2] = {{.row = UNTOUCHED}};
+    gist_set_row set_rows[2] = {{.row = UNTOUCHED}};
+    uint64_t number, cursor;
+
+    CHECK(gist_world_new(&world, GIST_INTERVALS, &SMALL) == GIST_OK);
+    CHECK(gist_interval_world_insert(&world, 1, 4, 70, &number) == GIST_OK);
+    CHECK(gist_interval_world_insert(&world, 3, 5, 71, &number) == GIST_OK);
+    CHECK(gist_interval_world_insert(&world, 4, 10, 72, &number) == GIST_OK);
+    rows[2].row = UNTOUCHED;
+    CHECK(gist_interval_world_find_by(&world, GIST_OVERLAPS, 5, 6, rows, 3, &number) == GIST_OK && number == 2);
+    CHECK(rows[0].row == 2 && rows[0].lo == 3 && rows[0].hi == 5 && rows[0].tag == 71);
+    CHECK(rows[1].row == 3 && rows[2].row == UNTOUCHED);
+    CHECK(gist_interval_world_find_by(&world, GIST_WITHIN, 1, 5, rows, 1, &number) == GIST_OK && number == 2);
+    CHECK(rows[0].row == 1 && rows[1].row == 3);
+    CHECK(gist_interval_world_find_by(&world, GIST_HOLDS, 4, 4, rows, 0, &number) == GIST_OK && number == 3);
+    CHECK(gist_interval_world_find_by(&world, GIST_SAME, 4, 10, rows, 3, &number) == GIST_OK && number == 1);
+    CHECK(rows[0].row == 3 && rows[1].row == 3);
+    CHECK(gist_interval_world_open_by(&world, GIST_WITHIN, 0, 5, 4, &taker, &cursor) == GIST_OK && cursor == 1);
+    CHECK(gist_interval_world_insert(&world, 2, 2, 73, &number) == GIST_OK && number == 4);
+    CHECK(gist_interval_world_insert(&world, 2, 20, 74, &number) == GIST_OK && number == 5);
+    CHECK(sent_by(&world, cursor) == 3);
+    CHECK(gist_interval_pop(&taker, &item) == GIST_OK && item.kind == GIST_ROW);
+    number = item.number;
+    CHECK(number == 1 || number == 2);
+    CHECK(gist_interval_pop(&taker, &item) == GIST_OK && item.kind == GIST_ROW && item.number == 3 - number);
+    CHECK(gist_interval_pop(&taker, &item) == GIST_OK && interval_is(&item, GIST_INSERTED, 4, 0, 2, 2, 73));
+    CHECK(gist_interval_pop(&taker, &item) == GIST_OK && item.kind == GIST_NOTHING);
+    number = cursor = UNTOUCHED;
+    for (uint32_t relation = 0; relation <= 5; relation += 5) {
+        CHECK(gist_interval_world_find_by(&world, relation, 1, 9, rows, 3, &number) == GIST_BAD_CONFIG);
+        CHECK(gist_interval_world_open_by(&world, relation, 1, 9, 4, &other, &cursor) == GIST_BAD_CONFIG);
+    }
+    CHECK(gist_interval_world_find_by(&world, GIST_OVERLAPS, 9, 1, rows, 3, &number) == GIST_BAD_CONFIG);
+    CHECK(gist_interval_world_open_by(&world, GIST_OVERLAPS, 9, 1, 4, &other, &cursor) == GIST_BAD_CONFIG);
+    CHECK(gist_interval_world_open_by(&world, GIST_OVERLAPS, 1, 9, 0, &other, &cursor) == GIST_BAD_CONFIG);
+    CHECK(gist_interval_world_open_by(&world, GIST_OVERLAPS, 1, 9, 4097, &other, &cursor) == GIST_BAD_CONFIG);
+    CHECK(gist_interval_world_open_by(&world, GIST_OVERLAPS, 1, 9, 4, &taker, &cursor) == GIST_BAD_CONFIG);
+    CHECK(number == UNTOUCHED && cursor == UNTOUCHED && rows[0].row == 3 && !gist_taker_is_open(&other));
+    for (uint64_t more = 2; more <= 256; more++) {
+        CHECK(gist_interval_world_open_by(&world, GIST_SAME, 0, 0, 1, &other, &cursor) == GIST_OK && cursor == more);
+        gist_taker_drop(&other);
+    }
+    CHECK(gist_interval_world_open_by(&world, GIST_SAME, 0, 0, 1, &other, &cursor) == GIST_CURSORS_FULL);
+    CHECK(cursor == 256 && !gist_taker_is_open(&other));
+    gist_world_drop(&world);
+    gist_taker_drop(&taker);
+
+    CHECK(gist_world_new(&world, GIST_BOXES, &SMALL) == GIST_OK);
+    CHECK(gist_box_world_insert(&world, 1, 2, 3, 4, 70, &number) == GIST_OK);
+    CHECK(gist_box_world_insert(&world, 2, 3, 6, 7, 71, &number) == GIST_OK);
+    CHECK(gist_box_world_find_by(&world, GIST_WITHIN, 2, 3, 9, 9, box_rows, 2, &number) == GIST_OK && number == 1);
+    CHECK(box_rows[0].row == 2 && box_rows[0].x1 == 2 && box_rows[0].y1 == 3 && box_rows[0].x2 == 6);
+    CHECK(gist_box_world_open_by(&world, GIST_HOLDS, 1, 2, 1, 2, 4, &taker, &cursor) == GIST_OK && cursor == 1);
+    CHECK(sent_by(&world, cursor) == 1);
+    CHECK(gist_box_pop(&taker, &box) == GIST_OK && box.kind == GIST_ROW && box.number == 1 && box.tag == 70);
+    CHECK(gist_box_pop(&taker, &box) == GIST_OK && box.kind == GIST_NOTHING);
+    number = cursor = UNTOUCHED;
+    CHECK(gist_box_world_find_by(&world, 5, 1, 2, 3, 4, box_rows, 2, &number) == GIST_BAD_CONFIG);
+    CHECK(gist_box_world_find_by(&world, GIST_SAME, 1, 4, 3, 2, box_rows, 2, &number) == GIST_BAD_CONFIG);
+    CHECK(gist_box_world_open_by(&world, GIST_SAME, 3, 2, 1, 4, 4, &other, &cursor) == GIST_BAD_CONFIG);
+    CHECK(gist_box_world_open_by(&world, GIST_SAME, 1, 2, 3, 4, 0, &other, &cursor) == GIST_BAD_CONFIG);
+    CHECK(number == UNTOUCHED && cursor == UNTOUCHED && box_rows[0].row == 2 && !gist_taker_is_open(&other));
+    gist_world_drop(&world);
+    gist_taker_drop(&taker);
+
+    CHECK(gist_world_new(&world, GIST_SETS, &SMALL) == GIST_OK);
+    CHECK(gist_set_world_insert(&world, 6, 1, 70, &number) == GIST_OK);
+    CHECK(gist_set_world_insert(&world, 4, 0, 71, &number) == GIST_OK);
+    CHECK(gist_set_world_find_by(&world, GIST_HOLDS, 0, 1, set_rows, 2, &number) == GIST_OK && number == 1);
+    CHECK(set_rows[0].row == 1 && set_rows[0].tag == 70 && set_rows[0].low == 6 && set_rows[0].high == 1);
+    CHECK(gist_set_world_open_by(&world, GIST_WITHIN, 5, 0, 4, &taker, &cursor) == GIST_OK && cursor == 1);
+    CHECK(sent_by(&world, cursor) == 1);
+    CHECK(gist_set_pop(&taker, &set) == GIST_OK && set.kind == GIST_ROW && set.number == 2 && set.low == 4);
+    CHECK(gist_set_pop(&taker, &set) == GIST_OK && set.kind == GIST_NOTHING);
+    number = cursor = UNTOUCHED;
+    CHECK(gist_set_world_find_by(&world, 0, 4, 0, set_rows, 2, &number) == GIST_BAD_CONFIG);
+    CHECK(gist_set_world_open_by(&world, 5, 4, 0, 4, &other, &cursor) == GIST_BAD_CONFIG);
+    CHECK(gist_set_world_open_by(&world, GIST_SAME, 4, 0, 4097, &other, &cursor) == GIST_BAD_CONFIG);
+    CHECK(number == UNTOUCHED && cursor == UNTOUCHED && set_rows[0].row == 1 && !gist_taker_is_open(&other));
+    gist_world_drop(&world);
+    gist_taker_drop(&taker);
 }
 
 static void refusals(void)
@@ -517,10 +622,10 @@ static void threads(void)
 static void refused_memory(void)
 {
     gist_world world = GIST_NO_WORLD;
-    gist_taker taker = GIST_NO_TAKER, follower = GIST_NO_TAKER;
+    gist_taker taker = GIST_NO_TAKER, follower = GIST_NO_TAKER, other = GIST_NO_TAKER;
     gist_interval_item item = {0};
     gist_interval_row rows[64];
-    uint64_t number, cursor = UNTOUCHED, following = UNTOUCHED, fault, seen = 0;
+    uint64_t number, cursor = UNTOUCHED, following = UNTOUCHED, asking = UNTOUCHED, fault, seen = 0;
     uint32_t refusal;
     bool sent;
 
@@ -529,6 +634,8 @@ static void refused_memory(void)
     CHECK(gist_taker_is_open(&taker) && cursor == 1);
     AGAIN(gist_world_open_from(&world, "overlaps (0 99)", 15, 64, 0, &follower, &following, &fault));
     CHECK(gist_taker_is_open(&follower) && following == 2);
+    AGAIN(gist_interval_world_open_by(&world, GIST_SAME, 5, 5, 64, &other, &asking));
+    CHECK(gist_taker_is_open(&other) && asking == 3);
     for (int64_t n = 1; n <= 40; n++)
         AGAIN(gist_interval_world_insert(&world, n, n, 0, &number));
     for (uint64_t row = 1; row <= 10; row++)
@@ -552,7 +659,10 @@ static void refused_memory(void)
     AGAIN(gist_world_sweep(&world, &number));
     AGAIN(gist_interval_world_find(&world, "overlaps (0 99)", 15, rows, 64, &number, &fault));
     CHECK(number == 30 && rows[0].row == 11 && rows[29].row == 51);
+    AGAIN(gist_interval_world_find_by(&world, GIST_WITHIN, 11, 13, rows, 64, &number));
+    CHECK(number == 3 && rows[0].row == 11 && rows[2].row == 13);
     gist_world_drop(&world);
+    gist_taker_drop(&other);
     gist_taker_drop(&taker);
     gist_taker_drop(&follower);
 }
@@ -568,6 +678,7 @@ int main(int argc, char **argv)
         intervals();
         boxes();
         sets();
+        relations();
         refusals();
         pages();
         threads();

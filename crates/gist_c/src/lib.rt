@@ -31,6 +31,7 @@ mod shown;
 mod stores;
 mod taker_handle;
 mod taker_inside;
+mod world_atoms;
 mod world_calls;
 mod world_handle;
 mod world_inside;

@@ -1,7 +1,9 @@
 //! The calls of a world of any class, and of its takers, with what they promise in one word each.
 ghost use Rattle.std.specs.Prelude.{◌≡◌, ◌≤◌, [], length, IfErr, IfOk, OnErr, OnOk};
+ghost use Rattle.key_class.specs.Queries.{atom};
+ghost use Rattle.gist_c.specs.Finds.{IsFind};
 ghost use Rattle.gist_c.specs.Calls.{IsInsert, IsDelete, IsMove, IsSearch, IsSweep, ShowsCommit};
-ghost use Rattle.gist_c.specs.WorldCalls.{IsReading, IsStoreCall, IsTurn, OpensRing, RefusesFollowing, RefusesRing, ShowsTaken};
+ghost use Rattle.gist_c.specs.WorldCalls.{IsReading, IsStoreCall, IsTurn, OpensRing, OpensRingOn, RefusesFollowing, RefusesRing, RefusesRingOn, ShowsTaken};
 ghost use Rattle.shared_store.specs.Shared.{Asks, Closes};
 ghost use Rattle.world.specs.Steps.{following_cursor, opened_cursor};
 
@@ -9,7 +11,7 @@ use crate::buffers::write_rows;
 use crate::crossing::Crossing;
 use crate::shown;
 use cursor::Turned;
-use key_class::{KeyClass, Refusal};
+use key_class::{KeyClass, Pred, Refusal};
 use query_text::{ClassText, parse};
 use shared_store::{SharedStore, Taker};
 use std::alloc::Global;
@@ -71,6 +73,38 @@ pub fn find<C: Crossing>(
     let found = world.find(&query)?;
     write_rows::<C>(rows, &found);
     Ok(found.len() as u64)
+}
+
+/// Puts the live rows that an atom asks for into a buffer, as many as fit, and tells how many there are.
+pub fn find_by<C: Crossing>(
+    world: &SharedStore<C>,
+    wanted: C::Atom,
+    rows: &mut [C::CRow],
+) -> Result<u64, Refusal>
+    ensures { IsReading C.rules (IsFind C.rules (atom wanted) C.row_of rows.old rows.new)
+        world.now result world.now }
+{
+    let found = world.find(&Pred::Atom(wanted))?;
+    write_rows::<C>(rows, &found);
+    Ok(found.len() as u64)
+}
+
+/// Opens a cursor on an atom, with a ring of that room: its serial, and the ring's taker.
+pub fn open_by<C: KeyClass>(
+    world: &mut SharedStore<C>,
+    wanted: C::Atom,
+    room: u64,
+) -> Result<(u64, Taker<C::Key>), Refusal>
+    ensures ok { IfOk result (λ made.
+        OpensRingOn C.rules (Pred.Atom wanted) room world.old made.0 world.new) }
+    ensures fresh { IfOk result (λ made. made.1.taken ≡ []) }
+    ensures err { IfErr result (λ why. RefusesRingOn C.rules room world.old why) }
+    ensures unchanged { OnErr result (world.new ≡ world.old) }
+{
+    match world.open(Pred::Atom(wanted), room) {
+        Ok((cursor, taker)) => return Ok((cursor, taker)),
+        Err(why) => return Err(why),
+    }
 }
 
 /// Opens a cursor on the query of a text, with a ring of that room: its serial, and the ring's taker.
