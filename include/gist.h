@@ -628,6 +628,12 @@ uint64_t gist_world_commits(gist_world *world);
 uint32_t gist_world_delete(gist_world *world, uint64_t row, uint64_t *commit);
 
 /*
+ * Deletes rows one after the other, until one is refused, and tells how many were deleted, as gist_delete_all. It is one
+ * call, so who shares the world holds the lock until all of them are done.
+ */
+uint32_t gist_world_delete_all(gist_world *world, const uint64_t *rows, size_t length, uint64_t *deleted);
+
+/*
  * Opens a cursor on a query, with a ring of that room: 1 to 4,096 items. Gives the cursor's number, and puts the ring's
  * taker into a handle that has none. By its turns the cursor sends the rows that match now, in some order, and then the
  * later changes, as that of gist_open gives them.
@@ -684,6 +690,13 @@ bool gist_taker_is_open(const gist_taker *taker);
 /* Adds a row to a world of intervals, as gist_interval_insert. */
 uint32_t gist_interval_world_insert(gist_world *world, int64_t lo, int64_t hi, uint64_t tag, uint64_t *row);
 
+/*
+ * Adds rows to a world of intervals one after the other, until one is refused, and tells how many were added, as
+ * gist_interval_insert_all. It is one call, so who shares the world holds the lock until all of them are done.
+ */
+uint32_t gist_interval_world_insert_all(gist_world *world, const gist_interval_entry *entries, size_t length,
+                                        uint64_t *added);
+
 /* Moves a row of a world of intervals, as gist_interval_move. */
 uint32_t gist_interval_world_move(gist_world *world, uint64_t row, int64_t lo, int64_t hi, uint64_t *moved);
 
@@ -719,6 +732,9 @@ uint32_t gist_interval_pop(gist_taker *taker, gist_interval_item *item);
 uint32_t gist_box_world_insert(gist_world *world, int32_t x1, int32_t y1, int32_t x2, int32_t y2, uint64_t tag,
                                uint64_t *row);
 
+/* Adds rows to a world of boxes one after the other, until one is refused, as gist_interval_world_insert_all. */
+uint32_t gist_box_world_insert_all(gist_world *world, const gist_box_entry *entries, size_t length, uint64_t *added);
+
 /* Moves a row of a world of boxes, as gist_box_move. */
 uint32_t gist_box_world_move(gist_world *world, uint64_t row, int32_t x1, int32_t y1, int32_t x2, int32_t y2,
                              uint64_t *moved);
@@ -743,6 +759,9 @@ uint32_t gist_box_pop(gist_taker *taker, gist_box_item *item);
 
 /* Adds a row to a world of sets, as gist_set_insert. */
 uint32_t gist_set_world_insert(gist_world *world, uint64_t low, uint64_t high, uint64_t tag, uint64_t *row);
+
+/* Adds rows to a world of sets one after the other, until one is refused, as gist_interval_world_insert_all. */
+uint32_t gist_set_world_insert_all(gist_world *world, const gist_set_entry *entries, size_t length, uint64_t *added);
 
 /* Moves a row of a world of sets, as gist_set_move. */
 uint32_t gist_set_world_move(gist_world *world, uint64_t row, uint64_t low, uint64_t high, uint64_t *moved);

@@ -65,11 +65,15 @@ static void no_world(void)
     gist_interval_row interval_row = {.row = UNTOUCHED};
     gist_box_row box_row = {.row = UNTOUCHED};
     gist_set_row set_row = {.row = UNTOUCHED};
+    gist_interval_entry interval_entry = {1, 2, 3};
+    gist_box_entry box_entry = {1, 2, 3, 4, 5};
+    gist_set_entry set_entry = {1, 2, 3};
     bool sent = true;
 
     CHECK(!gist_world_is_open(&none) && !gist_taker_is_open(&taker));
     CHECK(gist_world_commits(&none) == 0);
     CHECK(gist_world_delete(&none, 1, &number) == GIST_BAD_CONFIG);
+    CHECK(gist_world_delete_all(&none, (const uint64_t[]){1}, 1, &number) == GIST_BAD_CONFIG);
     CHECK(gist_world_open(&none, "x", 1, 1, &taker, &number, &fault) == GIST_BAD_CONFIG);
     CHECK(gist_world_open_from(&none, "x", 1, 1, 0, &taker, &number, &fault) == GIST_BAD_CONFIG);
     CHECK(gist_world_mark(&none, 1) == GIST_BAD_CONFIG);
@@ -77,6 +81,7 @@ static void no_world(void)
     CHECK(gist_world_sweep(&none, &number) == GIST_BAD_CONFIG);
     CHECK(gist_step(&none, 1, &sent) == GIST_BAD_CONFIG && sent);
     CHECK(gist_interval_world_insert(&none, 1, 2, 3, &number) == GIST_BAD_CONFIG);
+    CHECK(gist_interval_world_insert_all(&none, &interval_entry, 1, &number) == GIST_BAD_CONFIG);
     CHECK(gist_interval_world_move(&none, 1, 1, 2, &number) == GIST_BAD_CONFIG);
     CHECK(gist_interval_world_find(&none, "x", 1, &interval_row, 1, &number, &fault) == GIST_BAD_CONFIG);
     CHECK(gist_interval_world_find_by(&none, GIST_SAME, 1, 2, &interval_row, 1, &number) == GIST_BAD_CONFIG);
@@ -84,6 +89,7 @@ static void no_world(void)
     CHECK(gist_interval_world_commit(&none, 1, &interval) == GIST_BAD_CONFIG);
     CHECK(gist_interval_pop(&taker, &interval) == GIST_BAD_CONFIG);
     CHECK(gist_box_world_insert(&none, 1, 2, 3, 4, 5, &number) == GIST_BAD_CONFIG);
+    CHECK(gist_box_world_insert_all(&none, &box_entry, 1, &number) == GIST_BAD_CONFIG);
     CHECK(gist_box_world_move(&none, 1, 1, 2, 3, 4, &number) == GIST_BAD_CONFIG);
     CHECK(gist_box_world_find(&none, "x", 1, &box_row, 1, &number, &fault) == GIST_BAD_CONFIG);
     CHECK(gist_box_world_find_by(&none, GIST_SAME, 1, 2, 3, 4, &box_row, 1, &number) == GIST_BAD_CONFIG);
@@ -91,6 +97,7 @@ static void no_world(void)
     CHECK(gist_box_world_commit(&none, 1, &box) == GIST_BAD_CONFIG);
     CHECK(gist_box_pop(&taker, &box) == GIST_BAD_CONFIG);
     CHECK(gist_set_world_insert(&none, 1, 2, 3, &number) == GIST_BAD_CONFIG);
+    CHECK(gist_set_world_insert_all(&none, &set_entry, 1, &number) == GIST_BAD_CONFIG);
     CHECK(gist_set_world_move(&none, 1, 1, 2, &number) == GIST_BAD_CONFIG);
     CHECK(gist_set_world_find(&none, "x", 1, &set_row, 1, &number, &fault) == GIST_BAD_CONFIG);
     CHECK(gist_set_world_find_by(&none, GIST_SAME, 1, 2, &set_row, 1, &number) == GIST_BAD_CONFIG);
@@ -140,6 +147,9 @@ static void other_class(void)
     gist_interval_row interval_row = {.row = UNTOUCHED};
     gist_box_row box_row = {.row = UNTOUCHED};
     gist_set_row set_row = {.row = UNTOUCHED};
+    gist_interval_entry interval_entry = {1, 2, 3};
+    gist_box_entry box_entry = {1, 2, 3, 4, 5};
+    gist_set_entry set_entry = {1, 2, 3};
 
     CHECK(gist_world_new(&intervals, GIST_INTERVALS, &SMALL) == GIST_OK);
     CHECK(gist_world_new(&boxes, GIST_BOXES, &SMALL) == GIST_OK);
@@ -148,6 +158,7 @@ static void other_class(void)
     CHECK(opened(&boxes, "overlaps (0 0 9 9)", 1, &box_taker) == 1);
     CHECK(opened(&sets, "overlaps {1}", 1, &set_taker) == 1);
     CHECK(gist_interval_world_insert(&boxes, 1, 2, 3, &number) == GIST_BAD_CONFIG);
+    CHECK(gist_interval_world_insert_all(&boxes, &interval_entry, 1, &number) == GIST_BAD_CONFIG);
     CHECK(gist_interval_world_move(&sets, 1, 1, 2, &number) == GIST_BAD_CONFIG);
     CHECK(gist_interval_world_find(&boxes, "x", 1, &interval_row, 1, &number, &fault) == GIST_BAD_CONFIG);
     CHECK(gist_interval_world_find_by(&boxes, GIST_SAME, 1, 2, &interval_row, 1, &number) == GIST_BAD_CONFIG);
@@ -155,6 +166,7 @@ static void other_class(void)
     CHECK(gist_interval_world_commit(&sets, 1, &interval) == GIST_BAD_CONFIG);
     CHECK(gist_interval_pop(&box_taker, &interval) == GIST_BAD_CONFIG);
     CHECK(gist_box_world_insert(&sets, 1, 2, 3, 4, 5, &number) == GIST_BAD_CONFIG);
+    CHECK(gist_box_world_insert_all(&sets, &box_entry, 1, &number) == GIST_BAD_CONFIG);
     CHECK(gist_box_world_move(&intervals, 1, 1, 2, 3, 4, &number) == GIST_BAD_CONFIG);
     CHECK(gist_box_world_find(&sets, "x", 1, &box_row, 1, &number, &fault) == GIST_BAD_CONFIG);
     CHECK(gist_box_world_find_by(&sets, GIST_SAME, 1, 2, 3, 4, &box_row, 1, &number) == GIST_BAD_CONFIG);
@@ -162,6 +174,7 @@ static void other_class(void)
     CHECK(gist_box_world_commit(&intervals, 1, &box) == GIST_BAD_CONFIG);
     CHECK(gist_box_pop(&set_taker, &box) == GIST_BAD_CONFIG);
     CHECK(gist_set_world_insert(&intervals, 1, 2, 3, &number) == GIST_BAD_CONFIG);
+    CHECK(gist_set_world_insert_all(&intervals, &set_entry, 1, &number) == GIST_BAD_CONFIG);
     CHECK(gist_set_world_move(&boxes, 1, 1, 2, &number) == GIST_BAD_CONFIG);
     CHECK(gist_set_world_find(&intervals, "x", 1, &set_row, 1, &number, &fault) == GIST_BAD_CONFIG);
     CHECK(gist_set_world_find_by(&intervals, GIST_SAME, 1, 2, &set_row, 1, &number) == GIST_BAD_CONFIG);
@@ -400,6 +413,62 @@ static void relations(void)
     gist_taker_drop(&taker);
 }
 
+/* Many rows a call: those up to the first that is refused are added or deleted, and a cursor is sent each. */
+static void many_rows(void)
+{
+    static const gist_interval_entry entries[] = {{1, 2, 70}, {3, 3, 71}, {5, 4, 72}, {6, 7, 73}};
+    static const gist_box_entry box_entries[] = {{1, 2, 3, 4, 70}, {5, 6, 7, 8, 71}};
+    static const gist_set_entry set_entries[] = {{1, 0, 70}, {0, 3, 71}};
+    static const uint64_t ended[] = {2, 1, 2, 3}, later[] = {2, 3};
+    gist_limits few = {.fan = 4, .least = 2, .pages = 1000, .commits = 5};
+    gist_world world = GIST_NO_WORLD;
+    gist_taker taker = GIST_NO_TAKER;
+    gist_interval_item item;
+    gist_box_item box;
+    gist_set_item set;
+    uint64_t number, cursor;
+
+    CHECK(gist_world_new(&world, GIST_INTERVALS, &few) == GIST_OK);
+    cursor = opened(&world, "overlaps (0 9)", 16, &taker);
+    CHECK(gist_interval_world_insert_all(&world, entries, 0, &number) == GIST_OK && number == 0);
+    CHECK(gist_interval_world_insert_all(&world, entries, 4, &number) == GIST_OK && number == 2);
+    number = UNTOUCHED;
+    CHECK(gist_interval_world_insert_all(&world, entries + 2, 2, &number) == GIST_BAD_CONFIG && number == UNTOUCHED);
+    CHECK(gist_interval_world_insert_all(&world, entries + 3, 1, &number) == GIST_OK && number == 1);
+    CHECK(gist_world_delete_all(&world, ended, 0, &number) == GIST_OK && number == 0);
+    CHECK(gist_world_delete_all(&world, ended, 4, &number) == GIST_OK && number == 2);
+    number = UNTOUCHED;
+    CHECK(gist_world_delete_all(&world, later, 2, &number) == GIST_ALREADY_DELETED && number == UNTOUCHED);
+    CHECK(gist_world_delete_all(&world, later + 1, 1, &number) == GIST_COMMITS_FULL && number == UNTOUCHED);
+    CHECK(gist_interval_world_insert_all(&world, entries, 1, &number) == GIST_COMMITS_FULL && number == UNTOUCHED);
+    CHECK(gist_world_commits(&world) == 5);
+    CHECK(sent_by(&world, cursor) == 5);
+    CHECK(gist_interval_pop(&taker, &item) == GIST_OK && interval_is(&item, GIST_INSERTED, 1, 0, 1, 2, 70));
+    CHECK(gist_interval_pop(&taker, &item) == GIST_OK && interval_is(&item, GIST_INSERTED, 2, 0, 3, 3, 71));
+    CHECK(gist_interval_pop(&taker, &item) == GIST_OK && interval_is(&item, GIST_INSERTED, 3, 0, 6, 7, 73));
+    CHECK(gist_interval_pop(&taker, &item) == GIST_OK && interval_is(&item, GIST_DELETED, 4, 2, 0, 0, 0));
+    CHECK(gist_interval_pop(&taker, &item) == GIST_OK && interval_is(&item, GIST_DELETED, 5, 1, 0, 0, 0));
+    CHECK(gist_interval_pop(&taker, &item) == GIST_OK && item.kind == GIST_NOTHING);
+    gist_taker_drop(&taker);
+    gist_world_drop(&world);
+
+    CHECK(gist_world_new(&world, GIST_BOXES, &SMALL) == GIST_OK);
+    CHECK(gist_box_world_insert_all(&world, box_entries, 2, &number) == GIST_OK && number == 2);
+    CHECK(gist_box_world_commit(&world, 2, &box) == GIST_OK && box.kind == GIST_INSERTED && box.tag == 71);
+    CHECK(box.x1 == 5 && box.y1 == 6 && box.x2 == 7 && box.y2 == 8);
+    CHECK(gist_world_delete_all(&world, ended, 2, &number) == GIST_OK && number == 2);
+    CHECK(gist_box_world_commit(&world, 3, &box) == GIST_OK && box.kind == GIST_DELETED && box.ended == 2);
+    gist_world_drop(&world);
+
+    CHECK(gist_world_new(&world, GIST_SETS, &SMALL) == GIST_OK);
+    CHECK(gist_set_world_insert_all(&world, set_entries, 2, &number) == GIST_OK && number == 2);
+    CHECK(gist_set_world_commit(&world, 2, &set) == GIST_OK && set.kind == GIST_INSERTED && set.tag == 71);
+    CHECK(set.low == 0 && set.high == 3);
+    CHECK(gist_world_delete_all(&world, ended, 2, &number) == GIST_OK && number == 2);
+    CHECK(gist_set_world_commit(&world, 4, &set) == GIST_OK && set.kind == GIST_DELETED && set.ended == 1);
+    gist_world_drop(&world);
+}
+
 static void refusals(void)
 {
     gist_limits few = {.fan = 4, .least = 2, .pages = 1000, .commits = 3};
@@ -619,6 +688,38 @@ static void threads(void)
 /* Makes a call again where it was refused for want of memory. */
 #define AGAIN(call) ((call) != GIST_OUT_OF_MEMORY ? (void)0 : CHECK((call) == GIST_OK))
 
+/* Adds 40 rows by one call, and by another those that it left out where one behind the first was refused. */
+static void add_intervals(gist_world *world)
+{
+    gist_interval_entry entries[40];
+    uint64_t added = 0;
+
+    for (unsigned at = 0; at < 40; at++)
+        entries[at] = (gist_interval_entry){at + 1, at + 1, 0};
+    AGAIN(gist_interval_world_insert_all(world, entries, 40, &added));
+    if (added < 40) {
+        uint64_t before = added;
+
+        CHECK(gist_interval_world_insert_all(world, entries + before, 40 - before, &added) == GIST_OK);
+        CHECK(before + added == 40);
+    }
+}
+
+/* Deletes ten of them so. */
+static void delete_intervals(gist_world *world)
+{
+    static const uint64_t rows[10] = {1, 2, 3, 4, 5, 6, 7, 8, 9, 10};
+    uint64_t deleted = 0;
+
+    AGAIN(gist_world_delete_all(world, rows, 10, &deleted));
+    if (deleted < 10) {
+        uint64_t before = deleted;
+
+        CHECK(gist_world_delete_all(world, rows + before, 10 - before, &deleted) == GIST_OK);
+        CHECK(before + deleted == 10);
+    }
+}
+
 static void refused_memory(void)
 {
     gist_world world = GIST_NO_WORLD;
@@ -636,12 +737,12 @@ static void refused_memory(void)
     CHECK(gist_taker_is_open(&follower) && following == 2);
     AGAIN(gist_interval_world_open_by(&world, GIST_SAME, 5, 5, 64, &other, &asking));
     CHECK(gist_taker_is_open(&other) && asking == 3);
-    for (int64_t n = 1; n <= 40; n++)
-        AGAIN(gist_interval_world_insert(&world, n, n, 0, &number));
-    for (uint64_t row = 1; row <= 10; row++)
-        AGAIN(gist_world_delete(&world, row, &number));
+    add_intervals(&world);
+    delete_intervals(&world);
+    AGAIN(gist_interval_world_insert(&world, 41, 41, 0, &number));
+    AGAIN(gist_world_delete(&world, 51, &number));
     AGAIN(gist_interval_world_move(&world, 20, 90, 90, &number));
-    CHECK(gist_world_commits(&world) == 51);
+    CHECK(gist_world_commits(&world) == 53);
     while ((refusal = gist_step(&world, cursor, &sent)) == GIST_OK || refusal == GIST_OUT_OF_MEMORY)
         ;
     CHECK(refusal == GIST_IDLE);
@@ -652,13 +753,13 @@ static void refused_memory(void)
         CHECK(gist_interval_pop(&taker, &item) == GIST_OK);
         seen += item.kind != GIST_NOTHING;
     } while (item.kind != GIST_NOTHING);
-    /* 39 inserts, 9 deletes and the move */
-    CHECK(seen == 49);
-    for (number = 1; number <= 51; number++)
+    /* 40 inserts, 10 deletes and the move */
+    CHECK(seen == 51);
+    for (number = 1; number <= 53; number++)
         CHECK(gist_interval_pop(&follower, &item) == GIST_OK && item.number == number);
     AGAIN(gist_world_sweep(&world, &number));
     AGAIN(gist_interval_world_find(&world, "overlaps (0 99)", 15, rows, 64, &number, &fault));
-    CHECK(number == 30 && rows[0].row == 11 && rows[29].row == 51);
+    CHECK(number == 30 && rows[0].row == 11 && rows[29].row == 53);
     AGAIN(gist_interval_world_find_by(&world, GIST_WITHIN, 11, 13, rows, 64, &number));
     CHECK(number == 3 && rows[0].row == 11 && rows[2].row == 13);
     gist_world_drop(&world);
@@ -679,6 +780,7 @@ int main(int argc, char **argv)
         boxes();
         sets();
         relations();
+        many_rows();
         refusals();
         pages();
         threads();

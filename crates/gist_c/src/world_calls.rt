@@ -2,14 +2,14 @@
 ghost use Rattle.std.specs.Prelude.{◌≡◌, ◌≤◌, [], length, IfErr, IfOk, OnErr, OnOk};
 ghost use Rattle.key_class.specs.Queries.{atom};
 ghost use Rattle.gist_c.specs.Finds.{IsFind};
-ghost use Rattle.gist_c.specs.Calls.{IsInsert, IsDelete, IsMove, IsSearch, IsSweep, ShowsCommit};
+ghost use Rattle.gist_c.specs.Calls.{IsInsert, IsInserting, IsDelete, IsDeleting, IsMove, IsSearch, IsSweep, ShowsCommit};
 ghost use Rattle.gist_c.specs.WorldCalls.{IsReading, IsStoreCall, IsTurn, OpensRing, OpensRingOn, RefusesFollowing, RefusesRing, RefusesRingOn, ShowsTaken};
 ghost use Rattle.shared_store.specs.Shared.{Asks, Closes};
 ghost use Rattle.world.specs.Steps.{following_cursor, opened_cursor};
 
 use crate::buffers::write_rows;
 use crate::crossing::Crossing;
-use crate::shown;
+use crate::{many_rows, shown};
 use cursor::Turned;
 use key_class::{KeyClass, Pred, Refusal};
 use query_text::{ClassText, parse};
@@ -27,11 +27,29 @@ pub fn insert<C: KeyClass>(
     world.insert(key, tag)
 }
 
+/// Adds rows one after the other, until one is refused, and tells how many were added.
+pub fn insert_all<C: Crossing>(
+    world: &mut SharedStore<C>,
+    entries: &[C::CEntry],
+) -> Result<u64, Refusal>
+    ensures { IsStoreCall C.rules (IsInserting C.rules C.key_of C.tag_of entries.now)
+        world.old result world.new }
+{
+    many_rows::insert_all::<C, SharedStore<C>>(world, entries)
+}
+
 /// Deletes a row.
 pub fn delete<C: KeyClass>(world: &mut SharedStore<C>, row: u64) -> Result<u64, Refusal>
     ensures { IsStoreCall C.rules (IsDelete C.rules row) world.old result world.new }
 {
     world.delete(row)
+}
+
+/// Deletes rows one after the other, until one is refused, and tells how many were deleted.
+pub fn delete_all<C: KeyClass>(world: &mut SharedStore<C>, rows: &[u64]) -> Result<u64, Refusal>
+    ensures { IsStoreCall C.rules (IsDeleting C.rules rows.now) world.old result world.new }
+{
+    many_rows::delete_all::<C, SharedStore<C>>(world, rows)
 }
 
 /// Moves a row.
