@@ -628,8 +628,8 @@ uint64_t gist_world_commits(gist_world *world);
 uint32_t gist_world_delete(gist_world *world, uint64_t row, uint64_t *commit);
 
 /*
- * Deletes rows one after the other, until one is refused, and tells how many were deleted, as gist_delete_all. It is one
- * call, so who shares the world holds the lock until all of them are done.
+ * Deletes rows one after the other, until one is refused, and tells how many were deleted, as gist_delete_all. It is
+ * one call, so who shares the world holds the lock until all of them are done.
  */
 uint32_t gist_world_delete_all(gist_world *world, const uint64_t *rows, size_t length, uint64_t *deleted);
 
@@ -709,6 +709,15 @@ uint32_t gist_interval_world_find_by(gist_world *world, uint32_t relation, int64
                                      gist_interval_row *rows, size_t room, uint64_t *found);
 
 /*
+ * Finds the rows of a world of intervals whose keys have a relation to each of many keys, and tells how many keys were
+ * answered and where the rows of each end, as gist_interval_find_all. It is one call, so all keys are answered over the
+ * same commits.
+ */
+uint32_t gist_interval_world_find_all(gist_world *world, uint32_t relation, const gist_interval_key *keys,
+                                      size_t length, gist_interval_row *rows, size_t room, uint64_t *ends,
+                                      size_t places, uint64_t *answered);
+
+/*
  * Opens a cursor on the rows of a world of intervals whose keys have a relation to a key, with a ring of that room, and
  * puts the ring's taker into a handle that has none, as gist_world_open does on a query.
  *
@@ -747,7 +756,11 @@ uint32_t gist_box_world_find(gist_world *world, const char *query, size_t length
 uint32_t gist_box_world_find_by(gist_world *world, uint32_t relation, int32_t x1, int32_t y1, int32_t x2, int32_t y2,
                                 gist_box_row *rows, size_t room, uint64_t *found);
 
-/* Opens a cursor on the rows of a world of boxes whose keys have a relation to a key, as gist_interval_world_open_by. */
+/* Finds the rows of a world of boxes whose keys have a relation to each of many keys, as gist_box_find_all. */
+uint32_t gist_box_world_find_all(gist_world *world, uint32_t relation, const gist_box_key *keys, size_t length,
+                                 gist_box_row *rows, size_t room, uint64_t *ends, size_t places, uint64_t *answered);
+
+/* Opens a cursor on the rows of a world of boxes by a relation and a key, as gist_interval_world_open_by. */
 uint32_t gist_box_world_open_by(gist_world *world, uint32_t relation, int32_t x1, int32_t y1, int32_t x2, int32_t y2,
                                 uint64_t room, gist_taker *taker, uint64_t *cursor);
 
@@ -774,7 +787,11 @@ uint32_t gist_set_world_find(gist_world *world, const char *query, size_t length
 uint32_t gist_set_world_find_by(gist_world *world, uint32_t relation, uint64_t low, uint64_t high, gist_set_row *rows,
                                 size_t room, uint64_t *found);
 
-/* Opens a cursor on the rows of a world of sets whose keys have a relation to a key, as gist_interval_world_open_by. */
+/* Finds the rows of a world of sets whose keys have a relation to each of many keys, as gist_set_find_all. */
+uint32_t gist_set_world_find_all(gist_world *world, uint32_t relation, const gist_set_key *keys, size_t length,
+                                 gist_set_row *rows, size_t room, uint64_t *ends, size_t places, uint64_t *answered);
+
+/* Opens a cursor on the rows of a world of sets by a relation and a key, as gist_interval_world_open_by. */
 uint32_t gist_set_world_open_by(gist_world *world, uint32_t relation, uint64_t low, uint64_t high, uint64_t room,
                                 gist_taker *taker, uint64_t *cursor);
 

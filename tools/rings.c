@@ -68,6 +68,10 @@ static void no_world(void)
     gist_interval_entry interval_entry = {1, 2, 3};
     gist_box_entry box_entry = {1, 2, 3, 4, 5};
     gist_set_entry set_entry = {1, 2, 3};
+    gist_interval_key interval_key = {1, 2};
+    gist_box_key box_key = {1, 2, 3, 4};
+    gist_set_key set_key = {1, 2};
+    uint64_t end = UNTOUCHED;
     bool sent = true;
 
     CHECK(!gist_world_is_open(&none) && !gist_taker_is_open(&taker));
@@ -85,6 +89,8 @@ static void no_world(void)
     CHECK(gist_interval_world_move(&none, 1, 1, 2, &number) == GIST_BAD_CONFIG);
     CHECK(gist_interval_world_find(&none, "x", 1, &interval_row, 1, &number, &fault) == GIST_BAD_CONFIG);
     CHECK(gist_interval_world_find_by(&none, GIST_SAME, 1, 2, &interval_row, 1, &number) == GIST_BAD_CONFIG);
+    CHECK(gist_interval_world_find_all(&none, 1, &interval_key, 1, &interval_row, 1, &end, 1, &number)
+          == GIST_BAD_CONFIG);
     CHECK(gist_interval_world_open_by(&none, GIST_SAME, 1, 2, 1, &taker, &number) == GIST_BAD_CONFIG);
     CHECK(gist_interval_world_commit(&none, 1, &interval) == GIST_BAD_CONFIG);
     CHECK(gist_interval_pop(&taker, &interval) == GIST_BAD_CONFIG);
@@ -93,6 +99,7 @@ static void no_world(void)
     CHECK(gist_box_world_move(&none, 1, 1, 2, 3, 4, &number) == GIST_BAD_CONFIG);
     CHECK(gist_box_world_find(&none, "x", 1, &box_row, 1, &number, &fault) == GIST_BAD_CONFIG);
     CHECK(gist_box_world_find_by(&none, GIST_SAME, 1, 2, 3, 4, &box_row, 1, &number) == GIST_BAD_CONFIG);
+    CHECK(gist_box_world_find_all(&none, 1, &box_key, 1, &box_row, 1, &end, 1, &number) == GIST_BAD_CONFIG);
     CHECK(gist_box_world_open_by(&none, GIST_SAME, 1, 2, 3, 4, 1, &taker, &number) == GIST_BAD_CONFIG);
     CHECK(gist_box_world_commit(&none, 1, &box) == GIST_BAD_CONFIG);
     CHECK(gist_box_pop(&taker, &box) == GIST_BAD_CONFIG);
@@ -101,10 +108,11 @@ static void no_world(void)
     CHECK(gist_set_world_move(&none, 1, 1, 2, &number) == GIST_BAD_CONFIG);
     CHECK(gist_set_world_find(&none, "x", 1, &set_row, 1, &number, &fault) == GIST_BAD_CONFIG);
     CHECK(gist_set_world_find_by(&none, GIST_SAME, 1, 2, &set_row, 1, &number) == GIST_BAD_CONFIG);
+    CHECK(gist_set_world_find_all(&none, 1, &set_key, 1, &set_row, 1, &end, 1, &number) == GIST_BAD_CONFIG);
     CHECK(gist_set_world_open_by(&none, GIST_SAME, 1, 2, 1, &taker, &number) == GIST_BAD_CONFIG);
     CHECK(gist_set_world_commit(&none, 1, &set) == GIST_BAD_CONFIG);
     CHECK(gist_set_pop(&taker, &set) == GIST_BAD_CONFIG);
-    CHECK(number == UNTOUCHED && fault == UNTOUCHED);
+    CHECK(number == UNTOUCHED && fault == UNTOUCHED && end == UNTOUCHED);
     CHECK(interval.number == UNTOUCHED && box.number == UNTOUCHED && set.number == UNTOUCHED);
     CHECK(interval_row.row == UNTOUCHED && box_row.row == UNTOUCHED && set_row.row == UNTOUCHED);
     gist_world_drop(&none);
@@ -139,7 +147,8 @@ static void limits(void)
 static void other_class(void)
 {
     gist_world intervals = GIST_NO_WORLD, boxes = GIST_NO_WORLD, sets = GIST_NO_WORLD;
-    gist_taker interval_taker = GIST_NO_TAKER, box_taker = GIST_NO_TAKER, set_taker = GIST_NO_TAKER, none = GIST_NO_TAKER;
+    gist_taker interval_taker = GIST_NO_TAKER, box_taker = GIST_NO_TAKER, set_taker = GIST_NO_TAKER;
+    gist_taker none = GIST_NO_TAKER;
     uint64_t number = UNTOUCHED, fault = UNTOUCHED;
     gist_interval_item interval = {.number = UNTOUCHED};
     gist_box_item box = {.number = UNTOUCHED};
@@ -150,6 +159,10 @@ static void other_class(void)
     gist_interval_entry interval_entry = {1, 2, 3};
     gist_box_entry box_entry = {1, 2, 3, 4, 5};
     gist_set_entry set_entry = {1, 2, 3};
+    gist_interval_key interval_key = {1, 2};
+    gist_box_key box_key = {1, 2, 3, 4};
+    gist_set_key set_key = {1, 2};
+    uint64_t end = UNTOUCHED;
 
     CHECK(gist_world_new(&intervals, GIST_INTERVALS, &SMALL) == GIST_OK);
     CHECK(gist_world_new(&boxes, GIST_BOXES, &SMALL) == GIST_OK);
@@ -162,6 +175,8 @@ static void other_class(void)
     CHECK(gist_interval_world_move(&sets, 1, 1, 2, &number) == GIST_BAD_CONFIG);
     CHECK(gist_interval_world_find(&boxes, "x", 1, &interval_row, 1, &number, &fault) == GIST_BAD_CONFIG);
     CHECK(gist_interval_world_find_by(&boxes, GIST_SAME, 1, 2, &interval_row, 1, &number) == GIST_BAD_CONFIG);
+    CHECK(gist_interval_world_find_all(&boxes, 1, &interval_key, 1, &interval_row, 1, &end, 1, &number)
+          == GIST_BAD_CONFIG);
     CHECK(gist_interval_world_open_by(&sets, GIST_SAME, 1, 2, 1, &none, &number) == GIST_BAD_CONFIG);
     CHECK(gist_interval_world_commit(&sets, 1, &interval) == GIST_BAD_CONFIG);
     CHECK(gist_interval_pop(&box_taker, &interval) == GIST_BAD_CONFIG);
@@ -170,6 +185,7 @@ static void other_class(void)
     CHECK(gist_box_world_move(&intervals, 1, 1, 2, 3, 4, &number) == GIST_BAD_CONFIG);
     CHECK(gist_box_world_find(&sets, "x", 1, &box_row, 1, &number, &fault) == GIST_BAD_CONFIG);
     CHECK(gist_box_world_find_by(&sets, GIST_SAME, 1, 2, 3, 4, &box_row, 1, &number) == GIST_BAD_CONFIG);
+    CHECK(gist_box_world_find_all(&sets, 1, &box_key, 1, &box_row, 1, &end, 1, &number) == GIST_BAD_CONFIG);
     CHECK(gist_box_world_open_by(&intervals, GIST_SAME, 1, 2, 3, 4, 1, &none, &number) == GIST_BAD_CONFIG);
     CHECK(gist_box_world_commit(&intervals, 1, &box) == GIST_BAD_CONFIG);
     CHECK(gist_box_pop(&set_taker, &box) == GIST_BAD_CONFIG);
@@ -178,10 +194,11 @@ static void other_class(void)
     CHECK(gist_set_world_move(&boxes, 1, 1, 2, &number) == GIST_BAD_CONFIG);
     CHECK(gist_set_world_find(&intervals, "x", 1, &set_row, 1, &number, &fault) == GIST_BAD_CONFIG);
     CHECK(gist_set_world_find_by(&intervals, GIST_SAME, 1, 2, &set_row, 1, &number) == GIST_BAD_CONFIG);
+    CHECK(gist_set_world_find_all(&intervals, 1, &set_key, 1, &set_row, 1, &end, 1, &number) == GIST_BAD_CONFIG);
     CHECK(gist_set_world_open_by(&boxes, GIST_SAME, 1, 2, 1, &none, &number) == GIST_BAD_CONFIG);
     CHECK(gist_set_world_commit(&boxes, 1, &set) == GIST_BAD_CONFIG);
     CHECK(gist_set_pop(&interval_taker, &set) == GIST_BAD_CONFIG);
-    CHECK(number == UNTOUCHED && fault == UNTOUCHED);
+    CHECK(number == UNTOUCHED && fault == UNTOUCHED && end == UNTOUCHED);
     CHECK(interval.number == UNTOUCHED && box.number == UNTOUCHED && set.number == UNTOUCHED);
     CHECK(interval_row.row == UNTOUCHED && box_row.row == UNTOUCHED && set_row.row == UNTOUCHED);
     CHECK(gist_world_commits(&intervals) == 0 && gist_world_commits(&boxes) == 0 && gist_world_commits(&sets) == 0);
@@ -469,6 +486,66 @@ static void many_rows(void)
     gist_world_drop(&world);
 }
 
+/* Many keys a call: those whose rows fit are answered, up to the first whose rows don't or that is refused. */
+static void many_keys(void)
+{
+    static const gist_interval_key keys[] = {{4, 5}, {11, 99}, {1, 4}, {9, 1}, {10, 10}};
+    static const gist_box_key box_keys[] = {{1, 2, 1, 2}, {6, 7, 9, 9}};
+    static const gist_set_key set_keys[] = {{2, 0}, {0, 1}};
+    gist_world world = GIST_NO_WORLD;
+    gist_interval_row rows[8];
+    gist_box_row box_rows[2];
+    gist_set_row set_rows[3];
+    uint64_t number, ends[5];
+
+    memset(rows, 0, sizeof rows);
+    memset(ends, 0, sizeof ends);
+    CHECK(gist_world_new(&world, GIST_INTERVALS, &SMALL) == GIST_OK);
+    CHECK(gist_interval_world_insert(&world, 1, 4, 70, &number) == GIST_OK);
+    CHECK(gist_interval_world_insert(&world, 3, 5, 71, &number) == GIST_OK);
+    CHECK(gist_interval_world_insert(&world, 4, 10, 72, &number) == GIST_OK);
+
+    rows[6].row = ends[3] = UNTOUCHED;
+    CHECK(gist_interval_world_find_all(&world, GIST_OVERLAPS, keys, 5, rows, 8, ends, 5, &number) == GIST_OK);
+    CHECK(number == 3 && ends[0] == 3 && ends[1] == 3 && ends[2] == 6 && ends[3] == UNTOUCHED);
+    for (unsigned at = 0; at < 6; at++)
+        CHECK(rows[at].row == at % 3 + 1 && rows[at].tag == 70 + at % 3);
+    CHECK(rows[0].lo == 1 && rows[0].hi == 4 && rows[5].lo == 4 && rows[5].hi == 10 && rows[6].row == UNTOUCHED);
+
+    rows[3].row = ends[2] = UNTOUCHED;
+    CHECK(gist_interval_world_find_all(&world, GIST_OVERLAPS, keys, 3, rows, 5, ends, 5, &number) == GIST_OK);
+    CHECK(number == 2 && ends[1] == 3 && ends[2] == UNTOUCHED && rows[3].row == UNTOUCHED);
+    CHECK(gist_interval_world_find_all(&world, GIST_OVERLAPS, keys, 3, rows, 8, ends, 2, &number) == GIST_OK);
+    CHECK(number == 2 && ends[2] == UNTOUCHED && rows[3].row == UNTOUCHED);
+    CHECK(gist_interval_world_find_all(&world, GIST_HOLDS, keys + 4, 1, rows, 1, ends, 1, &number) == GIST_OK);
+    CHECK(number == 1 && ends[0] == 1 && rows[0].row == 3);
+    CHECK(gist_interval_world_find_all(&world, GIST_SAME, keys + 2, 1, rows, 0, ends, 1, &number) == GIST_OK);
+    CHECK(number == 0 && ends[0] == 1);
+    CHECK(gist_interval_world_find_all(&world, 0, keys, 0, rows, 8, ends, 5, &number) == GIST_OK && number == 0);
+    number = UNTOUCHED;
+    CHECK(gist_interval_world_find_all(&world, 0, keys, 5, rows, 8, ends, 5, &number) == GIST_BAD_CONFIG);
+    CHECK(gist_interval_world_find_all(&world, 5, keys, 5, rows, 8, ends, 5, &number) == GIST_BAD_CONFIG);
+    CHECK(gist_interval_world_find_all(&world, GIST_SAME, keys + 3, 2, rows, 8, ends, 5, &number) == GIST_BAD_CONFIG);
+    CHECK(number == UNTOUCHED && ends[0] == 1 && rows[0].row == 3);
+    gist_world_drop(&world);
+
+    CHECK(gist_world_new(&world, GIST_BOXES, &SMALL) == GIST_OK);
+    CHECK(gist_box_world_insert(&world, 1, 2, 3, 4, 70, &number) == GIST_OK);
+    CHECK(gist_box_world_insert(&world, 2, 3, 6, 7, 71, &number) == GIST_OK);
+    CHECK(gist_box_world_find_all(&world, GIST_OVERLAPS, box_keys, 2, box_rows, 2, ends, 2, &number) == GIST_OK);
+    CHECK(number == 2 && ends[0] == 1 && ends[1] == 2 && box_rows[0].row == 1 && box_rows[1].row == 2);
+    CHECK(box_rows[1].x1 == 2 && box_rows[1].y1 == 3 && box_rows[1].x2 == 6 && box_rows[1].y2 == 7);
+    gist_world_drop(&world);
+
+    CHECK(gist_world_new(&world, GIST_SETS, &SMALL) == GIST_OK);
+    CHECK(gist_set_world_insert(&world, 6, 1, 70, &number) == GIST_OK);
+    CHECK(gist_set_world_insert(&world, 2, 0, 71, &number) == GIST_OK);
+    CHECK(gist_set_world_find_all(&world, GIST_HOLDS, set_keys, 2, set_rows, 3, ends, 2, &number) == GIST_OK);
+    CHECK(number == 2 && ends[0] == 2 && ends[1] == 3);
+    CHECK(set_rows[0].row == 1 && set_rows[1].row == 2 && set_rows[2].row == 1 && set_rows[2].high == 1);
+    gist_world_drop(&world);
+}
+
 static void refusals(void)
 {
     gist_limits few = {.fan = 4, .least = 2, .pages = 1000, .commits = 3};
@@ -720,6 +797,24 @@ static void delete_intervals(gist_world *world)
     }
 }
 
+/* Finds the rows of three keys by one call, and by another those of the keys that it left out. */
+static void find_intervals(gist_world *world)
+{
+    static const gist_interval_key keys[3] = {{11, 11}, {30, 30}, {90, 90}};
+    gist_interval_row rows[3];
+    uint64_t ends[3], answered = 0;
+
+    AGAIN(gist_interval_world_find_all(world, GIST_SAME, keys, 3, rows, 3, ends, 3, &answered));
+    if (answered < 3) {
+        uint64_t before = answered;
+
+        CHECK(gist_interval_world_find_all(world, GIST_SAME, keys + before, 3 - before, rows + before, 3 - before,
+                                           ends + before, 3 - before, &answered) == GIST_OK);
+        CHECK(before + answered == 3);
+    }
+    CHECK(rows[0].row == 11 && rows[1].row == 30 && rows[2].row == 53);
+}
+
 static void refused_memory(void)
 {
     gist_world world = GIST_NO_WORLD;
@@ -762,6 +857,7 @@ static void refused_memory(void)
     CHECK(number == 30 && rows[0].row == 11 && rows[29].row == 53);
     AGAIN(gist_interval_world_find_by(&world, GIST_WITHIN, 11, 13, rows, 64, &number));
     CHECK(number == 3 && rows[0].row == 11 && rows[2].row == 13);
+    find_intervals(&world);
     gist_world_drop(&world);
     gist_taker_drop(&other);
     gist_taker_drop(&taker);
@@ -781,6 +877,7 @@ int main(int argc, char **argv)
         sets();
         relations();
         many_rows();
+        many_keys();
         refusals();
         pages();
         threads();

@@ -2,11 +2,13 @@
 ghost use Rattle.std.specs.Prelude.{◌≡◌};
 ghost use Rattle.gist_c.specs.Calls.{IsInsert, IsInserting, IsDelete, IsDeleting, IsMove, ShowsNext, IsTaking, IsSearch, IsSweep, IsOpening, IsFollowing, IsAsking, IsClosing};
 ghost use Rattle.change_list.specs.Changes.{commit_at};
+ghost use Rattle.gist_c.specs.ManyFinds.{IsFindOfAll};
 ghost use Rattle.gist_c.specs.Shown.{shown_commit};
 
 use crate::buffers::write_rows;
 use crate::crossing::Crossing;
-use crate::{many_rows, shown};
+use crate::keys::Asking;
+use crate::{finds, many_rows, shown};
 use key_class::{KeyClass, Refusal};
 use query_text::{ClassText, parse};
 use std::alloc::Global;
@@ -120,6 +122,22 @@ pub fn find<C: Crossing>(
     let found = store.find(&query)?;
     write_rows::<C>(rows, &found);
     Ok(found.len() as u64)
+}
+
+/// Puts the live rows that have a relation to each of many keys into a buffer, those of one key behind those of the key
+/// before, until they don't fit, a find is refused or there is no place for an end, and tells how many keys were answered
+/// and where the rows of each end.
+pub fn find_all<C: Asking>(
+    store: &Store<C>,
+    relation: u32,
+    keys: &[C::CKey],
+    rows: &mut [C::CRow],
+    ends: &mut [u64],
+) -> Result<u64, Refusal>
+    ensures { IsFindOfAll C.rules C.texts C.asked_of relation C.row_of keys.now
+        ends.old ends.new rows.old rows.new store.now result store.now }
+{
+    finds::find_all::<C, Store<C>>(store, relation, keys, rows, ends)
 }
 
 /// Asks a cursor for a mark.

@@ -35,6 +35,7 @@ mod taker_handle;
 mod taker_inside;
 mod world_atoms;
 mod world_calls;
+mod world_finds;
 mod world_handle;
 mod world_inside;
 mod worlds;

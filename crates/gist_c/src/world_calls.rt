@@ -3,13 +3,15 @@ ghost use Rattle.std.specs.Prelude.{◌≡◌, ◌≤◌, [], length, IfErr, IfO
 ghost use Rattle.key_class.specs.Queries.{atom};
 ghost use Rattle.gist_c.specs.Finds.{IsFind};
 ghost use Rattle.gist_c.specs.Calls.{IsInsert, IsInserting, IsDelete, IsDeleting, IsMove, IsSearch, IsSweep, ShowsCommit};
+ghost use Rattle.gist_c.specs.ManyFinds.{IsFindOfAll};
 ghost use Rattle.gist_c.specs.WorldCalls.{IsReading, IsStoreCall, IsTurn, OpensRing, OpensRingOn, RefusesFollowing, RefusesRing, RefusesRingOn, ShowsTaken};
 ghost use Rattle.shared_store.specs.Shared.{Asks, Closes};
 ghost use Rattle.world.specs.Steps.{following_cursor, opened_cursor};
 
 use crate::buffers::write_rows;
 use crate::crossing::Crossing;
-use crate::{many_rows, shown};
+use crate::keys::Asking;
+use crate::{finds, many_rows, shown};
 use cursor::Turned;
 use key_class::{KeyClass, Pred, Refusal};
 use query_text::{ClassText, parse};
@@ -107,6 +109,24 @@ pub fn find_by<C: Crossing>(
     Ok(found.len() as u64)
 }
 
+/// Puts the live rows that have a relation to each of many keys into a buffer, those of one key behind those of the key
+/// before, until they don't fit, a find is refused or there is no place for an end, and tells how many keys were
+/// answered and where the rows of each end.
+pub fn find_all<C: Asking>(
+    world: &SharedStore<C>,
+    relation: u32,
+    keys: &[C::CKey],
+    rows: &mut [C::CRow],
+    ends: &mut [u64],
+) -> Result<u64, Refusal>
+    ensures { IsReading C.rules
+        (IsFindOfAll C.rules C.texts C.asked_of relation C.row_of keys.now
+        ends.old ends.new rows.old rows.new)
+        world.now result world.now }
+{
+    finds::find_all::<C, SharedStore<C>>(world, relation, keys, rows, ends)
+}
+
 /// Opens a cursor on an atom, with a ring of that room: its serial, and the ring's taker.
 pub fn open_by<C: KeyClass>(
     world: &mut SharedStore<C>,
@@ -148,7 +168,8 @@ pub fn open<C: ClassText>(
     }
 }
 
-/// Opens a cursor on the query of a text that follows a commit, with a ring of that room: its serial, and the ring's taker.
+/// Opens a cursor on the query of a text that follows a commit, with a ring of that room: its serial, and the ring's
+/// taker.
 pub fn open_from<C: ClassText>(
     alloc: Global,
     world: &mut SharedStore<C>,
