@@ -628,6 +628,12 @@ uint64_t gist_world_commits(gist_world *world);
 uint32_t gist_world_delete(gist_world *world, uint64_t row, uint64_t *commit);
 
 /*
+ * Deletes rows one after the other, until one is refused, and tells how many were deleted, as gist_delete_all. It is
+ * one call, so who shares the world holds the lock until all of them are done.
+ */
+uint32_t gist_world_delete_all(gist_world *world, const uint64_t *rows, size_t length, uint64_t *deleted);
+
+/*
  * Opens a cursor on a query, with a ring of that room: 1 to 4,096 items. Gives the cursor's number, and puts the ring's
  * taker into a handle that has none. By its turns the cursor sends the rows that match now, in some order, and then the
  * later changes, as that of gist_open gives them.
@@ -684,12 +690,42 @@ bool gist_taker_is_open(const gist_taker *taker);
 /* Adds a row to a world of intervals, as gist_interval_insert. */
 uint32_t gist_interval_world_insert(gist_world *world, int64_t lo, int64_t hi, uint64_t tag, uint64_t *row);
 
+/*
+ * Adds rows to a world of intervals one after the other, until one is refused, and tells how many were added, as
+ * gist_interval_insert_all. It is one call, so who shares the world holds the lock until all of them are done.
+ */
+uint32_t gist_interval_world_insert_all(gist_world *world, const gist_interval_entry *entries, size_t length,
+                                        uint64_t *added);
+
 /* Moves a row of a world of intervals, as gist_interval_move. */
 uint32_t gist_interval_world_move(gist_world *world, uint64_t row, int64_t lo, int64_t hi, uint64_t *moved);
 
 /* Finds rows of a world of intervals, as gist_interval_find. */
 uint32_t gist_interval_world_find(gist_world *world, const char *query, size_t length, gist_interval_row *rows,
                                   size_t room, uint64_t *found, uint64_t *fault);
+
+/* Finds the rows of a world of intervals whose keys have a relation to a key, as gist_interval_find_by. */
+uint32_t gist_interval_world_find_by(gist_world *world, uint32_t relation, int64_t lo, int64_t hi,
+                                     gist_interval_row *rows, size_t room, uint64_t *found);
+
+/*
+ * Finds the rows of a world of intervals whose keys have a relation to each of many keys, and tells how many keys were
+ * answered and where the rows of each end, as gist_interval_find_all. It is one call, so all keys are answered over the
+ * same commits.
+ */
+uint32_t gist_interval_world_find_all(gist_world *world, uint32_t relation, const gist_interval_key *keys,
+                                      size_t length, gist_interval_row *rows, size_t room, uint64_t *ends,
+                                      size_t places, uint64_t *answered);
+
+/*
+ * Opens a cursor on the rows of a world of intervals whose keys have a relation to a key, with a ring of that room, and
+ * puts the ring's taker into a handle that has none, as gist_world_open does on a query.
+ *
+ * GIST_BAD_CONFIG where the ends are out of order, no relation has the number, the room is out of its range or the
+ * handle has a taker already; GIST_CURSORS_FULL; GIST_OUT_OF_MEMORY. The handle of the taker is as it was then.
+ */
+uint32_t gist_interval_world_open_by(gist_world *world, uint32_t relation, int64_t lo, int64_t hi, uint64_t room,
+                                     gist_taker *taker, uint64_t *cursor);
 
 /* Tells a commit of a world of intervals, as gist_interval_commit. */
 uint32_t gist_interval_world_commit(gist_world *world, uint64_t number, gist_interval_item *commit);
@@ -705,6 +741,9 @@ uint32_t gist_interval_pop(gist_taker *taker, gist_interval_item *item);
 uint32_t gist_box_world_insert(gist_world *world, int32_t x1, int32_t y1, int32_t x2, int32_t y2, uint64_t tag,
                                uint64_t *row);
 
+/* Adds rows to a world of boxes one after the other, until one is refused, as gist_interval_world_insert_all. */
+uint32_t gist_box_world_insert_all(gist_world *world, const gist_box_entry *entries, size_t length, uint64_t *added);
+
 /* Moves a row of a world of boxes, as gist_box_move. */
 uint32_t gist_box_world_move(gist_world *world, uint64_t row, int32_t x1, int32_t y1, int32_t x2, int32_t y2,
                              uint64_t *moved);
@@ -712,6 +751,18 @@ uint32_t gist_box_world_move(gist_world *world, uint64_t row, int32_t x1, int32_
 /* Finds rows of a world of boxes, as gist_box_find. */
 uint32_t gist_box_world_find(gist_world *world, const char *query, size_t length, gist_box_row *rows, size_t room,
                              uint64_t *found, uint64_t *fault);
+
+/* Finds the rows of a world of boxes whose keys have a relation to a key, as gist_box_find_by. */
+uint32_t gist_box_world_find_by(gist_world *world, uint32_t relation, int32_t x1, int32_t y1, int32_t x2, int32_t y2,
+                                gist_box_row *rows, size_t room, uint64_t *found);
+
+/* Finds the rows of a world of boxes whose keys have a relation to each of many keys, as gist_box_find_all. */
+uint32_t gist_box_world_find_all(gist_world *world, uint32_t relation, const gist_box_key *keys, size_t length,
+                                 gist_box_row *rows, size_t room, uint64_t *ends, size_t places, uint64_t *answered);
+
+/* Opens a cursor on the rows of a world of boxes by a relation and a key, as gist_interval_world_open_by. */
+uint32_t gist_box_world_open_by(gist_world *world, uint32_t relation, int32_t x1, int32_t y1, int32_t x2, int32_t y2,
+                                uint64_t room, gist_taker *taker, uint64_t *cursor);
 
 /* Tells a commit of a world of boxes, as gist_box_commit. */
 uint32_t gist_box_world_commit(gist_world *world, uint64_t number, gist_box_item *commit);
@@ -722,12 +773,27 @@ uint32_t gist_box_pop(gist_taker *taker, gist_box_item *item);
 /* Adds a row to a world of sets, as gist_set_insert. */
 uint32_t gist_set_world_insert(gist_world *world, uint64_t low, uint64_t high, uint64_t tag, uint64_t *row);
 
+/* Adds rows to a world of sets one after the other, until one is refused, as gist_interval_world_insert_all. */
+uint32_t gist_set_world_insert_all(gist_world *world, const gist_set_entry *entries, size_t length, uint64_t *added);
+
 /* Moves a row of a world of sets, as gist_set_move. */
 uint32_t gist_set_world_move(gist_world *world, uint64_t row, uint64_t low, uint64_t high, uint64_t *moved);
 
 /* Finds rows of a world of sets, as gist_set_find. */
 uint32_t gist_set_world_find(gist_world *world, const char *query, size_t length, gist_set_row *rows, size_t room,
                              uint64_t *found, uint64_t *fault);
+
+/* Finds the rows of a world of sets whose keys have a relation to a key, as gist_set_find_by. */
+uint32_t gist_set_world_find_by(gist_world *world, uint32_t relation, uint64_t low, uint64_t high, gist_set_row *rows,
+                                size_t room, uint64_t *found);
+
+/* Finds the rows of a world of sets whose keys have a relation to each of many keys, as gist_set_find_all. */
+uint32_t gist_set_world_find_all(gist_world *world, uint32_t relation, const gist_set_key *keys, size_t length,
+                                 gist_set_row *rows, size_t room, uint64_t *ends, size_t places, uint64_t *answered);
+
+/* Opens a cursor on the rows of a world of sets by a relation and a key, as gist_interval_world_open_by. */
+uint32_t gist_set_world_open_by(gist_world *world, uint32_t relation, uint64_t low, uint64_t high, uint64_t room,
+                                gist_taker *taker, uint64_t *cursor);
 
 /* Tells a commit of a world of sets, as gist_set_commit. */
 uint32_t gist_set_world_commit(gist_world *world, uint64_t number, gist_set_item *commit);

@@ -65,11 +65,19 @@ static void no_world(void)
     gist_interval_row interval_row = {.row = UNTOUCHED};
     gist_box_row box_row = {.row = UNTOUCHED};
     gist_set_row set_row = {.row = UNTOUCHED};
+    gist_interval_entry interval_entry = {1, 2, 3};
+    gist_box_entry box_entry = {1, 2, 3, 4, 5};
+    gist_set_entry set_entry = {1, 2, 3};
+    gist_interval_key interval_key = {1, 2};
+    gist_box_key box_key = {1, 2, 3, 4};
+    gist_set_key set_key = {1, 2};
+    uint64_t end = UNTOUCHED;
     bool sent = true;
 
     CHECK(!gist_world_is_open(&none) && !gist_taker_is_open(&taker));
     CHECK(gist_world_commits(&none) == 0);
     CHECK(gist_world_delete(&none, 1, &number) == GIST_BAD_CONFIG);
+    CHECK(gist_world_delete_all(&none, (const uint64_t[]){1}, 1, &number) == GIST_BAD_CONFIG);
     CHECK(gist_world_open(&none, "x", 1, 1, &taker, &number, &fault) == GIST_BAD_CONFIG);
     CHECK(gist_world_open_from(&none, "x", 1, 1, 0, &taker, &number, &fault) == GIST_BAD_CONFIG);
     CHECK(gist_world_mark(&none, 1) == GIST_BAD_CONFIG);
@@ -77,21 +85,34 @@ static void no_world(void)
     CHECK(gist_world_sweep(&none, &number) == GIST_BAD_CONFIG);
     CHECK(gist_step(&none, 1, &sent) == GIST_BAD_CONFIG && sent);
     CHECK(gist_interval_world_insert(&none, 1, 2, 3, &number) == GIST_BAD_CONFIG);
+    CHECK(gist_interval_world_insert_all(&none, &interval_entry, 1, &number) == GIST_BAD_CONFIG);
     CHECK(gist_interval_world_move(&none, 1, 1, 2, &number) == GIST_BAD_CONFIG);
     CHECK(gist_interval_world_find(&none, "x", 1, &interval_row, 1, &number, &fault) == GIST_BAD_CONFIG);
+    CHECK(gist_interval_world_find_by(&none, GIST_SAME, 1, 2, &interval_row, 1, &number) == GIST_BAD_CONFIG);
+    CHECK(gist_interval_world_find_all(&none, 1, &interval_key, 1, &interval_row, 1, &end, 1, &number)
+          == GIST_BAD_CONFIG);
+    CHECK(gist_interval_world_open_by(&none, GIST_SAME, 1, 2, 1, &taker, &number) == GIST_BAD_CONFIG);
     CHECK(gist_interval_world_commit(&none, 1, &interval) == GIST_BAD_CONFIG);
     CHECK(gist_interval_pop(&taker, &interval) == GIST_BAD_CONFIG);
     CHECK(gist_box_world_insert(&none, 1, 2, 3, 4, 5, &number) == GIST_BAD_CONFIG);
+    CHECK(gist_box_world_insert_all(&none, &box_entry, 1, &number) == GIST_BAD_CONFIG);
     CHECK(gist_box_world_move(&none, 1, 1, 2, 3, 4, &number) == GIST_BAD_CONFIG);
     CHECK(gist_box_world_find(&none, "x", 1, &box_row, 1, &number, &fault) == GIST_BAD_CONFIG);
+    CHECK(gist_box_world_find_by(&none, GIST_SAME, 1, 2, 3, 4, &box_row, 1, &number) == GIST_BAD_CONFIG);
+    CHECK(gist_box_world_find_all(&none, 1, &box_key, 1, &box_row, 1, &end, 1, &number) == GIST_BAD_CONFIG);
+    CHECK(gist_box_world_open_by(&none, GIST_SAME, 1, 2, 3, 4, 1, &taker, &number) == GIST_BAD_CONFIG);
     CHECK(gist_box_world_commit(&none, 1, &box) == GIST_BAD_CONFIG);
     CHECK(gist_box_pop(&taker, &box) == GIST_BAD_CONFIG);
     CHECK(gist_set_world_insert(&none, 1, 2, 3, &number) == GIST_BAD_CONFIG);
+    CHECK(gist_set_world_insert_all(&none, &set_entry, 1, &number) == GIST_BAD_CONFIG);
     CHECK(gist_set_world_move(&none, 1, 1, 2, &number) == GIST_BAD_CONFIG);
     CHECK(gist_set_world_find(&none, "x", 1, &set_row, 1, &number, &fault) == GIST_BAD_CONFIG);
+    CHECK(gist_set_world_find_by(&none, GIST_SAME, 1, 2, &set_row, 1, &number) == GIST_BAD_CONFIG);
+    CHECK(gist_set_world_find_all(&none, 1, &set_key, 1, &set_row, 1, &end, 1, &number) == GIST_BAD_CONFIG);
+    CHECK(gist_set_world_open_by(&none, GIST_SAME, 1, 2, 1, &taker, &number) == GIST_BAD_CONFIG);
     CHECK(gist_set_world_commit(&none, 1, &set) == GIST_BAD_CONFIG);
     CHECK(gist_set_pop(&taker, &set) == GIST_BAD_CONFIG);
-    CHECK(number == UNTOUCHED && fault == UNTOUCHED);
+    CHECK(number == UNTOUCHED && fault == UNTOUCHED && end == UNTOUCHED);
     CHECK(interval.number == UNTOUCHED && box.number == UNTOUCHED && set.number == UNTOUCHED);
     CHECK(interval_row.row == UNTOUCHED && box_row.row == UNTOUCHED && set_row.row == UNTOUCHED);
     gist_world_drop(&none);
@@ -127,6 +148,7 @@ static void other_class(void)
 {
     gist_world intervals = GIST_NO_WORLD, boxes = GIST_NO_WORLD, sets = GIST_NO_WORLD;
     gist_taker interval_taker = GIST_NO_TAKER, box_taker = GIST_NO_TAKER, set_taker = GIST_NO_TAKER;
+    gist_taker none = GIST_NO_TAKER;
     uint64_t number = UNTOUCHED, fault = UNTOUCHED;
     gist_interval_item interval = {.number = UNTOUCHED};
     gist_box_item box = {.number = UNTOUCHED};
@@ -134,6 +156,13 @@ static void other_class(void)
     gist_interval_row interval_row = {.row = UNTOUCHED};
     gist_box_row box_row = {.row = UNTOUCHED};
     gist_set_row set_row = {.row = UNTOUCHED};
+    gist_interval_entry interval_entry = {1, 2, 3};
+    gist_box_entry box_entry = {1, 2, 3, 4, 5};
+    gist_set_entry set_entry = {1, 2, 3};
+    gist_interval_key interval_key = {1, 2};
+    gist_box_key box_key = {1, 2, 3, 4};
+    gist_set_key set_key = {1, 2};
+    uint64_t end = UNTOUCHED;
 
     CHECK(gist_world_new(&intervals, GIST_INTERVALS, &SMALL) == GIST_OK);
     CHECK(gist_world_new(&boxes, GIST_BOXES, &SMALL) == GIST_OK);
@@ -142,24 +171,38 @@ static void other_class(void)
     CHECK(opened(&boxes, "overlaps (0 0 9 9)", 1, &box_taker) == 1);
     CHECK(opened(&sets, "overlaps {1}", 1, &set_taker) == 1);
     CHECK(gist_interval_world_insert(&boxes, 1, 2, 3, &number) == GIST_BAD_CONFIG);
+    CHECK(gist_interval_world_insert_all(&boxes, &interval_entry, 1, &number) == GIST_BAD_CONFIG);
     CHECK(gist_interval_world_move(&sets, 1, 1, 2, &number) == GIST_BAD_CONFIG);
     CHECK(gist_interval_world_find(&boxes, "x", 1, &interval_row, 1, &number, &fault) == GIST_BAD_CONFIG);
+    CHECK(gist_interval_world_find_by(&boxes, GIST_SAME, 1, 2, &interval_row, 1, &number) == GIST_BAD_CONFIG);
+    CHECK(gist_interval_world_find_all(&boxes, 1, &interval_key, 1, &interval_row, 1, &end, 1, &number)
+          == GIST_BAD_CONFIG);
+    CHECK(gist_interval_world_open_by(&sets, GIST_SAME, 1, 2, 1, &none, &number) == GIST_BAD_CONFIG);
     CHECK(gist_interval_world_commit(&sets, 1, &interval) == GIST_BAD_CONFIG);
     CHECK(gist_interval_pop(&box_taker, &interval) == GIST_BAD_CONFIG);
     CHECK(gist_box_world_insert(&sets, 1, 2, 3, 4, 5, &number) == GIST_BAD_CONFIG);
+    CHECK(gist_box_world_insert_all(&sets, &box_entry, 1, &number) == GIST_BAD_CONFIG);
     CHECK(gist_box_world_move(&intervals, 1, 1, 2, 3, 4, &number) == GIST_BAD_CONFIG);
     CHECK(gist_box_world_find(&sets, "x", 1, &box_row, 1, &number, &fault) == GIST_BAD_CONFIG);
+    CHECK(gist_box_world_find_by(&sets, GIST_SAME, 1, 2, 3, 4, &box_row, 1, &number) == GIST_BAD_CONFIG);
+    CHECK(gist_box_world_find_all(&sets, 1, &box_key, 1, &box_row, 1, &end, 1, &number) == GIST_BAD_CONFIG);
+    CHECK(gist_box_world_open_by(&intervals, GIST_SAME, 1, 2, 3, 4, 1, &none, &number) == GIST_BAD_CONFIG);
     CHECK(gist_box_world_commit(&intervals, 1, &box) == GIST_BAD_CONFIG);
     CHECK(gist_box_pop(&set_taker, &box) == GIST_BAD_CONFIG);
     CHECK(gist_set_world_insert(&intervals, 1, 2, 3, &number) == GIST_BAD_CONFIG);
+    CHECK(gist_set_world_insert_all(&intervals, &set_entry, 1, &number) == GIST_BAD_CONFIG);
     CHECK(gist_set_world_move(&boxes, 1, 1, 2, &number) == GIST_BAD_CONFIG);
     CHECK(gist_set_world_find(&intervals, "x", 1, &set_row, 1, &number, &fault) == GIST_BAD_CONFIG);
+    CHECK(gist_set_world_find_by(&intervals, GIST_SAME, 1, 2, &set_row, 1, &number) == GIST_BAD_CONFIG);
+    CHECK(gist_set_world_find_all(&intervals, 1, &set_key, 1, &set_row, 1, &end, 1, &number) == GIST_BAD_CONFIG);
+    CHECK(gist_set_world_open_by(&boxes, GIST_SAME, 1, 2, 1, &none, &number) == GIST_BAD_CONFIG);
     CHECK(gist_set_world_commit(&boxes, 1, &set) == GIST_BAD_CONFIG);
     CHECK(gist_set_pop(&interval_taker, &set) == GIST_BAD_CONFIG);
-    CHECK(number == UNTOUCHED && fault == UNTOUCHED);
+    CHECK(number == UNTOUCHED && fault == UNTOUCHED && end == UNTOUCHED);
     CHECK(interval.number == UNTOUCHED && box.number == UNTOUCHED && set.number == UNTOUCHED);
     CHECK(interval_row.row == UNTOUCHED && box_row.row == UNTOUCHED && set_row.row == UNTOUCHED);
     CHECK(gist_world_commits(&intervals) == 0 && gist_world_commits(&boxes) == 0 && gist_world_commits(&sets) == 0);
+    CHECK(!gist_taker_is_open(&none));
     CHECK(gist_interval_pop(&interval_taker, &interval) == GIST_OK && interval.kind == GIST_NOTHING);
     CHECK(gist_box_pop(&box_taker, &box) == GIST_OK && box.kind == GIST_NOTHING);
     CHECK(gist_set_pop(&set_taker, &set) == GIST_OK && set.kind == GIST_NOTHING);
@@ -292,6 +335,214 @@ static void sets(void)
     CHECK(gist_set_pop(&taker, &item) == GIST_OK && item.kind == GIST_NOTHING);
     CHECK(gist_set_world_commit(&world, 3, &item) == GIST_OK && item.kind == GIST_MOVED && item.ended == 2);
     gist_taker_drop(&taker);
+    gist_world_drop(&world);
+}
+
+/* Finds and cursors by a relation and a key, and what refuses them. */
+static void relations(void)
+{
+    gist_world world = GIST_NO_WORLD;
+    gist_taker taker = GIST_NO_TAKER, other = GIST_NO_TAKER;
+    gist_interval_item item;
+    gist_box_item box;
+    gist_set_item set;
+    gist_interval_row rows[3] = {{.row = UNTOUCHED}};
+    gist_box_row box_rows[2] = {{.row = UNTOUCHED}};
+    gist_set_row set_rows[2] = {{.row = UNTOUCHED}};
+    uint64_t number, cursor;
+
+    CHECK(gist_world_new(&world, GIST_INTERVALS, &SMALL) == GIST_OK);
+    CHECK(gist_interval_world_insert(&world, 1, 4, 70, &number) == GIST_OK);
+    CHECK(gist_interval_world_insert(&world, 3, 5, 71, &number) == GIST_OK);
+    CHECK(gist_interval_world_insert(&world, 4, 10, 72, &number) == GIST_OK);
+    rows[2].row = UNTOUCHED;
+    CHECK(gist_interval_world_find_by(&world, GIST_OVERLAPS, 5, 6, rows, 3, &number) == GIST_OK && number == 2);
+    CHECK(rows[0].row == 2 && rows[0].lo == 3 && rows[0].hi == 5 && rows[0].tag == 71);
+    CHECK(rows[1].row == 3 && rows[2].row == UNTOUCHED);
+    CHECK(gist_interval_world_find_by(&world, GIST_WITHIN, 1, 5, rows, 1, &number) == GIST_OK && number == 2);
+    CHECK(rows[0].row == 1 && rows[1].row == 3);
+    CHECK(gist_interval_world_find_by(&world, GIST_HOLDS, 4, 4, rows, 0, &number) == GIST_OK && number == 3);
+    CHECK(gist_interval_world_find_by(&world, GIST_SAME, 4, 10, rows, 3, &number) == GIST_OK && number == 1);
+    CHECK(rows[0].row == 3 && rows[1].row == 3);
+    CHECK(gist_interval_world_open_by(&world, GIST_WITHIN, 0, 5, 4, &taker, &cursor) == GIST_OK && cursor == 1);
+    CHECK(gist_interval_world_insert(&world, 2, 2, 73, &number) == GIST_OK && number == 4);
+    CHECK(gist_interval_world_insert(&world, 2, 20, 74, &number) == GIST_OK && number == 5);
+    CHECK(sent_by(&world, cursor) == 3);
+    CHECK(gist_interval_pop(&taker, &item) == GIST_OK && item.kind == GIST_ROW);
+    number = item.number;
+    CHECK(number == 1 || number == 2);
+    CHECK(gist_interval_pop(&taker, &item) == GIST_OK && item.kind == GIST_ROW && item.number == 3 - number);
+    CHECK(gist_interval_pop(&taker, &item) == GIST_OK && interval_is(&item, GIST_INSERTED, 4, 0, 2, 2, 73));
+    CHECK(gist_interval_pop(&taker, &item) == GIST_OK && item.kind == GIST_NOTHING);
+    number = cursor = UNTOUCHED;
+    for (uint32_t relation = 0; relation <= 5; relation += 5) {
+        CHECK(gist_interval_world_find_by(&world, relation, 1, 9, rows, 3, &number) == GIST_BAD_CONFIG);
+        CHECK(gist_interval_world_open_by(&world, relation, 1, 9, 4, &other, &cursor) == GIST_BAD_CONFIG);
+    }
+    CHECK(gist_interval_world_find_by(&world, GIST_OVERLAPS, 9, 1, rows, 3, &number) == GIST_BAD_CONFIG);
+    CHECK(gist_interval_world_open_by(&world, GIST_OVERLAPS, 9, 1, 4, &other, &cursor) == GIST_BAD_CONFIG);
+    CHECK(gist_interval_world_open_by(&world, GIST_OVERLAPS, 1, 9, 0, &other, &cursor) == GIST_BAD_CONFIG);
+    CHECK(gist_interval_world_open_by(&world, GIST_OVERLAPS, 1, 9, 4097, &other, &cursor) == GIST_BAD_CONFIG);
+    CHECK(gist_interval_world_open_by(&world, GIST_OVERLAPS, 1, 9, 4, &taker, &cursor) == GIST_BAD_CONFIG);
+    CHECK(number == UNTOUCHED && cursor == UNTOUCHED && rows[0].row == 3 && !gist_taker_is_open(&other));
+    for (uint64_t more = 2; more <= 256; more++) {
+        CHECK(gist_interval_world_open_by(&world, GIST_SAME, 0, 0, 1, &other, &cursor) == GIST_OK && cursor == more);
+        gist_taker_drop(&other);
+    }
+    CHECK(gist_interval_world_open_by(&world, GIST_SAME, 0, 0, 1, &other, &cursor) == GIST_CURSORS_FULL);
+    CHECK(cursor == 256 && !gist_taker_is_open(&other));
+    gist_world_drop(&world);
+    gist_taker_drop(&taker);
+
+    CHECK(gist_world_new(&world, GIST_BOXES, &SMALL) == GIST_OK);
+    CHECK(gist_box_world_insert(&world, 1, 2, 3, 4, 70, &number) == GIST_OK);
+    CHECK(gist_box_world_insert(&world, 2, 3, 6, 7, 71, &number) == GIST_OK);
+    CHECK(gist_box_world_find_by(&world, GIST_WITHIN, 2, 3, 9, 9, box_rows, 2, &number) == GIST_OK && number == 1);
+    CHECK(box_rows[0].row == 2 && box_rows[0].x1 == 2 && box_rows[0].y1 == 3 && box_rows[0].x2 == 6);
+    CHECK(gist_box_world_open_by(&world, GIST_HOLDS, 1, 2, 1, 2, 4, &taker, &cursor) == GIST_OK && cursor == 1);
+    CHECK(sent_by(&world, cursor) == 1);
+    CHECK(gist_box_pop(&taker, &box) == GIST_OK && box.kind == GIST_ROW && box.number == 1 && box.tag == 70);
+    CHECK(gist_box_pop(&taker, &box) == GIST_OK && box.kind == GIST_NOTHING);
+    number = cursor = UNTOUCHED;
+    CHECK(gist_box_world_find_by(&world, 5, 1, 2, 3, 4, box_rows, 2, &number) == GIST_BAD_CONFIG);
+    CHECK(gist_box_world_find_by(&world, GIST_SAME, 1, 4, 3, 2, box_rows, 2, &number) == GIST_BAD_CONFIG);
+    CHECK(gist_box_world_open_by(&world, GIST_SAME, 3, 2, 1, 4, 4, &other, &cursor) == GIST_BAD_CONFIG);
+    CHECK(gist_box_world_open_by(&world, GIST_SAME, 1, 2, 3, 4, 0, &other, &cursor) == GIST_BAD_CONFIG);
+    CHECK(number == UNTOUCHED && cursor == UNTOUCHED && box_rows[0].row == 2 && !gist_taker_is_open(&other));
+    gist_world_drop(&world);
+    gist_taker_drop(&taker);
+
+    CHECK(gist_world_new(&world, GIST_SETS, &SMALL) == GIST_OK);
+    CHECK(gist_set_world_insert(&world, 6, 1, 70, &number) == GIST_OK);
+    CHECK(gist_set_world_insert(&world, 4, 0, 71, &number) == GIST_OK);
+    CHECK(gist_set_world_find_by(&world, GIST_HOLDS, 0, 1, set_rows, 2, &number) == GIST_OK && number == 1);
+    CHECK(set_rows[0].row == 1 && set_rows[0].tag == 70 && set_rows[0].low == 6 && set_rows[0].high == 1);
+    CHECK(gist_set_world_open_by(&world, GIST_WITHIN, 5, 0, 4, &taker, &cursor) == GIST_OK && cursor == 1);
+    CHECK(sent_by(&world, cursor) == 1);
+    CHECK(gist_set_pop(&taker, &set) == GIST_OK && set.kind == GIST_ROW && set.number == 2 && set.low == 4);
+    CHECK(gist_set_pop(&taker, &set) == GIST_OK && set.kind == GIST_NOTHING);
+    number = cursor = UNTOUCHED;
+    CHECK(gist_set_world_find_by(&world, 0, 4, 0, set_rows, 2, &number) == GIST_BAD_CONFIG);
+    CHECK(gist_set_world_open_by(&world, 5, 4, 0, 4, &other, &cursor) == GIST_BAD_CONFIG);
+    CHECK(gist_set_world_open_by(&world, GIST_SAME, 4, 0, 4097, &other, &cursor) == GIST_BAD_CONFIG);
+    CHECK(number == UNTOUCHED && cursor == UNTOUCHED && set_rows[0].row == 1 && !gist_taker_is_open(&other));
+    gist_world_drop(&world);
+    gist_taker_drop(&taker);
+}
+
+/* Many rows a call: those up to the first that is refused are added or deleted, and a cursor is sent each. */
+static void many_rows(void)
+{
+    static const gist_interval_entry entries[] = {{1, 2, 70}, {3, 3, 71}, {5, 4, 72}, {6, 7, 73}};
+    static const gist_box_entry box_entries[] = {{1, 2, 3, 4, 70}, {5, 6, 7, 8, 71}};
+    static const gist_set_entry set_entries[] = {{1, 0, 70}, {0, 3, 71}};
+    static const uint64_t ended[] = {2, 1, 2, 3}, later[] = {2, 3};
+    gist_limits few = {.fan = 4, .least = 2, .pages = 1000, .commits = 5};
+    gist_world world = GIST_NO_WORLD;
+    gist_taker taker = GIST_NO_TAKER;
+    gist_interval_item item;
+    gist_box_item box;
+    gist_set_item set;
+    uint64_t number, cursor;
+
+    CHECK(gist_world_new(&world, GIST_INTERVALS, &few) == GIST_OK);
+    cursor = opened(&world, "overlaps (0 9)", 16, &taker);
+    CHECK(gist_interval_world_insert_all(&world, entries, 0, &number) == GIST_OK && number == 0);
+    CHECK(gist_interval_world_insert_all(&world, entries, 4, &number) == GIST_OK && number == 2);
+    number = UNTOUCHED;
+    CHECK(gist_interval_world_insert_all(&world, entries + 2, 2, &number) == GIST_BAD_CONFIG && number == UNTOUCHED);
+    CHECK(gist_interval_world_insert_all(&world, entries + 3, 1, &number) == GIST_OK && number == 1);
+    CHECK(gist_world_delete_all(&world, ended, 0, &number) == GIST_OK && number == 0);
+    CHECK(gist_world_delete_all(&world, ended, 4, &number) == GIST_OK && number == 2);
+    number = UNTOUCHED;
+    CHECK(gist_world_delete_all(&world, later, 2, &number) == GIST_ALREADY_DELETED && number == UNTOUCHED);
+    CHECK(gist_world_delete_all(&world, later + 1, 1, &number) == GIST_COMMITS_FULL && number == UNTOUCHED);
+    CHECK(gist_interval_world_insert_all(&world, entries, 1, &number) == GIST_COMMITS_FULL && number == UNTOUCHED);
+    CHECK(gist_world_commits(&world) == 5);
+    CHECK(sent_by(&world, cursor) == 5);
+    CHECK(gist_interval_pop(&taker, &item) == GIST_OK && interval_is(&item, GIST_INSERTED, 1, 0, 1, 2, 70));
+    CHECK(gist_interval_pop(&taker, &item) == GIST_OK && interval_is(&item, GIST_INSERTED, 2, 0, 3, 3, 71));
+    CHECK(gist_interval_pop(&taker, &item) == GIST_OK && interval_is(&item, GIST_INSERTED, 3, 0, 6, 7, 73));
+    CHECK(gist_interval_pop(&taker, &item) == GIST_OK && interval_is(&item, GIST_DELETED, 4, 2, 0, 0, 0));
+    CHECK(gist_interval_pop(&taker, &item) == GIST_OK && interval_is(&item, GIST_DELETED, 5, 1, 0, 0, 0));
+    CHECK(gist_interval_pop(&taker, &item) == GIST_OK && item.kind == GIST_NOTHING);
+    gist_taker_drop(&taker);
+    gist_world_drop(&world);
+
+    CHECK(gist_world_new(&world, GIST_BOXES, &SMALL) == GIST_OK);
+    CHECK(gist_box_world_insert_all(&world, box_entries, 2, &number) == GIST_OK && number == 2);
+    CHECK(gist_box_world_commit(&world, 2, &box) == GIST_OK && box.kind == GIST_INSERTED && box.tag == 71);
+    CHECK(box.x1 == 5 && box.y1 == 6 && box.x2 == 7 && box.y2 == 8);
+    CHECK(gist_world_delete_all(&world, ended, 2, &number) == GIST_OK && number == 2);
+    CHECK(gist_box_world_commit(&world, 3, &box) == GIST_OK && box.kind == GIST_DELETED && box.ended == 2);
+    gist_world_drop(&world);
+
+    CHECK(gist_world_new(&world, GIST_SETS, &SMALL) == GIST_OK);
+    CHECK(gist_set_world_insert_all(&world, set_entries, 2, &number) == GIST_OK && number == 2);
+    CHECK(gist_set_world_commit(&world, 2, &set) == GIST_OK && set.kind == GIST_INSERTED && set.tag == 71);
+    CHECK(set.low == 0 && set.high == 3);
+    CHECK(gist_world_delete_all(&world, ended, 2, &number) == GIST_OK && number == 2);
+    CHECK(gist_set_world_commit(&world, 4, &set) == GIST_OK && set.kind == GIST_DELETED && set.ended == 1);
+    gist_world_drop(&world);
+}
+
+/* Many keys a call: those whose rows fit are answered, up to the first whose rows don't or that is refused. */
+static void many_keys(void)
+{
+    static const gist_interval_key keys[] = {{4, 5}, {11, 99}, {1, 4}, {9, 1}, {10, 10}};
+    static const gist_box_key box_keys[] = {{1, 2, 1, 2}, {6, 7, 9, 9}};
+    static const gist_set_key set_keys[] = {{2, 0}, {0, 1}};
+    gist_world world = GIST_NO_WORLD;
+    gist_interval_row rows[8];
+    gist_box_row box_rows[2];
+    gist_set_row set_rows[3];
+    uint64_t number, ends[5];
+
+    memset(rows, 0, sizeof rows);
+    memset(ends, 0, sizeof ends);
+    CHECK(gist_world_new(&world, GIST_INTERVALS, &SMALL) == GIST_OK);
+    CHECK(gist_interval_world_insert(&world, 1, 4, 70, &number) == GIST_OK);
+    CHECK(gist_interval_world_insert(&world, 3, 5, 71, &number) == GIST_OK);
+    CHECK(gist_interval_world_insert(&world, 4, 10, 72, &number) == GIST_OK);
+
+    rows[6].row = ends[3] = UNTOUCHED;
+    CHECK(gist_interval_world_find_all(&world, GIST_OVERLAPS, keys, 5, rows, 8, ends, 5, &number) == GIST_OK);
+    CHECK(number == 3 && ends[0] == 3 && ends[1] == 3 && ends[2] == 6 && ends[3] == UNTOUCHED);
+    for (unsigned at = 0; at < 6; at++)
+        CHECK(rows[at].row == at % 3 + 1 && rows[at].tag == 70 + at % 3);
+    CHECK(rows[0].lo == 1 && rows[0].hi == 4 && rows[5].lo == 4 && rows[5].hi == 10 && rows[6].row == UNTOUCHED);
+
+    rows[3].row = ends[2] = UNTOUCHED;
+    CHECK(gist_interval_world_find_all(&world, GIST_OVERLAPS, keys, 3, rows, 5, ends, 5, &number) == GIST_OK);
+    CHECK(number == 2 && ends[1] == 3 && ends[2] == UNTOUCHED && rows[3].row == UNTOUCHED);
+    CHECK(gist_interval_world_find_all(&world, GIST_OVERLAPS, keys, 3, rows, 8, ends, 2, &number) == GIST_OK);
+    CHECK(number == 2 && ends[2] == UNTOUCHED && rows[3].row == UNTOUCHED);
+    CHECK(gist_interval_world_find_all(&world, GIST_HOLDS, keys + 4, 1, rows, 1, ends, 1, &number) == GIST_OK);
+    CHECK(number == 1 && ends[0] == 1 && rows[0].row == 3);
+    CHECK(gist_interval_world_find_all(&world, GIST_SAME, keys + 2, 1, rows, 0, ends, 1, &number) == GIST_OK);
+    CHECK(number == 0 && ends[0] == 1);
+    CHECK(gist_interval_world_find_all(&world, 0, keys, 0, rows, 8, ends, 5, &number) == GIST_OK && number == 0);
+    number = UNTOUCHED;
+    CHECK(gist_interval_world_find_all(&world, 0, keys, 5, rows, 8, ends, 5, &number) == GIST_BAD_CONFIG);
+    CHECK(gist_interval_world_find_all(&world, 5, keys, 5, rows, 8, ends, 5, &number) == GIST_BAD_CONFIG);
+    CHECK(gist_interval_world_find_all(&world, GIST_SAME, keys + 3, 2, rows, 8, ends, 5, &number) == GIST_BAD_CONFIG);
+    CHECK(number == UNTOUCHED && ends[0] == 1 && rows[0].row == 3);
+    gist_world_drop(&world);
+
+    CHECK(gist_world_new(&world, GIST_BOXES, &SMALL) == GIST_OK);
+    CHECK(gist_box_world_insert(&world, 1, 2, 3, 4, 70, &number) == GIST_OK);
+    CHECK(gist_box_world_insert(&world, 2, 3, 6, 7, 71, &number) == GIST_OK);
+    CHECK(gist_box_world_find_all(&world, GIST_OVERLAPS, box_keys, 2, box_rows, 2, ends, 2, &number) == GIST_OK);
+    CHECK(number == 2 && ends[0] == 1 && ends[1] == 2 && box_rows[0].row == 1 && box_rows[1].row == 2);
+    CHECK(box_rows[1].x1 == 2 && box_rows[1].y1 == 3 && box_rows[1].x2 == 6 && box_rows[1].y2 == 7);
+    gist_world_drop(&world);
+
+    CHECK(gist_world_new(&world, GIST_SETS, &SMALL) == GIST_OK);
+    CHECK(gist_set_world_insert(&world, 6, 1, 70, &number) == GIST_OK);
+    CHECK(gist_set_world_insert(&world, 2, 0, 71, &number) == GIST_OK);
+    CHECK(gist_set_world_find_all(&world, GIST_HOLDS, set_keys, 2, set_rows, 3, ends, 2, &number) == GIST_OK);
+    CHECK(number == 2 && ends[0] == 2 && ends[1] == 3);
+    CHECK(set_rows[0].row == 1 && set_rows[1].row == 2 && set_rows[2].row == 1 && set_rows[2].high == 1);
     gist_world_drop(&world);
 }
 
@@ -514,13 +765,63 @@ static void threads(void)
 /* Makes a call again where it was refused for want of memory. */
 #define AGAIN(call) ((call) != GIST_OUT_OF_MEMORY ? (void)0 : CHECK((call) == GIST_OK))
 
+/* Adds 40 rows by one call, and by another those that it left out where one behind the first was refused. */
+static void add_intervals(gist_world *world)
+{
+    gist_interval_entry entries[40];
+    uint64_t added = 0;
+
+    for (unsigned at = 0; at < 40; at++)
+        entries[at] = (gist_interval_entry){at + 1, at + 1, 0};
+    AGAIN(gist_interval_world_insert_all(world, entries, 40, &added));
+    if (added < 40) {
+        uint64_t before = added;
+
+        CHECK(gist_interval_world_insert_all(world, entries + before, 40 - before, &added) == GIST_OK);
+        CHECK(before + added == 40);
+    }
+}
+
+/* Deletes ten of them so. */
+static void delete_intervals(gist_world *world)
+{
+    static const uint64_t rows[10] = {1, 2, 3, 4, 5, 6, 7, 8, 9, 10};
+    uint64_t deleted = 0;
+
+    AGAIN(gist_world_delete_all(world, rows, 10, &deleted));
+    if (deleted < 10) {
+        uint64_t before = deleted;
+
+        CHECK(gist_world_delete_all(world, rows + before, 10 - before, &deleted) == GIST_OK);
+        CHECK(before + deleted == 10);
+    }
+}
+
+/* Finds the rows of three keys by one call, and by another those of the keys that it left out. */
+static void find_intervals(gist_world *world)
+{
+    static const gist_interval_key keys[3] = {{11, 11}, {30, 30}, {90, 90}};
+    gist_interval_row rows[3];
+    uint64_t ends[3], answered = 0;
+
+    AGAIN(gist_interval_world_find_all(world, GIST_SAME, keys, 3, rows, 3, ends, 3, &answered));
+    if (answered < 3) {
+        uint64_t before = answered;
+
+        CHECK(gist_interval_world_find_all(world, GIST_SAME, keys + before, 3 - before, rows + before, 3 - before,
+                                           ends + before, 3 - before, &answered) == GIST_OK);
+        CHECK(before + answered == 3);
+    }
+    CHECK(rows[0].row == 11 && rows[1].row == 30 && rows[2].row == 53);
+}
+
 static void refused_memory(void)
 {
     gist_world world = GIST_NO_WORLD;
-    gist_taker taker = GIST_NO_TAKER, follower = GIST_NO_TAKER;
+    gist_taker taker = GIST_NO_TAKER, follower = GIST_NO_TAKER, other = GIST_NO_TAKER;
     gist_interval_item item = {0};
     gist_interval_row rows[64];
-    uint64_t number, cursor = UNTOUCHED, following = UNTOUCHED, fault, seen = 0;
+    uint64_t number, cursor = UNTOUCHED, following = UNTOUCHED, asking = UNTOUCHED, fault, seen = 0;
     uint32_t refusal;
     bool sent;
 
@@ -529,12 +830,14 @@ static void refused_memory(void)
     CHECK(gist_taker_is_open(&taker) && cursor == 1);
     AGAIN(gist_world_open_from(&world, "overlaps (0 99)", 15, 64, 0, &follower, &following, &fault));
     CHECK(gist_taker_is_open(&follower) && following == 2);
-    for (int64_t n = 1; n <= 40; n++)
-        AGAIN(gist_interval_world_insert(&world, n, n, 0, &number));
-    for (uint64_t row = 1; row <= 10; row++)
-        AGAIN(gist_world_delete(&world, row, &number));
+    AGAIN(gist_interval_world_open_by(&world, GIST_SAME, 5, 5, 64, &other, &asking));
+    CHECK(gist_taker_is_open(&other) && asking == 3);
+    add_intervals(&world);
+    delete_intervals(&world);
+    AGAIN(gist_interval_world_insert(&world, 41, 41, 0, &number));
+    AGAIN(gist_world_delete(&world, 51, &number));
     AGAIN(gist_interval_world_move(&world, 20, 90, 90, &number));
-    CHECK(gist_world_commits(&world) == 51);
+    CHECK(gist_world_commits(&world) == 53);
     while ((refusal = gist_step(&world, cursor, &sent)) == GIST_OK || refusal == GIST_OUT_OF_MEMORY)
         ;
     CHECK(refusal == GIST_IDLE);
@@ -545,14 +848,18 @@ static void refused_memory(void)
         CHECK(gist_interval_pop(&taker, &item) == GIST_OK);
         seen += item.kind != GIST_NOTHING;
     } while (item.kind != GIST_NOTHING);
-    /* 39 inserts, 9 deletes and the move */
-    CHECK(seen == 49);
-    for (number = 1; number <= 51; number++)
+    /* 40 inserts, 10 deletes and the move */
+    CHECK(seen == 51);
+    for (number = 1; number <= 53; number++)
         CHECK(gist_interval_pop(&follower, &item) == GIST_OK && item.number == number);
     AGAIN(gist_world_sweep(&world, &number));
     AGAIN(gist_interval_world_find(&world, "overlaps (0 99)", 15, rows, 64, &number, &fault));
-    CHECK(number == 30 && rows[0].row == 11 && rows[29].row == 51);
+    CHECK(number == 30 && rows[0].row == 11 && rows[29].row == 53);
+    AGAIN(gist_interval_world_find_by(&world, GIST_WITHIN, 11, 13, rows, 64, &number));
+    CHECK(number == 3 && rows[0].row == 11 && rows[2].row == 13);
+    find_intervals(&world);
     gist_world_drop(&world);
+    gist_taker_drop(&other);
     gist_taker_drop(&taker);
     gist_taker_drop(&follower);
 }
@@ -568,6 +875,9 @@ int main(int argc, char **argv)
         intervals();
         boxes();
         sets();
+        relations();
+        many_rows();
+        many_keys();
         refusals();
         pages();
         threads();

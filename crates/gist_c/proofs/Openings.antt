@@ -1,4 +1,4 @@
--- An opening of a cursor that follows a commit, by what the store over rings tells of it.
+-- An opening of a cursor, by what the store over rings tells of it.
 use Rattle.std.proofs.Common.{◌≡◌, ◌⊎◌, ℕ, List, inl, inr, arith}
 use Rattle.key_class.specs.Rules.{Rules}
 use Rattle.key_class.specs.Queries.{Query, query_of}
@@ -15,15 +15,16 @@ use Rattle.shared_store.specs.Shared.{shared_state}
 use Rattle.gist_c.specs.Calls.{RefusesOpening}
 use Rattle.gist_c.specs.WorldCalls.{IsBadRoom, OpensRing, RefusesFollowing}
 
+-- a room that no ring has is bad for any query
+pub widened : {A : Type 0} (room : ℕ) (q : Query A) → IsBadRoom room → IsBadOpening q room
+widened room q (inl zero) = inl zero
+widened room q (inr more) = inr (inl more)
+
 module _ {K A : Type 0} (rules : Rules K A) (texts : Texts K A) (text : List ℕ) (room : ℕ) (old : State K A) where
   narrowed : (q : Query A) → SpellsText texts text q → IsBadOpening q room → IsBadRoom room
   narrowed q spelled (inl zero) = inl zero
   narrowed q spelled (inr (inl more)) = inr more
   narrowed q spelled (inr (inr deep)) = let shallow = spelled.query.shallow in absurd (omega (arith, deep, shallow))
-
-  widened : (q : Query A) → IsBadRoom room → IsBadOpening q room
-  widened q (inl zero) = inl zero
-  widened q (inr more) = inr (inl more)
 
   no_text : (why : Refusal) → RefusesCursor why → (place : ℕ) → why ≡ QueryText place → RefusesText texts text place
   no_text why (inl bad) place e = absurd (cc)
@@ -54,4 +55,4 @@ module _ {K A : Type 0} (rules : Rules K A) (texts : Texts K A) (text : List ℕ
   -- a cursor that is opened on the query of the text
   pub opens_ring : (cursor_for : Pred A → OpenCursor K A) (query : Pred A) (cursor : ℕ) (new : State K A) → SpellsText texts text (query_of query) → Opens old (cursor_for query) cursor new
       → (IsBadOpening (query_of query) room → ⊥) → (IsFullOf (shared_state rules old) → ⊥) → OpensRing rules texts text room cursor_for old cursor new
-  opens_ring cursor_for query cursor new spelled opened right unfull = record { query = query; spelled = spelled; opened = opened; right_room = λ bad. right (widened (query_of query) bad); not_full = unfull }
+  opens_ring cursor_for query cursor new spelled opened right unfull = record { query = query; spelled = spelled; opened = opened; right_room = λ bad. right (widened room (query_of query) bad); not_full = unfull }

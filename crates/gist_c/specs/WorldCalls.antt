@@ -6,7 +6,7 @@ use Rattle.key_class.specs.Queries.{query_of}
 use Rattle.key_class.specs.Rules.{Rules}
 use Rattle.key_class.specs.declared.pred.Pred.{Pred}
 use Rattle.key_class.specs.declared.refusal.Refusal.{Refusal}
-use Rattle.key_class.specs.declared.refusal.Refusal.TheVariants.{BadConfig, CursorsFull, FromFuture, QueryText}
+use Rattle.key_class.specs.declared.refusal.Refusal.TheVariants.{BadConfig, OutOfMemory, CursorsFull, FromFuture, QueryText}
 use Rattle.query_text.specs.ClassTexts.{Texts}
 use Rattle.query_text.specs.Grammar.{SpellsText, RefusesText}
 use Rattle.change_list.specs.declared.item.Item.{Item}
@@ -49,6 +49,24 @@ module _ {K A : Type 0} (rules : Rules K A) where
     pub made : Result Turned Refusal
     pub turned : Turns rules C cursor old made new
     pub told : answer ≡ has_sent made
+
+  -- a cursor is opened on a query at the present commits, with a ring of that room
+  pub record OpensRingOn (query : Pred A) (room : ℕ) (old : State K A) (cursor : ℕ) (new : State K A) : Type 0 where
+    pub opened : Opens old (opened_cursor old query room) cursor new
+    pub right_room : ¬ IsBadRoom room
+    pub not_full : ¬ IsFullOf (shared_state rules old)
+
+  -- why none is opened on a query that isn't too deep
+  pub record RefusesRingOn (room : ℕ) (old : State K A) (why : Refusal) : Type 0 where
+    pub bad : why ≡ BadConfig → IsBadRoom room
+    pub full : why ≡ CursorsFull → IsFullOf (shared_state rules old)
+    pub refusals : (why ≡ BadConfig) ⊎ (why ≡ CursorsFull) ⊎ (why ≡ OutOfMemory)
+
+  -- a cursor is to be opened on a query at the present commits, with a ring of that room
+  pub record IsRingOpeningOn (query : Pred A) (room : ℕ) (old : State K A) (answer : Result ℕ Refusal) (new : State K A) : Type 0 where
+    pub ok : IfOk answer (λ c. OpensRingOn query room old c new)
+    pub err : IfErr answer (λ why. RefusesRingOn room old why)
+    pub unchanged : OnErr answer (new ≡ old)
 
   module _ (texts : Texts K A) (text : List ℕ) (room : ℕ) where
     -- the text asks for a query, on which such a cursor is opened

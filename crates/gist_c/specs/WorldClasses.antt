@@ -1,5 +1,6 @@
 -- Calls of a world and of a taker whose class is known when they are made.
 use Rattle.std.specs.Prelude.{◌≡◌, ◌⊎◌, ℕ, [], Option, Result, Err, IsSomeAnd, length}
+use Rattle.key_class.specs.declared.pred.Pred.TheVariants.{Atom}
 use Rattle.key_class.specs.declared.refusal.Refusal.{Refusal}
 use Rattle.key_class.specs.declared.refusal.Refusal.TheVariants.{BadConfig}
 use Rattle.key_class.specs.Rules.{Rules}
@@ -24,6 +25,7 @@ use Rattle.change_list.specs.declared.config.Config.{Config}
 use Rattle.world.specs.Promises.{MailboxesFit}
 use Rattle.world.specs.States.{State, new_state}
 use Rattle.shared_store.specs.Takers.{TakerState}
+use Rattle.gist_c.specs.WorldCalls.{IsRingOpeningOn}
 use Rattle.gist_c.specs.declared.any_world.AnyWorld.{AnyWorld}
 use Rattle.gist_c.specs.declared.any_world.AnyWorld.TheVariants.{Intervals, Boxes, Sets}
 use Rattle.gist_c.specs.declared.any_taker.AnyTaker.{AnyTaker}
@@ -44,6 +46,18 @@ BoxWorldCall V = State BoxKey box.Atom → Result V Refusal → State BoxKey box
 -- of a world of sets
 abbrev pub SetWorldCall : Type 0 → Type 1
 SetWorldCall V = State Elements set.Atom → Result V Refusal → State Elements set.Atom → Type 0
+
+-- a cursor on intervals with a ring of that room, by an atom
+abbrev pub OpensIntervalRing : ℕ → interval.Atom → IntervalWorldCall ℕ
+OpensIntervalRing room wanted = IsRingOpeningOn interval_rules (Atom wanted) room
+
+-- on boxes
+abbrev pub OpensBoxRing : ℕ → box.Atom → BoxWorldCall ℕ
+OpensBoxRing room wanted = IsRingOpeningOn box_rules (Atom wanted) room
+
+-- on sets
+abbrev pub OpensSetRing : ℕ → set.Atom → SetWorldCall ℕ
+OpensSetRing room wanted = IsRingOpeningOn set_rules (Atom wanted) room
 
 -- an empty world of the class with the number: 1 is that of intervals, 2 of boxes, 3 of sets
 abbrev pub IsNewWorld : ℕ → Config → AnyWorld → Type 0

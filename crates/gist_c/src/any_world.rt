@@ -3,7 +3,7 @@ ghost use Rattle.key_class.specs.declared.refusal.Refusal.TheVariants.{BadConfig
 ghost use Rattle.key_class.specs.Refusals.{IsEither};
 ghost use Rattle.change_list.specs.Configs.{IsWithinLimits};
 ghost use Rattle.shared_store.specs.Shared.{Asks, Closes};
-ghost use Rattle.gist_c.specs.Calls.{IsDelete, IsSweep};
+ghost use Rattle.gist_c.specs.Calls.{IsDelete, IsDeleting, IsSweep};
 ghost use Rattle.gist_c.specs.Classes.{IsClass};
 ghost use Rattle.gist_c.specs.WorldCalls.{IsRingFollowing, IsRingOpening, IsStoreCall, IsTurn};
 ghost use Rattle.gist_c.specs.WorldClasses.{IsFreshFor, IsNewWorld, OfWorld, RingsFit, commits_of_world};
@@ -65,6 +65,18 @@ impl AnyWorld {
             AnyWorld::Intervals(world) => world_calls::delete(world, row),
             AnyWorld::Boxes(world) => world_calls::delete(world, row),
             AnyWorld::Sets(world) => world_calls::delete(world, row),
+        }
+    }
+
+    /// Deletes rows one after the other, until one is refused, and tells how many were deleted.
+    pub fn delete_all(&mut self, rows: &[u64]) -> Result<u64, Refusal>
+        ensures { OfWorld (λ C K A rules texts. IsStoreCall rules (IsDeleting rules rows.now))
+            self.old result self.new }
+    {
+        match self {
+            AnyWorld::Intervals(world) => world_calls::delete_all(world, rows),
+            AnyWorld::Boxes(world) => world_calls::delete_all(world, rows),
+            AnyWorld::Sets(world) => world_calls::delete_all(world, rows),
         }
     }
 

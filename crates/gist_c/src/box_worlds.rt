@@ -7,12 +7,12 @@ ghost use Rattle.gist_c.specs.Calls.{IsInsert, IsMove, ShowsCommit, WithKey};
 ghost use Rattle.gist_c.specs.Classes.{OnHandle};
 ghost use Rattle.gist_c.specs.WorldCalls.{IsReading, IsStoreCall, ShowsTaken};
 ghost use Rattle.gist_c.specs.WorldClasses.{OfBoxWorld, OfBoxTaker};
-ghost use Rattle.gist_c.specs.BoxRows.{FindsBoxes, box_item};
+ghost use Rattle.gist_c.specs.BoxRows.{FindsBoxes, InsertsBoxes, box_item};
 
 use crate::answers::{no_store, tell, tell_fault};
 use crate::any_taker::AnyTaker;
 use crate::any_world::AnyWorld;
-use crate::box_rows::{BoxItem, BoxRow, box_key};
+use crate::box_rows::{BoxEntry, BoxItem, BoxRow, box_key};
 use crate::taker_handle::TakerHandle;
 use crate::world_calls;
 use crate::world_handle::WorldHandle;
@@ -58,6 +58,39 @@ fn insert(held: &mut AnyWorld, key: Option<BoxKey>, tag: u64) -> Result<u64, Ref
             Some(key) => world_calls::insert(world, key, tag),
             None => Err(Refusal::BadConfig),
         },
+        _ => Err(Refusal::BadConfig),
+    }
+}
+
+/// Adds rows one after the other, until one is refused, and tells how many were added.
+#[unsafe(no_mangle)]
+pub extern "C" fn gist_box_world_insert_all(
+    alloc: Global,
+    world: &mut WorldHandle,
+    entries: &[BoxEntry],
+    added: &mut u64,
+) -> u32
+    ensures { Tells result added.old added.new (OnHandle
+        (OfBoxWorld (IsStoreCall box_rules (InsertsBoxes entries.now)))
+        world.old.inside.state world.new.inside.state) }
+{
+    match world.take(alloc) {
+        None => tell(no_store(), added),
+        Some(mut held) => {
+            let inserted = insert_all(&mut held, entries);
+            world.put(held);
+            tell(inserted, added)
+        }
+    }
+}
+
+/// Adds rows to a world of boxes.
+fn insert_all(held: &mut AnyWorld, entries: &[BoxEntry]) -> Result<u64, Refusal>
+    ensures { OfBoxWorld (IsStoreCall box_rules (InsertsBoxes entries.now))
+        held.old result held.new }
+{
+    match held {
+        AnyWorld::Boxes(world) => world_calls::insert_all(world, entries),
         _ => Err(Refusal::BadConfig),
     }
 }

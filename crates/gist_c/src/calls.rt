@@ -1,12 +1,14 @@
 //! The calls of a store of any class, with what they promise in one word each.
 ghost use Rattle.std.specs.Prelude.{◌≡◌};
-ghost use Rattle.gist_c.specs.Calls.{IsInsert, IsInserting, InsertsOne, IsDelete, IsDeleting, IsMove, ShowsNext, IsTaking, IsSearch, IsSweep, IsOpening, IsFollowing, IsAsking, IsClosing};
+ghost use Rattle.gist_c.specs.Calls.{IsInsert, IsInserting, IsDelete, IsDeleting, IsMove, ShowsNext, IsTaking, IsSearch, IsSweep, IsOpening, IsFollowing, IsAsking, IsClosing};
 ghost use Rattle.change_list.specs.Changes.{commit_at};
+ghost use Rattle.gist_c.specs.ManyFinds.{IsFindOfAll};
 ghost use Rattle.gist_c.specs.Shown.{shown_commit};
 
 use crate::buffers::write_rows;
 use crate::crossing::Crossing;
-use crate::shown;
+use crate::keys::Asking;
+use crate::{finds, many_rows, shown};
 use key_class::{KeyClass, Refusal};
 use query_text::{ClassText, parse};
 use std::alloc::Global;
@@ -22,28 +24,11 @@ pub fn insert<C: KeyClass>(store: &mut Store<C>, key: C::Key, tag: u64) -> Resul
     store.insert(key, tag)
 }
 
-/// Adds a row that C hands in, if its ends are in order.
-fn insert_entry<C: Crossing>(store: &mut Store<C>, entry: &C::CEntry) -> Result<u64, Refusal>
-    ensures { InsertsOne C.rules C.key_of C.tag_of entry.now store.old result store.new }
-{
-    match C::key(entry) {
-        Some(key) => insert(store, key, C::tag(entry)),
-        None => Err(Refusal::BadConfig),
-    }
-}
-
 /// Adds rows one after the other, until one is refused, and tells how many were added.
 pub fn insert_all<C: Crossing>(store: &mut Store<C>, entries: &[C::CEntry]) -> Result<u64, Refusal>
     ensures { IsInserting C.rules C.key_of C.tag_of entries.now store.old result store.new }
 {
-    for place in 0..entries.len() {
-        match insert_entry::<C>(store, &entries[place]) {
-            Ok(_) => {}
-            Err(why) if place == 0 => return Err(why),
-            Err(_) => return Ok(place as u64),
-        }
-    }
-    Ok(entries.len() as u64)
+    many_rows::insert_all::<C, Store<C>>(store, entries)
 }
 
 /// Deletes a row.
@@ -57,14 +42,7 @@ pub fn delete<C: KeyClass>(store: &mut Store<C>, row: u64) -> Result<u64, Refusa
 pub fn delete_all<C: KeyClass>(store: &mut Store<C>, rows: &[u64]) -> Result<u64, Refusal>
     ensures { IsDeleting C.rules rows.now store.old result store.new }
 {
-    for place in 0..rows.len() {
-        match delete(store, rows[place]) {
-            Ok(_) => {}
-            Err(why) if place == 0 => return Err(why),
-            Err(_) => return Ok(place as u64),
-        }
-    }
-    Ok(rows.len() as u64)
+    many_rows::delete_all::<C, Store<C>>(store, rows)
 }
 
 /// Moves a row.
@@ -144,6 +122,22 @@ pub fn find<C: Crossing>(
     let found = store.find(&query)?;
     write_rows::<C>(rows, &found);
     Ok(found.len() as u64)
+}
+
+/// Puts the live rows that have a relation to each of many keys into a buffer, those of one key behind those of the key
+/// before, until they don't fit, a find is refused or there is no place for an end, and tells how many keys were answered
+/// and where the rows of each end.
+pub fn find_all<C: Asking>(
+    store: &Store<C>,
+    relation: u32,
+    keys: &[C::CKey],
+    rows: &mut [C::CRow],
+    ends: &mut [u64],
+) -> Result<u64, Refusal>
+    ensures { IsFindOfAll C.rules C.texts C.asked_of relation C.row_of keys.now
+        ends.old ends.new rows.old rows.new store.now result store.now }
+{
+    finds::find_all::<C, Store<C>>(store, relation, keys, rows, ends)
 }
 
 /// Asks a cursor for a mark.

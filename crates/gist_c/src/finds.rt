@@ -6,7 +6,9 @@ ghost use Rattle.gist_c.specs.ManyFinds.{IsFindOfAll, RefusesKey, live_by, Finds
 
 use crate::answers::{no_store, tell};
 use crate::any_store::AnyStore;
+use crate::as_store::AsStore;
 use crate::box_rows::BoxRow;
+use crate::calls;
 use crate::crossing::Crossing;
 use crate::handle::Handle;
 use crate::interval_rows::IntervalRow;
@@ -16,7 +18,6 @@ use crate::set_rows::SetRow;
 use change_list::Row;
 use key_class::{Pred, Refusal};
 use std::alloc::Global;
-use store::Store;
 
 /// Puts rows into a buffer that has room for them behind a place, as C is given them.
 fn put_rows<C: Crossing>(buffer: &mut [C::CRow], at: usize, rows: &[Row<C::Key>])
@@ -30,18 +31,18 @@ fn put_rows<C: Crossing>(buffer: &mut [C::CRow], at: usize, rows: &[Row<C::Key>]
 }
 
 /// The live rows that have the relation with a number to a key, by rising number.
-fn found_by<C: Asking>(
-    store: &Store<C>,
+fn found_by<C: Asking, S: AsStore<C>>(
+    store: &S,
     relation: u32,
     key: &C::CKey,
 ) -> Result<Vec<Row<C::Key>>, Refusal>
     ensures ok { IfOk result (λ v.
-        live_by C.rules C.texts C.asked_of relation store.now key.now ≡ Some v.items) }
+        live_by C.rules C.texts C.asked_of relation (S.shown store.now) key.now ≡ Some v.items) }
     ensures refused { IfErr result
-        (RefusesKey (live_by C.rules C.texts C.asked_of relation store.now) key.now) }
+        (RefusesKey (live_by C.rules C.texts C.asked_of relation (S.shown store.now)) key.now) }
 {
     match atom::<C>(relation, C::asked(key)) {
-        Some(wanted) => store.find(&Pred::Atom(wanted)),
+        Some(wanted) => store.find_rows(&Pred::Atom(wanted)),
         None => Err(Refusal::BadConfig),
     }
 }
@@ -49,19 +50,19 @@ fn found_by<C: Asking>(
 /// Puts the live rows that have a relation to each of many keys into a buffer, those of one key behind those of the key
 /// before, until they don't fit, a find is refused or there is no place for an end, and tells how many keys were answered
 /// and where the rows of each end.
-fn find_all<C: Asking>(
-    store: &Store<C>,
+pub fn find_all<C: Asking, S: AsStore<C>>(
+    store: &S,
     relation: u32,
     keys: &[C::CKey],
     rows: &mut [C::CRow],
     ends: &mut [u64],
 ) -> Result<u64, Refusal>
     ensures { IsFindOfAll C.rules C.texts C.asked_of relation C.row_of keys.now
-        ends.old ends.new rows.old rows.new store.now result store.now }
+        ends.old ends.new rows.old rows.new (S.shown store.now) result (S.shown store.now) }
 {
     let mut end = 0usize;
     for place in 0..keys.len().min(ends.len()) {
-        match found_by::<C>(store, relation, &keys[place]) {
+        match found_by::<C, S>(store, relation, &keys[place]) {
             Ok(found) if found.len() <= rows.len() - end => {
                 put_rows::<C>(rows, end, &found);
                 end += found.len();
@@ -116,7 +117,7 @@ fn find_all_intervals(
     ensures unfilled { OnErr result ((rows.new ≡ rows.old) × (ends.new ≡ ends.old)) }
 {
     match held {
-        AnyStore::Intervals(store) => find_all(store, relation, keys, rows, ends),
+        AnyStore::Intervals(store) => calls::find_all(store, relation, keys, rows, ends),
         _ => Err(Refusal::BadConfig),
     }
 }
@@ -162,7 +163,7 @@ fn find_all_boxes(
     ensures unfilled { OnErr result ((rows.new ≡ rows.old) × (ends.new ≡ ends.old)) }
 {
     match held {
-        AnyStore::Boxes(store) => find_all(store, relation, keys, rows, ends),
+        AnyStore::Boxes(store) => calls::find_all(store, relation, keys, rows, ends),
         _ => Err(Refusal::BadConfig),
     }
 }
@@ -208,7 +209,7 @@ fn find_all_sets(
     ensures unfilled { OnErr result ((rows.new ≡ rows.old) × (ends.new ≡ ends.old)) }
 {
     match held {
-        AnyStore::Sets(store) => find_all(store, relation, keys, rows, ends),
+        AnyStore::Sets(store) => calls::find_all(store, relation, keys, rows, ends),
         _ => Err(Refusal::BadConfig),
     }
 }

@@ -7,12 +7,12 @@ ghost use Rattle.gist_c.specs.Calls.{IsInsert, IsMove, ShowsCommit, WithKey};
 ghost use Rattle.gist_c.specs.Classes.{OnHandle};
 ghost use Rattle.gist_c.specs.WorldCalls.{IsReading, IsStoreCall, ShowsTaken};
 ghost use Rattle.gist_c.specs.WorldClasses.{OfIntervalWorld, OfIntervalTaker};
-ghost use Rattle.gist_c.specs.IntervalRows.{FindsIntervals, interval_item};
+ghost use Rattle.gist_c.specs.IntervalRows.{FindsIntervals, InsertsIntervals, interval_item};
 
 use crate::answers::{no_store, tell, tell_fault};
 use crate::any_taker::AnyTaker;
 use crate::any_world::AnyWorld;
-use crate::interval_rows::{IntervalItem, IntervalRow, interval};
+use crate::interval_rows::{IntervalEntry, IntervalItem, IntervalRow, interval};
 use crate::taker_handle::TakerHandle;
 use crate::world_calls;
 use crate::world_handle::WorldHandle;
@@ -58,6 +58,39 @@ fn insert(held: &mut AnyWorld, key: Option<Interval>, tag: u64) -> Result<u64, R
             Some(key) => world_calls::insert(world, key, tag),
             None => Err(Refusal::BadConfig),
         },
+        _ => Err(Refusal::BadConfig),
+    }
+}
+
+/// Adds rows one after the other, until one is refused, and tells how many were added.
+#[unsafe(no_mangle)]
+pub extern "C" fn gist_interval_world_insert_all(
+    alloc: Global,
+    world: &mut WorldHandle,
+    entries: &[IntervalEntry],
+    added: &mut u64,
+) -> u32
+    ensures { Tells result added.old added.new (OnHandle
+        (OfIntervalWorld (IsStoreCall interval_rules (InsertsIntervals entries.now)))
+        world.old.inside.state world.new.inside.state) }
+{
+    match world.take(alloc) {
+        None => tell(no_store(), added),
+        Some(mut held) => {
+            let inserted = insert_all(&mut held, entries);
+            world.put(held);
+            tell(inserted, added)
+        }
+    }
+}
+
+/// Adds rows to a world of intervals.
+fn insert_all(held: &mut AnyWorld, entries: &[IntervalEntry]) -> Result<u64, Refusal>
+    ensures { OfIntervalWorld (IsStoreCall interval_rules (InsertsIntervals entries.now))
+        held.old result held.new }
+{
+    match held {
+        AnyWorld::Intervals(world) => world_calls::insert_all(world, entries),
         _ => Err(Refusal::BadConfig),
     }
 }

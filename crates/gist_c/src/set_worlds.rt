@@ -6,12 +6,12 @@ ghost use Rattle.gist_c.specs.Calls.{IsInsert, IsMove, ShowsCommit};
 ghost use Rattle.gist_c.specs.Classes.{OnHandle};
 ghost use Rattle.gist_c.specs.WorldCalls.{IsReading, IsStoreCall, ShowsTaken};
 ghost use Rattle.gist_c.specs.WorldClasses.{OfSetWorld, OfSetTaker};
-ghost use Rattle.gist_c.specs.SetRows.{FindsSets, elements_of, set_item};
+ghost use Rattle.gist_c.specs.SetRows.{FindsSets, InsertsSets, elements_of, set_item};
 
 use crate::answers::{no_store, tell, tell_fault};
 use crate::any_taker::AnyTaker;
 use crate::any_world::AnyWorld;
-use crate::set_rows::{SetItem, SetRow, elements};
+use crate::set_rows::{SetEntry, SetItem, SetRow, elements};
 use crate::taker_handle::TakerHandle;
 use crate::world_calls;
 use crate::world_handle::WorldHandle;
@@ -51,6 +51,39 @@ fn insert(held: &mut AnyWorld, key: Elements, tag: u64) -> Result<u64, Refusal>
 {
     match held {
         AnyWorld::Sets(world) => world_calls::insert(world, key, tag),
+        _ => Err(Refusal::BadConfig),
+    }
+}
+
+/// Adds rows one after the other, until one is refused, and tells how many were added.
+#[unsafe(no_mangle)]
+pub extern "C" fn gist_set_world_insert_all(
+    alloc: Global,
+    world: &mut WorldHandle,
+    entries: &[SetEntry],
+    added: &mut u64,
+) -> u32
+    ensures { Tells result added.old added.new (OnHandle
+        (OfSetWorld (IsStoreCall set_rules (InsertsSets entries.now)))
+        world.old.inside.state world.new.inside.state) }
+{
+    match world.take(alloc) {
+        None => tell(no_store(), added),
+        Some(mut held) => {
+            let inserted = insert_all(&mut held, entries);
+            world.put(held);
+            tell(inserted, added)
+        }
+    }
+}
+
+/// Adds rows to a world of sets.
+fn insert_all(held: &mut AnyWorld, entries: &[SetEntry]) -> Result<u64, Refusal>
+    ensures { OfSetWorld (IsStoreCall set_rules (InsertsSets entries.now))
+        held.old result held.new }
+{
+    match held {
+        AnyWorld::Sets(world) => world_calls::insert_all(world, entries),
         _ => Err(Refusal::BadConfig),
     }
 }

@@ -1,15 +1,19 @@
 //! The calls of a world of any class, and of its takers, with what they promise in one word each.
 ghost use Rattle.std.specs.Prelude.{◌≡◌, ◌≤◌, [], length, IfErr, IfOk, OnErr, OnOk};
-ghost use Rattle.gist_c.specs.Calls.{IsInsert, IsDelete, IsMove, IsSearch, IsSweep, ShowsCommit};
-ghost use Rattle.gist_c.specs.WorldCalls.{IsReading, IsStoreCall, IsTurn, OpensRing, RefusesFollowing, RefusesRing, ShowsTaken};
+ghost use Rattle.key_class.specs.Queries.{atom};
+ghost use Rattle.gist_c.specs.Finds.{IsFind};
+ghost use Rattle.gist_c.specs.Calls.{IsInsert, IsInserting, IsDelete, IsDeleting, IsMove, IsSearch, IsSweep, ShowsCommit};
+ghost use Rattle.gist_c.specs.ManyFinds.{IsFindOfAll};
+ghost use Rattle.gist_c.specs.WorldCalls.{IsReading, IsStoreCall, IsTurn, OpensRing, OpensRingOn, RefusesFollowing, RefusesRing, RefusesRingOn, ShowsTaken};
 ghost use Rattle.shared_store.specs.Shared.{Asks, Closes};
 ghost use Rattle.world.specs.Steps.{following_cursor, opened_cursor};
 
 use crate::buffers::write_rows;
 use crate::crossing::Crossing;
-use crate::shown;
+use crate::keys::Asking;
+use crate::{finds, many_rows, shown};
 use cursor::Turned;
-use key_class::{KeyClass, Refusal};
+use key_class::{KeyClass, Pred, Refusal};
 use query_text::{ClassText, parse};
 use shared_store::{SharedStore, Taker};
 use std::alloc::Global;
@@ -25,11 +29,29 @@ pub fn insert<C: KeyClass>(
     world.insert(key, tag)
 }
 
+/// Adds rows one after the other, until one is refused, and tells how many were added.
+pub fn insert_all<C: Crossing>(
+    world: &mut SharedStore<C>,
+    entries: &[C::CEntry],
+) -> Result<u64, Refusal>
+    ensures { IsStoreCall C.rules (IsInserting C.rules C.key_of C.tag_of entries.now)
+        world.old result world.new }
+{
+    many_rows::insert_all::<C, SharedStore<C>>(world, entries)
+}
+
 /// Deletes a row.
 pub fn delete<C: KeyClass>(world: &mut SharedStore<C>, row: u64) -> Result<u64, Refusal>
     ensures { IsStoreCall C.rules (IsDelete C.rules row) world.old result world.new }
 {
     world.delete(row)
+}
+
+/// Deletes rows one after the other, until one is refused, and tells how many were deleted.
+pub fn delete_all<C: KeyClass>(world: &mut SharedStore<C>, rows: &[u64]) -> Result<u64, Refusal>
+    ensures { IsStoreCall C.rules (IsDeleting C.rules rows.now) world.old result world.new }
+{
+    many_rows::delete_all::<C, SharedStore<C>>(world, rows)
 }
 
 /// Moves a row.
@@ -73,6 +95,56 @@ pub fn find<C: Crossing>(
     Ok(found.len() as u64)
 }
 
+/// Puts the live rows that an atom asks for into a buffer, as many as fit, and tells how many there are.
+pub fn find_by<C: Crossing>(
+    world: &SharedStore<C>,
+    wanted: C::Atom,
+    rows: &mut [C::CRow],
+) -> Result<u64, Refusal>
+    ensures { IsReading C.rules (IsFind C.rules (atom wanted) C.row_of rows.old rows.new)
+        world.now result world.now }
+{
+    let found = world.find(&Pred::Atom(wanted))?;
+    write_rows::<C>(rows, &found);
+    Ok(found.len() as u64)
+}
+
+/// Puts the live rows that have a relation to each of many keys into a buffer, those of one key behind those of the key
+/// before, until they don't fit, a find is refused or there is no place for an end, and tells how many keys were
+/// answered and where the rows of each end.
+pub fn find_all<C: Asking>(
+    world: &SharedStore<C>,
+    relation: u32,
+    keys: &[C::CKey],
+    rows: &mut [C::CRow],
+    ends: &mut [u64],
+) -> Result<u64, Refusal>
+    ensures { IsReading C.rules
+        (IsFindOfAll C.rules C.texts C.asked_of relation C.row_of keys.now
+        ends.old ends.new rows.old rows.new)
+        world.now result world.now }
+{
+    finds::find_all::<C, SharedStore<C>>(world, relation, keys, rows, ends)
+}
+
+/// Opens a cursor on an atom, with a ring of that room: its serial, and the ring's taker.
+pub fn open_by<C: KeyClass>(
+    world: &mut SharedStore<C>,
+    wanted: C::Atom,
+    room: u64,
+) -> Result<(u64, Taker<C::Key>), Refusal>
+    ensures ok { IfOk result (λ made.
+        OpensRingOn C.rules (Pred.Atom wanted) room world.old made.0 world.new) }
+    ensures fresh { IfOk result (λ made. made.1.taken ≡ []) }
+    ensures err { IfErr result (λ why. RefusesRingOn C.rules room world.old why) }
+    ensures unchanged { OnErr result (world.new ≡ world.old) }
+{
+    match world.open(Pred::Atom(wanted), room) {
+        Ok((cursor, taker)) => return Ok((cursor, taker)),
+        Err(why) => return Err(why),
+    }
+}
+
 /// Opens a cursor on the query of a text, with a ring of that room: its serial, and the ring's taker.
 pub fn open<C: ClassText>(
     alloc: Global,
@@ -96,7 +168,8 @@ pub fn open<C: ClassText>(
     }
 }
 
-/// Opens a cursor on the query of a text that follows a commit, with a ring of that room: its serial, and the ring's taker.
+/// Opens a cursor on the query of a text that follows a commit, with a ring of that room: its serial, and the ring's
+/// taker.
 pub fn open_from<C: ClassText>(
     alloc: Global,
     world: &mut SharedStore<C>,

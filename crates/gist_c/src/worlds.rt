@@ -3,7 +3,7 @@ ghost use Rattle.std.specs.Prelude.{◌≡◌, ◌≢◌, ◌↔◌, ◌≤◌, 
 ghost use Rattle.change_list.specs.Configs.{IsWithinLimits};
 ghost use Rattle.shared_store.specs.Shared.{Asks, Closes};
 ghost use Rattle.gist_c.specs.Answers.{TellsCode, Tells, TellsFault};
-ghost use Rattle.gist_c.specs.Calls.{IsDelete, IsSweep};
+ghost use Rattle.gist_c.specs.Calls.{IsDelete, IsDeleting, IsSweep};
 ghost use Rattle.gist_c.specs.Classes.{OnHandle, IsClass, config_of};
 ghost use Rattle.gist_c.specs.Owning.{is_held};
 ghost use Rattle.gist_c.specs.WorldCalls.{IsRingFollowing, IsRingOpening, IsStoreCall, IsTurn};
@@ -110,6 +110,28 @@ pub extern "C" fn gist_world_delete(
             let deleted = held.delete(row);
             world.put(held);
             tell(deleted, commit)
+        }
+    }
+}
+
+/// Deletes rows one after the other, until one is refused, and tells how many were deleted.
+#[unsafe(no_mangle)]
+pub extern "C" fn gist_world_delete_all(
+    alloc: Global,
+    world: &mut WorldHandle,
+    rows: &[u64],
+    deleted: &mut u64,
+) -> u32
+    ensures { Tells result deleted.old deleted.new (OnHandle
+        (OfWorld (λ C K A rules texts. IsStoreCall rules (IsDeleting rules rows.now)))
+        world.old.inside.state world.new.inside.state) }
+{
+    match world.take(alloc) {
+        None => tell(no_store(), deleted),
+        Some(mut held) => {
+            let answer = held.delete_all(rows);
+            world.put(held);
+            tell(answer, deleted)
         }
     }
 }

@@ -10,7 +10,7 @@ loop-place-init g c = ([], refl, refl, omega arith, tt, refl, refl)
 
 pub returns-in-Ok-2 : goal.returns-in-Ok-2
 returns-in-Ok-2 g c =
-    let live = live_by g.C.KeyClass.rules g.C.ClassText.texts g.C.Asking.asked_of c.args.relation c.args.store.now in
+    let live = live_by g.C.KeyClass.rules g.C.ClassText.texts g.C.Asking.asked_of c.args.relation (g.S.AsStore.shown c.args.store.now) in
     let keys = c.args.keys.now in
     let i = c.loop-place.invariant in
     let place = c.loop-place.place in
@@ -28,7 +28,7 @@ returns-in-Ok-2 g c =
 
 pub returns-in-Err-2 : goal.returns-in-Err-2
 returns-in-Err-2 g c =
-    let live = live_by g.C.KeyClass.rules g.C.ClassText.texts g.C.Asking.asked_of c.args.relation c.args.store.now in
+    let live = live_by g.C.KeyClass.rules g.C.ClassText.texts g.C.Asking.asked_of c.args.relation (g.S.AsStore.shown c.args.store.now) in
     let keys = c.args.keys.now in
     let i = c.loop-place.invariant in
     let place = c.loop-place.place in
@@ -46,7 +46,7 @@ returns-in-Err-2 g c =
 
 pub loop-place-preserved : goal.loop-place-preserved
 loop-place-preserved g c =
-    let live = live_by g.C.KeyClass.rules g.C.ClassText.texts g.C.Asking.asked_of c.args.relation c.args.store.now in
+    let live = live_by g.C.KeyClass.rules g.C.ClassText.texts g.C.Asking.asked_of c.args.relation (g.S.AsStore.shown c.args.store.now) in
     let keys = c.args.keys.now in
     let i = c.loop-place.invariant in
     let place = c.loop-place.place in
