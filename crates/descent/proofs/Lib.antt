@@ -1,5 +1,6 @@
 pub mod Best
 pub mod Descending
+pub mod Entering
 pub mod Rising
 pub mod Seeking
 pub mod Widening

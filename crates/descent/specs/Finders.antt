@@ -4,10 +4,10 @@ use Rattle.change_list.specs.Changes.{HasKey, status_of}
 use Rattle.change_list.specs.declared.write.Status.TheVariants.{Live}
 use Rattle.change_list.specs.declared.write.Write.{Write}
 use Rattle.page_table.specs.Soundness.{IsSound}
-use Rattle.page_table.specs.Stacks.{StackItem, IsStack, root_stack}
+use Rattle.page_table.specs.Stacks.{StackItem, IsStack}
 use Rattle.page_table.specs.Trees.{Tree, page_at}
 use Rattle.scan.specs.Agreement.{Agrees}
-use Rattle.scan.specs.Finding.{IsFinder, SeeksFurther, SeeksLess, holds}
+use Rattle.scan.specs.Finding.{IsFinder, SeeksFurther, SeeksLess, holds, stack_at}
 use Rattle.scan.specs.Scanning.{IsNext, PushesSome}
 use Rattle.scan.specs.declared.stack.Sought.{Sought}
 use Rattle.scan.specs.declared.stack.Sought.TheVariants.{Here, Further}
@@ -22,9 +22,9 @@ pub record OpenFinder (K : Type 0) : Type 0 where
   pub stack : List StackItem
 
 module _ {K : Type 0} where
-  -- a finder at a tree's root, with the counter
-  abbrev pub finder_at_root : ℕ → ℕ → K → ℕ → OpenFinder K
-  finder_at_root serial row key counter = record { serial = serial; row = row; key = key; stack = root_stack counter }
+  -- a finder at a page, with the counter
+  abbrev pub begun_finder : ℕ → ℕ → K → ℕ → ℕ → OpenFinder K
+  begun_finder serial row key page counter = record { serial = serial; row = row; key = key; stack = stack_at page counter }
 
   -- the page of the item holds the row
   abbrev pub holds_at : Tree K → ℕ → Option StackItem → Bool

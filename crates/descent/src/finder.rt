@@ -1,6 +1,6 @@
 ghost use Rattle.std.specs.Prelude.{◌≡◌, ◌↔◌, false, [], OnErr, IsTrue};
 ghost use Rattle.page_table.specs.Stacks.{IsStack};
-ghost use Rattle.descent.specs.Finders.{is_at_row, SeeksItsRow, KeepsSeeking, FinderLowersWork, finder_at_root, FinderPushes};
+ghost use Rattle.descent.specs.Finders.{is_at_row, SeeksItsRow, KeepsSeeking, FinderLowersWork, begun_finder, FinderPushes};
 ghost use Rattle.page_table.specs.TraversalLaws.{IfSound};
 
 use key_class::KeyClass;
@@ -27,16 +27,16 @@ impl<C: KeyClass> Model for Finder<C> {
 }
 
 impl<C: KeyClass> Finder<C> {
-    /// A finder of the row with that number and key, at a tree's root when the number of its latest posting was
-    /// `counter`. It takes no memory.
-    pub fn new(alloc: Global, serial: u64, row: u32, key: C::Key, counter: u32) -> Self
-        ensures { result ≡ finder_at_root serial row key counter }
+    /// A finder of the row with that number and key, at a page when the number of the tree's latest posting was `counter`.
+    /// It takes no memory.
+    pub fn new(alloc: Global, serial: u64, row: u32, key: C::Key, page: u32, counter: u32) -> Self
+        ensures { result ≡ begun_finder serial row key page counter }
     {
         Finder {
             serial,
             row,
             key,
-            stack: Stack::at_root(alloc, counter),
+            stack: Stack::at_page(alloc, page, counter),
         }
     }
 

@@ -194,7 +194,8 @@ fn append_moved_line<C: ClassText>(
     ended: u64,
 )
     requires room { HasRoomForLine gathered.old.items }
-    ensures { gathered.new.items ≡ gathered.old.items ++ moved_line C.texts.key_text row.now ended }
+    ensures { gathered.new.items
+        ≡ gathered.old.items ++ moved_line C.texts.key_text row.now ended }
 {
     line.clear();
     put_content::<C>(line, row);

@@ -115,7 +115,8 @@ fn with_slot<C: KeyClass>(
     made: Option<Row<C::Key>>,
 ) -> Result<Vec<Option<Row<C::Key>>>, Refusal>
     requires { NamesEarlier (length slots.items) write }
-    ensures ok { IfOk result (λ v. v.items ≡ slots_for C.rules query.now slots.items write made) }
+    ensures ok { IfOk result (λ v. v.items
+        ≡ slots_for C.rules query.now slots.items write made) }
     ensures refusals { IfErr result (λ why. why ≡ Refusal.OutOfMemory) }
 {
     let mut slots = slots;

@@ -92,7 +92,8 @@ impl<G: Gate> Pumps<G> {
     /// `BadConfig` where there are none or more than 16.
     pub fn new(count: usize, gate: G) -> Result<Pumps<G>, Refusal>
         ensures gate { IfOk result (λ pumps. pumps ≡ gate) }
-        ensures bad { (result ≡ Err Refusal.BadConfig) ↔ ((count ≡ 0) ⊎ (most_pumps < count)) }
+        ensures bad { (result ≡ Err Refusal.BadConfig)
+            ↔ ((count ≡ 0) ⊎ (most_pumps < count)) }
         ensures refusals { IfErr result (λ why. why ≡ Refusal.BadConfig) }
     {
         if count == 0 || count > MAX_PUMPS {

@@ -1,5 +1,6 @@
 pub mod CutLaws
 pub mod NumberLaws
+pub mod NumberCuts
 pub mod KeyLaws
 pub mod ParserLaws
 pub mod IntervalLaws

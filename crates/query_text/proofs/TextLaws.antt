@@ -1,16 +1,17 @@
 -- Texts that are cut back into the tokens that they were written from.
-use Rattle.std.proofs.Common.{◌≡◌, ℕ, suc, ℤ, pos, negsuc, neg_ℤ, ◌+◌, ◌^◌, ◌<◌, ◌≤◌, Bool, true, false, ◌&&◌, ◌==◌, List, [], ◌∷◌, ◌++◌, length, drop, ap, sym, ◌∙◌, refl, arith, rules, one-add, add_assoc, lit<, Ok, w64, FitsSigned}
+use Rattle.std.proofs.Common.{◌≡◌, ℕ, suc, ℤ, pos, negsuc, neg_ℤ, ◌+◌, ◌^◌, ◌<◌, ◌≤◌, Bool, true, false, ◌&&◌, ◌==◌, List, [], ◌∷◌, ◌++◌, length, take, drop, ap, sym, ◌∙◌, refl, arith, rules, one-add, add_assoc, lit<, Ok, w64, FitsSigned}
 use Rattle.std.specs.Prelude.{take_while, int_le}
 use Rattle.std.specs.Str.{all_ascii_digits}
 use Rattle.std.specs.Fmt.{decimal, signed_decimal}
 use Rattle.std.proofs.lemmas.Str.Parse.{IsNumeralModel, numerals_by_fold}
 use Rattle.std.proofs.lemmas.Fmt.{digits_decimal, digits_value-decimal, decimal_nonempty}
+use Rattle.std.proofs.lemmas.List.Folds.{length-prefix_len}
 use Rattle.std.proofs.lemmas.Bool.{and_parts, false_from_ne_true, leb-true}
 use Rattle.std.proofs.lemmas.Bool.Decides.{Decides-eqb}
 use Rattle.std.proofs.Math.Seq.{drop-append_seam}
 use Rattle.std.proofs.lemmas.Int.{ints}
 use Rattle.query_text.specs.Keys.{number_at}
-use Rattle.query_text.specs.Tokens.{Placed, at, number, open_bracket, close_bracket, open_brace, close_brace, is_letter, is_digit, decimal_value_after, starts_with_digit, begins, beginning, least_i64, most_i64, Cuts, cut_space, cut_token}
+use Rattle.query_text.specs.Tokens.{Placed, at, number, open_bracket, close_bracket, open_brace, close_brace, is_letter, is_digit, number_value, decimal_value_after, starts_with_digit, begins, beginning, least_i64, most_i64, Cuts, cut_space, cut_token}
 
 own : IsNumeralModel (λ ds. all_ascii_digits ds ≡ true) (decimal_value_after 0)
 own = numerals_by_fold _ (search rules) decimal_value_after (search rules)
@@ -45,6 +46,18 @@ digit_is_no_letter : (d : ℕ) → is_digit d ≡ true → is_letter d ≡ false
 digit_is_no_letter d h =
     let e = digit_ends d h in
     false_from_ne_true (is_letter d) (λ q. let r = leb-true 97 d (and_parts _ _ q).0 in omega (arith, e, r))
+
+-- so many bytes as there are digits in front are those digits
+taken : (bs : List ℕ) → take (length (take_while is_digit bs)) bs ≡ take_while is_digit bs
+taken bs = rw (length-prefix_len is_digit bs) refl
+
+-- a digit begins a number, up to where the digits end
+pub digit_begins : (bs : List ℕ) → starts_with_digit bs ≡ true → beginning bs ≡ begins (number (number_value (take (1 + length (take_while is_digit (drop 1 bs))) bs))) (1 + length (take_while is_digit (drop 1 bs)))
+digit_begins [] h = cc
+digit_begins (d ∷ ds) h =
+    let front : take (1 + length (take_while is_digit ds)) (d ∷ ds) ≡ d ∷ take_while is_digit ds = rw one-add (ap (λ (x : List ℕ). d ∷ x) (taken ds)) in
+    let size : 1 + length (take_while is_digit ds) ≡ length (d ∷ take_while is_digit ds) = omega arith in
+    rw (front, size, digit_is_no d 32 h (lit< tt), digit_is_no d 40 h (lit< tt), digit_is_no d 41 h (lit< tt), digit_is_no_brace d 123 h (lit< tt), digit_is_no_brace d 125 h (lit< tt), digit_is_no_letter d h, h) refl
 
 digits_begin : (ds rest : List ℕ) → all_ascii_digits ds ≡ true → 0 < length ds → starts_with_digit rest ≡ false → beginning (ds ++ rest) ≡ begins (number (pos (decimal_value_after 0 ds))) (length ds)
 digits_begin [] rest h n k = absurd (omega arith)

@@ -1,4 +1,4 @@
-ghost use Rattle.std.specs.Prelude.{◌≡◌, ◌↔◌, pos, ◌≤◌, ◌<◌, ◌^◌, ◌-◌, ◌+◌, ◌*◌, length, IsTrue, Some, None};
+ghost use Rattle.std.specs.Prelude.{◌≡◌, ◌↔◌, pos, ◌≤◌, ◌<◌, ◌^◌, ◌-◌, ◌+◌, ◌*◌, length, IsTrue, IfSome, Some, None};
 ghost use Rattle.std.specs.Option.{option_map};
 ghost use Rattle.query_text.specs.Tokens.{word, number, token_in, number_value, number_within, decimal_value_after, least_i32, most_i32, least_i64, most_i64, FitsOrNone, u64_number};
 
@@ -48,6 +48,20 @@ fn magnitude(digits: &[u8]) -> Option<u64>
         value = next;
     }
     Some(value)
+}
+
+/// The number that three bytes at most write, without a minus.
+pub fn short_number(bytes: &[u8]) -> Option<u64>
+    ensures { IfSome result (λ n. number_value bytes.now ≡ pos n) }
+{
+    match bytes {
+        [tens, digit] if *tens != b'-' => Some(digit_value(*tens) * 10 + digit_value(*digit)),
+        [hundreds, tens, digit] if *hundreds != b'-' => Some(
+            (digit_value(*hundreds) * 10 + digit_value(*tens)) * 10 + digit_value(*digit),
+        ),
+        [digit] => Some(digit_value(*digit)),
+        _ => None,
+    }
 }
 
 /// The number that bytes write, where it is one of 64 bits without a sign.

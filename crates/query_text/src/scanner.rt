@@ -1,5 +1,5 @@
-ghost use Rattle.std.specs.Prelude.{◌≡◌, ℕ, ◌+◌, ◌<◌, ◌≤◌, List, [], length, OnOk, OnErr, IsOk, false, take_while, drop, ◌&&◌, vec_capacity};
-ghost use Rattle.query_text.specs.Tokens.{placed, is_letter, is_digit, starts_with_digit, beginning, Cuts};
+ghost use Rattle.std.specs.Prelude.{◌≡◌, ℕ, ◌+◌, ◌<◌, ◌≤◌, List, [], length, OnOk, OnErr, IsOk, IsTrue, false, take_while, drop, ◌&&◌, vec_capacity};
+ghost use Rattle.query_text.specs.Tokens.{placed, is_letter, is_digit, starts_with_digit, beginning, space, Cuts};
 ghost use Rattle.query_text.specs.Scanning.{lexeme, seen_first, FitsIn, kind_glues};
 ghost use Rattle.query_text.specs.OneMeaning.{AtMostOne};
 
@@ -25,6 +25,28 @@ fn digits(bytes: &[u8]) -> usize
     ensures { result ≡ length (take_while is_digit bytes.now) }
 {
     bytes.iter().take_while(|b| b.is_ascii_digit()).count()
+}
+
+/// Where the digits end that stand from a place on.
+fn digits_end(text: &[u8], start: usize) -> usize
+    requires { start ≤ length text.now }
+    ensures counts { result ≡ start + length (take_while is_digit (drop start text.now)) }
+    ensures within { result ≤ length text.now }
+{
+    let mut end = start;
+    'digits: while starts_with_digit(behind(text, end)) {
+        end += 1;
+    }
+    end
+}
+
+fn starts_with_space(bytes: &[u8]) -> bool
+    ensures { IsTrue result → beginning bytes.now ≡ space }
+{
+    match bytes {
+        [first, ..] => *first == b' ',
+        [] => false,
+    }
 }
 
 fn starts_with_digit(bytes: &[u8]) -> bool
@@ -93,30 +115,48 @@ fn cut(text: &[u8], lexemes: &mut Vec<Lexeme>)
     ensures cut { Cuts false 0 text.now (placed text.now lexemes.new.items) }
     ensures capacity { vec_capacity lexemes.new ≡ vec_capacity lexemes.old }
 {
-    let mut rest = text;
     let mut place = 0;
     let mut glued = false;
     'cut: loop {
-        match front_of(rest) {
-            Front::Nothing => return,
-            Front::Space => {
-                rest = behind(rest, 1);
-                place += 1;
-                glued = false;
-            }
-            Front::NoToken => {
+        let rest = behind(text, place);
+        // A line has the most of numbers: these are cut first, and the space behind one is passed with it.
+        if starts_with_digit(rest) {
+            if glued {
                 lexemes.push_reserved(fault_at(place));
                 return;
             }
-            Front::Found(kind, len) => {
-                if lacks_space(glued, kind) {
+            let end = digits_end(text, place + 1);
+            lexemes.push_reserved(Lexeme {
+                kind: Kind::Number,
+                place,
+                len: end - place,
+            });
+            if starts_with_space(behind(text, end)) {
+                place = end + 1;
+            } else {
+                place = end;
+                glued = true;
+            }
+        } else {
+            match front_of(rest) {
+                Front::Nothing => return,
+                Front::Space => {
+                    place += 1;
+                    glued = false;
+                }
+                Front::NoToken => {
                     lexemes.push_reserved(fault_at(place));
                     return;
                 }
-                lexemes.push_reserved(Lexeme { kind, place, len });
-                rest = behind(rest, len);
-                place += len;
-                glued = is_glued(kind);
+                Front::Found(kind, len) => {
+                    if lacks_space(glued, kind) {
+                        lexemes.push_reserved(fault_at(place));
+                        return;
+                    }
+                    lexemes.push_reserved(Lexeme { kind, place, len });
+                    place += len;
+                    glued = is_glued(kind);
+                }
             }
         }
     }

@@ -9,6 +9,7 @@ ghost use Rattle.query_text.specs.KeyLengths.{set_leaves_fewer};
 use crate::class::ClassText;
 use crate::lexeme::{Kind, Lexeme};
 use crate::line::Line;
+use crate::numbers::short_number;
 use crate::reader::{first_of, open_brace};
 use key_class::Rel;
 use set_class::{Atom, Elements, Sets};
@@ -18,8 +19,16 @@ fn element(text: &[u8], lexeme: Lexeme) -> Option<u8>
     ensures element { result ≡ element_of (token_in text.now lexeme) }
     ensures small { IfSome result (λ e. e ≤ 127) }
 {
-    match lexeme.unsigned(text)? {
-        number @ 0..=127 => Some(number as u8),
+    let Lexeme { kind, place, len } = lexeme;
+    let Kind::Number = kind else {
+        return None;
+    };
+    let number = match short_number(lexeme.bytes(text)) {
+        Some(number) => number,
+        None => Lexeme { kind, place, len }.unsigned(text)?,
+    };
+    match number {
+        0..=127 => Some(number as u8),
         _ => None,
     }
 }

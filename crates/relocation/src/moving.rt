@@ -16,7 +16,7 @@ use std::alloc::Global;
 use world::World;
 
 /// Moves a row: gives it a new number and another key, in one commit. A way is made first to a leaf that takes the key, as
-/// for an insertion; then a finder goes from the root to the leaf that holds the row (Kornacker, Mohan, Hellerstein 1997),
+/// for an insertion; then a finder goes as for a deletion to the leaf that holds the row (Kornacker, Mohan, Hellerstein 1997),
 /// which may be the same, and ends in every case.
 ///
 /// # Errors

@@ -1,4 +1,5 @@
 pub mod Deaths
+pub mod Events
 pub mod HorizonFacts
 pub mod Swept
 pub mod UnderWay

@@ -11,7 +11,7 @@ use Rattle.change_list.proofs.Tracking.{live_kept, live_row}
 use Rattle.change_list.specs.Changes.{IsLegal, is_ended, status_of}
 use Rattle.change_list.specs.declared.write.Status.TheVariants.{Live}
 use Rattle.descent.proofs.Seeking.{finds_page, finds_weigh}
-use Rattle.descent.specs.Finders.{OpenFinder, FindsRow, is_at_row}
+use Rattle.descent.specs.Finders.{OpenFinder, FindsRow, begun_finder, is_at_row}
 use Rattle.page_table.proofs.PageLists.{replaced-length}
 use Rattle.node.specs.Changes.{with_rows}
 use Rattle.page_table.specs.Stacks.{pages_left}
@@ -28,6 +28,7 @@ use Rattle.removal.specs.declared.ending.Ending.{Ending}
 use Rattle.removal.specs.declared.ending.Ending.TheVariants as ending
 use Rattle.removal.specs.Visits.{IsFullOfFinders, RefusesFinder}
 use Rattle.removal.proofs.Deaths.{buried_deaths}
+use Rattle.world.specs.Beginnings.{FindsNear}
 use Rattle.world.specs.declared.event.Event.TheVariants as event
 use Rattle.world.specs.declared.reply.Reply.{Reply}
 use Rattle.world.specs.declared.reply.Reply.TheVariants as reply
@@ -37,7 +38,7 @@ use Rattle.world.specs.Resting.{deaths, Rests}
 use Rattle.world.specs.Serials.{put, without}
 use Rattle.world.specs.Stamps.{Stamp}
 use Rattle.world.specs.States.{State, finder_at, with_finder, IsSoundWorld}
-use Rattle.world.specs.Steps.{Buries, Finds, IsRefused, MovesRow, RefusesLater, SeeksOn, Step, commit_tests, find_tests, tests, visit_tests}
+use Rattle.world.specs.Steps.{Buries, IsRefused, MovesRow, RefusesLater, SeeksOn, Step, commit_tests, find_tests, tests, visit_tests}
 use Rattle.world.specs.Traces.{taken_by}
 use Rattle.world.proofs.Meeting.{visit_further, visit_here}
 use Rattle.world.proofs.Refusing.{failing_later, passes_at}
@@ -67,19 +68,19 @@ module _ {K A : Type 0} where
   pages_to_seek f s = left_of s.search.tree (finder_at s f)
 
   -- a world with one finder more
-  abbrev looking : State K A → OpenFinder K → State K A
+  abbrev pub looking : State K A → OpenFinder K → State K A
   looking first k = record first { finders = first.finders ++ k ∷ []; last_finder = first.last_finder + 1 }
 
   module _ (is_cover : K → K → Bool) (first : State K A) (k : OpenFinder K) (serial : k.serial ≡ first.last_finder + 1) (sound : IsSoundWorld is_cover (looking first k)) where
-    looking_at : finder_at (looking first k) (first.last_finder + 1) ≡ Some k
+    pub looking_at : finder_at (looking first k) (first.last_finder + 1) ≡ Some k
     looking_at = member_at (λ x. x.serial) (first.last_finder + 1) 0 (first.last_finder + 1) (length first.finders) (first.finders ++ k ∷ []) k sound.finders.serials (slice_get_end first.finders k) serial
 
-    looking_without : without (λ x. x.serial) (first.last_finder + 1) (first.finders ++ k ∷ []) ≡ first.finders
+    pub looking_without : without (λ x. x.serial) (first.last_finder + 1) (first.finders ++ k ∷ []) ≡ first.finders
     looking_without =
         without_at (λ x. x.serial) (first.last_finder + 1) 0 (first.last_finder + 1) (length first.finders) (first.finders ++ k ∷ []) k sound.finders.serials (slice_get_end first.finders k) serial
         ∙ cut_last first.finders k
 
-    looking_put : (later : OpenFinder K) → later.serial ≡ first.last_finder + 1 → put (λ x. x.serial) later (first.finders ++ k ∷ []) ≡ first.finders ++ later ∷ []
+    pub looking_put : (later : OpenFinder K) → later.serial ≡ first.last_finder + 1 → put (λ x. x.serial) later (first.finders ++ k ∷ []) ≡ first.finders ++ later ∷ []
     looking_put later same =
         put_at (λ x. x.serial) (first.last_finder + 1) 0 (first.last_finder + 1) (length first.finders) (first.finders ++ k ∷ []) k later sound.finders.serials (slice_get_end first.finders k) serial same
         ∙ set_last first.finders k later
@@ -95,20 +96,13 @@ module _ {K A : Type 0} (rules : Rules K A) (rule : Rule) where
   pub leaves_rests : (old : State K A) (n : ℕ) → Rests rules rule old (record old { last_finder = n })
   leaves_rests old n = record { limit = refl; page_limit = refl; pages = omega arith; last = refl; cursors = refl; fits = λ c k h items f. f }
 
-module _ {C O K A E : Type 0} (rules : Rules K A) (rule : Rule) where
   -- a finder begins
-  pub begun : (old : State K A) (row f : ℕ) (new : State K A) → ServesAll {C = C} {O = O} {E = E} rules rule old (event.Find row) (reply.Finder f) new → Finds old row f new → IsSoundWorld rules.is_cover new → IsUnderWay rules rule old row f new
-  begun old row f new serves d sound = record {
-    looks = record {
-      finder = record { serial = old.last_finder + 1; row = row; key = d.key; stack = (record { page = 0; memo = old.search.tree.counter }) ∷ [] };
-      row_is = refl;
-      serial = refl;
-      is = d.after;
-    };
-    number = d.serial;
+  pub begun : (old : State K A) (row f : ℕ) (new : State K A) → FindsNear old row f new → IsSoundWorld rules.is_cover new → IsUnderWay old row f new
+  begun old row f new d sound = record {
+    looks = record { finder = begun_finder (old.last_finder + 1) row d.key d.page old.search.tree.counter; row_is = refl; serial = refl; is = d.begins.after };
+    number = d.begins.serial;
     sound = sound;
-    rests = step_rests {C = C} {O = O} {E = E} rules rule old (event.Find row) (reply.Finder f) new serves (λ c. refl) (ap (λ s. s.limit) d.after) (ap (λ s. s.search.limit) d.after)
-        (let e = ap (λ s. length s.search.tree.pages) d.after in omega (arith, e)) (ap (λ s. s.last) d.after) (ap (λ s. s.cursors) d.after);
+    rests = subst (λ s. Rests rules rule old s) (sym d.begins.after) (record { limit = refl; page_limit = refl; pages = omega arith; last = refl; cursors = refl; fits = λ c k h items f. f });
   }
 
 -- nothing is taken of a cursor by a visit of a finder
@@ -211,7 +205,7 @@ module _ {K A : Type 0} (rules : Rules K A) (rule : Rule) (first : State K A) (r
   abbrev k : OpenFinder K
   k = u.looks.finder
 
-  there : IsSoundWorld rules.is_cover (looking first k)
+  pub there : IsSoundWorld rules.is_cover (looking first k)
   there = subst (λ s. IsSoundWorld rules.is_cover s) u.looks.is u.sound
 
   -- the finder is open
@@ -281,12 +275,29 @@ module _ {K A : Type 0} (rules : Rules K A) (rule : Rule) (first : State K A) (r
       row_is : m.finder.row ≡ row
       row_is = its_row m.finder m.is_open
 
+  -- a visit passes its tests
+  pub passes : (C : Type 0) (how : Ending K) → status_of first.commits row ≡ Live → length first.commits < first.limit → MayEnd rules.is_cover first.search how
+      → first_failing (tests {C = C} rules rule now (event_of_ending f how)) ≡ None
+  passes C how live room may = by_ending how (subst (λ s. MayEnd rules.is_cover s.search how) (sym u.looks.is) may)
+    where
+      alive : is_ended now.commits k.row ≡ false
+      alive = ap (λ s. is_ended s.commits k.row) u.looks.is ∙ ap (is_ended first.commits) u.looks.row_is ∙ live_kept first.commits row live
+
+      open_room : length now.commits < now.limit
+      open_room = let e = ap (λ s. s.limit) u.looks.is in let g = ap (λ s. length s.commits) u.looks.is in omega (arith, e, g, room)
+
+      by_ending : (how : Ending K) → MayEnd rules.is_cover now.search how → first_failing (tests {C = C} rules rule now (event_of_ending f how)) ≡ None
+      by_ending ending.Delete may = visit_passes now f k its_finder alive (commit_tests now) (commits_may now open_room)
+      by_ending (ending.Move leaf key) may =
+          visit_passes now f k its_finder alive (place_tests rules.is_cover now.search leaf key ++ commit_tests now)
+          (failing_later (place_tests rules.is_cover now.search leaf key) (commit_tests now) may ∙ commits_may now open_room)
+
   -- it is refused for want of memory alone
   pub refused : {C : Type 0} (how : Ending K) (why : Refusal) (new : State K A) → status_of first.commits row ≡ Live → length first.commits < first.limit → MayEnd rules.is_cover first.search how
       → IsRefused {C = C} rules rule now (event_of_ending f how) why new → (why ≡ refusal.OutOfMemory) × (new ≡ now)
   refused {C} how why new live room may r = (
     elim r.cause [
-      | inl failed ↦ absurd (let e : None ≡ Some why = sym (passed how (subst (λ s. MayEnd rules.is_cover s.search how) (sym u.looks.is) may)) ∙ failed in cc)
+      | inl failed ↦ absurd (let e : None ≡ Some why = sym (passes C how live room may) ∙ failed in cc)
       | inr later ↦ memory how later.1
     ],
     r.unchanged,
@@ -295,18 +306,6 @@ module _ {K A : Type 0} (rules : Rules K A) (rule : Rule) (first : State K A) (r
       memory : (how : Ending K) → RefusesLater {C = C} rules rule now (event_of_ending f how) why → why ≡ refusal.OutOfMemory
       memory ending.Delete h = h.memory
       memory (ending.Move leaf key) h = h.memory
-
-      alive : is_ended now.commits k.row ≡ false
-      alive = ap (λ s. is_ended s.commits k.row) u.looks.is ∙ ap (is_ended first.commits) u.looks.row_is ∙ live_kept first.commits row live
-
-      open_room : length now.commits < now.limit
-      open_room = let e = ap (λ s. s.limit) u.looks.is in let g = ap (λ s. length s.commits) u.looks.is in omega (arith, e, g, room)
-
-      passed : (how : Ending K) → MayEnd rules.is_cover now.search how → first_failing (tests {C = C} rules rule now (event_of_ending f how)) ≡ None
-      passed ending.Delete may = visit_passes now f k its_finder alive (commit_tests now) (commits_may now open_room)
-      passed (ending.Move leaf key) may =
-          visit_passes now f k its_finder alive (place_tests rules.is_cover now.search leaf key ++ commit_tests now)
-          (failing_later (place_tests rules.is_cover now.search leaf key) (commit_tests now) may ∙ commits_may now open_room)
 
   -- ended, it leaves the world as it was but for its serial
   pub ended : {C O E : Type 0} (new : State K A) (r : Reply C O K A E) → Step rules rule 0 now (event.Unfind f) r new → Leaves first new

@@ -1,3 +1,4 @@
 pub mod Ending
+pub mod Events
 pub mod Sweeping
 pub mod Visits

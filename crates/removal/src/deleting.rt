@@ -2,6 +2,8 @@ ghost use Rattle.std.specs.Prelude.{◌≡◌, ◌≢◌, ◌↔◌, ◌≤◌, 
 ghost use Rattle.key_class.specs.declared.refusal.Refusal.TheVariants.{NoSuchRow, AlreadyDeleted, CommitsFull, FindersFull, OutOfMemory};
 ghost use Rattle.change_list.specs.Changes.{NamesNoRow, NamesDead};
 ghost use Rattle.removal.specs.Ending.{AddsDeath, KeepsDeaths};
+ghost use Rattle.removal.specs.Events.{EndsByEvents};
+ghost use Rattle.removal.specs.declared.ending.Ending.TheVariants as Ending;
 ghost use Rattle.removal.specs.Visits.{LacksCommit, LacksOnlyFinder, RefusesDelete};
 ghost use Rattle.world.specs.Resting.{Rests};
 ghost use Rattle.world.specs.States.{AddsCommit};
@@ -12,8 +14,8 @@ use key_class::{KeyClass, Refusal};
 use mailbox::Outlet;
 use world::World;
 
-/// Deletes a row: a finder goes from the root to the leaf that holds it (Kornacker, Mohan, Hellerstein 1997), and ends in
-/// every case.
+/// Deletes a row: a finder goes from the leaf on which the row was seen last, or else from the root, to the leaf that holds it
+/// (Kornacker, Mohan, Hellerstein 1997), and ends in every case.
 ///
 /// # Errors
 /// `NoSuchRow` where no insert or move has the number, else `AlreadyDeleted`, else `CommitsFull`, else `FindersFull` where 64
@@ -25,6 +27,8 @@ pub fn delete<C: KeyClass, O: Outlet<C::Key>>(
 ) -> Result<u64, Refusal>
     ensures number { IfOk result (λ n. n ≡ length world.old.commits + 1) }
     ensures committed { OnOk result (AddsCommit world.old (Write.Delete row) world.new) }
+    ensures events { IfOk result (λ n.
+        EndsByEvents C O O.End C.rules O.rule world.old row Ending.Delete n world.new) }
     ensures unchanged { OnErr result (world.new.commits ≡ world.old.commits) }
     ensures rests { Rests C.rules O.rule world.old world.new }
     ensures dead { OnOk result (AddsDeath world.old row world.new) }

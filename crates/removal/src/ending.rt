@@ -3,6 +3,7 @@ ghost use Rattle.std.specs.Prelude.{◌≡◌, ◌≢◌, ◌↔◌, ◌<◌, le
 ghost use Rattle.key_class.specs.declared.refusal.Refusal.TheVariants.{NoSuchRow, AlreadyDeleted, CommitsFull, FindersFull, OutOfMemory};
 ghost use Rattle.change_list.specs.Changes.{NamesNoRow, NamesLive, NamesDead};
 ghost use Rattle.removal.specs.Ending.{Ends, Leaves, MayEnd, SeeksToEnd};
+ghost use Rattle.removal.specs.Events.{EndsByEvents};
 ghost use Rattle.removal.specs.Visits.{IsFullOfFinders, LacksCommit, RefusesEnding, RefusesFinder};
 
 use change_list::Status;
@@ -63,8 +64,8 @@ pub fn check_ending<C: KeyClass, O: Outlet<C::Key>>(
     Ok(())
 }
 
-/// Lets a finder go to the leaf of a live row, where the row ends, and gives the commit's number. The finder ends in every
-/// case.
+/// Lets a finder go to the leaf of a live row, where the row ends, and gives the commit's number. The finder begins at that
+/// leaf, where it is known, and ends in every case.
 ///
 /// # Errors
 /// `FindersFull` where 64 finders are open or the last serial was given, and want of memory. Nothing is changed then, but
@@ -78,12 +79,14 @@ pub fn end_row<C: KeyClass, O: Outlet<C::Key>>(
     requires room { length world.old.commits < world.old.limit }
     requires may { MayEnd C.rules.is_cover world.old.search ending }
     ensures ended { IfOk result (λ n. Ends C.rules O.rule world.old row ending n world.new) }
+    ensures events { IfOk result (λ n.
+        EndsByEvents C O O.End C.rules O.rule world.old row ending n world.new) }
     ensures left { OnErr result (Leaves world.old world.new) }
     ensures unfound { IfErr result (λ why. why ≢ OutOfMemory → world.new ≡ world.old) }
     ensures full { (result ≡ Err FindersFull) ↔ IsFullOfFinders world.old }
     ensures refusals { IfErr result (RefusesFinder world.old) }
 {
-    let finder = world.open_finder(row)?;
+    let finder = world.open_finder_near(row)?;
     'seeking: loop {
         match visit(world, 0, finder, ending) {
             Ok(Some(stamp)) => return Ok(stamp.number()),

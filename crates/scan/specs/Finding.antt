@@ -14,6 +14,10 @@ use Rattle.scan.specs.Scanning.{GoesOn, IsNext, LowersWork, NothingLeft, PushesS
 use Rattle.scan.specs.declared.stack.Sought.{Sought}
 use Rattle.scan.specs.declared.stack.Sought.TheVariants.{Here, Further}
 
+-- the stack of a traversal that begins at a page, with the counter
+abbrev pub stack_at : ℕ → ℕ → List StackItem
+stack_at page counter = (record { page = page; memo = counter }) ∷ []
+
 module _ {K : Type 0} where
   -- one of the entries is that of the row
   abbrev pub holds : ℕ → List (Entry K) → Bool

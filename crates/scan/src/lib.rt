@@ -15,4 +15,5 @@ pub use laws::{
     entries_follow_commits, finders_survive_steps, scans_begin_with_snapshots, scans_survive_steps,
 };
 pub use prepared::PreparedVisit;
+pub use rows::holds_row;
 pub use stack::{Sought, Stack, StackItem, Visited};

@@ -14,8 +14,8 @@ use node::Branch;
 use row_version::Entry;
 use smallvec::SmallVec;
 
-/// Of how many entries or branches the bits of a number tell which pass a test.
-pub(crate) const AT_A_TIME: usize = 64;
+/// How many bits a number has, each of which tells of one entry or branch whether it passes a test.
+pub(crate) const BITS: usize = 64;
 
 /// The entries whose keys are accepted, by bits: the lowest is the first entry's. The loop does nothing but test, so no
 /// entry's test waits for another's answer.

@@ -4,7 +4,7 @@ ghost use Rattle.scan.specs.Scanning.{is_seen, seen, row_of};
 ghost use Rattle.scan.specs.QueryVisits.{seen_by};
 
 use crate::key_test::{KeyTest, OneAtom};
-use crate::picks::{AT_A_TIME, accepted_bits, note_picked};
+use crate::picks::{BITS, accepted_bits, note_picked};
 use change_list::Row;
 use key_class::{KeyClass, Pred};
 use row_version::Entry;
@@ -73,7 +73,7 @@ pub fn note_rows<C: KeyClass>(
 }
 
 /// Appends the rows that are there after the first `commit` commits and pass the test, in their order. A page of a store
-/// has no more entries than are tested at a time.
+/// has no more entries than a number has bits.
 fn note_accepted<C: KeyClass, T: KeyTest<C>>(
     entries: &[Entry<C::Key>],
     test: &T,
@@ -83,7 +83,7 @@ fn note_accepted<C: KeyClass, T: KeyTest<C>>(
     requires room { vec_len rows.old + length entries.now ≤ vec_capacity rows.old }
     ensures { rows.new.items ≡ rows.old.items ++ seen (T.accepts test.now) commit entries.now }
 {
-    if entries.len() <= AT_A_TIME {
+    if entries.len() <= BITS {
         let accepted = accepted_bits::<C, T>(entries, test);
         note_picked(entries, accepted, commit, rows);
     } else {

@@ -3,13 +3,13 @@ ghost use Rattle.std.specs.Arc.{arc_value};
 ghost use Rattle.smallvec.specs.SmallVec.{HasRoomFor};
 ghost use Rattle.page_table.specs.Stacks.{IsStack, root_stack};
 ghost use Rattle.page_table.specs.Trees.{page_at};
-ghost use Rattle.scan.specs.Finding.{LacksNext, KeepsFinding, SeekLowersWork, PushesCovering, SeeksNext};
+ghost use Rattle.scan.specs.Finding.{stack_at, LacksNext, KeepsFinding, SeekLowersWork, PushesCovering, SeeksNext};
 ghost use Rattle.scan.specs.Scanning.{IsNext, GoesOn, PushesSome, with_memo, children_on, HasWanted, KeepsWanted};
 ghost use Rattle.scan.specs.QueryVisits.{GoesOnBy, AddsUp, Prepares, GrowsBy, Tallies, IsStillNext, Notes, VisitPushes, VisitsOn, VisitsBy, PushesBy, MakesVisit, VisitLowersWork};
 
 use crate::branch_test::{BranchTest, Covering};
 use crate::key_test::OneAtom;
-use crate::picks::{AT_A_TIME, push_picked, wanted_bits};
+use crate::picks::{BITS, push_picked, wanted_bits};
 use crate::prepared::PreparedVisit;
 use crate::rows::{holds_row, note_rows, seen_rows};
 use change_list::Row;
@@ -75,9 +75,16 @@ impl Stack {
     pub fn at_root(alloc: Global, counter: u32) -> Stack
         ensures { result ≡ root_stack counter }
     {
+        Stack::at_page(alloc, 0, counter)
+    }
+
+    /// A traversal that begins at a page, with the table's counter. It takes no memory.
+    pub fn at_page(alloc: Global, page: u32, counter: u32) -> Stack
+        ensures { result ≡ stack_at page counter }
+    {
         let mut items = SmallVec::new(alloc);
         items.push_reserved(StackItem {
-            page: 0,
+            page,
             memo: counter,
         });
         Stack { items }
@@ -294,8 +301,8 @@ impl Stack {
         }
     }
 
-    /// Puts what follows a page in the place of its item, the last. A page of a store has no more branches than are tested
-    /// at a time.
+    /// Puts what follows a page in the place of its item, the last. A page of a store has no more branches than a
+    /// number has bits.
     fn go_on<C: KeyClass, T: BranchTest<C>>(
         &mut self,
         table: &PageTable<C::Key>,
@@ -308,13 +315,13 @@ impl Stack {
         ensures refused { OnErr result (self.new ≡ self.old) }
         ensures memory { OnErr result (PushesSome (T.wants test.now) table.now self.old) }
     {
-        if table.page(item.page).branches().len() <= AT_A_TIME {
+        if table.page(item.page).branches().len() <= BITS {
             return self.go_on_by_bits::<C, T>(table, item, test);
         }
         self.go_on_one_by_one::<C, T>(table, item, test)
     }
 
-    /// Goes on from a page that has no more branches than are tested at a time.
+    /// Goes on from a page that has no more branches than a number has bits.
     fn go_on_by_bits<C: KeyClass, T: BranchTest<C>>(
         &mut self,
         table: &PageTable<C::Key>,

@@ -127,7 +127,8 @@ impl<C: KeyClass> SharedStore<C> {
             (shared_state C.rules self.old) (shared_state C.rules self.new)) }
         ensures cursors { self.new.cursors ≡ self.old.cursors }
         ensures no_such_row { (result ≡ Err NoSuchRow) ↔ NamesNoRow self.old.commits row }
-        ensures already_deleted { (result ≡ Err AlreadyDeleted) ↔ NamesDead self.old.commits row }
+        ensures already_deleted { (result ≡ Err AlreadyDeleted)
+            ↔ NamesDead self.old.commits row }
         ensures full { (result ≡ Err CommitsFull)
             ↔ HasNoCommitFor (shared_state C.rules self.old) row }
         ensures finders_full { (result ≡ Err FindersFull)
@@ -162,7 +163,8 @@ impl<C: KeyClass> SharedStore<C> {
             (shared_state C.rules self.old) (shared_state C.rules self.new)) }
         ensures cursors { self.new.cursors ≡ self.old.cursors }
         ensures no_such_row { (result ≡ Err NoSuchRow) ↔ NamesNoRow self.old.commits row }
-        ensures already_deleted { (result ≡ Err AlreadyDeleted) ↔ NamesDead self.old.commits row }
+        ensures already_deleted { (result ≡ Err AlreadyDeleted)
+            ↔ NamesDead self.old.commits row }
         ensures full { (result ≡ Err CommitsFull)
             ↔ HasNoCommitFor (shared_state C.rules self.old) row }
         ensures refusals { IfErr result (MayRefuseMove

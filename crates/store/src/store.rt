@@ -110,7 +110,8 @@ impl<C: KeyClass> Store<C> {
         ensures dead { OnOk result (AddsDead self.old row self.new) }
         ensures err { OnErr result (Keeps C.rules.is_match self.old self.new) }
         ensures no_such_row { (result ≡ Err NoSuchRow) ↔ NamesNoRow self.old.commits row }
-        ensures already_deleted { (result ≡ Err AlreadyDeleted) ↔ NamesDead self.old.commits row }
+        ensures already_deleted { (result ≡ Err AlreadyDeleted)
+            ↔ NamesDead self.old.commits row }
         ensures full { (result ≡ Err CommitsFull) ↔ HasNoCommitFor self.old row }
         ensures finders_full { (result ≡ Err FindersFull) ↔ HasNoFinderFor self.old row }
         ensures refusals { IfErr result (MayRefuseDelete self.old) }
@@ -139,7 +140,8 @@ impl<C: KeyClass> Store<C> {
         ensures dead { OnOk result (AddsDead self.old row self.new) }
         ensures err { OnErr result (Keeps C.rules.is_match self.old self.new) }
         ensures no_such_row { (result ≡ Err NoSuchRow) ↔ NamesNoRow self.old.commits row }
-        ensures already_deleted { (result ≡ Err AlreadyDeleted) ↔ NamesDead self.old.commits row }
+        ensures already_deleted { (result ≡ Err AlreadyDeleted)
+            ↔ NamesDead self.old.commits row }
         ensures full { (result ≡ Err CommitsFull) ↔ HasNoCommitFor self.old row }
         ensures refusals { IfErr result (MayRefuseMove self.old self.new) }
         ensures untouched { IfErr result (λ why. IsListed why → self.new ≡ self.old) }
@@ -164,7 +166,8 @@ impl<C: KeyClass> Store<C> {
         ensures ok { IfOk result (λ c. IsOpenedFor C.rules.is_match self.old query c self.new) }
         ensures err { OnErr result (self.new ≡ self.old) }
         ensures bad { (result ≡ Err BadConfig) ↔ IsBadOpening (query_of query) room }
-        ensures full { (result ≡ Err CursorsFull) ↔ HasNoCursorFor self.old (query_of query) room }
+        ensures full { (result ≡ Err CursorsFull)
+            ↔ HasNoCursorFor self.old (query_of query) room }
         ensures refusals { IfErr result RefusesCursor }
     {
         if room == 0 || room > MAX_ROOM {
@@ -279,7 +282,8 @@ impl<C: KeyClass> Store<C> {
 
     /// The live rows that match, by rising number.
     pub fn find(&self, query: &Pred<C::Atom>) -> Result<Vec<Row<C::Key>>, Refusal>
-        ensures ok { IfOk result (λ rows. rows.items ≡ matching_rows C.rules self.now query.now) }
+        ensures ok { IfOk result (λ rows. rows.items
+            ≡ matching_rows C.rules self.now query.now) }
         ensures depth { (result ≡ Err BadConfig) ↔ (32 < depth_of (query_of query.now)) }
         ensures refusals { IfErr result (IsEither BadConfig OutOfMemory) }
     {

@@ -120,7 +120,8 @@ pub fn judged<C: KeyClass>(
     reading: &Reading<C::Key>,
 ) -> Result<Verdict, Refusal>
     ensures whole { IfOk result (TellsWhole C.rules query.now commits.now reading.now) }
-    ensures no_receipt { IfOk result (λ v. (v ≡ Verdict.NoReceipt) ↔ HasNoReceipt reading.now) }
+    ensures no_receipt { IfOk result (λ v. (v ≡ Verdict.NoReceipt)
+        ↔ HasNoReceipt reading.now) }
     ensures refusals { IfErr result (λ why. why ≡ Refusal.OutOfMemory) }
 {
     let Ended::Receipt(receipt) = &reading.ended else {

@@ -49,7 +49,8 @@ fn three_rows(alloc: Global) -> Result<PageTable<u8>, Fail> {
 
 /// A cursor behind commit 3 with room for one item.
 fn opened(alloc: Global, counter: u32) -> Result<Open<Tray<u8>>, Fail>
-    ensures { IfOk result (λ cursor. cursor.stack ≡ (record { page = 0; memo = counter }) ∷ []) }
+    ensures { IfOk result (λ cursor. cursor.stack
+        ≡ (record { page = 0; memo = counter }) ∷ []) }
 {
     let (tray, ()) = <Tray<u8> as Outlet<u8>>::make(alloc, 1)?;
     let query = Arc::new(alloc, Pred::Atom(5))?;

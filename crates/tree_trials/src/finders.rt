@@ -66,7 +66,7 @@ fn way(
     point: i64,
 ) -> Result<[Option<Sought>; 4], Fail> {
     let key = Interval::new(point, point)?;
-    let mut finder = Finder::new(alloc, 7, row, key, tree.pages().counter());
+    let mut finder = Finder::new(alloc, 7, row, key, 0, tree.pages().counter());
     Ok([
         next(&mut finder, tree)?,
         next(&mut finder, tree)?,
@@ -113,7 +113,7 @@ fn ends_where_no_page_has_the_row(rt: HostRuntime) -> Result<(), Fail> {
 
 #[test]
 fn tells_what_it_looks_for(rt: HostRuntime) -> Result<(), Fail> {
-    let finder = Finder::<Intervals>::new(rt.alloc(), 7, 9, Interval::new(2, 2)?, 0);
+    let finder = Finder::<Intervals>::new(rt.alloc(), 7, 9, Interval::new(2, 2)?, 0, 0);
     assert!(rt; finder.serial() == 7 && finder.row() == 9);
     Ok(())
 }

@@ -93,7 +93,7 @@ fn found(
 
 /// The page on which a finder meets the row.
 pub fn page_of(alloc: Global, tree: &SearchTree<Intervals>, row: u32) -> Result<Option<u32>, Fail> {
-    let mut finder = Finder::new(alloc, 7, row, key_of(row)?, tree.pages().counter());
+    let mut finder = Finder::new(alloc, 7, row, key_of(row)?, 0, tree.pages().counter());
     Ok(found(&mut finder, tree, 1_000)?)
 }
 

@@ -65,12 +65,15 @@ module _ (C O K A E : RattleType) (c : class.Ghosts C.Denot K.Denot A.Denot) (k 
             (
               search (crosses, sendable) depth 20,
               (
-                search sendable depth 20,
+                search (crosses, sendable) depth 20,
                 (
-                  search (finder.the_send, crosses, sendable) depth 20,
+                  search sendable depth 20,
                   (
-                    search sendable depth 20,
-                    tt,
+                    search (finder.the_send, crosses, sendable) depth 20,
+                    (
+                      search sendable depth 20,
+                      tt,
+                    ),
                   ),
                 ),
               ),

@@ -17,8 +17,10 @@ use Rattle.page_table.specs.LeafChanges.{after_sweep}
 use Rattle.split.specs.SearchTrees.{SearchTree, with_tree}
 use Rattle.split.specs.Tests.{PlacePasses, first_failing, is_leaf, place_tests, sweep_tests}
 use Rattle.split.proofs.RowsDone.{buried, swept, sweepable}
-use Rattle.descent.specs.Finders.{OpenFinder, IsSeeking, FindsRow, is_at_row}
+use Rattle.descent.specs.Finders.{OpenFinder, IsSeeking, FindsRow, begun_finder, is_at_row}
+use Rattle.descent.proofs.Entering.{seeking_at}
 use Rattle.descent.proofs.Seeking.{seeking_begun, seeking_further, finds_at_row, finds_page, finds_weigh, finds_leaf}
+use Rattle.world.specs.Beginnings.{MayBegin}
 use Rattle.world.specs.Serials.{without, put}
 use Rattle.world.specs.Stamps.{Stamp}
 use Rattle.world.specs.States.{State, finder_at, with_finder, IsSoundWorld}
@@ -89,10 +91,19 @@ module _ {K A : Type 0} (is_cover : K → K → Bool) (old : State K A) (inv : I
       subst (λ s. IsSoundWorld is_cover s) (sym d.after)
       (sought_sound is_cover old inv (old.finders ++ k ∷ []) (old.last_finder + 1) (finders_push old.search.tree old.commits old.finders old.last_finder inv.finders k refl seeking may.few may.given))
 
-  -- a finder more, by what it is made of
-  pub found_sound : (row : ℕ) (key : K) (counter : ℕ) → first_failing (find_tests old row) ≡ None → HasKey old.commits row key → counter ≡ old.search.tree.counter
-      → IsSoundWorld is_cover (record old { finders = old.finders ++ (record { serial = old.last_finder + 1; row = row; key = key; stack = (record { page = 0; memo = counter }) ∷ [] }) ∷ []; last_finder = old.last_finder + 1 })
-  found_sound row key counter passed made same = finds_sound row (old.last_finder + 1) _ passed (record { key = key; made = made; serial = refl; after = rw same refl })
+  -- a finder more, at a page where it may begin
+  pub begun_sound : (row : ℕ) (key : K) (page counter : ℕ) → first_failing (find_tests old row) ≡ None → HasKey old.commits row key → MayBegin old row page → counter ≡ old.search.tree.counter
+      → IsSoundWorld is_cover (record old { finders = old.finders ++ begun_finder (old.last_finder + 1) row key page counter ∷ []; last_finder = old.last_finder + 1 })
+  begun_sound row key page counter passed made may same =
+      let place = may_find old row passed in
+      let seeking : IsSeeking old.search.tree old.commits (begun_finder (old.last_finder + 1) row key page old.search.tree.counter) = elim may [
+        | inl root ↦ subst (λ p. IsSeeking old.search.tree old.commits (begun_finder (old.last_finder + 1) row key p old.search.tree.counter)) (sym root)
+            (seeking_begun is_cover old.search.fan old.search.tree inv.tree.sound old.commits inv.agrees (old.last_finder + 1) row key made)
+        | inr stands ↦ seeking_at is_cover old.search.fan old.search.tree inv.tree.sound page stands.0 old.commits inv.agrees row stands.1 (old.last_finder + 1) key made
+      ] in
+      subst (λ n. IsSoundWorld is_cover (record old { finders = old.finders ++ begun_finder (old.last_finder + 1) row key page n ∷ []; last_finder = old.last_finder + 1 })) (sym same)
+      (sought_sound is_cover old inv (old.finders ++ begun_finder (old.last_finder + 1) row key page old.search.tree.counter ∷ []) (old.last_finder + 1)
+      (finders_push old.search.tree old.commits old.finders old.last_finder inv.finders (begun_finder (old.last_finder + 1) row key page old.search.tree.counter) refl seeking place.few place.given))
 
   pub unfound_sound : (f : ℕ) (new : State K A) → new ≡ record old { finders = without (λ k. k.serial) f old.finders } → IsSoundWorld is_cover new
   unfound_sound f new made = subst (λ s. IsSoundWorld is_cover s) (sym made)

@@ -1,4 +1,5 @@
 pub mod Askings
+pub mod Beginning
 pub mod Calling
 pub mod Committing
 pub mod Crossing

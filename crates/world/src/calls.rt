@@ -1,6 +1,8 @@
 //! Events as calls, each with an answer of its own type: for those who know which event they make.
 ghost use Rattle.std.specs.Prelude.{IfOk};
+ghost use Rattle.world.specs.Beginnings.{OpensNear};
 ghost use Rattle.world.specs.Calls.{AsksCursor, ClosesCursor, OpensCursor, OpensFinder, OpensFollower, PlacesRow, DeletesMet, MovesMet, SweepsPage, TakesFront, TurnsCursor};
+ghost use Rattle.world.specs.States.{IsSoundWorld};
 
 use crate::reply::Stamped;
 use crate::world::World;
@@ -36,6 +38,20 @@ impl<C: KeyClass, O: Outlet<C::Key>> World<C, O> {
     {
         self.recall_soundness();
         self.find(row)
+    }
+
+    /// A finder of a row, which begins at the page on which the row stands, where that is known, else at the root; its
+    /// serial.
+    ///
+    /// # Errors
+    /// Those of the event `Find`; nothing is changed then.
+    pub fn open_finder_near(&mut self, row: u64) -> Result<u64, Refusal>
+        ensures opens { OpensNear C C.rules O.rule self.old row result self.new }
+        ensures sound { IsSoundWorld C.rules.is_cover self.new }
+    {
+        let opened = self.find_near(row);
+        self.recall_soundness();
+        opened
     }
 
     /// Lets a finder visit a page, for a seat: where that holds its row, it is deleted, and the finder ends. Else none.

@@ -1,8 +1,10 @@
 //! A change of leaves, and the commit that tells of it.
 ghost use Rattle.std.specs.Prelude.{◌≡◌, ◌+◌, ◌<◌, ◌++◌, ◌∷◌, [], length, IfOk, IfErr, OnOk, OnErr};
 ghost use Rattle.change_list.specs.Changes.{MayFollow};
+ghost use Rattle.world.specs.Hints.{named, page_of_change};
 ghost use Rattle.world.specs.Writing.{ChangesNext, IsOfEarlier, TakesChange, with_change, write_of_change};
 
+use crate::hints::named;
 use change_list::{ChangeList, Write};
 use key_class::{KeyClass, Refusal};
 use row_version::Entry;
@@ -30,6 +32,17 @@ impl<K: Copy> LeafChange<K> {
             LeafChange::Place(_, key, tag) => Write::Insert(key, tag),
             LeafChange::Bury(_, row) => Write::Delete(u64::from(row)),
             LeafChange::Move(_, row, _, key, _) => Write::Move(u64::from(row), key),
+        }
+    }
+
+    /// The page that gets a row; the root where none does.
+    fn page(self) -> u64
+        ensures { result ≡ page_of_change self }
+    {
+        match self {
+            LeafChange::Place(leaf, _, _) => leaf,
+            LeafChange::Bury(_, _) => 0,
+            LeafChange::Move(_, _, other, _, _) => other,
         }
     }
 }
@@ -66,7 +79,7 @@ fn change_leaves<C: KeyClass>(
 ///
 /// # Errors
 /// Memory was wanting; nothing is changed then.
-pub(crate) fn commit<C: KeyClass>(
+fn change_and_tell<C: KeyClass>(
     alloc: Global,
     search: &mut SearchTree<C>,
     commits: &mut ChangeList<C::Key>,
@@ -99,4 +112,34 @@ pub(crate) fn commit<C: KeyClass>(
             }
         },
     }
+}
+
+/// Changes leaves, adds the commit that tells of it, and notes on which page its row stands: all, or nothing. Gives the
+/// commit's number.
+///
+/// # Errors
+/// Memory was wanting; nothing is changed then.
+pub(crate) fn commit<C: KeyClass>(
+    search: &mut SearchTree<C>,
+    commits: &mut ChangeList<C::Key>,
+    hints: &mut Vec<u16>,
+    change: LeafChange<C::Key>,
+) -> Result<u64, Refusal>
+    requires follows { MayFollow commits.old (write_of_change change) }
+    requires few { length commits.old < 4294967295 }
+    requires takes { TakesChange C.rules.is_cover search.old change }
+    ensures number { IfOk result (λ n. n ≡ length commits.old + 1) }
+    ensures changed { OnOk result (ChangesNext search.old commits.old change search.new) }
+    ensures committed { OnOk result (commits.new ≡ commits.old ++ write_of_change change ∷ []) }
+    ensures noted { OnOk result (hints.new.items
+        ≡ hints.old.items ++ named (page_of_change change) ∷ []) }
+    ensures pages_kept { OnErr result (search.new ≡ search.old) }
+    ensures commits_kept { OnErr result (commits.new ≡ commits.old) }
+    ensures refused { IfErr result (λ why. why ≡ Refusal.OutOfMemory) }
+{
+    hints.reserve(1)?;
+    let alloc = *hints.allocator();
+    let number = change_and_tell(alloc, search, commits, change)?;
+    hints.push_reserved(named(change.page()));
+    Ok(number)
 }

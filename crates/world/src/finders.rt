@@ -1,13 +1,15 @@
 //! Events of finders.
-ghost use Rattle.std.specs.Prelude.{◌≡◌, None, IfOk, IfErr};
+ghost use Rattle.std.specs.Prelude.{◌≡◌, None, IfOk, IfErr, OnErr};
 ghost use Rattle.change_list.specs.Changes.{HasKey};
 ghost use Rattle.split.specs.Tests.{first_failing};
 ghost use Rattle.world.specs.declared.event.Event.TheVariants as event;
+ghost use Rattle.world.specs.Beginnings.{Begins, MayBegin, OpensNear};
 ghost use Rattle.world.specs.Calls.{reply_of_commit, reply_of_finder, reply_of_visit};
 ghost use Rattle.world.specs.States.{Meets};
 ghost use Rattle.world.specs.Steps.{Acts, FirstFails, Step, VisitsFor, find_tests};
 
 use crate::commit::{LeafChange, commit};
+use crate::hints::page_of;
 use crate::places::{let_go, place_of};
 use crate::reply::{Reply, Stamped};
 use crate::world::World;
@@ -16,7 +18,7 @@ use descent::Finder;
 use key_class::limits::{MAX_FINDERS, MAX_SERIAL};
 use key_class::{KeyClass, Refusal};
 use mailbox::Outlet;
-use scan::Sought;
+use scan::{Sought, holds_row};
 
 impl<C: KeyClass, O: Outlet<C::Key>> World<C, O> {
     /// The key of a row that a further finder may look for, or why none may.
@@ -37,19 +39,58 @@ impl<C: KeyClass, O: Outlet<C::Key>> World<C, O> {
         Ok(found.key)
     }
 
-    pub(crate) fn find(&mut self, row: u64) -> Result<u64, Refusal>
-        ensures { Acts C.rules O.rule self.old (event.Find row)
-            (reply_of_finder C O O.End result) self.new }
+    /// A finder of a row, which begins at the page. Gives its serial.
+    ///
+    /// # Errors
+    /// Want of memory; nothing is changed then.
+    fn begin(&mut self, row: u64, key: C::Key, page: u32) -> Result<u64, Refusal>
+        requires passed { first_failing (find_tests self.old row) ≡ None }
+        requires made { HasKey self.old.commits row key }
+        requires may { MayBegin self.old row page }
+        ensures begun { IfOk result (λ f. Begins self.old row key page f self.new) }
+        ensures unchanged { OnErr result (self.new ≡ self.old) }
+        ensures refused { IfErr result (λ why. why ≡ Refusal.OutOfMemory) }
     {
-        let key = self.key_to_find(row)?;
         let counter = self.search.pages().counter();
         let serial = self.last_finder + 1;
-        let finder = Finder::new(self.allocator(), serial, row as u32, key, counter);
+        let finder = Finder::new(self.allocator(), serial, row as u32, key, page, counter);
         if self.finders.push(finder).is_err() {
             return Err(Refusal::OutOfMemory);
         }
         self.last_finder = serial;
         Ok(serial)
+    }
+
+    pub(crate) fn find(&mut self, row: u64) -> Result<u64, Refusal>
+        ensures { Acts C.rules O.rule self.old (event.Find row)
+            (reply_of_finder C O O.End result) self.new }
+    {
+        let key = self.key_to_find(row)?;
+        self.begin(row, key, 0)
+    }
+
+    pub(crate) fn find_near(&mut self, row: u64) -> Result<u64, Refusal>
+        ensures { OpensNear C C.rules O.rule self.old row result self.new }
+    {
+        let key = self.key_to_find(row)?;
+        let page = self.last_page(row);
+        self.begin(row, key, page)
+    }
+
+    /// The page on which a row was seen last, where it stands there still; else the root.
+    fn last_page(&self, row: u64) -> u32
+        ensures { MayBegin self.now row result }
+    {
+        let Ok(row) = u32::try_from(row) else {
+            return 0;
+        };
+        let page = page_of(&self.hints, row);
+        let table = self.search.pages();
+        if (page as usize) < table.len() && holds_row(table.page(page).rows(), row) {
+            page
+        } else {
+            0
+        }
     }
 
     /// Lets a finder visit one page. Where that holds its row, gives the finder's place and the page; else the finder
@@ -89,9 +130,8 @@ impl<C: KeyClass, O: Outlet<C::Key>> World<C, O> {
         if self.changes.len() as u64 >= self.limit {
             return Err(Refusal::CommitsFull);
         }
-        let alloc = self.allocator();
         let change = LeafChange::Bury(u64::from(page), self.finders[at].row());
-        let number = commit(alloc, &mut self.search, &mut self.changes, change)?;
+        let number = commit(&mut self.search, &mut self.changes, &mut self.hints, change)?;
         let_go(&mut self.finders, at);
         Ok(Stamped::new(number, seat, change.write()))
     }
@@ -132,13 +172,12 @@ impl<C: KeyClass, O: Outlet<C::Key>> World<C, O> {
         if self.changes.len() as u64 >= self.limit {
             return Err(Refusal::CommitsFull);
         }
-        let alloc = self.allocator();
         let row = self.finders[at].row();
         let Some(found) = self.changes.row(u64::from(row)) else {
             unreachable!()
         };
         let change = LeafChange::Move(u64::from(page), row, leaf, key, found.tag);
-        let number = commit(alloc, &mut self.search, &mut self.changes, change)?;
+        let number = commit(&mut self.search, &mut self.changes, &mut self.hints, change)?;
         let_go(&mut self.finders, at);
         Ok(Stamped::new(number, seat, change.write()))
     }

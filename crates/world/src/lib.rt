@@ -6,6 +6,7 @@ mod commit;
 mod cursors;
 mod event;
 mod finders;
+mod hints;
 mod nodes;
 mod places;
 mod reply;

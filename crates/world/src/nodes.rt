@@ -1,9 +1,11 @@
 //! Events that change pages.
+ghost use Rattle.std.specs.Prelude.{◌≡◌};
 ghost use Rattle.world.specs.declared.event.Event.TheVariants as event;
 ghost use Rattle.world.specs.Calls.{reply_of_commit, reply_of_sweep};
 ghost use Rattle.world.specs.Steps.{Acts, Step};
 
 use crate::commit::{LeafChange, commit};
+use crate::hints::{named, note_rows};
 use crate::reply::{Reply, Stamped};
 use crate::world::World;
 use collector::horizon;
@@ -24,8 +26,22 @@ impl<C: KeyClass, O: Outlet<C::Key>> World<C, O> {
         ensures { Acts C.rules O.rule self.old (event.Split page sides.now) result self.new }
     {
         match self.search.split(page, sides) {
-            Ok(sibling) => return Reply::Split(sibling),
+            Ok(sibling) => {
+                self.note_rows_of(sibling);
+                return Reply::Split(sibling);
+            }
             Err(refusal) => return Reply::Refused(refusal),
+        }
+    }
+
+    /// Notes where the rows of a page stand, where there is one with the number.
+    fn note_rows_of(&mut self, page: u32)
+        ensures { self.new ≡ self.old }
+    {
+        let table = self.search.pages();
+        if (page as usize) < table.len() {
+            let rows = table.page(page).rows();
+            note_rows(&mut self.hints, named(u64::from(page)), rows);
         }
     }
 
@@ -63,9 +79,8 @@ impl<C: KeyClass, O: Outlet<C::Key>> World<C, O> {
         if self.changes.len() as u64 >= self.limit {
             return Err(Refusal::CommitsFull);
         }
-        let alloc = self.allocator();
         let change = LeafChange::Place(page, key, tag);
-        let number = commit(alloc, &mut self.search, &mut self.changes, change)?;
+        let number = commit(&mut self.search, &mut self.changes, &mut self.hints, change)?;
         Ok(Stamped::new(number, seat, change.write()))
     }
 

@@ -27,6 +27,7 @@ pub struct World<C: KeyClass, O: Outlet<C::Key>> {
     pub(crate) search: SearchTree<C>,
     pub(crate) limit: u64,
     pub(crate) changes: ChangeList<C::Key>,
+    pub(crate) hints: Vec<u16>,
     pub(crate) cursors: Vec<Cursor<C, O>>,
     pub(crate) last: u64,
     pub(crate) finders: Vec<Finder<C>>,
@@ -67,10 +68,14 @@ impl<C: KeyClass, O: Outlet<C::Key>> World<C, O> {
             u64::from(config.least),
             u64::from(config.pages),
         )?;
+        // Rows count from 1, so the first place is no row's.
+        let mut hints = Vec::with_capacity(alloc, 1)?;
+        hints.push_reserved(0);
         Ok(World {
             search,
             limit: u64::from(config.commits),
             changes: ChangeList::new(alloc),
+            hints,
             cursors: Vec::new(alloc),
             last: 0,
             finders: Vec::new(alloc),

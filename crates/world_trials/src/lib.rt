@@ -11,6 +11,8 @@ mod edits;
 #[cfg(test)]
 mod listings;
 #[cfg(test)]
+mod near;
+#[cfg(test)]
 mod random_lists;
 #[cfg(test)]
 mod random_tasks;

@@ -1,0 +1,41 @@
+//! Where rows stand, as far as is known: for each number of a row the page on which it was seen last.
+//!
+//! A row may have gone to another page since, so whoever is told of a page looks whether it holds the row. There are no
+//! more pages than 16 bits can name, and a hint takes no more, since there is one for each commit.
+ghost use Rattle.std.specs.Prelude.{◌≡◌, slice_index_or};
+ghost use Rattle.world.specs.Hints.{named, with_hint, with_hints};
+
+use row_version::Entry;
+
+/// A page as a hint names it.
+pub(crate) fn named(page: u64) -> u16
+    ensures { result ≡ named page }
+{
+    u16::try_from(page).unwrap_or(0)
+}
+
+/// Notes that a row stands on a page.
+fn note_row(hints: &mut Vec<u16>, page: u16, row: u32)
+    ensures { hints.new.items ≡ with_hint page row hints.old.items }
+{
+    let row = row as usize;
+    if row < hints.len() {
+        hints[row] = page;
+    }
+}
+
+/// Notes that these rows stand on a page.
+pub(crate) fn note_rows<K>(hints: &mut Vec<u16>, page: u16, rows: &[Entry<K>])
+    ensures { hints.new.items ≡ with_hints page rows.now hints.old.items }
+{
+    for entry in rows {
+        note_row(hints, page, entry.row());
+    }
+}
+
+/// The page on which a row was seen last, the root where nothing is known of it.
+pub(crate) fn page_of(hints: &[u16], row: u32) -> u32
+    ensures { result ≡ slice_index_or hints.now row 0 }
+{
+    u32::from(hints.get(row as usize).copied().unwrap_or(0))
+}
