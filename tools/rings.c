@@ -6,14 +6,16 @@
  *
  * The last line is `N passed, M failed`; the status is 0 only where M is 0.
  */
+#define _POSIX_C_SOURCE 200809L
+
 #include "gist.h"
 
 #include <inttypes.h>
 #include <pthread.h>
-#include <sched.h>
 #include <stdatomic.h>
 #include <stdio.h>
 #include <string.h>
+#include <time.h>
 
 static unsigned passed, failed;
 
@@ -648,6 +650,14 @@ static gist_world shared = GIST_NO_WORLD;
 static uint64_t cursors[2];
 static atomic_uint writers_left = WRITERS;
 
+/* Lets the other threads run, where nothing is to be done before they have: valgrind runs one at a time. */
+static void wait_a_little(void)
+{
+    const struct timespec little = {.tv_nsec = 50000};
+
+    nanosleep(&little, NULL);
+}
+
 /* Inserts rows, and moves and deletes some of them. Each commit is of a row that every query here asks for. */
 static void *write_rows(void *unused)
 {
@@ -684,8 +694,8 @@ static void *step_cursors(void *unused)
                 idle = false;
             if (refusal != GIST_OK && refusal != GIST_IDLE && refusal != GIST_NO_ROOM)
                 return "a step is refused";
-            if (refusal == GIST_NO_ROOM)
-                sched_yield();
+            if (refusal != GIST_OK)
+                wait_a_little();
         }
     }
     (void)unused;
@@ -710,7 +720,7 @@ static void *take_items(void *argument)
         if (gist_interval_pop(&taking->taker, &taking->items[number]) != GIST_OK)
             return "a taking is refused";
         if (taking->items[number].kind == GIST_NOTHING)
-            sched_yield();
+            wait_a_little();
         else
             number++;
     }

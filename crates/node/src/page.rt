@@ -6,8 +6,8 @@ ghost use Rattle.node.specs.Changes.{split_left, split_right, post_child, post_s
 
 use crate::branch::Branch;
 use crate::parts::{
-    add_branch, bury, copied, join_branches, join_rows, keep_left, left_entries, rekey,
-    right_entries, sweep, widen,
+    add, add_branch, bury, copied, join_branches, join_rows, keep_left, left_entries, rekey,
+    reserve_one, right_entries, sweep, widen,
 };
 use key_class::{KeyClass, Sides};
 use row_version::Entry;
@@ -167,8 +167,7 @@ impl<K: Copy> Page<K> {
         ensures placed { OnOk result (self.new ≡ with_row self.old entry) }
         ensures unchanged { OnErr result (self.new ≡ self.old) }
     {
-        self.rows.push(entry)?;
-        Ok(())
+        add(&mut self.rows, entry)
     }
 
     /// Marks the row as deleted by that commit. Commits count from 1.
@@ -313,7 +312,7 @@ impl<K: Copy> Page<K> {
         ensures named { OnOk result (self.new ≡ naming_both self.old child sibling) }
         ensures unchanged { OnErr result (self.new ≡ self.old) }
     {
-        self.branches.reserve(1)?;
+        reserve_one(&mut self.branches)?;
         rekey(&mut self.branches, child.0, child.1);
         add_branch(&mut self.branches, sibling.0, sibling.1);
         Ok(())

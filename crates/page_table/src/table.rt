@@ -130,7 +130,8 @@ impl<K: Copy> PageTable<K> {
         requires one_a_place { entries_of (page_at self.old page) ≡ length sides.now }
         requires numbered { length self.old.pages < 2 ^ 32 }
         ensures number { IfOk result (λ number. number ≡ length self.old.pages) }
-        ensures parted { OnOk result (self.new ≡ with_part C.rules self.old page sides.now right) }
+        ensures parted { OnOk result
+            (self.new ≡ with_part C.rules self.old page sides.now right) }
         ensures unchanged { OnErr result (self.new ≡ self.old) }
     {
         let number = self.pages.len() as u32;
@@ -322,7 +323,8 @@ fn widen_both<C: KeyClass>(
     child: u32,
     key: C::Key,
 ) -> Result<(), AllocError>
-    ensures upper { OnOk result (upper.new ≡ enlarge_parent C.rules.union_of child key upper.old) }
+    ensures upper { OnOk result
+        (upper.new ≡ enlarge_parent C.rules.union_of child key upper.old) }
     ensures lower { OnOk result (lower.new ≡ enlarge_child C.rules.union_of key lower.old) }
     ensures upper_stays { OnErr result (upper.new ≡ upper.old) }
     ensures lower_stays { OnErr result (lower.new ≡ lower.old) }
@@ -344,7 +346,8 @@ fn post_both<K: Copy>(
     sibling: u32,
     number: u32,
 ) -> Result<(), AllocError>
-    ensures upper { OnOk result (upper.new ≡ post_up upper.old child lower.old sibling right.old) }
+    ensures upper { OnOk result
+        (upper.new ≡ post_up upper.old child lower.old sibling right.old) }
     ensures lower { OnOk result (lower.new ≡ post_child lower.old number) }
     ensures right { OnOk result (right.new ≡ post_sibling right.old) }
     ensures upper_stays { OnErr result (upper.new ≡ upper.old) }
