@@ -1,4 +1,4 @@
-ghost use Rattle.std.specs.Prelude.{◌≡◌, ◌≢◌, ◌<◌, ◌≤◌, ◌↔◌, ℕ, ◌+◌, ◌++◌, [], length, true, option_to_list, IfOk, OnOk, OnErr, MatchOption, IsTrue, false};
+ghost use Rattle.std.specs.Prelude.{Bool, ◌≡◌, ◌≢◌, ◌<◌, ◌≤◌, ◌↔◌, ℕ, ◌+◌, ◌++◌, [], length, true, option_to_list, IfOk, OnOk, OnErr, MatchOption, IsTrue, false};
 ghost use Rattle.std.specs.Arc.{arc_value};
 ghost use Rattle.smallvec.specs.SmallVec.{HasRoomFor};
 ghost use Rattle.page_table.specs.Stacks.{IsStack, root_stack};
@@ -128,8 +128,13 @@ impl Stack {
         let Some(item) = self.last() else {
             return Ok(None);
         };
-        let rows = seen_rows::<C>(alloc, table.page(item.page).rows(), query, opened)?;
-        self.go_on_by_query::<C>(table, item, query)?;
+        let page = table.page(item.page);
+        let rows = seen_rows::<C>(alloc, page.rows(), query, opened)?;
+        if page.branches().is_empty() {
+            self.leave::<C>(table, item);
+        } else {
+            self.go_on_by_query::<C>(table, item, query)?;
+        }
         Ok(Some(Visited {
             page: item.page,
             rows,
@@ -158,10 +163,14 @@ impl Stack {
         let Some(item) = self.last() else {
             return Ok(None);
         };
-        let entries = table.page(item.page).rows();
-        rows.reserve(entries.len())?;
-        self.go_on_by_query::<C>(table, item, query)?;
-        note_rows::<C>(entries, query, opened, rows);
+        let page = table.page(item.page);
+        rows.reserve(page.rows().len())?;
+        if page.branches().is_empty() {
+            self.leave::<C>(table, item);
+        } else {
+            self.go_on_by_query::<C>(table, item, query)?;
+        }
+        note_rows::<C>(page.rows(), query, opened, rows);
         Ok(Some(item.page))
     }
 
@@ -278,6 +287,20 @@ impl Stack {
             return None;
         }
         Some(self.items.as_slice()[count - 1])
+    }
+
+    /// Goes on from a page without branches, which most are: to its right link, where that is followed.
+    fn leave<C: KeyClass>(&mut self, table: &PageTable<C::Key>, item: StackItem)
+        requires next { IsNext self.old item }
+        requires exists { item.page < length table.now.pages }
+        requires leaf { (page_at table.now item.page).branches ≡ [] }
+        ensures { (wanted : C.Key → Bool) → GoesOn wanted table.now self.old item self.new }
+    {
+        // There are no more items than there is room for, so one fits where the last was.
+        let _count = self.items.len();
+        self.items.pop();
+        let right = table.page(item.page).followed(item.memo);
+        push_link(&mut self.items, right, item.memo);
     }
 
     /// Goes on to the children whose bounds are consistent with the query.
