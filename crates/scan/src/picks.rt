@@ -11,6 +11,7 @@ use crate::stack::StackItem;
 use change_list::Row;
 use key_class::KeyClass;
 use node::Branch;
+use page_table::PageTable;
 use row_version::Entry;
 use smallvec::SmallVec;
 
@@ -77,13 +78,15 @@ pub(crate) fn note_picked<K: Copy>(
     }
 }
 
-/// Pushes the children of the picked branches, the lowest bit being the last branch's.
+/// Pushes the children of the picked branches, the lowest bit being the last branch's. Answers how many rows these pages
+/// have: the head of each is read here, where none waits for the one before, and not first by its visit.
 pub(crate) fn push_picked<K: Copy>(
     items: &mut SmallVec<StackItem, 32>,
     branches: &[Branch<K>],
     mut bits: u64,
     memo: u32,
-)
+    table: &PageTable<K>,
+) -> usize
     requires few { length branches.now ≤ 64 }
     requires within { HasBitsFor (reverse branches.now) bits }
     requires room { HasRoomFor items.old (length (picked bits (reverse branches.now))) }
@@ -91,13 +94,22 @@ pub(crate) fn push_picked<K: Copy>(
         ≡ items.old.items ++ map (item_of_child memo) (picked bits (reverse branches.now)) }
 {
     let mut place = branches.len();
+    let mut rows = 0;
     while bits != 0 {
         let passed = bits.trailing_zeros();
         place -= passed as usize + 1;
-        items.push_reserved(StackItem {
-            page: branches[place].child,
-            memo,
-        });
+        let page = branches[place].child;
+        items.push_reserved(StackItem { page, memo });
+        rows = rows_on(table, page).saturating_add(rows);
         bits = bits >> passed >> 1;
     }
+    rows
+}
+
+/// How many rows a page has, where there is one with that number.
+fn rows_on<K: Copy>(table: &PageTable<K>, page: u32) -> usize {
+    if page as usize >= table.len() {
+        return 0;
+    }
+    table.page(page).rows().len()
 }

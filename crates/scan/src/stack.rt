@@ -168,7 +168,8 @@ impl Stack {
         if page.branches().is_empty() {
             self.leave::<C>(table, item);
         } else {
-            self.go_on_by_query::<C>(table, item, query)?;
+            let below = self.go_on_by_query::<C>(table, item, query)?;
+            let _asked = rows.reserve(below);
         }
         note_rows::<C>(page.rows(), query, opened, rows);
         Ok(Some(item.page))
@@ -309,7 +310,7 @@ impl Stack {
         table: &PageTable<C::Key>,
         item: StackItem,
         query: &Pred<C::Atom>,
-    ) -> Result<(), AllocError>
+    ) -> Result<usize, AllocError>
         requires next { IsNext self.old item }
         requires exists { item.page < length table.now.pages }
         ensures ok { OnOk result (GoesOnBy C.rules query.now table.now self.old item self.new) }
@@ -331,7 +332,7 @@ impl Stack {
         table: &PageTable<C::Key>,
         item: StackItem,
         test: &T,
-    ) -> Result<(), AllocError>
+    ) -> Result<usize, AllocError>
         requires next { IsNext self.old item }
         requires exists { item.page < length table.now.pages }
         ensures ok { OnOk result (GoesOn (T.wants test.now) table.now self.old item self.new) }
@@ -341,7 +342,8 @@ impl Stack {
         if table.page(item.page).branches().len() <= BITS {
             return self.go_on_by_bits::<C, T>(table, item, test);
         }
-        self.go_on_one_by_one::<C, T>(table, item, test)
+        self.go_on_one_by_one::<C, T>(table, item, test)?;
+        Ok(0)
     }
 
     /// Goes on from a page that has no more branches than a number has bits.
@@ -350,7 +352,7 @@ impl Stack {
         table: &PageTable<C::Key>,
         item: StackItem,
         test: &T,
-    ) -> Result<(), AllocError>
+    ) -> Result<usize, AllocError>
         requires next { IsNext self.old item }
         requires exists { item.page < length table.now.pages }
         requires few { length (page_at table.now item.page).branches ≤ 64 }
@@ -364,8 +366,9 @@ impl Stack {
         make_room(&mut self.items, wanted.count_ones() as usize)?;
         self.items.pop();
         push_link(&mut self.items, page.followed(item.memo), item.memo);
-        push_picked(&mut self.items, branches, wanted, table.counter());
-        Ok(())
+        let memo = table.counter();
+        let rows = push_picked(&mut self.items, branches, wanted, memo, table);
+        Ok(rows)
     }
 
     /// Goes on from a page with any number of branches.

@@ -4,7 +4,7 @@ use Rattle.key_class.specs.QueryLaws.{consistent_above_match}
 use Rattle.scan.proofs.Visiting.{visits_made, visit_find, visit_pages}
 use Rattle.scan.specs.Scanning.{GoesOn, seen_on}
 use Rattle.scan.proofs.stack.Stack.visit_into.Goals as goal
-use Rattle.scan.proofs.stack.Stack.visit_into.Goals.{then-is_empty, else-is_empty+in_ok-go_on_by_query}
+use Rattle.scan.proofs.stack.Stack.visit_into.Goals.{then-is_empty, else-is_empty+in_ok-below}
 
 pub returns-clause-visited : goal.returns-clause-visited
 returns-clause-visited g c =
@@ -15,7 +15,7 @@ returns-clause-visited g c =
     let goes_on : GoesOn consistent c.args.table.now c.args.self.now c.in-Some.item c.if-is_empty.self =
     elim c.if-is_empty.branch [
       | then-is_empty w ↦ subst (λ new. GoesOn consistent c.args.table.now c.args.self.now c.in-Some.item new) (sym w.self-is) (w.leave.ensures consistent)
-      | else-is_empty+in_ok-go_on_by_query w ↦ subst (λ new. GoesOn consistent c.args.table.now c.args.self.now c.in-Some.item new) (sym w.self-is) w.in_ok-go_on_by_query.ensures.ok
+      | else-is_empty+in_ok-below w ↦ subst (λ new. GoesOn consistent c.args.table.now c.args.self.now c.in-Some.item new) (sym w.self-is) w.in_ok-below.ensures.ok
     ] in
     visits_made wanted consistent c.args.opened c.args.table.now c.args.self.now c.if-is_empty.self c.in-Some.item c.item-2.inside.page (seen_on wanted c.args.opened c.args.table.now c.item-2.inside.page)
     goes_on (ap (λ i. i.page) c.item-2.view_is) (ap (λ i. seen_on wanted c.args.opened c.args.table.now i.page) c.item-2.view_is)
