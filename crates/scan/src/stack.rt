@@ -169,7 +169,7 @@ impl Stack {
             self.leave::<C>(table, item);
         } else {
             let below = self.go_on_by_query::<C>(table, item, query)?;
-            let _asked = rows.reserve(below);
+            let _visits_ask_again = rows.reserve(below);
         }
         note_rows::<C>(page.rows(), query, opened, rows);
         Ok(Some(item.page))
@@ -304,7 +304,7 @@ impl Stack {
         push_link(&mut self.items, right, item.memo);
     }
 
-    /// Goes on to the children whose bounds are consistent with the query.
+    /// Goes on to the children whose bounds are consistent with the query. Answers how many rows they have, as `go_on` does.
     fn go_on_by_query<C: KeyClass>(
         &mut self,
         table: &PageTable<C::Key>,
@@ -326,7 +326,7 @@ impl Stack {
     }
 
     /// Puts what follows a page in the place of its item, the last. A page of a store has no more branches than a
-    /// number has bits.
+    /// number has bits. Answers how many rows the pages that were pushed have, and 0 where it has more branches.
     fn go_on<C: KeyClass, T: BranchTest<C>>(
         &mut self,
         table: &PageTable<C::Key>,
@@ -346,7 +346,7 @@ impl Stack {
         Ok(0)
     }
 
-    /// Goes on from a page that has no more branches than a number has bits.
+    /// Goes on from a page that has no more branches than a number has bits. Answers how many rows its children have.
     fn go_on_by_bits<C: KeyClass, T: BranchTest<C>>(
         &mut self,
         table: &PageTable<C::Key>,
