@@ -100,7 +100,7 @@ pub(crate) fn push_picked<K: Copy>(
         place -= passed as usize + 1;
         let page = branches[place].child;
         items.push_reserved(StackItem { page, memo });
-        rows = rows_on(table, page).saturating_add(rows);
+        rows = rows_on(table, page).wrapping_add(rows);
         bits = bits >> passed >> 1;
     }
     rows

@@ -22,6 +22,9 @@ use std::collections::VecDeque;
 use std::marker::Model;
 use std::sync::Arc;
 
+/// For how many rows of the pages that it goes on to a visit asks memory at once: most of these rows don't match.
+const AT_ONCE: usize = 16;
+
 /// A page that is still to be visited, and the counter when its number was read.
 #[derive(Clone, Copy, Default)]
 pub struct StackItem {
@@ -169,7 +172,7 @@ impl Stack {
             self.leave::<C>(table, item);
         } else {
             let below = self.go_on_by_query::<C>(table, item, query)?;
-            let _visits_ask_again = rows.reserve(below);
+            let _visits_ask_again = rows.reserve(below.min(AT_ONCE));
         }
         note_rows::<C>(page.rows(), query, opened, rows);
         Ok(Some(item.page))

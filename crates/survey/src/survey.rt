@@ -8,6 +8,9 @@ use page_table::PageTable;
 use scan::Stack;
 use std::alloc::{AllocError, Global};
 
+/// For how many rows a search asks memory before it has found any.
+const AT_FIRST: usize = 32;
+
 /// The rows that live after the first `commits` commits and match, by rising number: one traversal from the root, then
 /// a sort. The search is that of Guttman, R-Trees (1984), as Hellerstein, Naughton and Pfeffer generalized it (1995).
 ///
@@ -38,7 +41,7 @@ fn found_rows<C: KeyClass>(
     ensures { IfOk result (λ v. FindsAll C.rules query.now commits table.now v.items) }
 {
     let mut stack = Stack::at_root(alloc, table.counter());
-    let mut rows = Vec::new(alloc);
+    let mut rows = Vec::with_capacity(alloc, AT_FIRST)?;
     'visits: while !stack.is_empty() {
         stack.visit_into::<C>(table, query, commits, &mut rows)?;
     }
