@@ -5,8 +5,8 @@ use Rattle.world.specs.declared.commit.LeafChange.{LeafChange}
 use Rattle.world.specs.declared.commit.LeafChange.TheVariants as change
 
 -- a page as a hint names it: those that have no name are told as the root
-abbrev pub named : ℕ → ℕ
-named page = cond (nat_lt page 65536) page 0
+abbrev pub hint_to : ℕ → ℕ
+hint_to page = cond (nat_lt page 65536) page 0
 
 -- the row, where it has a hint, stands on the page
 abbrev pub with_hint : ℕ → ℕ → List ℕ → List ℕ

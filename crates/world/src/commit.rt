@@ -1,10 +1,10 @@
 //! A change of leaves, and the commit that tells of it.
 ghost use Rattle.std.specs.Prelude.{◌≡◌, ◌+◌, ◌<◌, ◌++◌, ◌∷◌, [], length, IfOk, IfErr, OnOk, OnErr};
 ghost use Rattle.change_list.specs.Changes.{MayFollow};
-ghost use Rattle.world.specs.Hints.{named, page_of_change};
+ghost use Rattle.world.specs.Hints.{hint_to, page_of_change};
 ghost use Rattle.world.specs.Writing.{ChangesNext, IsOfEarlier, TakesChange, with_change, write_of_change};
 
-use crate::hints::named;
+use crate::hints::hint_to;
 use change_list::{ChangeList, Write};
 use key_class::{KeyClass, Refusal};
 use row_version::Entry;
@@ -132,7 +132,7 @@ pub(crate) fn commit<C: KeyClass>(
     ensures changed { OnOk result (ChangesNext search.old commits.old change search.new) }
     ensures committed { OnOk result (commits.new ≡ commits.old ++ write_of_change change ∷ []) }
     ensures noted { OnOk result (hints.new.items
-        ≡ hints.old.items ++ named (page_of_change change) ∷ []) }
+        ≡ hints.old.items ++ hint_to (page_of_change change) ∷ []) }
     ensures pages_kept { OnErr result (search.new ≡ search.old) }
     ensures commits_kept { OnErr result (commits.new ≡ commits.old) }
     ensures refused { IfErr result (λ why. why ≡ Refusal.OutOfMemory) }
@@ -140,6 +140,6 @@ pub(crate) fn commit<C: KeyClass>(
     hints.reserve(1)?;
     let alloc = *hints.allocator();
     let number = change_and_tell(alloc, search, commits, change)?;
-    hints.push_reserved(named(change.page()));
+    hints.push_reserved(hint_to(change.page()));
     Ok(number)
 }

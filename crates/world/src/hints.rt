@@ -3,13 +3,13 @@
 //! A row may have gone to another page since, so whoever is told of a page looks whether it holds the row. There are no
 //! more pages than 16 bits can name, and a hint takes no more, since there is one for each commit.
 ghost use Rattle.std.specs.Prelude.{◌≡◌, slice_index_or};
-ghost use Rattle.world.specs.Hints.{named, with_hint, with_hints};
+ghost use Rattle.world.specs.Hints.{hint_to, with_hint, with_hints};
 
 use row_version::Entry;
 
 /// A page as a hint names it.
-pub(crate) fn named(page: u64) -> u16
-    ensures { result ≡ named page }
+pub(crate) fn hint_to(page: u64) -> u16
+    ensures { result ≡ hint_to page }
 {
     u16::try_from(page).unwrap_or(0)
 }
@@ -25,7 +25,7 @@ fn note_row(hints: &mut Vec<u16>, page: u16, row: u32)
 }
 
 /// Notes that these rows stand on a page.
-pub(crate) fn note_rows<K>(hints: &mut Vec<u16>, page: u16, rows: &[Entry<K>])
+pub(crate) fn note_all<K>(hints: &mut Vec<u16>, page: u16, rows: &[Entry<K>])
     ensures { hints.new.items ≡ with_hints page rows.now hints.old.items }
 {
     for entry in rows {

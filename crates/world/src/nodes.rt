@@ -5,7 +5,7 @@ ghost use Rattle.world.specs.Calls.{reply_of_commit, reply_of_sweep};
 ghost use Rattle.world.specs.Steps.{Acts, Step};
 
 use crate::commit::{LeafChange, commit};
-use crate::hints::{named, note_rows};
+use crate::hints::{hint_to, note_all};
 use crate::reply::{Reply, Stamped};
 use crate::world::World;
 use collector::horizon;
@@ -41,7 +41,7 @@ impl<C: KeyClass, O: Outlet<C::Key>> World<C, O> {
         let table = self.search.pages();
         if (page as usize) < table.len() {
             let rows = table.page(page).rows();
-            note_rows(&mut self.hints, named(u64::from(page)), rows);
+            note_all(&mut self.hints, hint_to(u64::from(page)), rows);
         }
     }
 
