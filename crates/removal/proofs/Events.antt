@@ -32,7 +32,7 @@ use Rattle.world.specs.declared.reply.Reply.TheVariants as reply
 use Rattle.world.specs.Serials.{without}
 use Rattle.world.specs.Stamps.{Stamp}
 use Rattle.world.specs.States.{State, finder_at, with_finder, IsSoundWorld}
-use Rattle.world.specs.Steps.{Buries, MovesRow, SeekingLeads, Step, find_tests, tests}
+use Rattle.world.specs.Steps.{Buries, MovesRow, SeeksOn, Step, find_tests, tests}
 use Rattle.world.proofs.FinderSteps.{find_passes, finder_of, sought_on_sound}
 use Rattle.world.proofs.Stepping.{step_serves, step_sound}
 
@@ -144,7 +144,7 @@ module _ {K A : Type 0} (rules : Rules K A) (rule : Rule) (first : State K A) (r
 
 -- the visits of a finder
 module _ (C O E : Type 0) {K A : Type 0} (rules : Rules K A) (rule : Rule) {same_key : K → K → Bool} {same_atom : A → A → Bool} (lawful : IsLawful rules same_key same_atom) (first : State K A) (row f : ℕ) (how : Ending K) (live : status_of first.commits row ≡ Live) (room : length first.commits < first.limit) (may : MayEnd rules.is_cover first.search how) where
-  visit_on : (how : Ending K) (s new : State K A) → first_failing (tests {C = C} rules rule s (event_of_ending f how)) ≡ None → SeekingLeads rules rule s f new → Step {C = C} {O = O} {E = E} rules rule 0 s (event_of_ending f how) reply.Seeking new
+  visit_on : (how : Ending K) (s new : State K A) → first_failing (tests {C = C} rules rule s (event_of_ending f how)) ≡ None → SeeksOn rules rule s f new → Step {C = C} {O = O} {E = E} rules rule 0 s (event_of_ending f how) reply.Seeking new
   visit_on ending.Delete s new passed on = record { passed = passed; change = on }
   visit_on (ending.Move leaf key) s new passed on = record { passed = passed; change = on }
 
@@ -169,7 +169,7 @@ module _ (C O E : Type 0) {K A : Type 0} (rules : Rules K A) (rule : Rule) {same
         | inl finds ↦ record { visits = 0; there = s; goes_on = refl; under_way = u; page = next.0.page; finds = finds }
         | inr on ↦
             let new : State K A = with_finder s on.0 in
-            let seeks : SeekingLeads rules rule s f new = record { before = k; later = on.0; is_open = is_open; page = next.0.page; further = on.1; after = refl } in
+            let seeks : SeeksOn rules rule s f new = record { before = k; later = on.0; is_open = is_open; page = next.0.page; further = on.1; after = refl } in
             let step = visit_on how s new (passes rules rule first row f s u C how live room may) seeks in
             let serves = step_serves rules rule lawful 0 s u.sound (event_of_ending f how) reply.Seeking new step in
             let sound = step_sound rules rule lawful 0 s u.sound (event_of_ending f how) reply.Seeking new step in
