@@ -6,8 +6,7 @@ import os
 import subprocess
 import sys
 
-# Where a crate's sources stand
-PARTS = ("src", "specs", "proofs")
+from sources import PARTS, files_below
 
 
 def toolchain():
@@ -23,12 +22,6 @@ def toolchain():
     for name in ("stamp", "below"):
         setattr(made.Crate, name, functools.cache(getattr(made.Crate, name)))
     return made
-
-
-def files_below(folder):
-    for at, folders, names in os.walk(folder):
-        folders.sort()
-        yield from (os.path.join(at, name) for name in sorted(names))
 
 
 def is_newer(built, crate):

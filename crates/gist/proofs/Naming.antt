@@ -16,7 +16,7 @@ use Rattle.clap.specs.declared.error.ErrorKind.TheVariants as kind
 use Rattle.gist.specs.CommandLine.{ClassNames, gist_line}
 use Rattle.gist.specs.Spelling.{IsCommand, OptionKind, SpellsOptions, table_of}
 use Rattle.gist.proofs.Serving.{checked, last_checks, shape_with}
-use Rattle.gist.proofs.Reading.{H, Taken, at, behind_mark, bundled, dashes, earlier, faulty, help, help_is_asked, help_or_none, later, option_row, reads, rows_at_end, rules}
+use Rattle.gist.proofs.Reading.{H, IsShortRule, Taken, at, behind_mark, bundled, dashes, earlier, faulty, help_is_asked, later, option_row, reads, request_or_none, rows_at_end, rules, version_is_asked}
 
 abbrev pub no_rows : Held
 no_rows = H [] None
@@ -40,13 +40,12 @@ module _ (names : ClassNames) where
   abbrev pub commands : Names
   commands = names_of line
 
-  abbrev IsHelpRule : Option Rule → Type 0
-  IsHelpRule o = (o ≡ None) ⊎ (o ≡ Some help)
-
-  long_is_faulty : (o : Option Rule) → IsHelpRule o → (x : Option Text) → long_fault top.rules false o x no_rows ≡ [] → ⊥
+  long_is_faulty : (o : Option Rule) → IsShortRule o → (x : Option Text) → long_fault top.rules false o x no_rows ≡ [] → ⊥
   long_is_faulty o (inl none) x f = faulty kind.UnknownArgument [] (subst (λ (r : Option Rule). long_fault top.rules false r x no_rows ≡ []) none f)
-  long_is_faulty o (inr is) (Some y) f = faulty kind.TooManyValues [] (subst (λ (r : Option Rule). long_fault top.rules false r (Some y) no_rows ≡ []) is f)
-  long_is_faulty o (inr is) None f = help_is_asked top.rules [] None (subst (λ (r : Option Rule). long_fault top.rules false r None no_rows ≡ []) is f)
+  long_is_faulty o (inr (rule, inl asks, is)) (Some y) f = faulty kind.TooManyValues [] (subst (λ (r : Option Rule). long_fault top.rules false r (Some y) no_rows ≡ []) (is ∙ ap Some asks) f)
+  long_is_faulty o (inr (rule, inr asks, is)) (Some y) f = faulty kind.TooManyValues [] (subst (λ (r : Option Rule). long_fault top.rules false r (Some y) no_rows ≡ []) (is ∙ ap Some asks) f)
+  long_is_faulty o (inr (rule, inl asks, is)) None f = help_is_asked top.rules [] None (subst (λ (r : Option Rule). long_fault top.rules false r None no_rows ≡ []) (is ∙ ap Some asks) f)
+  long_is_faulty o (inr (rule, inr asks, is)) None f = version_is_asked top.rules [] None (subst (λ (r : Option Rule). long_fault top.rules false r None no_rows ≡ []) (is ∙ ap Some asks) f)
 
   not_plain : (word : Text) (rest : Kinds) (o : Option Text)
       → or_else (or_else (option_map_or (λ flags. bundle_fault top.rules false flags no_rows) o []) (step_fault top 1 (short_or_plain top.rules idle word o no_rows).0 (short_or_plain top.rules idle word o no_rows).1)) rest ≡ [] → ⊥
@@ -57,7 +56,7 @@ module _ (names : ClassNames) where
       let turn = earlier (or_else bundling step) rest f in
       let none = earlier bundling step turn in
       let value_step = subst (λ (q : Held × Outcome). step_fault top 1 (after_flag top.rules idle word q.0 q.1).0 (after_flag top.rules idle word q.0 q.1).1 ≡ [])
-      (bundled top.rules (λ x. help_or_none (104 == x)) flags [] None none) (later bundling step turn) in
+      (bundled top.rules (λ x. request_or_none (104 == x) (86 == x)) flags [] None none) (later bundling step turn) in
       faulty kind.UnknownArgument (kind.InvalidSubcommand ∷ []) value_step
 
   marked_stops : (words : List Text) → walk_fault top commands (behind_mark no_rows idle) words ≡ [] → (fold (walked top.rules commands) (behind_mark no_rows idle) words).stopped ≡ None
@@ -74,7 +73,7 @@ module _ (names : ClassNames) where
   other_word word words false (Some q) f =
       let long = long_fault top.rules false (arg_by_long top.rules q.0) q.1 no_rows in
       let step = step_fault top 1 (long_or_other top.rules idle word (Some q) no_rows).0 (long_or_other top.rules idle word (Some q) no_rows).1 in
-      absurd (long_is_faulty (arg_by_long top.rules q.0) (help_or_none (bytes_eq (codes "help") q.0)) q.1 (earlier long step (earlier (or_else long step) _ f)))
+      absurd (long_is_faulty (arg_by_long top.rules q.0) (request_or_none (bytes_eq (codes "help") q.0) (bytes_eq (codes "version") q.0)) q.1 (earlier long step (earlier (or_else long step) _ f)))
   other_word word words false None f = absurd (not_plain word _ (short_of word) f)
 
   -- the word names no command, or is the name of one

@@ -10,7 +10,7 @@ use Rattle.clap.specs.Words.{Kinds, Row, Rule, Shape, Text}
 use Rattle.clap.specs.Kinds.{or_else}
 use Rattle.clap.specs.Lexer.{long_of, short_of}
 use Rattle.clap.specs.Faults.{bundle_fault, bundle_step_fault, flag_word_fault, flags_fault, long_fault, positional_fault, react_fault, repeat_fault, settle_fault, short_fault, step_fault, stray_fault, use_fault, values_fault, walk_fault}
-use Rattle.clap.specs.Simple.{filled, help_rule, with_index}
+use Rattle.clap.specs.Simple.{filled, help_rule, version_rule, with_index}
 use Rattle.clap.specs.Walk.{Held, Outcome, Step, Waiting, Walk, after_flag, after_step, arg_by_id, arg_by_index, arg_by_long, arg_by_short, at_row, bundle, bundle_met, bundle_step, has_row, idle, long_met, long_or_other, more_values, next, option, option_word, plain, plain_word, reading_by, settled_rows, short_or_plain, short_word, trailing, used, used_by_id, value as lone_word, walked, with_values, without}
 use Rattle.clap.specs.Values.{reading_of}
 use Rattle.clap.specs.declared.error.ErrorKind.{ErrorKind}
@@ -28,6 +28,13 @@ value_rule name takes = with_index 1 (filled (option_rule name takes))
 
 abbrev pub help : Rule
 help = with_index 1 (filled help_rule)
+
+abbrev pub version : Rule
+version = with_index 1 (filled version_rule)
+
+-- what asks for a text: the help or the version
+abbrev pub IsRequest : Rule → Type 0
+IsRequest rule = (rule ≡ help) ⊎ (rule ≡ version)
 
 abbrev pub H : List Row → Option (Text × List Text) → Held
 H rows p = record { rows = rows; pending = p; skip = 0 }
@@ -66,12 +73,15 @@ added id change missing (r ∷ rows) none = go (bytes_eq r.id id) none (added id
     go true h rest = absurd (true≢false h)
     go false h rest = ap (λ rs. r ∷ rs) (rest h)
 
--- the only short option is `-h`
+-- what stands behind one hyphen names no rule, or one that asks for a text, as `-h` does
 abbrev pub IsShortRule : Option Rule → Type 0
-IsShortRule o = (o ≡ None) ⊎ (o ≡ Some help)
+IsShortRule o = (o ≡ None) ⊎ ((rule : Rule) × IsRequest rule × (o ≡ Some rule))
 
 pub help_is_asked : (c : List Rule) (rows : List Row) (p : Option (Text × List Text)) → react_fault c false help [] (H rows p) ≡ [] → ⊥
 help_is_asked c rows p e = faulty kind.DisplayHelp [] (later (settle_fault c false (H rows p)) (use_fault false help [] (settled_rows c p rows)) e)
+
+pub version_is_asked : (c : List Rule) (rows : List Row) (p : Option (Text × List Text)) → react_fault c false version [] (H rows p) ≡ [] → ⊥
+version_is_asked c rows p e = faulty kind.DisplayVersion [] (later (settle_fault c false (H rows p)) (use_fault false version [] (settled_rows c p rows)) e)
 
 pub bundled : (c : List Rule) → ((x : ℕ) → IsShortRule (arg_by_short c x)) → (flags : Text) (rows : List Row) (p : Option (Text × List Text)) → bundle_fault c false flags (H rows p) ≡ []
     → bundle c flags (H rows p) ≡ (H rows p, plain)
@@ -79,10 +89,16 @@ unfolding bundle_met flags_fault
 bundled c only [] rows p e = refl
 bundled c only (x ∷ xs) rows p e = go (slice_get (chars (x ∷ xs)) 0) e
   where
+    request : (rule : Rule) → IsRequest rule → (rest : Text) (further : Held → Kinds) → short_fault c false (Some rule) rest (H rows p) further ≡ [] → ⊥
+    request rule (inl is) rest further f =
+        help_is_asked c rows p (earlier (react_fault c false help [] (H rows p)) _ (subst (λ (r : Rule). short_fault c false (Some r) rest (H rows p) further ≡ []) is f))
+    request rule (inr is) rest further f =
+        version_is_asked c rows p (earlier (react_fault c false version [] (H rows p)) _ (subst (λ (r : Rule). short_fault c false (Some r) rest (H rows p) further ≡ []) is f))
+
     short : (o : Option Rule) → IsShortRule o → (rest : Text) (further : Held → Kinds) → short_fault c false o rest (H rows p) further ≡ [] → ⊥
     short o (inl none) rest further f = faulty kind.UnknownArgument [] (subst (λ (r : Option Rule). short_fault c false r rest (H rows p) further ≡ []) none f)
-    short o (inr is) rest further f =
-        help_is_asked c rows p (earlier (react_fault c false help [] (H rows p)) _ (subst (λ (r : Option Rule). short_fault c false r rest (H rows p) further ≡ []) is f))
+    short o (inr (rule, asks, is)) rest further f =
+        request rule asks rest further (subst (λ (r : Option Rule). short_fault c false r rest (H rows p) further ≡ []) is f)
 
     go : (o : Option ℕ) → bundle_step_fault c false o (x ∷ xs) 0 (H rows p) (flags_fault c false (length xs)) ≡ []
         → bundle_step c o (x ∷ xs) 0 plain (H rows p) (bundle_met c (length xs)) ≡ (H rows p, plain)
@@ -90,8 +106,14 @@ bundled c only (x ∷ xs) rows p e = go (slice_get (chars (x ∷ xs)) 0) e
     go (Some y) f = absurd (short (arg_by_short c y) (only y) _ _ f)
 
 pub help_or_none : (b : Bool) → IsShortRule (cond (b || false) (Some help) None)
-help_or_none true = inr refl
+help_or_none true = inr (help, inl refl, refl)
 help_or_none false = inl refl
+
+-- the same of a command that has a version
+pub request_or_none : (b d : Bool) → IsShortRule (cond (b || false) (Some help) (cond (d || false) (Some version) None))
+request_or_none true d = inr (help, inl refl, refl)
+request_or_none false true = inr (version, inr refl, refl)
+request_or_none false false = inl refl
 
 -- the rule of an option with a value, which the name finds as an identifier
 abbrev IsValueRule : Text → Option Rule → Rule → Type 0

@@ -1,5 +1,5 @@
 -- The program's command line in clap's words, and what the words on it give.
-use Rattle.std.specs.Prelude.{◌≡◌, ◌≢◌, ℕ, ◌<◌, ◌^◌, List, [], ◌∷◌, map, drop, Option, Some, None, codes, if◌then◌else◌, true, pos}
+use Rattle.std.specs.Prelude.{◌≡◌, ◌≢◌, ◌⊎◌, ℕ, ◌<◌, ◌^◌, List, [], ◌∷◌, map, drop, Option, Some, None, codes, if◌then◌else◌, true, pos}
 use Rattle.std.specs.Borrow.{Bor}
 use Rattle.std.specs.Str.{bytes_eq}
 use Rattle.std.specs.Str.Parse.{IsNumeral, digits_value, without_leading_plus}
@@ -57,7 +57,7 @@ abbrev pub AreClassNames : ClassNames → Type 0
 AreClassNames names = texts_of names.now ≡ codes "interval" ∷ codes "box" ∷ codes "set" ∷ []
 
 abbrev pub program : App
-program = record (new_app (codes "gist")) { top = record (new_app (codes "gist")).top { subcommand_required = true; disable_help_subcommand = true } }
+program = record (new_app (codes "gist")) { top = record (new_app (codes "gist")).top { has_version = true; subcommand_required = true; disable_help_subcommand = true } }
 
 -- the program with the commands that keep rows
 abbrev pub with_store_commands : ClassNames → App
@@ -148,17 +148,21 @@ pub record AreWellFormed (words : List Text) : Type 0 where
   pub spelled : SpellsPlainly rest given
   pub are_options : AreOptions (table_of command) [] given
 
--- the words are refused, or ask for help, with an error of this kind
+-- the words are refused, or ask for a text, with an error of this kind
 abbrev pub Refuses : List Text → ErrorKind → Type 0
 Refuses words kind = (line : App) × IsGistLine line × IsAmong kind (fault_of line words)
 
--- the words of a command line ask for help
-abbrev pub WantHelp : List (Bor Text) → Type 0
-WantHelp words = Refuses (texts_of words) kind.DisplayHelp
+-- the kind is that of words that ask for a text, the help or the version
+abbrev pub IsForText : ErrorKind → Type 0
+IsForText why = (why ≡ kind.DisplayHelp) ⊎ (why ≡ kind.DisplayVersion)
 
--- the words are refused, and not because they ask for help
+-- the words of a command line ask for the help or for the version
+abbrev pub WantText : List Text → Type 0
+WantText words = (why : ErrorKind) × IsForText why × Refuses words why
+
+-- the words are refused, and not because they ask for a text
 abbrev pub AreRefused : List Text → Type 0
-AreRefused words = (why : ErrorKind) × Refuses words why × (why ≢ kind.DisplayHelp)
+AreRefused words = (why : ErrorKind) × Refuses words why × (¬ IsForText why)
 
 -- the words are refused with the error, unless memory was wanting
 abbrev pub RefusesUnlessMemory : List Text → Error → Type 0
@@ -168,14 +172,14 @@ RefusesUnlessMemory words e = kind_of e ≢ kind.OutOfMemory → Refuses words (
 abbrev pub LacksMemory : Error → Type 0
 LacksMemory e = kind_of e ≡ kind.OutOfMemory
 
--- the words ask for help
-abbrev pub AsksForHelp : Error → Type 0
-AsksForHelp e = kind_of e ≡ kind.DisplayHelp
+-- the words ask for the help or for the version
+abbrev pub AsksForText : Error → Type 0
+AsksForText e = IsForText (kind_of e)
 
--- the error is one of the words: they don't ask for help, and memory was not wanting
+-- the error is one of the words: they ask for no text, and memory was not wanting
 abbrev pub IsOfWords : Error → Type 0
-IsOfWords e = (kind_of e ≢ kind.DisplayHelp) × (kind_of e ≢ kind.OutOfMemory)
+IsOfWords e = (¬ AsksForText e) × (kind_of e ≢ kind.OutOfMemory)
 
--- the words give no settings, and don't ask for help
+-- the words give no settings, and ask for no text
 abbrev pub NameNothing : List Text → Type 0
-NameNothing words = ((settings : Settings) → ¬ GivesSettings words settings) × (¬ Refuses words kind.DisplayHelp)
+NameNothing words = ((settings : Settings) → ¬ GivesSettings words settings) × (¬ WantText words)

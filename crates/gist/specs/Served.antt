@@ -106,6 +106,6 @@ RefusesLimits returned = returned ≡ Err (fault.Refused refusal.BadConfig)
 abbrev pub NameBadLimits : List Text → Type 0
 NameBadLimits words = AreWellFormed words × ((settings : Settings) → GivesSettings words settings → AreOutOfLimits settings)
 
--- the words of a command line give no settings and ask for no help, or settings that name a number outside its range
+-- the words of a command line give no settings and ask for no text, or settings that name a number outside its range
 abbrev pub AreUnfit : List (Bor Text) → Type 0
 AreUnfit words = NameNothing (texts_of words) ⊎ NameBadLimits (texts_of words)

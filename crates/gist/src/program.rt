@@ -7,7 +7,7 @@ ghost use Rattle.clap.specs.Words.{kind_of};
 ghost use Rattle.clap.specs.declared.error.ErrorKind.{ErrorKind};
 ghost use Rattle.storm.specs.Sizes.{IsStorm};
 ghost use Rattle.gist.specs.Storms.{TellsStorm, Outputs, count_line, reader_line, storm_text};
-ghost use Rattle.gist.specs.CommandLine.{texts_of, AreWellFormed, NameNothing, AreRefused, AsksForHelp, IsOfWords, WantHelp};
+ghost use Rattle.gist.specs.CommandLine.{texts_of, AreWellFormed, NameNothing, AreRefused, AsksForText, IsOfWords, WantText};
 ghost use Rattle.gist.specs.Served.{limits_of, AnsweredOver, EventsAnsweredOver, ServesOptions, Replays, Does, DoesAsked, IfWell, HaveBadLimits, AreOutOfLimits, RefusesLimits, NameBadLimits, AreUnfit};
 
 use crate::options::{Class, Ending, Settings, StoreOptions};
@@ -236,14 +236,14 @@ fn run<T: Threads + Wait + Clock + Sync, R: Read, W: Write>(
 
 /// Shows why there are no settings, and gives the status.
 fn show<W: Write, E: Write>(error: &Error, writer: &mut W, errors: &mut E) -> u8
-    ensures well { result ≡ 0 → AsksForHelp error.now × (errors.new ≡ errors.old) }
+    ensures well { result ≡ 0 → AsksForText error.now × (errors.new ≡ errors.old) }
     ensures wrong { (result ≡ 2) ↔ IsOfWords error.now }
     ensures memory { kind_of error.now ≡ ErrorKind.OutOfMemory → result ≡ 1 }
-    ensures quiet { kind_of error.now ≢ ErrorKind.DisplayHelp → writer.new ≡ writer.old }
+    ensures quiet { ¬ AsksForText error.now → writer.new ≡ writer.old }
     ensures status { result < 3 }
 {
     match error.kind() {
-        ErrorKind::DisplayHelp => match write!(writer, "{error}") {
+        ErrorKind::DisplayHelp | ErrorKind::DisplayVersion => match write!(writer, "{error}") {
             Ok(()) => 0,
             Err(_) => fail(Fault::Write, errors),
         },
@@ -273,7 +273,7 @@ pub fn command<T: Threads + Wait + Clock + Sync, R: Read, W: Write, E: Write>(
     writer: &mut W,
     errors: &mut E,
 ) -> u8
-    ensures served { result ≡ 0 → (WantHelp words.now × (reader.new ≡ reader.old))
+    ensures served { result ≡ 0 → (WantText (texts_of words.now) × (reader.new ≡ reader.old))
         ⊎ DoesAsked words.now
         (exchange R.remaining reader.old reader.new W.contents writer.old writer.new) }
     ensures taken { AreWellFormed (texts_of words.now) → result ≢ 2 }

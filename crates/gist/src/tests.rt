@@ -135,7 +135,7 @@ fn storms_are_read(rt: HostRuntime) -> Result<(), Fail> {
 }
 
 /// Words, and the kind of error that they are.
-static REFUSED: [(&[&str], ErrorKind); 26] = [
+static REFUSED: [(&[&str], ErrorKind); 29] = [
     (&["gist"], ErrorKind::MissingSubcommand),
     (&["gist", "sit"], ErrorKind::InvalidSubcommand),
     (&["gist", "--fan", "9"], ErrorKind::UnknownArgument),
@@ -162,6 +162,9 @@ static REFUSED: [(&[&str], ErrorKind); 26] = [
         ErrorKind::ArgumentConflict,
     ),
     (&["gist", "--help"], ErrorKind::DisplayHelp),
+    (&["gist", "--version"], ErrorKind::DisplayVersion),
+    (&["gist", "-V"], ErrorKind::DisplayVersion),
+    (&["gist", "serve", "--version"], ErrorKind::UnknownArgument),
     (&["gist", "serve", "-h"], ErrorKind::DisplayHelp),
     (&["gist", "Replay"], ErrorKind::InvalidSubcommand),
     (&["gist", "replay", "serve"], ErrorKind::UnknownArgument),

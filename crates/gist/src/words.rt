@@ -7,7 +7,7 @@ ghost use Rattle.gist.specs.CommandLine.{AreClassNames, IsGistLine, IsStormComma
 use crate::help::{
     ABOUT, DELETES_HELP, FAN_HELP, FIRST_SESSION, INSERTS_HELP, LEAST_HELP, PUMPS_HELP,
     READERS_HELP, REPLAY_ABOUT, REPLAY_GUIDE, ROOM_HELP, SEED_HELP, SERVE_ABOUT, SERVE_GUIDE,
-    STORM_ABOUT, STORM_GUIDE, SWEEPS_HELP, WRITERS_HELP,
+    STORM_ABOUT, STORM_GUIDE, SWEEPS_HELP, VERSION, WRITERS_HELP,
 };
 use crate::options::{Class, Settings, StoreOptions};
 use clap::{Arg, ArgMatches, Command, Error, value_parser};
@@ -107,6 +107,7 @@ fn command_line<'a>(alloc: Global) -> Result<Command<'a>, AllocError>
         .about(STORM_ABOUT)
         .after_help(STORM_GUIDE);
     Command::new(alloc, "gist")
+        .version(VERSION)
         .about(ABOUT)
         .after_help(FIRST_SESSION)
         .subcommand_required(true)
@@ -171,8 +172,8 @@ fn settings_of(command: &str, options: &ArgMatches<'_>) -> Settings
 /// What the program's words ask for. The first word is the program's name.
 ///
 /// # Errors
-/// `DisplayHelp` where the words ask for help, `OutOfMemory`, and else why the words are refused; its `Display` is the
-/// text for the user.
+/// `DisplayHelp` or `DisplayVersion` where the words ask for help or for the version, `OutOfMemory`, and else why the words
+/// are refused; its `Display` is the text for the user.
 pub fn settings<'a>(alloc: Global, words: &'a [&'a str]) -> Result<Settings, Error>
     ensures given { IfOk result (GivesSettings (texts_of words.now)) }
     ensures taken { AreWellFormed (texts_of words.now) → IfErr result LacksMemory }

@@ -5,7 +5,7 @@ use Rattle.gist.specs.CommandLine.{AreClassNames, program, store_command, storm_
 use Rattle.gist.proofs.words.command_line.Goals as goal
 
 abbrev asking : App → App
-asking a = record a { top = record a.top { subcommand_required = true; disable_help_subcommand = true } }
+asking a = record a { top = record a.top { has_version = true; subcommand_required = true; disable_help_subcommand = true } }
 
 -- a plain command has no global argument
 no_globals : (groups external globals rest : Bool) → (groups && (external && (not globals && rest))) ≡ true → globals ≡ false
@@ -21,7 +21,7 @@ returns c =
     let serve_is : app_of c.after_help-serve.result ≡ store_command classes (codes "serve") = rw (c.after_help-serve.ensures, c.about.ensures) c.in_ok-store_command.ensures in
     let replay_is : app_of c.after_help-replay.result ≡ store_command classes (codes "replay") = rw (c.after_help-replay.ensures, c.about-2.ensures) c.in_ok-store_command-2.ensures in
     let program_is : app_of c.disable_help_subcommand.result ≡ program =
-    rw (c.disable_help_subcommand.ensures, c.subcommand_required.ensures, c.after_help.ensures, c.about-4.ensures) (ap asking c.new.ensures.app) in
+    rw (c.disable_help_subcommand.ensures, c.subcommand_required.ensures, c.after_help.ensures, c.about-4.ensures, c.version.ensures) (ap asking c.new.ensures.app) in
     let one_is : app_of c.in_ok-subcommand.field-0 ≡ with_subcommand program (store_command classes (codes "serve")).top =
     c.in_ok-subcommand.ensures.shape (no_globals _ _ _ _ (ap (λ (a : App). a.top.is_plain) serve_is)) ∙ ap₂ with_subcommand program_is (ap (λ (a : App). a.top) serve_is) in
     let two_are : app_of c.in_ok-subcommand-2.field-0 ≡ with_store_commands classes =

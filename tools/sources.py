@@ -1,0 +1,90 @@
+"""What the tools share of the repository itself: its crates, the sums of their sources, and what is released."""
+import glob
+import hashlib
+import os
+import re
+import subprocess
+
+ROOT = os.path.abspath(os.path.join(os.path.dirname(os.path.abspath(__file__)), ".."))
+RELEASE = f"{ROOT}/release"
+
+# What is released: the program and the library for C
+RELEASED = ("gist", "gist_c")
+
+# Where a crate's sources stand
+PARTS = ("src", "specs", "proofs")
+
+
+def text_of(path):
+    with open(path, encoding="utf-8") as file:
+        return file.read()
+
+
+def sum_of(path):
+    with open(path, "rb") as file:
+        return hashlib.sha256(file.read()).hexdigest()
+
+
+def files_below(folder):
+    """Each file below a folder, in one order wherever it stands."""
+    for at, folders, names in os.walk(folder):
+        folders.sort()
+        yield from (os.path.join(at, name) for name in sorted(names))
+
+
+def lines_of_crates():
+    """The line of crates.txt of each crate, and the names of what it uses."""
+    found = {}
+    for line in text_of(f"{ROOT}/crates.txt").splitlines():
+        name, colon, uses = line.partition("#")[0].partition(":")
+        if colon:
+            found[name.split()[0]] = line, uses.split()
+    return found
+
+
+def crates_of(names):
+    """The names of these crates, and of the repository's crates below them."""
+    listed, found = lines_of_crates(), set()
+    left = list(names)
+    while left:
+        name = left.pop()
+        if name in listed and name not in found:
+            found.add(name)
+            left += listed[name][1]
+    return sorted(found)
+
+
+def sum_of_sources():
+    """One sum of all that the program and the library are made from."""
+    listed, whole = lines_of_crates(), hashlib.sha256()
+    for name in crates_of(RELEASED):
+        whole.update(f"{listed[name][0]}\n".encode())
+        for part in PARTS:
+            for path in files_below(f"{ROOT}/crates/{name}/{part}"):
+                whole.update(f"{sum_of(path)}  {os.path.relpath(path, ROOT)}\n".encode())
+    return whole.hexdigest()
+
+
+def version():
+    """The version that the program's source names."""
+    return re.search(r'VERSION: &str = "([^"]+)"', text_of(f"{ROOT}/crates/gist/src/help.rt"))[1]
+
+
+def commit():
+    """The commit of these sources, and whether there are changes beside it."""
+    try:
+        words = ["git", "-C", ROOT, "describe", "--always", "--abbrev=12", "--exclude=*", "--dirty=, with changes"]
+        return subprocess.run(words, check=True, text=True, capture_output=True).stdout.strip()
+    except (OSError, subprocess.CalledProcessError):
+        return "unknown"
+
+
+def told_of_build(toolchain):
+    """What is kept beside what was built: its version, its commit, the toolchain's line, and the sum of its sources."""
+    return f"gist {version()}\ncommit {commit()}\n{toolchain}\nsources {sum_of_sources()}\n"
+
+
+def archive():
+    """The path of the released archive; none where there isn't one."""
+    found = glob.glob(f"{RELEASE}/gist-*-x86_64-linux.tar.xz")
+    return found[0] if len(found) == 1 else None
