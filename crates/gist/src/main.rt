@@ -5,8 +5,6 @@
 mod help;
 mod options;
 mod program;
-#[cfg(test)]
-mod tests;
 mod words;
 
 use program::command;

@@ -48,3 +48,7 @@ returns-in-Err-clause-bad_limits g c = λ bad. c.show.ensures.memory (c.in-Err.e
 pub returns-in-Err-clause-unserved : goal.returns-in-Err-clause-unserved
 returns-in-Err-clause-unserved g c = λ unfit.
     (refl {a = c.args.reader.now}, c.show.ensures.quiet (other_than_text (texts_of c.args.words.now) c.in-Err.error c.in-Err.ensures.refused c.in-Err.ensures.taken unfit))
+
+pub returns-in-Err-clause-unread : goal.returns-in-Err-clause-unread
+returns-in-Err-clause-unread g c = λ wrong.
+    (refl {a = c.args.reader.now}, c.show.ensures.quiet (c.show.ensures.wrong.0 wrong).0)
