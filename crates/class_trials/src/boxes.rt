@@ -1,6 +1,6 @@
-use crate::picks::{asked, has_too_few, splits, splits_again};
-use box_class::{Atom, BoxKey, Boxes, atoms_mean_their_words};
-use key_class::{KeyClass, Refusal, Rel};
+use crate::picks::{has_too_few, splits, splits_again};
+use box_class::{BoxKey, Boxes, atoms_mean_their_words};
+use key_class::{KeyClass, Refusal};
 use std::alloc::Global;
 use std::test::Fail;
 
@@ -23,44 +23,6 @@ fn makes_boxes_in_order(rt: HostRuntime) {
     for ends in [[1, 0, 0, 0], [0, 1, 0, 0], [5, 5, 4, 4]] {
         assert!(rt; key(ends).err() == Some(Refusal::BadConfig), "{ends:?}");
     }
-}
-
-/// An atom, whether the key (2 2 5 5) matches it, and whether its bound (0 0 9 9) is consistent with it.
-static MATCHES: [(Rel, [i32; 4], bool, bool); 12] = [
-    (Rel::Overlaps, [5, 5, 7, 7], true, true),
-    (Rel::Overlaps, [6, 2, 7, 5], false, true),
-    (Rel::Overlaps, [10, 2, 12, 5], false, false),
-    (Rel::Within, [2, 0, 5, 9], true, true),
-    (Rel::Within, [3, 0, 5, 9], false, true),
-    (Rel::Within, [2, 10, 5, 12], false, false),
-    (Rel::Holds, [3, 3, 5, 5], true, true),
-    (Rel::Holds, [3, 3, 5, 6], false, true),
-    (Rel::Holds, [3, 3, 10, 6], false, false),
-    (Rel::Same, [2, 2, 5, 5], true, true),
-    (Rel::Same, [2, 2, 5, 6], false, true),
-    (Rel::Same, [2, -1, 5, 5], false, false),
-];
-
-/// Whether a key matches an atom, and whether a bound is consistent with it.
-fn asked_of(
-    rel: Rel,
-    operand: [i32; 4],
-    matching: [i32; 4],
-    bound: [i32; 4],
-) -> Result<(bool, bool), Refusal> {
-    let operand = key(operand)?;
-    let atom = Atom { rel, operand };
-    Ok(asked::<Boxes>(&atom, key(matching)?, key(bound)?))
-}
-
-#[test]
-fn matches_by_points(rt: HostRuntime) {
-    for (rel, operand, matches, consistent) in &MATCHES {
-        let told = asked_of(*rel, *operand, [2, 2, 5, 5], [0, 0, 9, 9]);
-        assert!(rt; told == Ok((*matches, *consistent)), "{rel:?} {operand:?}");
-    }
-    let told = asked_of(Rel::Holds, [0, 0, 0, 0], PLANE, PLANE);
-    assert!(rt; told == Ok((true, true)));
 }
 
 const LOW: i32 = i32::MIN;

@@ -1,11 +1,6 @@
 use key_class::{KeyClass, Refusal, Side, Sides};
 use std::alloc::Global;
 
-/// Whether a key matches an atom, and whether a bound is consistent with it.
-pub fn asked<C: KeyClass>(atom: &C::Atom, key: C::Key, bound: C::Key) -> (bool, bool) {
-    (C::matches(atom, key), C::consistent(atom, bound))
-}
-
 /// Whether sides are those that letters name: l for left, r for right.
 pub fn are(sides: &Sides, letters: &str) -> bool {
     let letters = letters.as_bytes();

@@ -1,6 +1,6 @@
-use crate::picks::{asked, has_too_few, splits, splits_again};
-use key_class::{KeyClass, Refusal, Rel};
-use set_class::{Atom, Elements, Sets, atoms_mean_their_words};
+use crate::picks::{has_too_few, splits, splits_again};
+use key_class::{KeyClass, Refusal};
+use set_class::{Elements, Sets, atoms_mean_their_words};
 use std::alloc::Global;
 use std::test::Fail;
 
@@ -47,46 +47,6 @@ fn tells_elements(rt: HostRuntime) {
         (255, false),
     ] {
         assert!(rt; contains(&[0, 64, 127], number) == Ok(wanted), "{number}");
-    }
-}
-
-/// An atom, whether the key {1 2} and then the empty set match it, and whether their bound {1 2 3} is consistent with it.
-static MATCHES: [(Rel, &[u8], bool, bool, bool); 16] = [
-    (Rel::Overlaps, &[2, 9], true, false, true),
-    (Rel::Overlaps, &[3], false, false, true),
-    (Rel::Overlaps, &[0, 127], false, false, false),
-    (Rel::Overlaps, &[], false, false, false),
-    (Rel::Within, &[1, 2, 9], true, true, true),
-    (Rel::Within, &[2, 3], false, true, true),
-    (Rel::Within, &[9], false, true, true),
-    (Rel::Within, &[], false, true, true),
-    (Rel::Holds, &[1], true, false, true),
-    (Rel::Holds, &[3], false, false, true),
-    (Rel::Holds, &[1, 9], false, false, false),
-    (Rel::Holds, &[], true, true, true),
-    (Rel::Same, &[2, 1], true, false, true),
-    (Rel::Same, &[1, 2, 3], false, false, true),
-    (Rel::Same, &[1, 2, 9], false, false, false),
-    (Rel::Same, &[], false, true, true),
-];
-
-/// Whether a key matches an atom, and whether its bound {1 2 3} is consistent with it.
-fn asked_of(rel: Rel, operand: &[u8], key: &[u8]) -> Result<(bool, bool), Refusal> {
-    let operand = Elements::new(operand)?;
-    let atom = Atom { rel, operand };
-    Ok(asked::<Sets>(&atom, Elements::new(key)?, Elements::new(&[1, 2, 3])?))
-}
-
-#[test]
-fn matches_by_elements(rt: HostRuntime) {
-    for (rel, operand, matches, empty_matches, consistent) in &MATCHES {
-        let told = asked_of(*rel, operand, &[1, 2]);
-        assert!(rt; told == Ok((*matches, *consistent)), "{rel:?} {operand:?}");
-        let told = asked_of(*rel, operand, &[]);
-        assert!(rt;
-            told == Ok((*empty_matches, *consistent)),
-            "{rel:?} {operand:?}"
-        );
     }
 }
 

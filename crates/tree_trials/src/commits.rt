@@ -4,7 +4,7 @@ use std::alloc::Global;
 use std::test::Fail;
 
 /// The greatest number of commits of a list.
-pub const MOST_COMMITS: usize = 4_294_967_295;
+const MOST_COMMITS: usize = 4_294_967_295;
 
 /// The list with memory for an insert.
 fn reserved(list: ChangeList<u8>) -> Result<RoomyList<u8>, Fail> {
@@ -54,7 +54,7 @@ fn has_memory_for_one_commit(rt: HostRuntime) -> Result<(), Fail> {
 }
 
 /// Adds a commit, if a row that it ends lives.
-pub fn commit(changes: &mut ChangeList<u8>, write: Write<u8>) -> Result<(), Refusal> {
+fn commit(changes: &mut ChangeList<u8>, write: Write<u8>) -> Result<(), Refusal> {
     if changes.len() >= MOST_COMMITS {
         return Err(Refusal::CommitsFull);
     }

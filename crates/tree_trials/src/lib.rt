@@ -1,5 +1,5 @@
-//! Trials of the tree over a class of keys: a worked trace of steps with its answers, ways of finders, insertions, the
-//! horizon of cursors, rows that are live, and each call once.
+//! Trials of the tree below a world: each call of a page, a table, a list of commits and a mailbox once, and the laws that no
+//! program calls.
 #![tactic(auto)]
 
 #[cfg(test)]
@@ -7,24 +7,10 @@ mod calls;
 #[cfg(test)]
 mod commits;
 #[cfg(test)]
-mod cursors;
-#[cfg(test)]
-mod deliveries;
-#[cfg(test)]
-mod finders;
-#[cfg(test)]
-mod horizons;
-#[cfg(test)]
-mod insertions;
+mod laws;
 #[cfg(test)]
 mod limits;
 #[cfg(test)]
 mod rings;
-#[cfg(test)]
-mod scans;
-#[cfg(test)]
-mod surveys;
-#[cfg(test)]
-mod trace;
 #[cfg(test)]
 mod trays;

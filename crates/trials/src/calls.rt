@@ -1,5 +1,4 @@
-use super::rows::CONFIG;
-use change_list::{ChangeList, Config, Item, Row, Status, Write};
+use change_list::{Config, Item, Row, Write};
 use interval_class::{Atom, Interval, Intervals};
 use key_class::{Pred, Refusal, Rel};
 use query_text::ClassText;
@@ -7,69 +6,19 @@ use std::alloc::Global;
 use std::test::Fail;
 use store::Store;
 
+const CONFIG: Config = Config {
+    fan: 8,
+    least: 3,
+    pages: 65_536,
+    commits: 16_777_216,
+};
+
 fn key(lo: i64, hi: i64) -> Result<Interval, Refusal> {
     Interval::new(lo, hi)
 }
 
 fn overlapping(lo: i64, hi: i64) -> Result<Pred<Atom>, Refusal> {
     Ok(Pred::Atom(Intervals::atom(Rel::Overlaps, key(lo, hi)?)))
-}
-
-/// The greatest number of commits of a list.
-const MOST_COMMITS: usize = 4_294_967_295;
-
-/// Adds a commit, if a row that it ends lives.
-fn commit(changes: &mut ChangeList<u8>, write: Write<u8>) -> Result<(), Refusal> {
-    if changes.len() >= MOST_COMMITS {
-        return Err(Refusal::CommitsFull);
-    }
-    match write {
-        Write::Insert(_, _) => {}
-        Write::Delete(row) => {
-            if changes.status(row) != Status::Live {
-                return Err(Refusal::NoSuchRow);
-            }
-        }
-        Write::Move(row, _) => {
-            if changes.status(row) != Status::Live {
-                return Err(Refusal::NoSuchRow);
-            }
-        }
-    }
-    Ok(changes.push(write)?)
-}
-
-/// Two insertions, and the delete of the first's row.
-fn three_commits(alloc: Global) -> Result<ChangeList<u8>, Refusal> {
-    let mut changes = ChangeList::new(alloc);
-    for write in [Write::Insert(7, 3), Write::Insert(9, 0), Write::Delete(1)] {
-        commit(&mut changes, write)?;
-    }
-    Ok(changes)
-}
-
-#[test]
-fn a_list_of_commits(rt: HostRuntime) -> Result<(), Fail> {
-    assert!(rt; ChangeList::<u8>::new(rt.alloc()).len() == 0);
-    let changes = three_commits(rt.alloc())?;
-    assert!(rt; changes.len() == 3);
-    for (row, status) in [
-        (0, Status::NeverIssued),
-        (1, Status::Dead),
-        (2, Status::Live),
-        (3, Status::NeverIssued),
-    ] {
-        assert!(rt; changes.status(row) == status, "{row}");
-    }
-    for (number, write) in [
-        (0, None),
-        (1, Some(Write::Insert(7, 3))),
-        (3, Some(Write::Delete(1))),
-        (4, None),
-    ] {
-        assert!(rt; changes.commit(number) == write, "{number}");
-    }
-    Ok(())
 }
 
 /// Whether a configuration is out of range, and refused as such.

@@ -91,31 +91,6 @@ static MOVES: [Ask; 23] = [
     Ask::Find(1),
 ];
 
-/// A cursor that follows commit 1, an insert and a delete while it goes on, a mark; then a commit that is to come, and the
-/// last one.
-static FOLLOWS: [Ask; 20] = [
-    Ask::Place(0, (1, 1), 7),
-    Ask::Place(0, (2, 2), 8),
-    Ask::Follow(Query::Overlaps(0, 9), 8, 1),
-    Ask::Place(0, (3, 3), 0),
-    Ask::Find(1),
-    Ask::Seek(1),
-    Ask::AskMark(1),
-    Ask::Turn(1),
-    Ask::Turn(1),
-    Ask::Turn(1),
-    Ask::Turn(1),
-    Ask::Take(1),
-    Ask::Take(1),
-    Ask::Take(1),
-    Ask::Take(1),
-    Ask::Follow(Query::Overlaps(0, 9), 8, 5),
-    Ask::Follow(Query::Overlaps(0, 9), 8, 4),
-    Ask::Turn(2),
-    Ask::Close(1),
-    Ask::Take(1),
-];
-
 /// Events of each kind, most of which are answered, and some refused.
 static EACH_KIND: [Ask; 79] = [
     Ask::Place(0, (1, 1), 0),
@@ -525,58 +500,6 @@ static EDITED_MOVES: [Flawed; 20] = [
 #[test]
 fn edited_answers_to_moves_are_refused(rt: HostRuntime) -> Result<(), Fail> {
     let unfound = first_unfound(rt.alloc(), &MOVES, &EDITED_MOVES)?;
-    assert!(rt; unfound.is_none(), "{unfound:?}");
-    Ok(())
-}
-
-/// Edits of the answers to a cursor that follows a commit that make no flaw: none, and what the world answers.
-static FLAWLESS_FOLLOWS: [Edits; 2] = [
-    &[],
-    &[
-        (2, Told::Opened(1)),
-        (11, Told::Inserted(2, 2, 8)),
-        (12, Told::Inserted(3, 3, 0)),
-        (13, Told::Deleted(4, 1)),
-        (14, Told::Mark(4)),
-        (15, Told::Refused(Refusal::FromFuture)),
-        (16, Told::Opened(2)),
-        (17, Told::Refused(Refusal::Idle)),
-    ],
-];
-
-#[test]
-fn a_trace_that_follows_has_no_flaw(rt: HostRuntime) -> Result<(), Fail> {
-    let flawed = first_flawed(rt.alloc(), &FOLLOWS, &FLAWLESS_FOLLOWS)?;
-    assert!(rt; flawed.is_none(), "{flawed:?}");
-    Ok(())
-}
-
-static EDITED_FOLLOWS: [Flawed; 11] = [
-    // A row of a snapshot, the commit that is followed, and the one after the next.
-    (&[(11, Told::Row(1, 1, 7))], 11, Flaw::Delivery),
-    (&[(11, Told::Inserted(1, 1, 7))], 11, Flaw::Delivery),
-    (&[(11, Told::Inserted(3, 3, 0))], 11, Flaw::Delivery),
-    // A change left out, and one doubled.
-    (&[(13, Told::Nothing)], 14, Flaw::Mark),
-    (&[(12, Told::Inserted(2, 2, 8))], 12, Flaw::Delivery),
-    // A mark one too high, and one that nobody asked for.
-    (&[(14, Told::Mark(5))], 14, Flaw::Mark),
-    (&[(6, Told::Refused(Refusal::NodeFull))], 14, Flaw::Asking),
-    // A commit that is to come, and one that is there.
-    (&[(15, Told::Opened(2))], 15, Flaw::Future),
-    (
-        &[(16, Told::Refused(Refusal::FromFuture))],
-        16,
-        Flaw::Future,
-    ),
-    // A serial given twice, and a take of what is closed.
-    (&[(16, Told::Opened(1))], 16, Flaw::Serial),
-    (&[(19, Told::Nothing)], 19, Flaw::Closed),
-];
-
-#[test]
-fn edited_answers_to_what_follows_are_refused(rt: HostRuntime) -> Result<(), Fail> {
-    let unfound = first_unfound(rt.alloc(), &FOLLOWS, &EDITED_FOLLOWS)?;
     assert!(rt; unfound.is_none(), "{unfound:?}");
     Ok(())
 }
