@@ -51,17 +51,19 @@ class Program:
                 # what was still to be written can't be
                 pass
 
-    def read(self, length):
-        """As many bytes of answers, or fewer where no more come."""
-        blocks = []
+    def read(self, length, due=None):
+        """As many bytes of answers, or fewer where no more come, or where they aren't those that are due."""
+        blocks, at = [], 0
         output = self.child.stdout.fileno()
-        while length > 0:
+        while at < length:
             ready, _, _ = select.select([output], [], [], PATIENCE)
-            block = os.read(output, min(length, BLOCK)) if ready else b""
+            block = os.read(output, min(length - at, BLOCK)) if ready else b""
             if not block:
                 break
             blocks.append(block)
-            length -= len(block)
+            if due is not None and block != due[at:at + len(block)]:
+                break
+            at += len(block)
         return b"".join(blocks)
 
     def write(self, text):
@@ -72,18 +74,18 @@ class Program:
         except BrokenPipeError:
             pass
 
-    def exchange(self, text, length):
+    def exchange(self, text, length, due=None):
         """The answers to a text, which have so many bytes. It is written by a thread, so that neither waits for the other."""
         writer = threading.Thread(target=self.write, args=(text,), daemon=True)
         writer.start()
-        told = self.read(length)
+        told = self.read(length, due)
         if len(told) == length:
             writer.join()
         return told
 
     def answer_text(self, text, due):
         """Gives a text to the program, and compares the answers with those that are due."""
-        told = self.exchange(text, len(due))
+        told = self.exchange(text, len(due), due)
         if told != due:
             raise Wrong(first_difference(told, due))
 
