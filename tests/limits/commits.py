@@ -5,7 +5,7 @@ from .talk import Program
 
 MOST_COMMITS = 16_777_216
 
-# Lines that are sent together
+# Lines that are sent together, about
 BATCH = 20_000
 
 # A multiplier of a commit's number, by which keys are spread
@@ -118,20 +118,31 @@ class Trial:
         self.rows = rows
         self.most = most
         self.began = time.monotonic()
+        # Lines that are still to be given to the program, and the answers that are due
+        self.lines, self.answers = [], []
 
     def tell(self, what):
         """Shows how far the trial is."""
-        seconds, held = time.monotonic() - self.began, self.program.held() / 1e6
-        print(f"{seconds:8.1f} s  {self.rows.commits:>10,} commits  {held:>8,.0f} MB  {what}", flush=True)
+        clock, held, seconds = time.monotonic() - self.began, self.program.held() / 1e6, self.program.seconds()
+        print(f"{clock:7.1f} s {self.rows.commits:>11,} commits {held:>6,.0f} MB {seconds:>6.1f} s of the processor  {what}", flush=True)
+
+    def give(self):
+        """Gives the program all lines that are still to be given."""
+        self.program.answer(self.lines, self.answers)
+        self.lines, self.answers = [], []
 
     def commit(self, lines):
-        """Gives lines to the program, each of which commits."""
+        """Gives lines to the program, each of which commits, now or together with later ones."""
         first = self.rows.commits - len(lines) + 1
-        self.program.answer(lines, [f"committed {number}" for number in range(first, self.rows.commits + 1)])
+        self.lines += lines
+        self.answers += [f"committed {number}" for number in range(first, self.rows.commits + 1)]
+        if len(self.lines) >= BATCH:
+            self.give()
 
     def sweep(self):
         """A sweep removes all dead rows: no cursor has a scan that isn't over."""
-        self.program.answer(["sweep"], [f"swept {self.rows.dead}"])
+        self.lines.append("sweep")
+        self.answers.append(f"swept {self.rows.dead}")
         self.rows.dead = 0
 
     def go_over(self, step, most):
@@ -165,12 +176,14 @@ class Trial:
         while self.rows.commits < most:
             self.go_over(self.rows.move, most)
             self.sweep()
+        self.give()
         self.tell("all but the last eight commits are made")
 
     def change(self, step, place):
         """Gives one line that commits."""
         change = Change(self.rows, step, place)
         self.commit([change.line])
+        self.give()
         return change
 
     def last_changes(self):
@@ -255,6 +268,7 @@ def show_limit(trial):
         trial.close(cursor)
     trial.sweep()
     trial.sweep()
+    trial.give()
     trial.find(everything)
     trial.writes_are_refused(changes)
     trial.tell("inserts, deletes and moves are refused; finds, cursors, marks and sweeps go on")

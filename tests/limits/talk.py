@@ -113,6 +113,12 @@ class Program:
         with open(f"/proc/{self.child.pid}/status", encoding="ascii") as status:
             return next(int(line.split()[1]) * 1024 for line in status if line.startswith("VmHWM:"))
 
+    def seconds(self):
+        """The processor time that the program took."""
+        with open(f"/proc/{self.child.pid}/stat", encoding="ascii") as status:
+            fields = status.read().rpartition(")")[2].split()
+        return (int(fields[11]) + int(fields[12])) / os.sysconf("SC_CLK_TCK")
+
     def end(self):
         """Ends the lines: no answer is left, and the program ends well and says nothing more."""
         self.child.stdin.close()
