@@ -1,0 +1,1 @@
+"""What the program answers at its limits, beside plain lists."""

@@ -1,0 +1,130 @@
+"""A program that is running, the lines that it is given, and the answers that are due."""
+import os
+import select
+import subprocess
+import threading
+
+# How long the next byte of an answer is waited for, in seconds
+PATIENCE = 120.0
+
+# Bytes that are read at once
+BLOCK = 1 << 20
+
+
+class Wrong(Exception):
+    """An answer that isn't the one that is due."""
+
+
+def text_of(lines):
+    """Lines as the program reads and writes them."""
+    return "".join([line + "\n" for line in lines]).encode("ascii")
+
+
+def first_difference(told, due):
+    """What is told of the first answer that is another one than is due."""
+    told_lines, due_lines = told.split(b"\n"), due.split(b"\n")
+    for number, (told_line, due_line) in enumerate(zip(told_lines, due_lines)):
+        if told_line != due_line:
+            before = due_lines[number - 1].decode("ascii") if number else "the lines before"
+            return f"behind {before!r} the answer is {told_line[:200]!r}, and {due_line[:200]!r} is due"
+    return f"{len(due) - len(told)} bytes of answers didn't come"
+
+
+class Program:
+    """A running `gist`, with the words behind its name."""
+
+    def __init__(self, path, *words):
+        pipes = {"stdin": subprocess.PIPE, "stdout": subprocess.PIPE, "stderr": subprocess.PIPE}
+        self.child = subprocess.Popen(["gist", *words], executable=path, **pipes)
+        self.lines = 0
+
+    def __enter__(self):
+        return self
+
+    def __exit__(self, *_):
+        self.child.kill()
+        self.child.wait()
+        for pipe in (self.child.stdin, self.child.stdout, self.child.stderr):
+            try:
+                pipe.close()
+            except OSError:
+                # what was still to be written can't be
+                pass
+
+    def read(self, length, due=None):
+        """As many bytes of answers, or fewer where no more come, or where they aren't those that are due."""
+        blocks, at = [], 0
+        output = self.child.stdout.fileno()
+        while at < length:
+            ready, _, _ = select.select([output], [], [], PATIENCE)
+            block = os.read(output, min(length - at, BLOCK)) if ready else b""
+            if not block:
+                break
+            blocks.append(block)
+            if due is not None and block != due[at:at + len(block)]:
+                break
+            at += len(block)
+        return b"".join(blocks)
+
+    def write(self, text):
+        """Gives bytes to the program."""
+        try:
+            self.child.stdin.write(text)
+            self.child.stdin.flush()
+        except BrokenPipeError:
+            pass
+
+    def exchange(self, text, length, due=None):
+        """The answers to a text, which have so many bytes. It is written by a thread, so that neither waits for the other."""
+        writer = threading.Thread(target=self.write, args=(text,), daemon=True)
+        writer.start()
+        told = self.read(length, due)
+        if len(told) == length:
+            writer.join()
+        return told
+
+    def answer_text(self, text, due):
+        """Gives a text to the program, and compares the answers with those that are due."""
+        told = self.exchange(text, len(due), due)
+        if told != due:
+            raise Wrong(first_difference(told, due))
+
+    def answer(self, lines, answers):
+        """Gives lines to the program, and compares the answers with those that are due."""
+        self.lines += len(lines)
+        self.answer_text(text_of(lines), text_of(answers))
+
+    def answer_all(self, pairs):
+        """Gives lines to the program, each with the answer that is due."""
+        self.answer([line for line, _ in pairs], [answer for _, answer in pairs])
+
+    def answer_in_any_order(self, lines, answers):
+        """Gives lines to the program, and compares the answers with those that are due, in any order."""
+        self.lines += len(lines)
+        due = sorted(answers)
+        told = self.exchange(text_of(lines), sum(len(answer) + 1 for answer in due))
+        told_lines = sorted(told.decode("ascii", "replace").split("\n")[:-1])
+        if told_lines != due:
+            lacking, surplus = sorted(set(due) - set(told_lines))[:2], sorted(set(told_lines) - set(due))[:2]
+            raise Wrong(f"of {len(due)} answers in any order {lacking} didn't come, and {surplus} came")
+
+    def held(self):
+        """The most bytes that the program held."""
+        with open(f"/proc/{self.child.pid}/status", encoding="ascii") as status:
+            return next(int(line.split()[1]) * 1024 for line in status if line.startswith("VmHWM:"))
+
+    def seconds(self):
+        """The processor time that the program took."""
+        with open(f"/proc/{self.child.pid}/stat", encoding="ascii") as status:
+            fields = status.read().rpartition(")")[2].split()
+        return (int(fields[11]) + int(fields[12])) / os.sysconf("SC_CLK_TCK")
+
+    def end(self):
+        """Ends the lines: no answer is left, and the program ends well and says nothing more."""
+        self.child.stdin.close()
+        left = self.read(1)
+        if left:
+            raise Wrong(f"there is an answer for which no line asked, which begins with {left!r}")
+        errors = self.child.stderr.read()
+        if self.child.wait() != 0 or errors:
+            raise Wrong(f"the program ended with status {self.child.returncode} and {errors!r} on standard error")
