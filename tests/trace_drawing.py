@@ -235,7 +235,8 @@ class TraceDrawer(Drawer):
             self.ask("open", self.room(), self.query())
             return
         commits = len(self.world.commits)
-        self.ask("follow", self.room(), self.name(range(commits + 1), commits + 1), self.query())
+        commit = commits + 1 if self.chance(0.1) else self.name(range(commits + 1), commits + 1)
+        self.ask("follow", self.room(), commit, self.query())
 
     def draw_turn(self):
         """A turn of a cursor."""
