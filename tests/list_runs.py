@@ -13,6 +13,7 @@ import trace_checker
 import trace_edits
 from session_drawing import SessionDrawer
 from trace_drawing import TraceDrawer
+from wrong_worlds import WORLDS
 
 # Seconds that a program may take for one list
 LONGEST = 60
@@ -145,15 +146,15 @@ def try_trace(program, seed, each):
     outcome.count_answers("trace", steps)
     if flaw is None:
         edited = trace_edits.Trace(drawer.keys, steps, Random(seed))
-        kinds = some_of(trace_edits.EDITS, seed, each), trace_edits.ALLOWED
+        kinds = some_of(trace_edits.EDITS, seed, each), some_of(trace_edits.ALLOWED, seed, each)
         try_edits(outcome, name, edited, kinds, trace_checker.first_flaw)
     return outcome
 
 
-def try_session(program, seed, each, lines):
-    """A random session. Without a program the answers are such as the model allows."""
-    outcome, drawer = Outcome(), SessionDrawer(seed, lines).drawn()
-    name = f"session {seed} ({' '.join(drawer.options())})"
+def try_session(program, seed, each, lines, inserts=0):
+    """A random session, which begins with some inserts. Without a program the answers are such as the model allows."""
+    outcome, drawer = Outcome(), SessionDrawer(seed, lines, inserts).drawn()
+    name = f"session {seed} of {lines} lines ({' '.join(drawer.options())})"
     steps = list(zip(drawer.asked, drawer.answers))
     if program:
         output, told = output_of(program, "serve", drawer)
@@ -164,8 +165,21 @@ def try_session(program, seed, each, lines):
     outcome.count_answers("session", steps)
     if flaw is None:
         edited = session_edits.Talk(drawer.keys, steps, Random(seed))
-        kinds = some_of(session_edits.EDITS, seed, each), session_edits.ALLOWED
+        kinds = some_of(session_edits.EDITS, seed, each), some_of(session_edits.ALLOWED, seed, each)
         try_edits(outcome, name, edited, kinds, session_model.first_flaw)
+    return outcome
+
+
+def try_wrong_world(index, seeds):
+    """Lists that a wrong world answers, of which the checker of traces has to refuse one."""
+    outcome, world = Outcome(), WORLDS[index]
+    for count, seed in enumerate(seeds, 1):
+        drawer = TraceDrawer(seed, world).drawn()
+        if trace_checker.first_flaw(drawer.keys, list(zip(drawer.asked, drawer.answers))) is not None:
+            outcome.edits[f"world: {world.__name__}"] += count
+            break
+    is_refused = sum(outcome.edits.values()) > 0
+    outcome.note(is_refused, f"no list that {world.__name__} answers is refused: {world.__doc__}")
     return outcome
 
 

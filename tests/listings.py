@@ -107,7 +107,7 @@ class Listing:
         self.commits = commits
         self.wanted = wanted
         self.opened = opened
-        self.rows = set() if follows else set(commits.snapshot(wanted, opened))
+        self.rows = {} if follows else dict.fromkeys(commits.snapshot(wanted, opened))
         self.given = []
         self.position = opened
         self.looked_at = opened
@@ -129,7 +129,7 @@ class Listing:
         if is_row(item):
             if item not in self.rows:
                 return False
-            self.rows.remove(item)
+            del self.rows[item]
         else:
             change = self.next_change(len(self.commits))
             if self.rows or change is None or change[1] != item:

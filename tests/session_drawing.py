@@ -5,7 +5,6 @@ from drawn_lines import Drawer
 from keys import CLASSES
 from session_model import MOST_CURSORS, Session
 
-LINES = 600
 FANS = ((4, 2), (8, 3), (64, 21))
 
 # Of each command the kinds of its arguments: see Drawer
@@ -22,15 +21,16 @@ WEIGHTS = {
 
 
 class SessionDrawer(Drawer):
-    """Draws a session. `asked` are its lines, and `answers` ones that they may have."""
+    """Draws a session, which begins with some inserts. `asked` are its lines, and `answers` ones that they may have."""
 
-    def __init__(self, seed, lines=LINES):
-        random = Random(f"session {seed}")
+    def __init__(self, seed, lines, inserts=0):
+        random = Random(f"session {seed} {lines} {inserts}")
         super().__init__(CLASSES[seed % len(CLASSES)], random, SHAPES)
         self.seed = seed
-        self.fan, self.least = random.choice(FANS + ((random.randint(4, 12), 2),))
+        self.fan, self.least = FANS[seed // len(CLASSES) % len(FANS)]
         self.session = Session(self.keys)
         self.lines = lines
+        self.inserts = inserts
         self.asked = []
         self.answers = []
 
@@ -44,7 +44,7 @@ class SessionDrawer(Drawer):
 
     def note(self, line):
         """Gives an answer that a line may have, which is noted with it."""
-        answer = self.random.choice(sorted(self.session.answers(line), key=str))
+        answer = self.random.choice(self.session.answers(line))
         self.session.note(line, answer)
         self.asked.append(line)
         self.answers.append(answer)
@@ -54,6 +54,8 @@ class SessionDrawer(Drawer):
         """Draws as many lines as there are to be, and then lets all be given, closes all and sweeps."""
         acts, weights = zip(*WEIGHTS.items())
         is_crowded = self.seed % 8 != 3
+        for _ in range(self.inserts):
+            self.draw_insert()
         while len(self.asked) < self.lines:
             if not is_crowded and len(self.asked) > self.lines // 3:
                 is_crowded = True

@@ -54,10 +54,12 @@ class Follower:
         self.has_begun = not has_scan
         self.is_open = True
         self.passed = listing.opened
+        self.passes = 0
         # how many commits there were at each offer, and how many offers at each asking
         self.offers = []
         self.askings = []
         self.taken = 0
+        self.changes = 0
         self.last_mark = -1
         self.rests = deque()
 
@@ -87,19 +89,24 @@ class Follower:
         demand(self.passed < number <= len(commits), "a commit is passed twice, or isn't there")
         demand(commits.change(self.listing.wanted, number) is None, "a commit with an item is passed")
         self.passed = number
+        self.passes += 1
         self.rest_at(number, -1)
 
     def rest_at(self, commit, asked_at):
-        """What was offered so far is a listing up to a commit; where a mark was asked for, it was offered since."""
+        """What was offered so far is a listing up to a commit; where a mark was asked for, it was offered since.
+
+        Each commit after the opening was offered or passed by a turn of its own.
+        """
         self.has_scan = False
-        self.rests.append((len(self.offers), commit, asked_at))
+        self.rests.append((len(self.offers), commit, asked_at, commit - self.listing.opened - self.passes))
         self.look_back()
 
     def look_back(self):
         """Looks at what was taken, where it is just what was offered before a rest."""
         while self.rests and self.rests[0][0] == self.taken:
-            _, commit, asked_at = self.rests.popleft()
+            _, commit, asked_at, changes = self.rests.popleft()
             demand(self.listing.is_whole(commit), "something is left where nothing more was to be offered")
+            demand(self.changes == changes, "a commit was neither offered nor passed, or both")
             demand(self.last_mark >= asked_at, "a mark that was asked for wasn't offered")
 
     def take(self, answer):
@@ -115,6 +122,7 @@ class Follower:
             is_late = not is_row(answer) and number_in(answer) > offered_at
             demand(not is_late, "an item tells of a commit that came after its offer")
             demand(self.listing.goes_on_with(answer), "what was taken begins no listing")
+            self.changes += not is_row(answer)
         self.taken += 1
         self.look_back()
 

@@ -20,7 +20,7 @@ SHAPES = {
 # How often what is drawn comes
 WEIGHTS = {
     "insert": 20, "place": 14, "page_step": 14, "grow": 1, "sweep": 2, "work_of_cursor": 11, "turn": 6, "take": 6, "askmark": 3,
-    "open": 3, "close": 2, "find": 3, "seek": 5, "move": 5, "unfind": 0.5, "end_of_row": 5, "fault": 1, "blank": 0.3,
+    "slow_scan": 1, "open": 3, "close": 2, "find": 3, "seek": 5, "move": 5, "unfind": 0.5, "end_of_row": 5, "fault": 1, "blank": 0.3,
 }
 
 # Cursors that are open at the same time, in most lists
@@ -28,16 +28,15 @@ USUAL_CURSORS = 7
 
 
 class TraceDrawer(Drawer):
-    """Draws a list of events. `asked` are the lines, and `answers` those of the model."""
+    """Draws a list of events. `asked` are the lines, and `answers` those of the model, or of another one of its kind."""
 
-    def __init__(self, seed, events=EVENTS):
+    def __init__(self, seed, model=World):
         random = Random(f"trace {seed}")
         super().__init__(CLASSES[seed % len(CLASSES)], random, SHAPES)
         self.seed = seed
         self.fan = random.randint(4, 8)
         self.least = random.randint(2, self.fan // 2)
-        self.world = World(self.keys, self.fan, self.least)
-        self.events = events
+        self.world = model(self.keys, self.fan, self.least)
         self.asked = []
         self.answers = []
 
@@ -59,8 +58,8 @@ class TraceDrawer(Drawer):
         """Draws as many events as there are to be, and then ends and sweeps everything."""
         acts, weights = zip(*WEIGHTS.items())
         crowds = {3: self.many_cursors, 7: self.many_finders}
-        while len(self.asked) < self.events:
-            if len(self.asked) > self.events // 2 and self.seed % 8 in crowds:
+        while len(self.asked) < EVENTS:
+            if len(self.asked) > EVENTS // 2 and self.seed % 8 in crowds:
                 crowds.pop(self.seed % 8)()
             getattr(self, "draw_" + self.random.choices(acts, weights)[0])()
         self.settle()
@@ -263,6 +262,40 @@ class TraceDrawer(Drawer):
             while self.chance(takes_often) and self.has_mail(cursor):
                 self.ask("take", cursor)
             if answer.startswith("refused") and self.chance(0.7):
+                return
+
+    def draw_slow_scan(self):
+        """A cursor that reads a page now and then, while pages are split and rows come, go and are swept."""
+        answer = self.ask("open", 1_000, self.keys.everything() if self.chance(0.6) else self.query())
+        if answer.startswith("refused"):
+            return
+        cursor = int(answer.split(" ")[1])
+        if self.chance(0.5):
+            self.draw_end_of_row()
+            self.draw_sweep()
+        others = (self.draw_insert, self.draw_page_step, self.draw_end_of_row, self.draw_sweep, self.draw_sweep)
+        for _ in range(self.random.randrange(10, 40)):
+            if self.chance(0.1):
+                self.split_twice(cursor)
+            self.random.choice(others)()
+            while self.ask("turn", cursor) == "offered" and self.chance(0.9):
+                pass
+            while self.has_mail(cursor) and self.chance(0.8):
+                self.ask("take", cursor)
+
+    def split_twice(self, cursor):
+        """Fills a leaf that a cursor has still to visit, splits and posts it, and all that again."""
+        stack = self.world.cursors[cursor].stack
+        leaves = [page for page in (self.world.pages[number] for number, _ in stack) if page.level == 0 and page.cover]
+        if not leaves:
+            return
+        leaf = self.random.choice(leaves)
+        for _ in range(2):
+            while len(leaf.places) < self.fan:
+                self.ask("place", leaf.number, self.key_inside(leaf.cover), self.tag())
+            self.ask("split", leaf.number, self.sides(self.fan))
+            parents = [page.number for page in self.world.pages if page.branch_to(leaf.number)]
+            if not parents or self.ask("post", parents[0], leaf.number).startswith("refused"):
                 return
 
     def has_mail(self, cursor):

@@ -115,8 +115,24 @@ def offered_too_early(trace):
 
 
 def visits_without_pages(trace):
-    """A cursor that went past a commit visits a page."""
-    return trace.changed_at_one(trace.places("passed"), lambda answer: "visited 0")
+    """A cursor that went past a commit, or that follows one, visits a page."""
+    passing, choices = set(), []
+    for place in trace.places("passed"):
+        cursor = trace.cursor_at(place)
+        if cursor in passing or trace.cursors[cursor].line.verb == "follow":
+            choices.append(place)
+        passing.add(cursor)
+    return trace.changed_at_one(choices, lambda answer: "visited 0")
+
+
+def pass_forgotten(trace):
+    """A commit is neither offered nor passed, but the next one is."""
+    choices = []
+    for place, next_place in zip(trace.places("passed"), trace.places("passed")[1:]):
+        if trace.cursor_at(place) == trace.cursor_at(next_place):
+            choices.append(place)
+    place = trace.any_of(choices)
+    return None if place is None else trace.without([place])
 
 
 def visits_no_page(trace):
@@ -185,8 +201,8 @@ def ends_early(trace):
 
 EDITS = edits.EDITS + [
     passed_commit_given, given_before_offered, nothing_given, offered_without_room, refused_with_room, idle_too_early,
-    mark_forgotten, offered_too_early, visits_without_pages, visits_no_page, change_passed, passes_no_commit,
-    commit_by_no_finder, finder_serial_twice, finder_refused, cursor_unknown, too_many_swept, too_few_swept, page_skipped,
-    ends_early,
+    mark_forgotten, offered_too_early, visits_without_pages, pass_forgotten, visits_no_page, change_passed,
+    passes_no_commit, commit_by_no_finder, finder_serial_twice, finder_refused, cursor_unknown, too_many_swept, too_few_swept,
+    page_skipped, ends_early,
 ]
 ALLOWED = edits.ALLOWED
