@@ -1,4 +1,5 @@
-"""Random lines: keys, queries and numbers as tokens, the spaces between them, and lines that are refused at a known place."""
+"""Random lines: keys, queries and numbers as tokens, the spaces between them, and lines that are refused at a known
+place."""
 import string
 from typing import NamedTuple, Optional
 
@@ -11,9 +12,12 @@ MOST_DEPTH = 32
 LETTERS = set(string.ascii_lowercase)
 DIGITS = set(string.digits)
 
+# Bytes that begin no token
+STRANGE = (b"?", b"A", b"\t", b"\r", b"\0", b"+1", b"-", b"- 1", b"\xff", b"\xc3\xa4", b"[", b"`", b"~", b"|")
+
 
 class Line(NamedTuple):
-    """A line: what it asks (a verb and its arguments), and its text. A line that is refused has its answer as argument."""
+    """A line: what it asks (a verb and its arguments), and its text. One that is refused has its answer as argument."""
     verb: str
     arguments: tuple
     text: bytes
@@ -109,8 +113,8 @@ def query_tokens(keys, random, query):
 class Drawer:
     """Draws keys, queries, numbers and lines of a class.
 
-    Of each verb `shapes` has a letter for each argument: n for a number from 0, k for a key, q for a query, s for sides; and
-    f for the word `from`, which is no argument.
+    Of each verb `shapes` has a letter for each argument: n for a number from 0, k for a key, q for a query, s for
+    sides; and f for the word `from`, which is no argument.
     """
 
     def __init__(self, keys, random, shapes):
@@ -250,7 +254,7 @@ class Drawer:
         """A byte that begins no token, in the place of one."""
         index = self.random.choice([index for index, token in enumerate(draft.tokens) if token != "from"])
         text, places = joined(self.random, draft.tokens[:index] + ["("])
-        byte = self.random.choice((b"?", b"A", b"\t", b"\r", b"\0", b"+1", b"-", b"- 1", b"\xff", b"\xc3\xa4", b"[", b"`"))
+        byte = self.random.choice(STRANGE)
         rest = " ".join(draft.tokens[index:]).encode("ascii")
         return text[:places[-1]].encode("ascii") + byte + b" " + rest, draft.refused(index, places[-1])
 

@@ -1,7 +1,9 @@
-"""Edits of what a program answered, by traces and by sessions: each makes right answers wrong ones, wherever it applies.
+"""Edits of what a program answered, by traces and by sessions: each makes right answers wrong ones, wherever it
+applies.
 
-An edit changes answers, leaves steps out or puts some in. It gives the edited steps, or none where they have no place for it.
-A step is a line and its answer; an answer of several lines is one text. `rows_exchanged` leaves right what was right.
+An edit changes answers, leaves steps out or puts some in. It gives the edited steps, or none where they have no place
+for it. A step is a line and its answer; an answer of several lines is one text. `rows_exchanged` leaves right what
+was right.
 """
 from drawn_lines import Line
 from listings import Commits, is_mark, is_row
@@ -65,7 +67,10 @@ class History:
 
 
 class Steps:
-    """Lines and their right answers, and what these tell. `giving` is the verb that gives items, `asking` the one for marks."""
+    """Lines and their right answers, and what these tell.
+
+    `giving` is the verb that gives items, `asking` the one for marks.
+    """
 
     giving = asking = None
 
@@ -228,8 +233,8 @@ def change_lost(steps):
 
 def given_after_closing(steps):
     """A closed cursor gives an item."""
-    items = [given.item for given in steps.given()]
-    return steps.changed_at_one(steps.refusals([17], [steps.giving]), lambda answer: steps.random.choice(items)) if items else None
+    item = steps.any_of(given.item for given in steps.given())
+    return item and steps.changed_at_one(steps.refusals([17], [steps.giving]), lambda answer: item)
 
 
 def first_items(steps):
@@ -269,9 +274,9 @@ def other_key(steps):
         return None
     first = min(steps.answer(place).find(opening) for opening in "({" if opening in steps.answer(place))
     last = max(steps.answer(place).find(closing) for closing in ")}")
-    before, key, after = steps.answer(place)[:first], steps.answer(place)[first:last + 1], steps.answer(place)[last + 1:]
-    other = steps.any_of(text for text in texts if text != key)
-    return other and steps.changed({place: before + other + after})
+    answer = steps.answer(place)
+    other = steps.any_of(text for text in texts if text != answer[first:last + 1])
+    return other and steps.changed({place: answer[:first] + other + answer[last + 1:]})
 
 
 def other_deleted_row(steps):
@@ -351,8 +356,8 @@ def want_of_memory(steps):
 
 EDITS = [
     row_doubled, changes_exchanged, mark_too_high, mark_too_low, mark_doubled, unasked_mark, row_lost, change_lost,
-    given_after_closing, begins_with_its_commit, row_to_follower, row_after_changes, other_tag, other_key, other_deleted_row,
-    move_told_otherwise, insert_told_as_move, commit_skipped, dead_row_ended, cursor_serial_twice, other_refusal,
-    opening_refused, future_followed, wrong_place, fault_of_line, want_of_memory,
+    given_after_closing, begins_with_its_commit, row_to_follower, row_after_changes, other_tag, other_key,
+    other_deleted_row, move_told_otherwise, insert_told_as_move, commit_skipped, dead_row_ended, cursor_serial_twice,
+    other_refusal, opening_refused, future_followed, wrong_place, fault_of_line, want_of_memory,
 ]
 ALLOWED = [rows_exchanged]

@@ -1,8 +1,9 @@
 """Keys of the three classes, what an atom and a query say of them, and how keys are written.
 
-Keys of intervals and boxes are tuples, first the lower ends and then the upper ones. A key of sets is a number whose bit e
-tells whether the element e is in. A query is a tuple: a relation and a key, `and` or `or` and two queries, or `not` and a
-query. Each class also says what a bound tells of the keys that it covers: where nothing below it can match.
+Keys of intervals and boxes are tuples, first the lower ends and then the upper ones. A key of sets is a number whose
+bit e tells whether the element e is in. A query is a tuple: a relation and a key, `and` or `or` and two queries, or
+`not` and a query. Each class also says what a bound tells of the keys that it covers: where nothing below it can
+match.
 """
 from functools import lru_cache
 
@@ -119,7 +120,10 @@ def wanted(keys, query):
 
 
 def may_match_below(keys, query, bound):
-    """Whether a key that a bound covers may match a query. Of what a bound doesn't cover it tells nothing, so `not` may."""
+    """Whether a key that a bound covers may match a query.
+
+    A bound tells nothing of the keys outside it, so one below it may always match `not`.
+    """
     if query[0] == "not":
         return True
     if query[0] == "and":

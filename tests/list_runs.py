@@ -1,7 +1,7 @@
 """Runs of random lists: what a program answers to one, compared with the slow models, checked, and edited.
 
-A run is one seed. Each comparison and each edit that applies is a test of its own; an outcome tells how many passed, what
-failed, which answers came, and which edits were tried.
+A run is one seed. Each comparison and each edit that applies is a test of its own; an outcome tells how many passed,
+what failed, which answers came, and which edits were tried.
 """
 import collections
 import subprocess
@@ -20,15 +20,16 @@ LONGEST = 60
 
 # Of each verb the words that begin its answers, and its refusals, each of which has to come in some list
 TRACE_ANSWERS = {
-    "enlarge": "enlarged 7 10", "place": "committed 7 8 10", "split": "split 7 9 11 12 13", "post": "posted 7 8", "grow": "grown 9 13",
-    "find": "finder 6 14 15", "seek": "committed seeking 15 20", "move": "committed seeking 7 8 10 15 20", "unfind": "unfound 20",
-    "sweep": "swept 7", "open": "opened 2 5", "follow": "opened 2 5 23", "turn": "offered visited passed 16 17 18 19",
-    "askmark": "asked 16 17", "take": "row inserted deleted moved mark nothing 16 17", "close": "closed 16 17", "fault": "21 22",
+    "enlarge": "enlarged 7 10", "place": "committed 7 8 10", "split": "split 7 9 11 12 13", "post": "posted 7 8",
+    "grow": "grown 9 13", "find": "finder 6 14 15", "seek": "committed seeking 15 20",
+    "move": "committed seeking 7 8 10 15 20", "unfind": "unfound 20", "sweep": "swept 7", "open": "opened 2 5",
+    "follow": "opened 2 5 23", "turn": "offered visited passed 16 17 18 19", "askmark": "asked 16 17",
+    "take": "row inserted deleted moved mark nothing 16 17", "close": "closed 16 17", "fault": "21 22",
 }
 SESSION_ANSWERS = {
-    "insert": "committed", "delete": "committed 14 15", "move": "committed 14 15", "open": "opened 2 5", "follow": "opened 2 5 23",
-    "next": "row inserted deleted moved mark empty 16 17", "mark": "asked 16 17", "find": "found", "sweep": "swept",
-    "close": "closed 16 17", "fault": "21 22",
+    "insert": "committed", "delete": "committed 14 15", "move": "committed 14 15", "open": "opened 2 5",
+    "follow": "opened 2 5 23", "next": "row inserted deleted moved mark empty 16 17", "mark": "asked 16 17",
+    "find": "found", "sweep": "swept", "close": "closed 16 17", "fault": "21 22",
 }
 
 
@@ -102,8 +103,14 @@ def shown(place, steps, told):
 
 
 def first_difference(steps, answers):
-    """The first place at which an answer isn't the one that is due, or none."""
-    return next((place for place, (step, due) in enumerate(zip(steps, answers)) if step[1] != due), None)
+    """The first place at which an answer isn't the one that is due, and which is; or none."""
+    differences = ((place, due) for place, ((_, answer), due) in enumerate(zip(steps, answers)) if answer != due)
+    return next(((place, f"{due!r} is due") for place, due in differences), None)
+
+
+def note_flaw(outcome, name, steps, flaw):
+    """Notes whether some steps have no flaw."""
+    outcome.note(flaw is None, f"{name}: {shown(flaw[0], steps, flaw[1])}" if flaw else "")
 
 
 def try_edits(outcome, name, edited, kinds, first_flaw):
@@ -139,10 +146,9 @@ def try_trace(program, seed, each):
         output, told = output_of(program, "replay", drawer)
         steps, rest = steps_of(drawer.asked, output)
         note_run(outcome, name, told, rest)
-        place = first_difference(steps, drawer.answers)
-        outcome.note(place is None, place is not None and f"{name}: {shown(place, steps, f'{drawer.answers[place]!r} is due')}")
+        note_flaw(outcome, name, steps, first_difference(steps, drawer.answers))
     flaw = trace_checker.first_flaw(drawer.keys, steps)
-    outcome.note(flaw is None, flaw and f"{name}, checked by events and answers alone: {shown(flaw[0], steps, flaw[1])}")
+    note_flaw(outcome, f"{name}, checked by events and answers alone", steps, flaw)
     outcome.count_answers("trace", steps)
     if flaw is None:
         edited = trace_edits.Trace(drawer.keys, steps, Random(seed))
@@ -161,7 +167,7 @@ def try_session(program, seed, each, lines, inserts=0):
         steps, rest = steps_of(drawer.asked, output)
         note_run(outcome, name, told, rest)
     flaw = session_model.first_flaw(drawer.keys, steps)
-    outcome.note(flaw is None, flaw and f"{name}: {shown(flaw[0], steps, flaw[1])}")
+    note_flaw(outcome, name, steps, flaw)
     outcome.count_answers("session", steps)
     if flaw is None:
         edited = session_edits.Talk(drawer.keys, steps, Random(seed))
@@ -186,7 +192,8 @@ def try_wrong_world(index, seeds):
 def answers_due():
     """Each answer that has to come in some list."""
     tables = (("trace", TRACE_ANSWERS), ("session", SESSION_ANSWERS))
-    return [f"{kind}: {verb} {told}" for kind, table in tables for verb, words in table.items() for told in words.split(" ")]
+    verbs = [(f"{kind}: {verb}", words) for kind, table in tables for verb, words in table.items()]
+    return [f"{verb} {told}" for verb, words in verbs for told in words.split(" ")]
 
 
 def edits_due():

@@ -1,7 +1,7 @@
 """Commits, the rows that they leave, and what a client may be given of a query: snapshots, changes and listings.
 
-Items are the lines that tell them, as `row 1 (5 5) 0`. A commit is a tuple: `insert`, a key and a tag; `delete` and a row;
-`move`, a row and a key.
+Items are the lines that tell them, as `row 1 (5 5) 0`. A commit is a tuple: `insert`, a key and a tag; `delete` and a
+row; `move`, a row and a key.
 """
 from typing import NamedTuple
 
@@ -125,7 +125,7 @@ class Listing:
         return None
 
     def goes_on_with(self, item):
-        """Whether what was given, and then an item, begins a listing up to the last commit. If so, the item is noted."""
+        """Whether what was given, and then an item, begins a listing up to the last commit. If so, it is noted."""
         if is_row(item):
             if item not in self.rows:
                 return False

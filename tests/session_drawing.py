@@ -1,4 +1,4 @@
-"""Random sessions: the lines that `gist serve` is given, and with each one of the answers that the slow model allows."""
+"""Random sessions: the lines that `gist serve` is given, and with each an answer that the slow model allows."""
 from random import Random
 
 from drawn_lines import Drawer
@@ -9,14 +9,14 @@ FANS = ((4, 2), (8, 3), (64, 21))
 
 # Of each command the kinds of its arguments: see Drawer
 SHAPES = {
-    "insert": "kn", "delete": "n", "move": "nk", "open": "nq", "follow": "nfnq", "next": "n", "mark": "n", "find": "q", "sweep": "",
-    "close": "n",
+    "insert": "kn", "delete": "n", "move": "nk", "open": "nq", "follow": "nfnq", "next": "n", "mark": "n", "find": "q",
+    "sweep": "", "close": "n",
 }
 
 # How often what is drawn comes
 WEIGHTS = {
-    "insert": 30, "delete": 7, "move": 8, "find": 9, "open": 4, "follow": 2, "items": 6, "mark": 4, "close": 3, "sweep": 2,
-    "settled_sweep": 1, "fault": 3, "blank": 0.5,
+    "insert": 30, "delete": 7, "move": 8, "find": 9, "open": 4, "follow": 2, "items": 6, "mark": 4, "close": 3,
+    "sweep": 2, "settled_sweep": 1, "fault": 3, "blank": 0.5,
 }
 
 
@@ -134,8 +134,8 @@ class SessionDrawer(Drawer):
         """A line that is refused as one."""
         drafts = [
             self.draft("insert", self.key(), self.tag()), self.draft("delete", 1), self.draft("move", 1, self.key()),
-            self.draft("open", 4, self.query()), self.draft("follow", 4, 0, self.query()), self.draft("find", self.query()),
-            self.draft("next", 1), self.draft("sweep"),
+            self.draft("open", 4, self.query()), self.draft("follow", 4, 0, self.query()),
+            self.draft("find", self.query()), self.draft("next", 1), self.draft("sweep"),
         ]
         self.note(self.fault(self.random.choice(drafts)))
 

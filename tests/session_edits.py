@@ -96,7 +96,7 @@ def cursor_unknown(talk):
 
 
 EDITS = edits.EDITS + [
-    found_row_lost, found_row_doubled, found_rows_exchanged, found_count_wrong, dead_row_found, empty_too_early, mark_for_empty,
-    too_many_swept, too_few_swept, cursor_unknown,
+    found_row_lost, found_row_doubled, found_rows_exchanged, found_count_wrong, dead_row_found, empty_too_early,
+    mark_for_empty, too_many_swept, too_few_swept, cursor_unknown,
 ]
 ALLOWED = edits.ALLOWED

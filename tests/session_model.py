@@ -1,9 +1,9 @@
 """A slow model of a session: to each line the answers that it may have.
 
-All is exact but two things. The rows of a cursor's snapshot come in any order, so `next` may give any that is left. And how
-far a scan is isn't told, but that it is over once something else than a row was given, and that it hasn't begun before the
-first `next`. So `sweep` has one answer for each opening that may be the least of the scans under way: it removes the dead rows
-that died up to that opening, or all where no scan is under way.
+All is exact but two things. The rows of a cursor's snapshot come in any order, so `next` may give any that is left.
+And how far a scan is isn't told, but that it is over once something else than a row was given, and that it hasn't
+begun before the first `next`. So `sweep` has one answer for each opening that may be the least of the scans under
+way: it removes the dead rows that died up to that opening, or all where no scan is under way.
 
 An answer of several lines is one text.
 """

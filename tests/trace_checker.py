@@ -1,10 +1,12 @@
-"""A checker of traces: it sees events and their answers alone, and knows nothing of what pages hold, of links and of stacks.
+"""A checker of traces: it sees events and their answers alone, and knows nothing of what pages hold, of links and of
+stacks.
 
-What it demands: commits are numbered 1, 2, 3 and are legal; serials are given once and in their order; what is taken of a
-cursor begins a listing for its query and opening, or the changes after the commit that it follows; what is taken before a
-mark is a listing up to it, and each mark has an asking of its own; a closed cursor is refused. Since a mailbox gives first
-what was offered first, the item that is taken is known to be that of one turn: it can't tell of later commits, and a mark
-tells of just those there were. Each refusal that follows from events and answers alone has to come, and nowhere else.
+What it demands: commits are numbered 1, 2, 3 and are legal; serials are given once and in their order; what is taken
+of a cursor begins a listing for its query and opening, or the changes after the commit that it follows; what is taken
+before a mark is a listing up to it, and each mark has an asking of its own; a closed cursor is refused. Since a
+mailbox gives first what was offered first, the item that is taken is known to be that of one turn: it can't tell of
+later commits, and a mark tells of just those there were. Each refusal that follows from events and answers alone has
+to come, and nowhere else.
 """
 from collections import deque
 
@@ -13,12 +15,17 @@ from listings import ALREADY_DELETED, Commits, Listing, is_mark, is_row
 from refusals import NUMBERS, refusal_line, refused_number
 from world_model import MOST_CURSORS, MOST_FINDERS, MOST_ROOM
 
-# The words that begin answers to events of pages and cursors, and the refusals that only pages or mailboxes tell. There is
-# enough memory, and room for pages and commits, so 1, 3 and 4 never come.
+# The words that begin answers to events of pages and cursors, and the refusals that only pages or mailboxes tell.
+# There is enough memory, and room for pages and commits, so 1, 3 and 4 never come.
 ANSWERS = {
-    "enlarge": (("enlarged",), (7, 10)), "place": (("committed",), (7, 8, 10)), "split": (("split",), (7, 9, 11, 12, 13)),
-    "post": (("posted",), (7, 8)), "grow": (("grown",), (9, 13)), "sweep": (("swept",), (7,)),
-    "seek": (("committed", "seeking"), ()), "move": (("committed", "seeking"), (7, 8, 10)),
+    "enlarge": (("enlarged",), (7, 10)),
+    "place": (("committed",), (7, 8, 10)),
+    "split": (("split",), (7, 9, 11, 12, 13)),
+    "post": (("posted",), (7, 8)),
+    "grow": (("grown",), (9, 13)),
+    "sweep": (("swept",), (7,)),
+    "seek": (("committed", "seeking"), ()),
+    "move": (("committed", "seeking"), (7, 8, 10)),
     "turn": (("offered", "visited", "passed"), (18, 19)),
     "take": (("row", "inserted", "deleted", "moved", "mark", "nothing"), ()),
 }
@@ -322,7 +329,8 @@ class TraceChecker:
         """The list ends as each does: all pages were swept with no scan under way, and one cursor gave every row."""
         demand(self.swept == len(self.commits.ended), "dead rows were left that no scan needs")
         last = self.followers[-1]
-        demand(last.listing.is_whole(len(self.commits)) and last.last_mark >= 0, "the last cursor didn't give every row")
+        is_whole = last.listing.is_whole(len(self.commits)) and last.last_mark >= 0
+        demand(is_whole, "the last cursor didn't give every row and then a mark")
 
 
 def first_flaw(keys, trace):

@@ -1,7 +1,8 @@
 """Random lists of events: the lines that `gist replay` is given, and the answer to each by the slow model of a world.
 
-Events are drawn by what the model holds, so that trees grow, scans and finders meet splits, and mailboxes fill; and about one
-name in seven is drawn from 0 up to twice the greatest that was given, so that it is stale, foreign or by chance a fitting one.
+Events are drawn by what the model holds, so that trees grow, scans and finders meet splits, and mailboxes fill; and
+about one name in seven is drawn from 0 up to twice the greatest that was given, so that it is stale, foreign or by
+chance a fitting one.
 """
 from random import Random
 
@@ -19,8 +20,9 @@ SHAPES = {
 
 # How often what is drawn comes
 WEIGHTS = {
-    "insert": 20, "place": 14, "page_step": 14, "grow": 1, "sweep": 2, "work_of_cursor": 11, "turn": 6, "take": 6, "askmark": 3,
-    "slow_scan": 1, "open": 3, "close": 2, "find": 3, "seek": 5, "move": 5, "unfind": 0.5, "end_of_row": 5, "fault": 1, "blank": 0.3,
+    "insert": 20, "place": 14, "page_step": 14, "grow": 1, "sweep": 2, "work_of_cursor": 11, "turn": 6, "take": 6,
+    "askmark": 3, "slow_scan": 1, "open": 3, "close": 2, "find": 3, "seek": 5, "move": 5, "unfind": 0.5,
+    "end_of_row": 5, "fault": 1, "blank": 0.3,
 }
 
 # Cursors that are open at the same time, in most lists
@@ -28,7 +30,7 @@ USUAL_CURSORS = 7
 
 
 class TraceDrawer(Drawer):
-    """Draws a list of events. `asked` are the lines, and `answers` those of the model, or of another one of its kind."""
+    """Draws a list of events. `asked` are the lines, and `answers` those of the model, or of another of its kind."""
 
     def __init__(self, seed, model=World):
         random = Random(f"trace {seed}")
@@ -221,7 +223,10 @@ class TraceDrawer(Drawer):
         finder = int(answer.split(" ")[1])
         leaf, key = self.leaf_and_key()
         while answer.startswith(("finder", "seeking")):
-            answer = self.ask("seek", finder) if self.seed % 5 == 0 or self.chance(0.3) else self.ask("move", finder, leaf, key)
+            if self.chance(0.4):
+                answer = self.ask("seek", finder)
+            else:
+                answer = self.ask("move", finder, leaf, key)
 
     # Cursors
 
@@ -311,9 +316,11 @@ class TraceDrawer(Drawer):
     def draw_fault(self):
         """A line that is refused as one."""
         drafts = [
-            self.draft("place", *self.leaf_and_key(), self.tag()), self.draft("split", 1, "llrr"), self.draft("grow", "llrr"),
+            self.draft("place", *self.leaf_and_key(), self.tag()), self.draft("split", 1, "llrr"),
+            self.draft("grow", "llrr"), self.draft("find", self.row_name()), self.draft("close", self.cursor_name()),
             self.draft("enlarge", 0, 1, self.key()), self.draft("turn", self.cursor_name()), self.draft("post", 0, 1),
-            self.draft("open", 4, self.query()), self.draft("follow", 4, 0, self.query()), self.draft("move", 1, 0, self.key()),
+            self.draft("open", 4, self.query()), self.draft("follow", 4, 0, self.query()),
+            self.draft("move", 1, 0, self.key()), self.draft("take", self.cursor_name()),
         ]
         self.note(self.fault(self.random.choice(drafts)))
 

@@ -202,7 +202,7 @@ def ends_early(trace):
 EDITS = edits.EDITS + [
     passed_commit_given, given_before_offered, nothing_given, offered_without_room, refused_with_room, idle_too_early,
     mark_forgotten, offered_too_early, visits_without_pages, pass_forgotten, visits_no_page, change_passed,
-    passes_no_commit, commit_by_no_finder, finder_serial_twice, finder_refused, cursor_unknown, too_many_swept, too_few_swept,
-    page_skipped, ends_early,
+    passes_no_commit, commit_by_no_finder, finder_serial_twice, finder_refused, cursor_unknown, too_many_swept,
+    too_few_swept, page_skipped, ends_early,
 ]
 ALLOWED = edits.ALLOWED

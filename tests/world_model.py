@@ -1,7 +1,7 @@
 """A slow model of a world: its pages, cursors and finders, and the exact answer to each event line.
 
-Each event makes its tests in their order and is refused by the first that fails, before anything is changed. Want of memory
-is left out: there is enough of it.
+Each event makes its tests in their order and is refused by the first that fails, before anything is changed. Want of
+memory is left out: there is enough of it.
 """
 from collections import deque
 

@@ -1,6 +1,8 @@
-"""Worlds with one wrong rule each. Of random lists that such a world answers, the checker of traces has to refuse some.
+"""Worlds with one wrong rule each. Of random lists that such a world answers, the checker of traces has to refuse
+some.
 
-So it is shown that the lists reach what the rules are for, and that the checker sees what goes wrong by answers alone.
+So it is shown that the lists reach what the rules are for, and that the checker sees what goes wrong by answers
+alone.
 """
 from keys import atom_matches, matches, may_match_below
 from listings import Row
