@@ -4,12 +4,15 @@
 cursor is open and has given all that there is, and in a replay one finder is open. So a line that is well-formed meets
 rows, cursors and finders, and the model follows what it does to them.
 """
+import re
+
 from example_lines import ANY_KEY, ROWS
 from grammar import read_line
 from plain_leaf import PlainLeaf
 from plain_store import PlainStore
 
 FAN = 8
+SIGNS = re.compile(rb"([RCFN])\1{5}")
 MOST_ITEMS = 3
 
 
@@ -23,23 +26,25 @@ class Script:
         self.lines, self.due, self.examples = [], [], []
         # The numbers of the three rows, of the cursor and of the finder
         self.rows, self.cursor, self.finder = [0, 0, 0], 0, 0
+        # What is told by `state` where all stands as it is kept
+        self.kept = None
 
     def give(self, line):
-        """A line is given."""
+        """A line is given; whether it is well-formed."""
+        request = read_line(self.language, self.class_name, line)
         self.lines.append(line)
-        self.due.append(self.model.answer(read_line(self.language, self.class_name, line)))
+        self.due.append(self.model.answer(request))
+        return isinstance(request, tuple)
 
     def give_text(self, text):
         """A text is given, which may be several lines; what was changed is put back behind it."""
         self.examples.append((len(self.due), text))
-        before = self.state()
-        for line in text.split(b"\n"):
-            self.give(line)
-        if self.state() != before:
+        are_well_formed = [self.give(line) for line in text.split(b"\n")]
+        if any(are_well_formed) and self.state() != self.kept:
             self.put_back()
 
     def state(self):
-        """What tells whether lines changed anything."""
+        """What is another thing once lines have changed anything."""
         model = self.model
         is_asked = any(cursor.is_asked or cursor.rows_left for cursor in model.cursors.values())
         items = sum(len(mailbox.items) for mailbox in model.mailboxes.values()) if self.is_replay else 0
@@ -65,6 +70,7 @@ class Script:
             self.give(b"open 4096 " + ANY_KEY[self.class_name])
             self.cursor = self.model.last_cursor
         self.empty_cursor()
+        self.kept = self.state()
 
     def end_cursors(self):
         """What other cursors give at first is compared; they are closed then."""
@@ -107,6 +113,8 @@ class Script:
 
     def numbered(self, text):
         """A text with the numbers of what is there in the places of six capitals each."""
+        if not SIGNS.search(text):
+            return text
         for sign, number in ((b"R", self.rows[0]), (b"C", self.cursor), (b"F", self.finder), (b"N", len(self.model.commits))):
             text = text.replace(sign * 6, b"%06d" % number)
         return text
