@@ -1,7 +1,8 @@
 """Example lines of sessions and replays, which tools/cut-lines cuts and changes at each byte.
 
-Some stand with a class alone: what is answered to them and to what is made of them, the slow reader and the slow models
-tell. Those with answers or places beside them were worked out by hand: they show that the reader and the models are right.
+Some stand with a class alone: what is answered to them, and to what is made of them, the slow reader and the slow
+models tell. Those with answers or places beside them were worked out by hand: they show that the reader and the models
+are right.
 """
 
 # Commands that are refused as lines or queries, and one that isn't
@@ -282,7 +283,8 @@ ANSWERED_EVENTS = (
     ("set", b"sweep 0\nplace 0 {2 1} 3\n", b"swept 0\ncommitted 1\n"),
 )
 
-# Queries as deep as may be, and deeper ones, over sets: how often each part stands in a line; and the answers of a new store
+# Queries as deep as may be, and deeper ones, over sets: how often each part stands in a line, and the answer of a new
+# store
 DEEP = (
     (((1, b"find "), (31, b"not "), (1, b"same{}")), b"found 0\n"),
     (((1, b"find "), (24, b"not "), (1, b"same{}"), (8, b"and same{}")), b"refused 21 QueryText 5\n"),
@@ -305,8 +307,21 @@ ROWS = {
 }
 ANY_KEY = {"interval": b"same(1 2)or not same(1 2)", "box": b"same(1 2 3 4)or not same(1 2 3 4)", "set": b"holds{}"}
 
-# Lines of each class that meet what is there. `@` stands for a key, and six capitals for a number of six digits: `R` of a
-# row that lives, `C` of an open cursor, `F` of an open finder, and `N` for the number of commits
+# Queries of which each word counts: with another order of `not`, `and` and `or` other rows would match
+QUERIES = {
+    "interval": b"within(0 9)and not holds(5 5)or overlaps(2 2)",
+    "box": b"within(-9 -9 9 9)and not holds(0 0 0 0)or overlaps(1 1 1 1)",
+    "set": b"within{1 7 8 9}and not holds{8}or overlaps{127}",
+}
+NESTED_QUERIES = {
+    "interval": b"not(holds(5 5)and within(5 7))and not same(0 9)",
+    "box": b"not(holds(0 0 0 0)and within(-1 -1 0 0))and not same(0 0 5 9)",
+    "set": b"not(within{3}and not holds{1})and not same{1 7 127}",
+}
+
+# Lines of each class that meet what is there. `@` stands for a key, `&` and `?` for queries, and six capitals for a
+# number of six digits: `R` of a row that lives, `C` of an open cursor, `F` of an open finder, and `N` for the number of
+# commits
 LIVE_COMMANDS = (
     b"insert @ 7",
     b"delete RRRRRR",
@@ -316,6 +331,9 @@ LIVE_COMMANDS = (
     b"next CCCCCC",
     b"mark CCCCCC",
     b"find holds@ or same@ and not overlaps@",
+    b"find &",
+    b"find ?",
+    b"open 1 ?",
     b"delete RRRRRR\nsweep",
     b"mark CCCCCC\nnext CCCCCC",
     b"close CCCCCC",
@@ -334,6 +352,7 @@ LIVE_EVENTS = (
     b"seek FFFFFF\nsweep 0",
     b"open 4 overlaps@",
     b"open 4 from NNNNNN not within @",
+    b"open 1 &",
     b"turn CCCCCC",
     b"askmark CCCCCC\nturn CCCCCC",
     b"take CCCCCC",

@@ -1,8 +1,9 @@
-"""A slow reader of lines, written from the grammar alone: what a line of a session or of a replay asks, or where it is wrong.
+"""A slow reader of lines, written from the grammar alone: what a line of a session or a replay asks, or its fault.
 
-A line is a run of tokens with spaces before, between and behind them. A token is one of `( ) { }`, a word of the letters
-`a` to `z`, or a number: digits, perhaps with a `-` before them. A word or a number that stands close behind another lacks
-its space, and is no token; nor is a byte that begins none. Lines are read from the left, and the first fault is told:
+A line is a run of tokens with spaces before, between and behind them. A token is one of `( ) { }`, a word of the
+letters `a` to `z`, or a number: digits, perhaps with a `-` before them. A word or a number that stands close behind
+another lacks its space, and is no token; nor is a byte that begins none. Lines are read from the left, and the first
+fault is told:
 
 - from where a query begins: `refused 21 QueryText PLACE`, for any other fault: `refused 22 Line PLACE`;
 - the place is that of the token that can't stand there or whose number is out of its range, of the opening bracket of a
@@ -268,7 +269,7 @@ def read_known(language, class_name, line):
 
 
 def read_line(language, class_name, line):
-    """What a line asks: None where it has no token, its refusal where it is wrong, else its word and what stands behind it.
+    """What a line asks: None where it has no token, its refusal where it is wrong, else its word and its values.
 
     The line has no line feed. All bytes that begin no token are alike to the grammar, so they are read as one of them,
     and what was read is kept: a line that is like another needn't be read again.

@@ -1,8 +1,8 @@
 """A slow model of a session: the commits, the rows that live and the open cursors, in plain lists.
 
-`PlainStore.answer` takes what a line asks, as grammar.py reads it, and gives an answer that can be compared with what the
-program wrote. Where more than one answer is allowed, which rows of a snapshot come first and how many rows a sweep takes
-out, the answer knows which ones are.
+`PlainStore.answer` takes what a line asks, as grammar.py reads it, and gives an answer that can be compared with what
+the program wrote. Where more than one answer is allowed, which rows of a snapshot come first and how many rows a sweep
+takes out, the answer knows which ones are.
 """
 import bisect
 from typing import NamedTuple
@@ -139,8 +139,11 @@ class Gone:
 
 
 class Swept:
-    """An answer that tells how many dead rows a sweep took out: all but those that a cursor needs which opened before their
-    end and whose scan isn't over. Of some scans nobody can tell whether they are, so the number lies between two."""
+    """An answer that tells how many dead rows a sweep took out: all that no cursor needs.
+
+    A cursor needs those that ended after its opening, until its scan is over. Of some scans nobody can tell whether
+    they are, so the number lies between two.
+    """
 
     def __init__(self, gone, least, most):
         self.gone, self.least, self.most = gone, least, most

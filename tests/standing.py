@@ -1,8 +1,8 @@
 """A session or a replay that is kept as it was: lines are given to it, and whatever they change is put back.
 
-`Script` writes down lines and the answers that a slow model gives them. Before each example the same three rows live, one
-cursor is open and has given all that there is, and in a replay one finder is open. So a line that is well-formed meets
-rows, cursors and finders, and the model follows what it does to them.
+`Script` writes down lines and the answers that a slow model gives them. Before each example the same three rows live,
+one cursor is open and has given all that there is, and in a replay one finder is open. So a line that is well-formed
+meets rows, cursors and finders, and the model follows what it does to them.
 """
 import re
 
@@ -115,12 +115,13 @@ class Script:
         """A text with the numbers of what is there in the places of six capitals each."""
         if not SIGNS.search(text):
             return text
-        for sign, number in ((b"R", self.rows[0]), (b"C", self.cursor), (b"F", self.finder), (b"N", len(self.model.commits))):
+        numbers = {b"R": self.rows[0], b"C": self.cursor, b"F": self.finder, b"N": len(self.model.commits)}
+        for sign, number in numbers.items():
             text = text.replace(sign * 6, b"%06d" % number)
         return text
 
     def first_difference(self, written):
-        """The first answer that isn't due: its place among the lines, what is due and what came; None if there is none."""
+        """The first answer that isn't due: its place among the lines, what is due and what came; or None."""
         told = written.decode("ascii", "backslashreplace").split("\n")
         ends_well = told.pop() == ""
         place = 0

@@ -7,8 +7,8 @@
  *   FAILING_READ, FAILING_WRITE   the call of that number moves nothing and fails
  *   FAILING_ERROR                 with this number of an error
  *
- * The call that fails tells so in a line on standard error, with the number of bytes that were moved before it. The calls
- * after it are as the others.
+ * The call that fails tells so in a line on standard error, with the number of bytes that were moved before it. The
+ * calls after it are as the others.
  */
 #define _GNU_SOURCE
 #include <errno.h>
@@ -71,10 +71,14 @@ static ssize_t move_bytes(struct stream *stream, int file, long bytes, size_t co
 
 ssize_t read(int file, void *bytes, size_t count)
 {
-    return file == STDIN_FILENO ? move_bytes(&input, file, (long)bytes, count) : syscall(SYS_read, file, bytes, count);
+    if (file == STDIN_FILENO)
+        return move_bytes(&input, file, (long)bytes, count);
+    return syscall(SYS_read, file, bytes, count);
 }
 
 ssize_t write(int file, const void *bytes, size_t count)
 {
-    return file == STDOUT_FILENO ? move_bytes(&output, file, (long)bytes, count) : syscall(SYS_write, file, bytes, count);
+    if (file == STDOUT_FILENO)
+        return move_bytes(&output, file, (long)bytes, count);
+    return syscall(SYS_write, file, bytes, count);
 }
