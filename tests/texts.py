@@ -23,15 +23,19 @@ class Text:
 
 
 def read_texts(path):
-    """The texts of a file. One that is more than plain lines, with signs of its own for them, is left out."""
+    """The texts of a file. One that is more than plain lines, with signs of its own for them, is left out.
+
+    `\\z` at the end of a line, which says that the input ends there, is no part of the line.
+    """
     texts = []
     with open(path, encoding="utf-8") as file:
         for number, line in enumerate(file.read().split("\n"), 1):
             if line.startswith("$ ./gist "):
                 texts.append(Text(f"{path}:{number}", line.split()[2:]))
             elif line.startswith(">"):
-                texts[-1].is_plain &= "\\" not in line
-                texts[-1].lines.append(line[2:].encode("utf-8"))
+                typed = line[2:].removesuffix("\\z")
+                texts[-1].is_plain &= "\\" not in typed
+                texts[-1].lines.append(typed.encode("utf-8"))
                 texts[-1].answers.append([])
             elif line.startswith("!"):
                 texts[-1].is_plain = False
