@@ -358,3 +358,34 @@ LIVE_EVENTS = (
     b"take CCCCCC",
     b"close CCCCCC",
 )
+
+# The keys of two leaves, four each, and a key that the first one covers
+LEAVES = {
+    "interval": (b"(0 0)", b"(0 9)", b"(3 4)", b"(9 9)", b"(20 20)", b"(20 29)", b"(25 25)", b"(29 29)"),
+    "box": (
+        b"(0 0 0 0)",
+        b"(0 0 9 9)",
+        b"(1 1 2 2)",
+        b"(9 9 9 9)",
+        b"(20 -9 20 -9)",
+        b"(20 -9 29 0)",
+        b"(25 -5 26 -4)",
+        b"(29 0 29 0)",
+    ),
+    "set": (b"{1}", b"{1 7 127}", b"{7}", b"{127}", b"{2}", b"{2 8}", b"{8}", b"{}"),
+}
+COVERED_KEYS = {"interval": b"(3 4)", "box": b"(1 1 2 2)", "set": b"{1 7}"}
+
+# Events of each class that meet two leaves. `@` stands for a key, and `#` for one that page 1 covers
+LEAVES_EVENTS = (
+    b"enlarge 0 1 @",
+    b"enlarge 0 2 @\nplace 2 @ 7",
+    b"place 1 # 7",
+    b"place 2 # 7",
+    b"place 0 # 7",
+    b"split 1 llrr",
+    b"split 0 llrr",
+    b"post 0 1",
+    b"grow llrr",
+    b"sweep 1",
+)

@@ -33,8 +33,8 @@ class PlainLeaf(PlainStore):
         """How many entries the page has: live rows, and dead ones that no sweep took out."""
         return len(self.live) + len(self.ends) - self.gone.least
 
-    def why_not_placed(self, page):
-        """Why page 0 alone takes a row, and while it isn't full; None where it does."""
+    def why_not_placed(self, page, key):
+        """Why a page takes no row: page 0 alone does, whatever its key, while it isn't full; None where it does."""
         if page != 0:
             return Exactly("refused 7 NotHere")
         return Exactly("refused 8 NodeFull") if self.entries() == self.fan else None
@@ -45,7 +45,7 @@ class PlainLeaf(PlainStore):
 
     def answer_place(self, page, key, tag):
         """An insert of a key with a tag."""
-        return self.why_not_placed(page) or self.commit(None, (key, tag))
+        return self.why_not_placed(page, key) or self.commit(None, (key, tag))
 
     def answer_split(self, page, sides):
         """There is no page but the root."""
@@ -81,7 +81,7 @@ class PlainLeaf(PlainStore):
 
     def answer_move(self, finder, page, key):
         """A finder visits page 0, and moves its row."""
-        why = self.why_no_end(finder) or self.why_not_placed(page)
+        why = self.why_no_end(finder) or self.why_not_placed(page, key)
         if why:
             return why
         row = self.live[self.finders.pop(finder)]

@@ -1,14 +1,16 @@
-"""A session or a replay that is kept as it was: lines are given to it, and whatever they change is put back.
+"""A session or a replay that is kept as it was: lines are given to it, and what they change is put back.
 
 `Script` writes down lines and the answers that a slow model gives them. Before each example the same three rows live,
 one cursor is open and has given all that there is, and in a replay one finder is open. So a line that is well-formed
-meets rows, cursors and finders, and the model follows what it does to them.
+meets rows, cursors and finders, and the model follows what it does to them. `LeavesScript` does so for a replay whose
+root has two leaves.
 """
 import re
 
-from example_lines import ANY_KEY, ROWS
+from example_lines import ANY_KEY, LEAVES, ROWS
 from grammar import read_line
 from plain_leaf import PlainLeaf
+from plain_leaves import PlainLeaves
 from plain_store import PlainStore
 
 FAN = 8
@@ -133,3 +135,30 @@ class Script:
         if place < len(told) or not ends_well:
             return len(self.due), "nothing more", "\n".join(told[place:])
         return None
+
+
+class LeavesScript(Script):
+    """Lines for a replay whose root has two leaves of four rows each, and no cursor. Covers may become wider."""
+
+    def __init__(self, language, class_name):
+        super().__init__(language, class_name)
+        self.model = PlainLeaves(class_name, FAN)
+
+    def grow(self):
+        """The two leaves are made."""
+        for key in LEAVES[self.class_name]:
+            self.give(b"place 0 " + key + b" 0")
+        self.give(b"grow llllrrrr")
+        self.rows = list(self.model.live)
+        self.kept = self.state()
+
+    def put_back(self):
+        """All rows but the first eight go."""
+        for number in sorted(set(self.model.live) - set(self.rows)):
+            self.give(b"find %d" % number)
+            finder = self.model.last_finder
+            self.lines.append(b"\n".join([b"seek %d" % finder] * 3))
+            self.due.append(self.model.end(finder))
+        self.give(b"sweep 1")
+        self.give(b"sweep 2")
+        self.kept = self.state()
