@@ -1,0 +1,84 @@
+/*
+ * read and write as the C library has them, but for what the environment asks of the calls on standard input and on
+ * standard output. It is loaded before a program (LD_PRELOAD).
+ *
+ *   READ_AT_ONCE, WRITE_AT_ONCE   at most so many bytes are moved by a call
+ *   SHORT_READ, SHORT_WRITE       the call of that number, counted from 1, moves one byte
+ *   FAILING_READ, FAILING_WRITE   the call of that number moves nothing and fails
+ *   FAILING_ERROR                 with this number of an error
+ *
+ * The call that fails tells so in a line on standard error, with the number of bytes that were moved before it. The
+ * calls after it are as the others.
+ */
+#define _GNU_SOURCE
+#include <errno.h>
+#include <stdio.h>
+#include <stdlib.h>
+#include <sys/syscall.h>
+#include <unistd.h>
+
+struct stream {
+    const char *name;
+    long call;
+    unsigned long at_once, short_call, failing_call;
+    unsigned long calls, bytes;
+};
+
+static struct stream input = {.name = "read", .call = SYS_read};
+static struct stream output = {.name = "write", .call = SYS_write};
+static int error_number;
+
+static unsigned long number_of(const char *name)
+{
+    const char *number = getenv(name);
+    return number ? strtoul(number, NULL, 10) : 0;
+}
+
+__attribute__((constructor)) static void begin(void)
+{
+    input.at_once = number_of("READ_AT_ONCE");
+    input.short_call = number_of("SHORT_READ");
+    input.failing_call = number_of("FAILING_READ");
+    output.at_once = number_of("WRITE_AT_ONCE");
+    output.short_call = number_of("SHORT_WRITE");
+    output.failing_call = number_of("FAILING_WRITE");
+    error_number = (int)number_of("FAILING_ERROR");
+}
+
+static ssize_t fail(const struct stream *stream)
+{
+    char told[80];
+    int length = snprintf(told, sizeof told, "a %s fails after %lu bytes\n", stream->name, stream->bytes);
+    (void)!syscall(SYS_write, STDERR_FILENO, told, (size_t)length);
+    errno = error_number;
+    return -1;
+}
+
+static ssize_t move_bytes(struct stream *stream, int file, long bytes, size_t count)
+{
+    stream->calls++;
+    if (stream->calls == stream->failing_call)
+        return fail(stream);
+    if (stream->calls == stream->short_call && count > 1)
+        count = 1;
+    if (stream->at_once > 0 && count > stream->at_once)
+        count = stream->at_once;
+    ssize_t moved = syscall(stream->call, file, bytes, count);
+    if (moved > 0)
+        stream->bytes += (unsigned long)moved;
+    return moved;
+}
+
+ssize_t read(int file, void *bytes, size_t count)
+{
+    if (file == STDIN_FILENO)
+        return move_bytes(&input, file, (long)bytes, count);
+    return syscall(SYS_read, file, bytes, count);
+}
+
+ssize_t write(int file, const void *bytes, size_t count)
+{
+    if (file == STDOUT_FILENO)
+        return move_bytes(&output, file, (long)bytes, count);
+    return syscall(SYS_write, file, bytes, count);
+}
