@@ -79,7 +79,8 @@ class Rows:
 
     def found(self, query):
         """The rows that overlap an interval, by rising number: number, key and tag."""
-        matching = sorted((number, place) for place, number in enumerate(self.numbers) if number and self.matches(number, query))
+        live = sorted((number, place) for place, number in enumerate(self.numbers) if number)
+        matching = [(number, place) for number, place in live if self.matches(number, query)]
         return [f"row {number} {self.key(number)} {place}" for number, place in matching]
 
 
@@ -124,7 +125,8 @@ class Trial:
     def tell(self, what):
         """Shows how far the trial is."""
         clock, held, seconds = time.monotonic() - self.began, self.program.held() / 1e6, self.program.seconds()
-        print(f"{clock:7.1f} s {self.rows.commits:>11,} commits {held:>6,.0f} MB {seconds:>6.1f} s of the processor  {what}", flush=True)
+        commits = f"{self.rows.commits:>11,} commits"
+        print(f"{clock:7.1f} s {commits} {held:>6,.0f} MB {seconds:>6.1f} s of the processor  {what}", flush=True)
 
     def give(self):
         """Gives the program all lines that are still to be given."""
@@ -322,8 +324,8 @@ class Root:
 
 
 def commits_of_a_replay(path):
-    """The last commit that fits deletes a row. A finder that reads a page without its row goes on then, one that meets its row
-    is refused and stays, and neither a sweep nor a cursor needs a commit."""
+    """The last commit that fits deletes a row. A finder that reads a page without its row goes on then, one that meets
+    its row is refused and stays, and neither a sweep nor a cursor needs a commit."""
     with Program(path, "replay", "--fan", "64", "--least", "24") as program:
         root = Root(program)
         root.fill(ROUND)
@@ -333,10 +335,11 @@ def commits_of_a_replay(path):
 
 
 def show_last_events(program, commits, finders):
-    """The last 66 commits of a replay, and what is answered behind them. Row `low` stands on page 1, and `high` on page 2."""
+    """The last 66 commits of a replay, and what is answered then. Row `low` is on page 1, and `high` on page 2."""
     low, high, most = commits + 2, commits + 33, commits + 66
     program.answer_all([
-        *[(f"place 0 ({1 if it < 32 else 3} {1 if it < 32 else 3}) 0", f"committed {commits + 1 + it}") for it in range(64)],
+        *[("place 0 (1 1) 0", f"committed {commits + it}") for it in range(1, 33)],
+        *[("place 0 (3 3) 0", f"committed {commits + it}") for it in range(33, 65)],
         (f"grow {'l' * 32}{'r' * 32}", "grown 1 2"),
         (f"find {low - 1}", f"finder {finders + 1}"),
         (f"seek {finders + 1}", "seeking"),

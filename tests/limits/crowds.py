@@ -155,7 +155,8 @@ def sixty_four_pages_before_a_scan(path):
     with Program(path, "replay", *WIDEST) as program:
         program.answer_all(widened())
         program.answer_all([("open 188 overlaps(0 9)", "opened 1"), ("turn 1", "visited 0")])
-        program.answer_in_any_order(["turn 1"] * (64 + 188), [f"visited {page}" for page in range(1, 65)] + ["offered"] * 188)
+        visits = [f"visited {page}" for page in range(1, 65)]
+        program.answer_in_any_order(["turn 1"] * (64 + 188), visits + ["offered"] * 188)
         program.answer(["turn 1"], ["refused 19 Idle"])
         program.answer_in_any_order(["take 1"] * 188, [f"row {row} (5 5) 0" for row in range(1, 189)])
         program.answer(["take 1"], ["nothing"])
@@ -229,14 +230,14 @@ class Crowd:
         behind = self.first if cursor % 2 == 1 else 0
         inserts = self.rows("inserted", behind + 1, self.tree.commits)
         snapshot = self.rows("row", 1, behind)
+        take, turn = f"take {cursor}", f"turn {cursor}"
         if snapshot:
-            self.program.answer_in_any_order([f"take {cursor}", f"turn {cursor}", f"turn {cursor}"] + [f"take {cursor}"] * (behind - 1),
-                                             snapshot + ["offered", "refused 18 NoRoom"])
-            self.program.answer([f"take {cursor}"] * len(inserts), inserts)
+            given = [take, turn, turn] + [take] * (behind - 1)
+            self.program.answer_in_any_order(given, [*snapshot, "offered", "refused 18 NoRoom"])
         else:
-            self.program.answer([f"take {cursor}", f"turn {cursor}", f"turn {cursor}"] + [f"take {cursor}"] * (len(inserts) - 1),
-                                [inserts[0], "offered", "refused 18 NoRoom", *inserts[1:]])
-        self.program.answer([f"take {cursor}"], ["nothing"])
+            first = inserts.pop(0)
+            self.program.answer([take, turn, turn], [first, "offered", "refused 18 NoRoom"])
+        self.program.answer([take] * (len(inserts) + 1), [*inserts, "nothing"])
 
 
 def full_mailboxes(path, count=CURSORS, first=2_000):

@@ -46,13 +46,24 @@ def sets():
 
 def spell(key):
     """A key's text."""
-    return "{" + " ".join(map(str, sorted(key))) + "}" if isinstance(key, frozenset) else "(" + " ".join(map(str, key)) + ")"
+    if isinstance(key, frozenset):
+        return "{" + " ".join(map(str, sorted(key))) + "}"
+    return "(" + " ".join(map(str, key)) + ")"
+
+
+def are_related_sets(relation, key, operand):
+    """Whether a set is related to an operand, told by its elements."""
+    if relation == "overlaps":
+        return not key.isdisjoint(operand)
+    if relation == "within":
+        return key <= operand
+    return key >= operand if relation == "holds" else key == operand
 
 
 def are_related(relation, key, operand):
     """Whether a key is related to an operand, told by its points or elements."""
     if isinstance(key, frozenset):
-        return {"overlaps": bool(key & operand), "within": key <= operand, "holds": key >= operand, "same": key == operand}[relation]
+        return are_related_sets(relation, key, operand)
     half = len(key) // 2
     sides = list(zip(key[:half], key[half:], operand[:half], operand[half:]))
     if relation == "overlaps":
@@ -119,7 +130,8 @@ class Beside:
 
     def find_all(self):
         """The rows are found that are related to any of the keys, in each way."""
-        told = [(place, f"row {number} {self.texts[place]} {tag}") for number, (place, tag) in sorted(self.rows.items())]
+        live = sorted(self.rows.items())
+        told = [(place, f"row {number} {self.texts[place]} {tag}") for number, (place, tag) in live]
         lines, answers = [], []
         for relation, operand in itertools.product(RELATIONS, range(len(self.keys))):
             places = self.related[relation, operand]

@@ -12,8 +12,8 @@ READS = 1_000_001
 # The greatest depth of a query. An atom has depth 1.
 DEEPEST = 32
 
-# How a part of a query is joined to a further atom, or turned round: what stands before it and behind it. Every row matches
-# the atom of an `and`, and none that of an `or`, so the part alone decides.
+# How a part of a query is joined to a further atom, or turned round: what stands before it and behind it. Every row
+# matches the atom of an `and`, and none that of an `or`, so the part alone decides.
 JOINTS = {
     "not": ("not ", ""),
     "and left": ("", " and overlaps(0 9)"),
@@ -42,9 +42,11 @@ SHAPES = (
 def long_lines_cost_no_memory(path):
     """A line of 64 MiB is refused, and the program holds hardly more than before."""
     with Program(path, "serve") as program:
-        program.answer(["insert (5 5) 0", "x" * 5_000, "find overlaps(0 9)"], ["committed 1", "refused 22 Line 4096", "found 1", "row 1 (5 5) 0"])
+        program.answer(["insert (5 5) 0"], ["committed 1"])
+        answers = ["refused 22 Line 4096", "found 1", "row 1 (5 5) 0"]
+        program.answer(["x" * 5_000, "find overlaps(0 9)"], answers)
         before = program.held()
-        program.answer(["x" * LONG, "find overlaps(0 9)"], ["refused 22 Line 4096", "found 1", "row 1 (5 5) 0"])
+        program.answer(["x" * LONG, "find overlaps(0 9)"], answers)
         more = program.held() - before
         if more > LITTLE:
             raise Wrong(f"a line of {LONG:,} bytes made the program hold {more:,} bytes more")
@@ -83,7 +85,7 @@ def row_matched(shape):
 
 
 def answer_shape(path, shape, brackets):
-    """A query as deep as may be is answered by each command that has one; one that is deeper is refused at its first token."""
+    """Each command that has a query answers one as deep as may be, and refuses a deeper one at its first token."""
     text, deeper = query_of(shape, DEEPEST, brackets), query_of(shape, DEEPEST + 1, brackets)
     row = row_matched(shape)
     # The second row is a change to a cursor that follows the first commit, where it matches.
@@ -116,18 +118,19 @@ def rows_at_points(path):
     """400 rows, each at a point of its own, and the last is found, on pages of eight and of four."""
     for words in ((), ("--fan=4", "--least=2")):
         with Program(path, "serve", *words) as program:
-            program.answer([f"insert ({it} {it}) 0" for it in range(1, 401)], [f"committed {it}" for it in range(1, 401)])
+            numbers = range(1, 401)
+            program.answer([f"insert ({it} {it}) 0" for it in numbers], [f"committed {it}" for it in numbers])
             program.answer(["find same(400 400)"], ["found 1", "row 400 (400 400) 0"])
             program.end()
 
 
 def rows_over_several_levels(path):
-    """100 rows of many lengths on pages of four: each is found once when it was inserted, and once when all are there."""
+    """100 rows of many lengths on pages of four: each is found once when it was inserted, and when all are there."""
     keys = [(row % 101 * 37 % 101, row % 101 * 37 % 101 + row % 7) for row in range(1, 101)]
     with Program(path, "serve", "--fan", "4", "--least", "2") as program:
         for row, (low, high) in enumerate(keys, 1):
-            due = [f"row {row} ({low} {high}) {row}"]
-            program.answer([f"insert ({low} {high}) {row}", f"find same({low} {high})"], [f"committed {row}", "found 1", *due])
+            program.answer([f"insert ({low} {high}) {row}"], [f"committed {row}"])
+            program.answer([f"find same({low} {high})"], ["found 1", f"row {row} ({low} {high}) {row}"])
         for row, (low, high) in enumerate(keys, 1):
             program.answer([f"find same({low} {high})"], ["found 1", f"row {row} ({low} {high}) {row}"])
         program.end()

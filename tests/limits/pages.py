@@ -10,8 +10,8 @@ EVERYTHING = "overlaps(0 10000000)"
 class Filled:
     """A store that is filled, and the rows and changes that it is to have. Rows behind the filling stand at points.
 
-    Each row that fills it stands ten points behind the one before. A full leaf is parted in the middle, so each leaf but the
-    last is left with two rows: rows 1 and 2, rows 3 and 4 and so on. Where both stand, two more rows have room.
+    Each row that fills it stands ten points behind the one before. A full leaf is parted in the middle, so each leaf
+    but the last is left with two rows: rows 1 and 2, rows 3 and 4 and so on. Where both stand, two more have room.
     """
 
     def __init__(self, program):
@@ -26,7 +26,8 @@ class Filled:
     def insert_up_to(self, last):
         """Inserts rows of which none is refused."""
         numbers = range(self.first + 1, last + 1)
-        self.program.answer([f"insert ({10 * it} {10 * it}) {3 * it}" for it in numbers], [f"committed {it}" for it in numbers])
+        lines = [f"insert ({10 * it} {10 * it}) {3 * it}" for it in numbers]
+        self.program.answer(lines, [f"committed {it}" for it in numbers])
         self.note(last)
 
     def note(self, last):
@@ -35,7 +36,7 @@ class Filled:
         self.first = last
 
     def fill(self, sure):
-        """Inserts rows until one is refused for want of pages, and how many there are then. So many can't be refused."""
+        """Inserts rows until one is refused for want of pages. The first of them can't be: how many is told."""
         self.insert_up_to(sure)
         while True:
             number = self.first + 1
@@ -191,7 +192,7 @@ def split_alone(tree, page):
 
 
 def pages_of_a_replay(path, pages=PAGES, rows=45_000):
-    """The last page is made by a split. Then no full page can be split any more, nor the root grow; a posting needs none."""
+    """The last page is made by a split. Then no page can be split any more, nor the root grow; a posting needs none."""
     with Program(path, "replay", *SMALLEST) as program:
         tree = Growing(4, 2)
         tree.place_up_to(rows)

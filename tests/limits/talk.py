@@ -75,7 +75,7 @@ class Program:
             pass
 
     def exchange(self, text, length, due=None):
-        """The answers to a text, which have so many bytes. It is written by a thread, so that neither waits for the other."""
+        """The answers to a text, which have so many bytes. A thread writes it, so that neither waits for the other."""
         writer = threading.Thread(target=self.write, args=(text,), daemon=True)
         writer.start()
         told = self.read(length, due)

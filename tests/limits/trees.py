@@ -2,8 +2,8 @@
 
 
 class Growing:
-    """A tree that grows at its right end: each row is placed on the last leaf. Where that is full it is split, and where a
-    page above it is full that is split first.
+    """A tree that grows at its right end: each row is placed on the last leaf. Where that is full it is split, and
+    where a page above it is full that is split first.
 
     Every row's key is (5 5), but where another is told, and its tag three times its number.
     """
