@@ -126,10 +126,12 @@ def visits_without_pages(trace):
 
 
 def pass_forgotten(trace):
-    """A commit is neither offered nor passed, but the next one is."""
+    """A commit is neither offered nor passed, but the next one is; and all that was offered until then is taken."""
     choices = []
     for place, next_place in zip(trace.places("passed"), trace.places("passed")[1:]):
-        if trace.cursor_at(place) == trace.cursor_at(next_place):
+        history = trace.cursors[trace.cursor_at(place)]
+        offered = sum(offer < next_place for offer in history.offers)
+        if history is trace.cursors[trace.cursor_at(next_place)] and offered <= len(history.given):
             choices.append(place)
     place = trace.any_of(choices)
     return None if place is None else trace.without([place])
