@@ -330,6 +330,7 @@ def other_commit(steps):
 def delete_told_as_move(steps):
     """A delete, or a move out of a query, is told as a move within it."""
     def edit(answer):
+        """What is told in the place of an answer."""
         _, commit, number = answer.split(" ")
         row = steps.commits.rows[int(number)]
         return f"moved {commit} {number} {steps.keys.text(row.key)} {row.tag}"
@@ -339,6 +340,7 @@ def delete_told_as_move(steps):
 def move_told_otherwise(steps):
     """A move within a query is told as an insert or as a delete."""
     def edit(answer):
+        """What is told in the place of an answer."""
         _, commit, row, rest = answer.split(" ", 3)
         return steps.random.choice((f"inserted {commit} {rest}", f"deleted {commit} {row}"))
     return steps.changed_at_one(steps.places("moved"), edit)
@@ -347,6 +349,7 @@ def move_told_otherwise(steps):
 def insert_told_as_move(steps):
     """An insert, or a move into a query, is told as a move within it."""
     def edit(answer):
+        """What is told in the place of an answer."""
         _, commit, rest = answer.split(" ", 2)
         return f"moved {commit} {int(commit) - 1} {rest}"
     return steps.changed_at_one(steps.places("inserted"), edit)
@@ -382,6 +385,7 @@ def cursor_serial_twice(steps):
 def other_refusal(steps):
     """Another refusal than the one that is due."""
     def edit(answer):
+        """What is told in the place of an answer."""
         return refusal_line(OTHER_REFUSALS[refused_number(answer)])
     return steps.changed_at_one(steps.refusals(OTHER_REFUSALS), edit)
 
@@ -407,6 +411,7 @@ def wrong_place(steps):
 def fault_of_line(steps):
     """The fault of a query is told as one of the line, or the other way round."""
     def edit(answer):
+        """What is told in the place of an answer."""
         return refusal_line(43 - refused_number(answer), answer.split(" ")[3])
     return steps.changed_at_one(steps.refusals([21, 22]), edit)
 
