@@ -132,7 +132,9 @@ class Drawer:
         return sum({1 << self.random.randint(0, greatest) for _ in range(self.random.choice((0, 1, 1, 2, 2, 3, 4)))})
 
     def range_ends(self):
-        """The lower and the upper end of a range: mostly a short one, seldom at the ends of what there is."""
+        """The lower and the upper end of a range: mostly a short one, seldom a wide one."""
+        if self.chance(0.05):
+            return sorted(self.random.randint(self.keys.least, self.keys.greatest) for _ in range(2))
         if self.chance(0.01):
             return self.keys.least, self.random.choice((self.keys.least, -1, self.keys.greatest))
         if self.chance(0.01):

@@ -167,6 +167,33 @@ def row_doubled(steps):
     return pair and steps.changed({pair[1].place: pair[0].item})
 
 
+def row_given_besides(steps):
+    """A row is given again behind all else."""
+    choices = []
+    for cursor, history in steps.cursors.items():
+        choices += [(history.given[-1].place, cursor, given.item) for given in history.given if given.is_row]
+    choice = steps.any_of(choices)
+    return choice and steps.with_another(*choice, {})
+
+
+def change_doubled(steps):
+    """A change is given again in the place of the next one."""
+    pair = steps.any_of(steps.pairs(lambda given: given.is_change))
+    return pair and steps.changed({pair[1].place: pair[0].item})
+
+
+def item_of_another(steps):
+    """An item is given that is another cursor's: a change, or a row to one that gave all its rows."""
+    items, choices = {given.item for given in steps.given() if not given.is_mark}, []
+    for history in steps.cursors.values():
+        own = {given.item for given in history.given}
+        is_past_rows = any(not given.is_row for given in history.given)
+        choices += [(given.place, own) for given in history.given if given.is_change or given.is_row and is_past_rows]
+    place, own = steps.any_of(choices) or (None, set())
+    other = steps.any_of(sorted(items - own))
+    return None if place is None or other is None else steps.changed({place: other})
+
+
 def exchanged(steps, is_fitting):
     """The steps with two items exchanged that follow each other and fit, or none."""
     pair = steps.any_of(steps.pairs(is_fitting))
@@ -237,6 +264,12 @@ def given_after_closing(steps):
     return item and steps.changed_at_one(steps.refusals([17], [steps.giving]), lambda answer: item)
 
 
+def nothing_after_closing(steps):
+    """A closed cursor has nothing left, in the place of a refusal."""
+    nothing = {"take": "nothing", "next": "empty"}[steps.giving]
+    return steps.changed_at_one(steps.refusals([17], [steps.giving]), lambda answer: nothing)
+
+
 def first_items(steps):
     """The items with which cursors begin that follow a commit, and the number of that commit."""
     histories = [history for history in steps.cursors.values() if history.follows and history.given]
@@ -284,9 +317,30 @@ def other_deleted_row(steps):
     return steps.changed_at_one(steps.places("deleted"), lambda answer: raised(answer, 2))
 
 
+def other_moved_row(steps):
+    """A move tells of another row that it ended."""
+    return steps.changed_at_one(steps.places("moved"), lambda answer: raised(answer, 2))
+
+
+def other_commit(steps):
+    """A change tells of another commit."""
+    return steps.changed_at_one([given.place for given in steps.given() if given.is_change], lambda it: raised(it, 1))
+
+
+def delete_told_as_move(steps):
+    """A delete, or a move out of a query, is told as a move within it."""
+    def edit(answer):
+        """What is told in the place of an answer."""
+        _, commit, number = answer.split(" ")
+        row = steps.commits.rows[int(number)]
+        return f"moved {commit} {number} {steps.keys.text(row.key)} {row.tag}"
+    return steps.changed_at_one(steps.places("deleted"), edit)
+
+
 def move_told_otherwise(steps):
     """A move within a query is told as an insert or as a delete."""
     def edit(answer):
+        """What is told in the place of an answer."""
         _, commit, row, rest = answer.split(" ", 3)
         return steps.random.choice((f"inserted {commit} {rest}", f"deleted {commit} {row}"))
     return steps.changed_at_one(steps.places("moved"), edit)
@@ -295,6 +349,7 @@ def move_told_otherwise(steps):
 def insert_told_as_move(steps):
     """An insert, or a move into a query, is told as a move within it."""
     def edit(answer):
+        """What is told in the place of an answer."""
         _, commit, rest = answer.split(" ", 2)
         return f"moved {commit} {int(commit) - 1} {rest}"
     return steps.changed_at_one(steps.places("inserted"), edit)
@@ -312,6 +367,16 @@ def dead_row_ended(steps):
     return steps.next_commit_at(steps.refusals([15], ["seek", "move", "delete"]))
 
 
+def commit_by_other_line(steps):
+    """A line makes a commit that asks for none."""
+    return steps.next_commit_at(steps.places("asked", "closed", "swept", "opened"))
+
+
+def cursor_serial_skipped(steps):
+    """A cursor gets the serial after the next."""
+    return steps.changed_at_one(steps.places("opened"), lambda answer: raised(answer, 1))
+
+
 def cursor_serial_twice(steps):
     """Two cursors get one serial."""
     return steps.changed_at_one(steps.places("opened")[1:], lambda answer: raised(answer, 1, -1))
@@ -320,6 +385,7 @@ def cursor_serial_twice(steps):
 def other_refusal(steps):
     """Another refusal than the one that is due."""
     def edit(answer):
+        """What is told in the place of an answer."""
         return refusal_line(OTHER_REFUSALS[refused_number(answer)])
     return steps.changed_at_one(steps.refusals(OTHER_REFUSALS), edit)
 
@@ -345,6 +411,7 @@ def wrong_place(steps):
 def fault_of_line(steps):
     """The fault of a query is told as one of the line, or the other way round."""
     def edit(answer):
+        """What is told in the place of an answer."""
         return refusal_line(43 - refused_number(answer), answer.split(" ")[3])
     return steps.changed_at_one(steps.refusals([21, 22]), edit)
 
@@ -355,9 +422,11 @@ def want_of_memory(steps):
 
 
 EDITS = [
-    row_doubled, changes_exchanged, mark_too_high, mark_too_low, mark_doubled, unasked_mark, row_lost, change_lost,
-    given_after_closing, begins_with_its_commit, row_to_follower, row_after_changes, other_tag, other_key,
-    other_deleted_row, move_told_otherwise, insert_told_as_move, commit_skipped, dead_row_ended, cursor_serial_twice,
-    other_refusal, opening_refused, future_followed, wrong_place, fault_of_line, want_of_memory,
+    row_given_besides, change_doubled, item_of_another, nothing_after_closing, other_moved_row, other_commit,
+    delete_told_as_move, commit_by_other_line, cursor_serial_skipped, row_doubled, changes_exchanged, mark_too_high,
+    mark_too_low, mark_doubled, unasked_mark, row_lost, change_lost, given_after_closing, begins_with_its_commit,
+    row_to_follower, row_after_changes, other_tag, other_key, other_deleted_row, move_told_otherwise,
+    insert_told_as_move, commit_skipped, dead_row_ended, cursor_serial_twice, other_refusal, opening_refused,
+    future_followed, wrong_place, fault_of_line, want_of_memory,
 ]
 ALLOWED = [rows_exchanged]

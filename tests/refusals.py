@@ -3,8 +3,8 @@
 NAMES = {
     1: "OutOfMemory", 2: "BadConfig", 3: "PagesFull", 4: "CommitsFull", 5: "CursorsFull", 6: "FindersFull",
     7: "NotHere", 8: "NodeFull", 9: "TooFew", 10: "Uncovered", 11: "Owed", 12: "Unhung", 13: "BadSides",
-    14: "NoSuchRow", 15: "AlreadyDeleted", 16: "NoSuchCursor", 17: "CursorClosed", 18: "NoRoom", 19: "Idle", 20: "NoSuchFinder",
-    21: "QueryText", 22: "Line", 23: "FromFuture",
+    14: "NoSuchRow", 15: "AlreadyDeleted", 16: "NoSuchCursor", 17: "CursorClosed", 18: "NoRoom", 19: "Idle",
+    20: "NoSuchFinder", 21: "QueryText", 22: "Line", 23: "FromFuture",
 }
 NUMBERS = {name: number for number, name in NAMES.items()}
 

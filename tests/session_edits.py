@@ -21,6 +21,7 @@ def found_rows(talk, least):
 def found_row_lost(talk):
     """A find leaves out a row, and doesn't count it."""
     def edit(answer):
+        """What is told in the place of an answer."""
         lines = answer.split("\n")
         del lines[talk.random.randrange(1, len(lines))]
         return "\n".join([f"found {len(lines) - 1}", *lines[1:]])
@@ -30,6 +31,7 @@ def found_row_lost(talk):
 def found_row_doubled(talk):
     """A find gives a row twice, and counts it twice."""
     def edit(answer):
+        """What is told in the place of an answer."""
         lines = answer.split("\n")
         return "\n".join([f"found {len(lines)}", *lines[1:], lines[-1]])
     return talk.changed_at_one(found_rows(talk, 1), edit)
@@ -38,6 +40,7 @@ def found_row_doubled(talk):
 def found_rows_exchanged(talk):
     """A find gives two rows in the other order."""
     def edit(answer):
+        """What is told in the place of an answer."""
         lines = answer.split("\n")
         place = talk.random.randrange(1, len(lines) - 1)
         lines[place:place + 2] = lines[place + 1], lines[place]
@@ -48,6 +51,7 @@ def found_rows_exchanged(talk):
 def found_count_wrong(talk):
     """A find tells of one row more than it gives."""
     def edit(answer):
+        """What is told in the place of an answer."""
         first, *rows = answer.split("\n")
         return "\n".join([raised(first, 1), *rows])
     return talk.changed_at_one(found_rows(talk, 0), edit)

@@ -126,10 +126,12 @@ def visits_without_pages(trace):
 
 
 def pass_forgotten(trace):
-    """A commit is neither offered nor passed, but the next one is."""
+    """A commit is neither offered nor passed, but the next one is; and all that was offered until then is taken."""
     choices = []
     for place, next_place in zip(trace.places("passed"), trace.places("passed")[1:]):
-        if trace.cursor_at(place) == trace.cursor_at(next_place):
+        history = trace.cursors[trace.cursor_at(place)]
+        offered = sum(offer < next_place for offer in history.offers)
+        if history is trace.cursors[trace.cursor_at(next_place)] and offered <= len(history.given):
             choices.append(place)
     place = trace.any_of(choices)
     return None if place is None else trace.without([place])
@@ -159,15 +161,34 @@ def commit_by_no_finder(trace):
     return trace.next_commit_at(trace.refusals([20], ["seek", "move"]))
 
 
+def commit_hidden(trace):
+    """A finder that ended its row is told to go on."""
+    places = [place for place in trace.places("committed") if trace.steps[place][0].verb in ("seek", "move")]
+    return trace.changed_at_one(places, lambda answer: "seeking")
+
+
+def ended_finder_goes_on(trace):
+    """A finder that isn't open goes on."""
+    return trace.changed_at_one(trace.refusals([20], ["seek", "move"]), lambda answer: "seeking")
+
+
+def finder_of_no_row(trace):
+    """A finder is opened of a row that ended, or that is none."""
+    place = trace.any_of(trace.refusals([14, 15], ["find"]))
+    count = sum(opened < (place or 0) for opened in trace.places("finder"))
+    return None if place is None else trace.changed({place: f"finder {count + 1}"})
+
+
 def finder_serial_twice(trace):
     """Two finders get one serial."""
     return trace.changed_at_one(trace.places("finder")[1:], lambda answer: raised(answer, 1, -1))
 
 
 def finder_refused(trace):
-    """A finder of a row that lives isn't opened, or one that is open isn't known."""
+    """A finder of a row that lives isn't opened, or one that is open isn't known or its row is told to have ended."""
     def edit(answer):
-        return refusal_line(20 if answer == "seeking" else trace.random.choice((6, 14, 15)))
+        """What is told in the place of an answer."""
+        return refusal_line(trace.random.choice((15, 20) if answer == "seeking" else (6, 14, 15)))
     return trace.changed_at_one(trace.places("seeking", "finder"), edit)
 
 
@@ -202,7 +223,7 @@ def ends_early(trace):
 EDITS = edits.EDITS + [
     passed_commit_given, given_before_offered, nothing_given, offered_without_room, refused_with_room, idle_too_early,
     mark_forgotten, offered_too_early, visits_without_pages, pass_forgotten, visits_no_page, change_passed,
-    passes_no_commit, commit_by_no_finder, finder_serial_twice, finder_refused, cursor_unknown, too_many_swept,
-    too_few_swept, page_skipped, ends_early,
+    passes_no_commit, commit_hidden, ended_finder_goes_on, finder_of_no_row, commit_by_no_finder, finder_serial_twice,
+    finder_refused, cursor_unknown, too_many_swept, too_few_swept, page_skipped, ends_early,
 ]
 ALLOWED = edits.ALLOWED

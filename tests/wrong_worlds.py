@@ -176,6 +176,7 @@ class NotIsTurnedRound(WrongWorld):
     def scan(self, cursor):
         """A visit of a cursor."""
         def may_match(query, bound):
+            """Whether a branch is followed."""
             if query[0] == "not":
                 return not may_match_below(self.keys, query[1], bound)
             return may_match_below(self.keys, query, bound)
@@ -192,6 +193,7 @@ class BoundsMatch(WrongWorld):
     def scan(self, cursor):
         """A visit of a cursor."""
         def asks(query, bound):
+            """Whether a branch is followed."""
             return query[0] in ("and", "or", "not") or atom_matches(self.keys, query[0], bound, query[1])
         page = self.visit(cursor.stack, lambda bound: asks(cursor.query, bound))
         if page.level == 0:
