@@ -159,9 +159,15 @@ class Drawer:
             ends = [(low, low) for low, _ in ends]
         return (*(low for low, _ in ends), *(high for _, high in ends))
 
+    def rows(self):
+        """The rows that were made, by their numbers."""
+        raise NotImplementedError
+
     def atom(self):
-        """A relation and a key; for `overlaps` and `within` mostly one that many keys match."""
+        """A relation and a key: of a row, or for `overlaps` and `within` mostly one that many keys match."""
         relation = self.random.choice(("overlaps", "overlaps", "overlaps", "within", "within", "holds", "same"))
+        if self.rows() and self.chance(0.25):
+            return (relation, self.random.choice(list(self.rows().values())).key)
         key = self.key()
         if relation in ("overlaps", "within") and self.chance(0.7):
             key = self.keys.union(key, self.key())
@@ -175,7 +181,8 @@ class Drawer:
         for _ in range(self.random.choice((0, 0, 0, 1, 2, 3))):
             other = self.atom() if self.chance(0.7) else ("or", self.atom(), self.atom())
             joints = [("not", query), ("and", query, ("not", other)), ("or", query, other), ("or", other, query)]
-            query = self.random.choice(joints + [("and", ("or", query, other), self.keys.everything())])
+            joints += [("and", query, other), ("and", other, query), ("and", self.keys.everything(), query)]
+            query = self.random.choice(joints)
         return self.deep(query, MOST_DEPTH) if self.chance(0.02) else query
 
     def deep(self, query, most):
@@ -191,11 +198,12 @@ class Drawer:
     def name(self, sensible, greatest):
         """A number that names something: mostly one of the sensible ones, else one up to twice the greatest given.
 
-        Seldom it is one that is greater by a power of 2, which a shorter number would take for a sensible one.
+        Seldom it is a sensible one and a power of 2 more, which a shorter number would take for the sensible one.
         """
+        if sensible and self.chance(0.02):
+            return self.random.choice(sensible) + self.random.choice((2**32, 2**63))
         if not sensible or self.chance(0.15):
-            number = self.random.randint(0, 2 * greatest)
-            return number if not self.chance(0.1) else self.random.choice((GREATEST, number + 2**32, number + 2**63))
+            return GREATEST if self.chance(0.02) else self.random.randint(0, 2 * greatest)
         return self.random.choice(sensible)
 
     def room(self):

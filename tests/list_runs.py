@@ -13,6 +13,7 @@ import trace_checker
 import trace_edits
 from session_drawing import SessionDrawer
 from trace_drawing import TraceDrawer
+from wrong_rules import RULES
 from wrong_worlds import WORLDS
 
 # Seconds that a program may take for one list
@@ -186,6 +187,27 @@ def try_wrong_world(index, seeds):
             break
     is_refused = sum(outcome.edits.values()) > 0
     outcome.note(is_refused, f"no list that {world.__name__} answers is refused: {world.__doc__}")
+    return outcome
+
+
+def differs(drawer, world):
+    """Whether a world answers a line of a right list otherwise."""
+    pairs = ((line, due) for line, due in zip(drawer.asked, drawer.answers) if due is not None)
+    return any(world.step(line) != due for line, due in pairs)
+
+
+def try_wrong_rules(seeds):
+    """Lists of the right world: each world with a wrong rule has to answer one of them otherwise."""
+    outcome, left = Outcome(), list(RULES)
+    for count, seed in enumerate(seeds, 1):
+        drawer = TraceDrawer(seed).drawn()
+        for rule in [rule for rule in left if differs(drawer, rule(drawer.keys, drawer.fan, drawer.least))]:
+            outcome.edits[f"rule: {rule.__name__}"] = count
+            left.remove(rule)
+        if not left:
+            break
+    for rule in RULES:
+        outcome.note(rule not in left, f"no list shows that {rule.__name__} is wrong: {rule.__doc__}")
     return outcome
 
 

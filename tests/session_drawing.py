@@ -3,7 +3,7 @@ from random import Random
 
 from drawn_lines import Drawer
 from keys import CLASSES
-from session_model import MOST_CURSORS, Session
+from session_model import MOST_CURSORS, MOST_ROOM, Session
 
 FANS = ((4, 2), (8, 3), (64, 21))
 
@@ -63,6 +63,10 @@ class SessionDrawer(Drawer):
             getattr(self, "draw_" + self.random.choices(acts, weights)[0])()
         self.settle()
         return self
+
+    def rows(self):
+        """The rows that were made, by their numbers."""
+        return self.session.commits.rows
 
     def row_name(self):
         """Mostly the number of a row that lives, seldom that of one that ended."""
@@ -141,11 +145,16 @@ class SessionDrawer(Drawer):
 
     def many_cursors(self):
         """Opens cursors until some are refused, and closes most of them."""
-        for _ in range(MOST_CURSORS + 3):
+        commits = len(self.session.commits)
+        while len(self.session.cursors) < MOST_CURSORS:
             if self.chance(0.5):
                 self.ask("open", 1, self.atom())
             else:
-                self.ask("follow", 1, len(self.session.commits), self.atom())
+                self.ask("follow", 1, commits, self.atom())
+        for room in (2, 0, MOST_ROOM, MOST_ROOM + 1):
+            self.ask("open", room, self.atom())
+            self.ask("follow", room, commits, self.atom())
+            self.ask("follow", room, commits + 1, self.atom())
         for cursor in list(self.session.cursors)[8:]:
             self.ask("close", cursor)
 

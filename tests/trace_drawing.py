@@ -8,7 +8,7 @@ from random import Random
 
 from drawn_lines import Drawer
 from keys import CLASSES
-from world_model import MOST_CURSORS, MOST_FINDERS, World
+from world_model import MOST_CURSORS, MOST_FINDERS, MOST_ROOM, World
 
 EVENTS = 2_000
 
@@ -66,6 +66,10 @@ class TraceDrawer(Drawer):
             getattr(self, "draw_" + self.random.choices(acts, weights)[0])()
         self.settle()
         return self
+
+    def rows(self):
+        """The rows that were made, by their numbers."""
+        return self.world.commits.rows
 
     # Names
 
@@ -157,8 +161,10 @@ class TraceDrawer(Drawer):
     # Commits
 
     def draw_place(self):
-        """An insert on some leaf."""
+        """An insert on some leaf, seldom on a page of any kind."""
         number, key = self.leaf_and_key()
+        if self.chance(0.1):
+            number, key = self.page_name(lambda page: page.cover is not None), self.key()
         self.ask("place", number, key, self.tag())
 
     def draw_insert(self):
@@ -328,8 +334,13 @@ class TraceDrawer(Drawer):
 
     def many_cursors(self):
         """Opens cursors until some are refused, and then closes most of them."""
-        for _ in range(MOST_CURSORS + 3):
+        while len(self.world.cursors) < MOST_CURSORS:
             self.draw_nth_cursor()
+        commits = len(self.world.commits)
+        for room in (2, 0, MOST_ROOM, MOST_ROOM + 1):
+            self.ask("open", room, self.atom())
+            self.ask("follow", room, commits, self.atom())
+            self.ask("follow", room, commits + 1, self.atom())
         for cursor in list(self.world.cursors)[USUAL_CURSORS:]:
             self.ask("close", cursor)
 
@@ -342,8 +353,11 @@ class TraceDrawer(Drawer):
 
     def many_finders(self):
         """Opens finders until some are refused, and then ends most of them."""
-        for _ in range(MOST_FINDERS + 8):
-            self.ask("find", self.row_name())
+        live = [row.number for row in self.world.commits.live_rows()]
+        while live and len(self.world.finders) < MOST_FINDERS:
+            self.ask("find", self.random.choice(live))
+        for row in [0, len(self.world.commits) + 1, *live[:1], *list(self.world.commits.ended)[:1]]:
+            self.ask("find", row)
         for finder in list(self.world.finders)[8:]:
             self.ask("unfind", finder)
 
