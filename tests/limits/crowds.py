@@ -150,6 +150,26 @@ def widened():
     return pairs
 
 
+def each_number_of_rows(path):
+    """Each number of rows up to 64 on a page is found at once, by a find and by the visit of a cursor."""
+    with Program(path, "serve", *WIDEST) as program:
+        rows = []
+        for number in range(1, 65):
+            rows.append(f"row {number} (5 5) {3 * number}")
+            program.answer([f"insert (5 5) {3 * number}", "find overlaps(0 9)"], [f"committed {number}", f"found {number}", *rows])
+        program.end()
+    with Program(path, "replay", *WIDEST) as program:
+        for number in range(1, 65):
+            program.answer_all([
+                (f"place 0 (5 5) {number}", f"committed {number}"),
+                ("open 1 overlaps(0 9)", f"opened {number}"),
+                (f"turn {number}", "visited 0"),
+                (f"turn {number}", "offered"),
+                (f"close {number}", "closed"),
+            ])
+        program.end()
+
+
 def first_visits(number):
     """A cursor's first turn and a finder's first visit read the root: then each has all its children to visit."""
     return [
