@@ -5,7 +5,7 @@
  *   READ_AT_ONCE, WRITE_AT_ONCE   at most so many bytes are moved by a call
  *   SHORT_READ, SHORT_WRITE       the call of that number, counted from 1, moves one byte
  *   FAILING_READ, FAILING_WRITE   the call of that number moves nothing and fails
- *   FAILING_ERROR                 with this number of an error
+ *   FAILING_ERROR                 with this number of an error; where there is none it answers that it moved nothing
  *
  * The call that fails tells so in a line on standard error, with the number of bytes that were moved before it. The
  * calls after it are as the others.
@@ -51,7 +51,7 @@ static ssize_t fail(const struct stream *stream)
     int length = snprintf(told, sizeof told, "a %s fails after %lu bytes\n", stream->name, stream->bytes);
     (void)!syscall(SYS_write, STDERR_FILENO, told, (size_t)length);
     errno = error_number;
-    return -1;
+    return error_number ? -1 : 0;
 }
 
 static ssize_t move_bytes(struct stream *stream, int file, long bytes, size_t count)

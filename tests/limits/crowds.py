@@ -150,6 +150,55 @@ def widened():
     return pairs
 
 
+def each_number_of_rows(path):
+    """Each number of rows up to 64 on a page is found at once, by a find and by the visit of a cursor."""
+    with Program(path, "serve", *WIDEST) as program:
+        rows = []
+        for number in range(1, 65):
+            rows.append(f"row {number} (5 5) {3 * number}")
+            program.answer([f"insert (5 5) {3 * number}", "find overlaps(0 9)"], [f"committed {number}", f"found {number}", *rows])
+        program.end()
+    with Program(path, "replay", *WIDEST) as program:
+        for number in range(1, 65):
+            program.answer_all([
+                (f"place 0 (5 5) {number}", f"committed {number}"),
+                ("open 1 overlaps(0 9)", f"opened {number}"),
+                (f"turn {number}", "visited 0"),
+                (f"turn {number}", "offered"),
+                (f"close {number}", "closed"),
+            ])
+        program.end()
+
+
+def first_visits(number):
+    """A cursor's first turn and a finder's first visit read the root: then each has all its children to visit."""
+    return [
+        ("open 1 overlaps(0 9)", f"opened {number}"),
+        (f"turn {number}", "visited 0"),
+        (f"close {number}", "closed"),
+        ("find 1", f"finder {number}"),
+        (f"seek {number}", "seeking"),
+        (f"unfind {number}", "unfound"),
+    ]
+
+
+def each_number_of_pages(path):
+    """A scan and a finder that have 2 pages to visit at once, 3, and so on to 64. Of the root's 64 children one is enlarged."""
+    with Program(path, "replay", *WIDEST) as program:
+        number = 0
+        for line, answer in widened():
+            program.answer([line], [answer])
+            if line.startswith(("grow", "post")):
+                number += 1
+                program.answer_all(first_visits(number))
+        program.answer_all([
+            ("enlarge 0 64 (5 6)", "enlarged"),
+            ("place 64 (5 6) 0", "committed 189"),
+            ("open 1 same(5 6)", "opened 64"),
+        ])
+        program.end()
+
+
 def sixty_four_pages_before_a_scan(path):
     """A scan that has 64 pages to visit at once."""
     with Program(path, "replay", *WIDEST) as program:

@@ -191,17 +191,22 @@ def split_alone(tree, page):
     tree.entries.append(2)
 
 
+def full_tree(rows):
+    """Lines that make a tree whose root is full, and its last leaf; that leaf, and the others."""
+    tree = Growing(4, 2)
+    tree.place_up_to(rows)
+    last = tree.path[-1]
+    while tree.entries[last] < 4:
+        tree.put("(5 5)")
+    if tree.entries[0] != 4 or tree.entries[tree.path[-2]] == 4:
+        raise Wrong("the trial itself needs a root that is full, and a parent that isn't")
+    return tree, last, iter([page for page, level in enumerate(tree.levels) if level == 0 and page != last])
+
+
 def pages_of_a_replay(path, pages=PAGES, rows=45_000):
     """The last page is made by a split. Then no page can be split any more, nor the root grow; a posting needs none."""
     with Program(path, "replay", *SMALLEST) as program:
-        tree = Growing(4, 2)
-        tree.place_up_to(rows)
-        last = tree.path[-1]
-        while tree.entries[last] < 4:
-            tree.put("(5 5)")
-        if tree.entries[0] != 4 or tree.entries[tree.path[-2]] == 4:
-            raise Wrong("the trial itself needs a root that is full, and a parent that isn't")
-        leaves = iter([page for page, level in enumerate(tree.levels) if level == 0 and page != last])
+        tree, last, leaves = full_tree(rows)
         while len(tree.entries) < pages - 1:
             split_alone(tree, next(leaves))
         program.answer_all(tree.taken())
@@ -221,5 +226,23 @@ def pages_of_a_replay(path, pages=PAGES, rows=45_000):
             (f"split {pages} llrr", "refused 7 NotHere"),
             (f"post {tree.path[-2]} {last}", "posted"),
             (f"place {pages - 1} (5 5) 0", f"committed {tree.commits + 3}"),
+        ])
+        program.end()
+
+
+def last_growth(path, pages=PAGES, rows=45_000):
+    """The last two pages are made by a growth. Then no full page can be split any more."""
+    with Program(path, "replay", *SMALLEST) as program:
+        tree, last, leaves = full_tree(rows)
+        while len(tree.entries) < pages - 2:
+            split_alone(tree, next(leaves))
+        program.answer_all(tree.taken())
+        program.answer_all([
+            ("grow llrr", f"grown {pages - 2} {pages - 1}"),
+            ("grow llrr", "refused 9 TooFew"),
+            (f"split {last} llrr", "refused 3 PagesFull"),
+            (f"place {last} (5 5) 0", "refused 8 NodeFull"),
+            (f"place {pages - 1} (5 5) 0", "refused 7 NotHere"),
+            (f"place {next(leaves)} (5 5) 0", f"committed {tree.commits + 1}"),
         ])
         program.end()
