@@ -61,6 +61,22 @@ def cursors_that_are_used_up(path):
         program.end()
 
 
+def open_one_after_the_other(program, count):
+    """Opens cursors with the greatest room where there is no row that they ask for, and closes each before the next."""
+    for first in range(1, count + 1, 1_000):
+        serials = range(first, first + 1_000)
+        lines = [line for serial in serials for line in (f"open {ROOM} same(-1 -1)", f"next {serial}", f"close {serial}")]
+        program.answer(lines, [answer for serial in serials for answer in (f"opened {serial}", "empty", "closed")])
+
+
+def cursors_one_after_the_other(path):
+    """More cursors than 16 bits can number, of which one is open at a time."""
+    with Program(path, "serve") as program:
+        open_one_after_the_other(program, 70_000)
+        program.answer(["next 1", "next 65536", "next 70001"], ["refused 17 CursorClosed", "refused 17 CursorClosed", "refused 16 NoSuchCursor"])
+        program.end()
+
+
 def finders_of_a_row_each(path):
     """64 finders are open, each of another row, and the next is refused until one is ended."""
     with Program(path, "replay", *WIDEST) as program:

@@ -2,12 +2,20 @@
 import socket
 import subprocess
 
+from .crowds import open_one_after_the_other
 from .talk import Program, Wrong
 
 # What a long line may make the program hold more, in bytes: far less than the line
 LITTLE = 4 << 20
 LONG = 64 << 20
 READS = 1_000_001
+
+# A multiplier of a row's number, by which keys are spread
+SPREAD = 2_654_435_761
+
+# Rows that are kept, and the bytes that each may take: they are told to be some 90
+KEPT = 100_000
+BYTES_OF_A_ROW = 120
 
 # The greatest depth of a query. An atom has depth 1.
 DEEPEST = 32
@@ -50,6 +58,25 @@ def long_lines_cost_no_memory(path):
         more = program.held() - before
         if more > LITTLE:
             raise Wrong(f"a line of {LONG:,} bytes made the program hold {more:,} bytes more")
+        program.end()
+
+
+def rows_cost_what_is_told(path):
+    """A row with fan 32 takes some 90 bytes. Finds, and cursors that are opened and closed, take nothing that lasts."""
+    with Program(path, "serve", "--fan", "32", "--least", "12") as program:
+        program.answer(["insert (0 0) 0"], ["committed 1"])
+        before, numbers = program.asked(), range(2, KEPT + 1)
+        keys = [(number * SPREAD % (100 * KEPT), number % 20) for number in numbers]
+        program.answer([f"insert ({low} {low + more}) 7" for low, more in keys], [f"committed {number}" for number in numbers])
+        each = (program.asked() - before) / KEPT
+        if each > BYTES_OF_A_ROW:
+            raise Wrong(f"a row made the program ask for {each:.0f} bytes more")
+        before = program.asked()
+        open_one_after_the_other(program, 10_000)
+        program.answer(["find same(-1 -1)"] * KEPT, ["found 0"] * KEPT)
+        more = program.asked() - before
+        if more > LITTLE:
+            raise Wrong(f"cursors that were closed, and finds, made the program ask for {more:,} bytes more")
         program.end()
 
 

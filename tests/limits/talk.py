@@ -108,10 +108,18 @@ class Program:
             lacking, surplus = sorted(set(due) - set(told_lines))[:2], sorted(set(told_lines) - set(due))[:2]
             raise Wrong(f"of {len(due)} answers in any order {lacking} didn't come, and {surplus} came")
 
+    def bytes_of(self, name):
+        """A number of bytes that the system tells of the program."""
+        with open(f"/proc/{self.child.pid}/status", encoding="ascii") as status:
+            return next(int(line.split()[1]) * 1024 for line in status if line.startswith(name + ":"))
+
     def held(self):
         """The most bytes that the program held."""
-        with open(f"/proc/{self.child.pid}/status", encoding="ascii") as status:
-            return next(int(line.split()[1]) * 1024 for line in status if line.startswith("VmHWM:"))
+        return self.bytes_of("VmHWM")
+
+    def asked(self):
+        """The bytes that the program has asked of the system for its data, touched or not."""
+        return self.bytes_of("VmData")
 
     def seconds(self):
         """The processor time that the program took."""
