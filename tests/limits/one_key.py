@@ -25,7 +25,7 @@ class Extent:
         return range(self.multiple, self.last + 1, self.multiple)
 
 
-# Half of the rows are deleted, those that are there for longest: the newest take longest to be found.
+# Half of the rows are deleted, those that are there for longest
 HUNDRED_THOUSAND = Extent(32, 12, 100_000, 1, 50_000)
 
 # As many rows as find pages however they are parted, but for some hundred
