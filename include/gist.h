@@ -134,7 +134,7 @@ uint32_t gist_delete_all(gist_store *store, const uint64_t *rows, size_t length,
  * `and`, `or`, `not` and round brackets, at most 32 deep and 4,096 bytes long. Keys are written `(9 17)`,
  * `(x1 y1 x2 y2)` and `{2 5 64}`: "overlaps (9 17) and not within (0 9)".
  *
- * GIST_QUERY_TEXT, and `fault` gets the place of the byte at which the text is refused, counted from 0;
+ * GIST_QUERY_TEXT, and `fault` gets the place of the byte at which the text is refused, counted from 0; else
  * GIST_CURSORS_FULL; GIST_OUT_OF_MEMORY.
  */
 uint32_t gist_open(gist_store *store, const char *query, size_t length, uint64_t *cursor, uint64_t *fault);
@@ -143,7 +143,8 @@ uint32_t gist_open(gist_store *store, const char *query, size_t length, uint64_t
  * Opens a cursor that follows a commit: it gives the changes after that commit and no row that was there. Of a mark's
  * number it goes on where the mark was given. All changes that there are follow commit 0.
  *
- * As gist_open; GIST_FROM_FUTURE where there are fewer commits than that, before GIST_CURSORS_FULL.
+ * As gist_open; GIST_FROM_FUTURE where there are fewer commits than that, behind GIST_QUERY_TEXT and before
+ * GIST_CURSORS_FULL.
  */
 uint32_t gist_open_from(gist_store *store, const char *query, size_t length, uint64_t commit, uint64_t *cursor,
                         uint64_t *fault);
@@ -638,15 +639,15 @@ uint32_t gist_world_delete_all(gist_world *world, const uint64_t *rows, size_t l
  * taker into a handle that has none. By its turns the cursor sends the rows that match now, in some order, and then the
  * later changes, as that of gist_open gives them.
  *
- * As gist_open; GIST_BAD_CONFIG where the room is out of its range or the handle has a taker already. The handle of the
- * taker is as it was then.
+ * GIST_BAD_CONFIG where the handle has a taker already; else as gist_open, with GIST_BAD_CONFIG where the room is out of
+ * its range, behind GIST_QUERY_TEXT and before GIST_CURSORS_FULL. The handle of the taker is as it was then.
  */
 uint32_t gist_world_open(gist_world *world, const char *query, size_t length, uint64_t room, gist_taker *taker,
                          uint64_t *cursor, uint64_t *fault);
 
 /*
  * Opens a cursor that follows a commit, as gist_open_from, with a ring of that room. As gist_world_open;
- * GIST_FROM_FUTURE where there are fewer commits than that, before GIST_CURSORS_FULL.
+ * GIST_FROM_FUTURE where there are fewer commits than that, behind GIST_BAD_CONFIG and before GIST_CURSORS_FULL.
  */
 uint32_t gist_world_open_from(gist_world *world, const char *query, size_t length, uint64_t room, uint64_t commit,
                               gist_taker *taker, uint64_t *cursor, uint64_t *fault);

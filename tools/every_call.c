@@ -735,6 +735,92 @@ static void many(void)
     gist_drop(&store);
 }
 
+/* Batches of hundreds: each row, item and key is taken in its order, and none is left out at the end of one. */
+#define MOST 1000
+
+static void long_batches(void)
+{
+    static gist_interval_entry entries[MOST];
+    static gist_interval_item items[2 * MOST];
+    static gist_interval_key keys[MOST];
+    static gist_interval_row rows[MOST];
+    static gist_box_entry box_entries[MOST];
+    static gist_box_item boxes[2 * MOST];
+    static gist_set_entry set_entries[MOST];
+    static gist_set_item sets[2 * MOST];
+    static uint64_t ends[MOST], ended[MOST / 2];
+    const gist_limits wide = {.fan = 8, .least = 3, .pages = 65536, .commits = 100000};
+    gist_store store = GIST_NO_STORE;
+    uint64_t number, cursor;
+
+    for (int at = 0; at < MOST; at++) {
+        entries[at] = (gist_interval_entry){at, at, (uint64_t)at};
+        keys[at] = (gist_interval_key){at, at};
+        box_entries[at] = (gist_box_entry){at, at, at, at, (uint64_t)at};
+        set_entries[at] = (gist_set_entry){(uint64_t)at, 1, (uint64_t)at};
+    }
+    for (uint64_t at = 0; at < MOST / 2; at++)
+        ended[at] = 2 * at + 1;
+
+    CHECK(gist_new(&store, GIST_INTERVALS, &wide) == GIST_OK);
+    CHECK(gist_interval_insert_all(&store, entries, MOST, &number) == GIST_OK && number == MOST);
+    CHECK(gist_interval_find_all(&store, GIST_SAME, keys, MOST, rows, MOST, ends, MOST, &number) == GIST_OK);
+    CHECK(number == MOST);
+    for (uint64_t at = 0; at < MOST; at++)
+        if (rows[at].row != at + 1 || rows[at].tag != at || ends[at] != at + 1)
+            CHECK(!"each key has its row");
+    CHECK(gist_delete_all(&store, ended, MOST / 2, &number) == GIST_OK && number == MOST / 2);
+    CHECK(gist_open_from(&store, "overlaps (0 9999)", 17, 0, &cursor, &number) == GIST_OK);
+    CHECK(gist_interval_take(&store, cursor, items, 2 * MOST, &number) == GIST_OK && number == MOST + MOST / 2);
+    for (uint64_t at = 0; at < MOST; at++)
+        if (!interval_is(&items[at], GIST_INSERTED, at + 1, 0, (int64_t)at, (int64_t)at, at))
+            CHECK(!"each insert is given");
+    for (uint64_t at = 0; at < MOST / 2; at++)
+        if (items[MOST + at].kind != GIST_DELETED || items[MOST + at].ended != ended[at])
+            CHECK(!"each delete is given");
+    gist_drop(&store);
+
+    CHECK(gist_new(&store, GIST_BOXES, &wide) == GIST_OK);
+    CHECK(gist_box_insert_all(&store, box_entries, MOST, &number) == GIST_OK && number == MOST);
+    CHECK(gist_open_from(&store, "overlaps (0 0 9999 9999)", 24, 0, &cursor, &number) == GIST_OK);
+    CHECK(gist_box_take(&store, cursor, boxes, 2 * MOST, &number) == GIST_OK && number == MOST);
+    for (int at = 0; at < MOST; at++)
+        if (boxes[at].number != (uint64_t)at + 1 || boxes[at].x1 != at || boxes[at].y2 != at)
+            CHECK(!"each box is given");
+    gist_drop(&store);
+
+    CHECK(gist_new(&store, GIST_SETS, &wide) == GIST_OK);
+    CHECK(gist_set_insert_all(&store, set_entries, MOST, &number) == GIST_OK && number == MOST);
+    CHECK(gist_open_from(&store, "holds {64}", 10, 0, &cursor, &number) == GIST_OK);
+    CHECK(gist_set_take(&store, cursor, sets, 2 * MOST, &number) == GIST_OK && number == MOST);
+    for (uint64_t at = 0; at < MOST; at++)
+        if (sets[at].number != at + 1 || sets[at].low != at || sets[at].high != 1)
+            CHECK(!"each set is given");
+    gist_drop(&store);
+}
+
+/* Where several things are wrong with an opening, the query's text is told first, then the commit, then want of a place. */
+static void first_refusals(void)
+{
+    gist_store store = GIST_NO_STORE;
+    uint64_t cursor = UNTOUCHED, fault = UNTOUCHED;
+
+    CHECK(gist_new(&store, GIST_INTERVALS, &SMALL) == GIST_OK);
+    CHECK(gist_open_from(&store, "overlaps (3 1)", 14, 1, &cursor, &fault) == GIST_QUERY_TEXT && fault == 9);
+    for (int more = 0; more < 256; more++)
+        opened(&store, "overlaps (1 3)");
+    fault = UNTOUCHED;
+    CHECK(gist_open(&store, "overlaps (3 1)", 14, &cursor, &fault) == GIST_QUERY_TEXT && fault == 9);
+    fault = UNTOUCHED;
+    CHECK(gist_open_from(&store, "overlaps (3 1)", 14, 1, &cursor, &fault) == GIST_QUERY_TEXT && fault == 9);
+    fault = UNTOUCHED;
+    CHECK(gist_open_from(&store, "overlaps (1 3)", 14, 1, &cursor, &fault) == GIST_FROM_FUTURE);
+    CHECK(gist_open_from(&store, "overlaps (1 3)", 14, 0, &cursor, &fault) == GIST_CURSORS_FULL);
+    CHECK(gist_open(&store, "overlaps (1 3)", 14, &cursor, &fault) == GIST_CURSORS_FULL);
+    CHECK(cursor == UNTOUCHED && fault == UNTOUCHED);
+    gist_drop(&store);
+}
+
 /* Makes a call again where it was refused for want of memory. */
 #define AGAIN(call) ((call) != GIST_OUT_OF_MEMORY ? (void)0 : CHECK((call) == GIST_OK))
 
@@ -802,6 +888,8 @@ int main(int argc, char **argv)
         boxes();
         sets();
         many();
+        long_batches();
+        first_refusals();
     }
     printf("%u passed, %u failed\n", passed, failed);
     return failed != 0;

@@ -618,7 +618,14 @@ static void refusals(void)
     CHECK(gist_world_open(&world, "same (1 2)", 10, 1, &other, &cursor, &fault) == GIST_CURSORS_FULL);
     CHECK(gist_world_open_from(&world, "same (1 2)", 10, 1, 3, &other, &cursor, &fault) == GIST_CURSORS_FULL);
     CHECK(gist_world_open_from(&world, "same (1 2)", 10, 1, 4, &other, &cursor, &fault) == GIST_FROM_FUTURE);
+    /* Where several things are wrong, the text is told first, then the room, then the commit, then want of a place. */
+    CHECK(gist_world_open_from(&world, "same (1 2)", 10, 0, 4, &other, &cursor, &fault) == GIST_BAD_CONFIG);
+    CHECK(gist_world_open(&world, "same (1 2)", 10, 0, &other, &cursor, &fault) == GIST_BAD_CONFIG);
     CHECK(cursor == UNTOUCHED && fault == UNTOUCHED && !gist_taker_is_open(&other));
+    CHECK(gist_world_open_from(&world, "over (1 2)", 10, 0, 4, &other, &cursor, &fault) == GIST_QUERY_TEXT && fault == 0);
+    fault = UNTOUCHED;
+    CHECK(gist_world_open(&world, "over (1 2)", 10, 0, &other, &cursor, &fault) == GIST_QUERY_TEXT && fault == 0);
+    CHECK(cursor == UNTOUCHED && !gist_taker_is_open(&other));
     gist_world_drop(&world);
     CHECK(gist_interval_pop(&taker, &item) == GIST_OK && interval_is(&item, GIST_MARK, 3, 0, 0, 0, 0));
     CHECK(gist_interval_pop(&taker, &item) == GIST_OK && item.kind == GIST_NOTHING);

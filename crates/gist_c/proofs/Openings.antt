@@ -45,10 +45,10 @@ module _ {K A : Type 0} (rules : Rules K A) (texts : Texts K A) (text : List ℕ
   pub following_refused : (commit : ℕ) (why : Refusal) (q : Query A) → SpellsText texts text q → (why ≡ BadConfig → IsBadOpening q room) → (why ≡ FromFuture → IsFromFuture (shared_state rules old) q room commit)
       → (why ≡ CursorsFull → HasNoFollowerFor (shared_state rules old) q room commit) → RefusesFollower why → RefusesFollowing rules texts text room commit old why
   following_refused commit why q spelled bad future full cause = record {
-    bad = λ e. narrowed q spelled (bad e);
     refused = no_text_from why cause;
-    future = λ e. (future e).1;
-    full = λ e. let f = full e in (f.1, f.2);
+    bad = λ e. ((q, spelled), narrowed q spelled (bad e));
+    future = λ e. let f = future e in ((q, spelled), λ bad. f.0 (widened room q bad), f.1);
+    full = λ e. let f = full e in ((q, spelled), λ bad. f.0 (widened room q bad), f.1, f.2);
     refusals = told_from why cause;
   }
 

@@ -15,7 +15,8 @@ use Rattle.gist_c.specs.Batches.{IsBatch}
 use Rattle.gist_c.specs.Buffers.{written_over}
 use Rattle.gist_c.specs.Finds.{ShowsRows}
 use Rattle.gist_c.specs.Shown.{shown_item, shown_commit}
-use Rattle.store.specs.States.{StoreState, Commits, Keeps, IsOpened, IsFullOf, HasFewPages, HasNoCommitLeft, HasNoCommitFor, HasNoFinderFor, RefusesRow, RefusesNext, Gave, AddsDead, IsListed, MayRefuseDelete, MayRefuseMove, LacksCursor, Closes, SweepsStore, SweepsStorePart, Nexts, ChangesCursor, with_asking}
+use Rattle.relocation.specs.Moves.{IsToldFirst}
+use Rattle.store.specs.States.{StoreState, Commits, Keeps, IsOpened, IsFullOf, HasFewPages, HasNoCommitLeft, HasNoCommitFor, HasNoFinderFor, RefusesRow, RefusesNext, Gave, AddsDead, MayRefuseDelete, MayRefuseMove, LacksCursor, Closes, SweepsStore, SweepsStorePart, Nexts, ChangesCursor, with_asking}
 
 -- why no cursor is opened on a text's query
 abbrev pub RefusesOpening : Refusal → Type 0
@@ -25,6 +26,10 @@ RefusesOpening why = (why ≡ CursorsFull) ⊎ IsParseRefusal why
 abbrev pub WithKey : {K S V : Type 0} → (K → S → Result V Refusal → S → Type 0) → Option K → S → Result V Refusal → S → Type 0
 WithKey call (Some key) old answer new = call key old answer new
 WithKey call None old answer new = (answer ≡ Err BadConfig) × (new ≡ old)
+
+-- the text is a spelling of some query
+abbrev pub SpellsSome : {K A : Type 0} → Texts K A → List ℕ → Type 0
+SpellsSome texts text = (query : Query _) × SpellsText texts text query
 
 module _ {K A : Type 0} (rules : Rules K A) where
   -- a row is added
@@ -78,8 +83,9 @@ module _ {K A : Type 0} (rules : Rules K A) where
     pub no_such_row : (answer ≡ Err NoSuchRow) ↔ NamesNoRow old.commits row
     pub already_deleted : (answer ≡ Err AlreadyDeleted) ↔ NamesDead old.commits row
     pub full : (answer ≡ Err CommitsFull) ↔ HasNoCommitFor old row
+    pub finders_full : (answer ≡ Err FindersFull) ↔ HasNoFinderFor old row
     pub refusals : IfErr answer (MayRefuseMove old new)
-    pub untouched : IfErr answer (λ why. IsListed why → new ≡ old)
+    pub untouched : IfErr answer (λ why. IsToldFirst why → new ≡ old)
     pub found : OnOk answer (new.finders ≡ old.finders + 1)
     pub unfound : IfErr answer (λ why. why ≢ OutOfMemory → new.finders ≡ old.finders)
     pub finders : new.finders ≤ old.finders + 1
@@ -120,23 +126,23 @@ module _ {K A : Type 0} (rules : Rules K A) where
       pub spelled : SpellsText texts text query
       pub opened : IsOpened rules.is_match old query follows commit cursor new
 
-    -- a cursor is opened at the present commits
+    -- a cursor is opened at the present commits; a text that spells no query is refused before anything else
     pub record IsOpening (old : StoreState K A) (answer : Result ℕ Refusal) (new : StoreState K A) : Type 0 where
       pub ok : IfOk answer (λ c. OpensOn false (length old.commits) old c new)
       pub err : OnErr answer (new ≡ old)
       pub refused : IfQueryText answer (RefusesText texts text)
-      pub full : (answer ≡ Err CursorsFull) → IsFullOf old
+      pub full : (answer ≡ Err CursorsFull) → SpellsSome texts text × IsFullOf old
       pub not_full : OnOk answer (¬ IsFullOf old)
       pub refusals : IfErr answer RefusesOpening
 
-    -- a cursor is opened that follows a commit
+    -- a cursor is opened that follows a commit; a text that spells no query is refused before anything else
     pub record IsFollowing (commit : ℕ) (old : StoreState K A) (answer : Result ℕ Refusal) (new : StoreState K A) : Type 0 where
       pub ok : IfOk answer (λ c. OpensOn true commit old c new)
       pub err : OnErr answer (new ≡ old)
       pub refused : IfQueryText answer (RefusesText texts text)
-      pub future : (answer ≡ Err FromFuture) → length old.commits < commit
+      pub future : (answer ≡ Err FromFuture) → SpellsSome texts text × (length old.commits < commit)
       pub not_future : OnOk answer (commit ≤ length old.commits)
-      pub full : (answer ≡ Err CursorsFull) → (commit ≤ length old.commits) × IsFullOf old
+      pub full : (answer ≡ Err CursorsFull) → SpellsSome texts text × (commit ≤ length old.commits) × IsFullOf old
       pub not_full : OnOk answer (¬ IsFullOf old)
       pub refusals : IfErr answer (λ why. (why ≡ FromFuture) ⊎ RefusesOpening why)
 

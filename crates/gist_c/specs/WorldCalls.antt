@@ -18,7 +18,7 @@ use Rattle.world.specs.Steps.{Opens, opened_cursor, following_cursor}
 use Rattle.store.specs.States.{StoreState, IsFullOf}
 use Rattle.shared_store.specs.Shared.{Turns, shared_state}
 use Rattle.shared_store.specs.Takers.{TakerState, Takes}
-use Rattle.gist_c.specs.Calls.{RefusesOpening}
+use Rattle.gist_c.specs.Calls.{RefusesOpening, SpellsSome}
 use Rattle.gist_c.specs.Shown.{shown_item}
 use Rattle.gist_c.specs.declared.shown.Shown.{Shown}
 
@@ -77,11 +77,11 @@ module _ {K A : Type 0} (rules : Rules K A) where
       pub right_room : ¬ IsBadRoom room
       pub not_full : ¬ IsFullOf (shared_state rules old)
 
-    -- why none is opened at the present commits
+    -- why none is opened at the present commits: first for the text, then for the room, then for want of a place or a serial
     pub record RefusesRing (old : State K A) (why : Refusal) : Type 0 where
-      pub bad : why ≡ BadConfig → IsBadRoom room
       pub refused : (place : ℕ) → why ≡ QueryText place → RefusesText texts text place
-      pub full : why ≡ CursorsFull → IsFullOf (shared_state rules old)
+      pub bad : why ≡ BadConfig → SpellsSome texts text × IsBadRoom room
+      pub full : why ≡ CursorsFull → SpellsSome texts text × (¬ IsBadRoom room) × IsFullOf (shared_state rules old)
       pub refusals : (why ≡ BadConfig) ⊎ RefusesOpening why
 
     -- a cursor is opened at the present commits, with a ring of that room
@@ -90,12 +90,13 @@ module _ {K A : Type 0} (rules : Rules K A) where
       pub err : IfErr answer (λ why. RefusesRing old why)
       pub unchanged : OnErr answer (new ≡ old)
 
-    -- why none is opened that follows a commit
+    -- why none is opened that follows a commit: first for the text, then for the room, then for the commit, then for want of a
+    -- place or a serial
     pub record RefusesFollowing (commit : ℕ) (old : State K A) (why : Refusal) : Type 0 where
-      pub bad : why ≡ BadConfig → IsBadRoom room
       pub refused : (place : ℕ) → why ≡ QueryText place → RefusesText texts text place
-      pub future : why ≡ FromFuture → length old.commits < commit
-      pub full : why ≡ CursorsFull → (commit ≤ length old.commits) × IsFullOf (shared_state rules old)
+      pub bad : why ≡ BadConfig → SpellsSome texts text × IsBadRoom room
+      pub future : why ≡ FromFuture → SpellsSome texts text × (¬ IsBadRoom room) × (length old.commits < commit)
+      pub full : why ≡ CursorsFull → SpellsSome texts text × (¬ IsBadRoom room) × (commit ≤ length old.commits) × IsFullOf (shared_state rules old)
       pub refusals : (why ≡ BadConfig) ⊎ (why ≡ FromFuture) ⊎ RefusesOpening why
 
     -- a cursor is opened that follows a commit, which is there, with a ring of that room

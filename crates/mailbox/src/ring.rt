@@ -1,15 +1,26 @@
-ghost use Rattle.std.specs.Prelude.{◌≡◌, [], ◌∷◌, ◌++◌, IfErr, OnOk, OnErr};
-ghost use Rattle.mailbox.specs.Rings.{items_sent, IsSameRing};
+ghost use Rattle.std.specs.Prelude.{◌≡◌, ◌≤◌, [], ◌∷◌, ◌++◌, length, IfErr, OnOk, OnErr};
+ghost use Rattle.mailbox.specs.Rings.{places, items_sent, IsSameRing};
 
 use crate::outlet::{Outlet, Taken};
 use change_list::Item;
 use rtrb::{Consumer, Producer, PushError, RingBuffer};
 use std::alloc::{AllocError, Global};
+use std::marker::Model;
 
 /// The side of a ring that is filled. Whoever has the other end empties it, and waits for nobody.
 #[derive(Drop)]
 pub struct Ring<K> {
     producer: Producer<Item<K>>,
+}
+
+impl<K> Model for Ring<K> {
+    ghost use Rattle.mailbox.specs.Rings.{Ring, CountsPlaces};
+
+    ghost Value = { Ring K };
+
+    ghost view = { λ ring. ring.producer };
+
+    ghost invariant = { λ ring. CountsPlaces ring.producer };
 }
 
 impl<K: Copy> Outlet<K> for Ring<K> {
@@ -38,6 +49,7 @@ impl<K: Copy> Outlet<K> for Ring<K> {
         ensures taken { OnOk result (items_sent self.new ≡ items_sent self.old ++ item ∷ []) }
         ensures handed_back { IfErr result (λ back. back ≡ item) }
         ensures unchanged { OnErr result (items_sent self.new ≡ items_sent self.old) }
+        ensures full { OnErr result (places self.old ≤ length (items_sent self.old)) }
         ensures same { IsSameRing self.old self.new }
     {
         match self.producer.push(item) {

@@ -3,6 +3,7 @@ use Rattle.std.specs.Prelude.{◌≡◌, ◌⊎◌, ℕ}
 use Rattle.key_class.specs.Rules.{Rules}
 use Rattle.mailbox.specs.Outlets.{Rule}
 use Rattle.key_class.specs.declared.refusal.Refusal.{Refusal}
+use Rattle.key_class.specs.declared.refusal.Refusal.TheVariants as refusal
 use Rattle.split.specs.SearchTrees.{SearchTree}
 use Rattle.world.specs.States.{State}
 use Rattle.insertion.specs.PageSteps.{IsWanting}
@@ -13,6 +14,10 @@ use Rattle.removal.specs.declared.ending.Ending.TheVariants as ending
 use Rattle.removal.specs.declared.visiting.Search.TheVariants as search
 use Rattle.relocation.specs.declared.visiting.Moving.{Moving}
 use Rattle.relocation.specs.declared.visiting.Moving.TheVariants as moving
+
+-- the refusals that are told before any page is changed: by the row, by the list of commits, and for want of a finder
+abbrev pub IsToldFirst : Refusal → Type 0
+IsToldFirst why = (why ≡ refusal.NoSuchRow) ⊎ (why ≡ refusal.AlreadyDeleted) ⊎ (why ≡ refusal.CommitsFull) ⊎ (why ≡ refusal.FindersFull)
 
 module _ {K A : Type 0} where
   -- why the row isn't moved, and what is left of the pages then

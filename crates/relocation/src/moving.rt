@@ -1,11 +1,11 @@
 ghost use Rattle.std.specs.Prelude.{◌≡◌, ◌≢◌, ◌↔◌, ◌≤◌, ◌+◌, length, Err, IfOk, IfErr, OnOk, OnErr, IsPermutation};
-ghost use Rattle.key_class.specs.declared.refusal.Refusal.TheVariants.{NoSuchRow, AlreadyDeleted, CommitsFull, OutOfMemory};
+ghost use Rattle.key_class.specs.declared.refusal.Refusal.TheVariants.{NoSuchRow, AlreadyDeleted, CommitsFull, FindersFull, OutOfMemory};
 ghost use Rattle.change_list.specs.Changes.{NamesNoRow, NamesDead};
 ghost use Rattle.removal.specs.Ending.{AddsDeath};
-ghost use Rattle.removal.specs.Visits.{LacksCommit, RefusesEnding};
+ghost use Rattle.removal.specs.Visits.{LacksCommit, LacksOnlyFinder};
 ghost use Rattle.world.specs.Resting.{Rests, deaths};
 ghost use Rattle.world.specs.States.{AddsCommit};
-ghost use Rattle.relocation.specs.Moves.{RefusesMove};
+ghost use Rattle.relocation.specs.Moves.{IsToldFirst, RefusesMove};
 
 use change_list::Write;
 use insertion::make_way;
@@ -20,9 +20,9 @@ use world::World;
 /// which may be the same, and ends in every case.
 ///
 /// # Errors
-/// `NoSuchRow` where no insert or move has the number, else `AlreadyDeleted`, else `CommitsFull`; nothing is changed then.
-/// Else `PagesFull` where fewer than two pages are left when it returns, `FindersFull` where 64 finders are open or the
-/// last serial was given, and want of memory. No row is moved then; the steps on the way that were made stand, and want of
+/// `NoSuchRow` where no insert or move has the number, else `AlreadyDeleted`, else `CommitsFull`, else `FindersFull` where 64
+/// finders are open or the last serial was given; nothing is changed then. Else `PagesFull` where fewer than two pages are
+/// left when it returns, and want of memory. No row is moved then; the steps on the way that were made stand, and want of
 /// memory may have used up a finder's serial.
 pub fn move_row<C: KeyClass, O: Outlet<C::Key>>(
     alloc: Global,
@@ -40,8 +40,8 @@ pub fn move_row<C: KeyClass, O: Outlet<C::Key>>(
     ensures no_such_row { (result ≡ Err NoSuchRow) ↔ NamesNoRow world.old.commits row }
     ensures already_deleted { (result ≡ Err AlreadyDeleted) ↔ NamesDead world.old.commits row }
     ensures full { (result ≡ Err CommitsFull) ↔ LacksCommit world.old row }
-    ensures untouched { IfErr result (λ why.
-        RefusesEnding world.old row why → world.new ≡ world.old) }
+    ensures finders_full { (result ≡ Err FindersFull) ↔ LacksOnlyFinder world.old row }
+    ensures untouched { IfErr result (λ why. IsToldFirst why → world.new ≡ world.old) }
     ensures refusals { IfErr result (RefusesMove world.old world.new.search row) }
     ensures finders { world.new.finders ≡ world.old.finders }
     ensures found { OnOk result (world.new.last_finder ≡ world.old.last_finder + 1) }
@@ -50,6 +50,9 @@ pub fn move_row<C: KeyClass, O: Outlet<C::Key>>(
     ensures last_finder { world.new.last_finder ≤ world.old.last_finder + 1 }
 {
     check_ending(world, row)?;
+    if world.is_full_of_finders() {
+        return Err(Refusal::FindersFull);
+    }
     let leaf = make_way(alloc, world, key)?;
     end_row(world, row, Ending::Move(u64::from(leaf), key))
 }

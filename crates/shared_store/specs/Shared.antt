@@ -4,8 +4,7 @@ use Rattle.std.specs.Prelude.{◌≡◌, ℕ, [], Result}
 use Rattle.std.specs.declared.alloc.Global.{Global}
 use Rattle.key_class.specs.Rules.{Rules}
 use Rattle.key_class.specs.declared.refusal.Refusal.{Refusal}
-use Rattle.mailbox.specs.Rings.{ring_rule}
-use Rattle.mailbox.specs.declared.ring.Ring.{Ring}
+use Rattle.mailbox.specs.Rings.{Ring, ring_rule}
 use Rattle.change_list.specs.declared.item.Item.{Item}
 use Rattle.cursor.specs.declared.cursor.Turned.{Turned}
 use Rattle.rtrb.specs.declared.AnyItems.{AnyItems}

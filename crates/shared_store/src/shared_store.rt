@@ -9,7 +9,8 @@ ghost use Rattle.change_list.specs.Changes.{IsLegal, NamesNoRow, NamesDead, comm
 ghost use Rattle.world.specs.Promises.{MailboxesFit};
 ghost use Rattle.world.specs.States.{new_state};
 ghost use Rattle.world.specs.Steps.{Opens, opened_cursor, following_cursor};
-ghost use Rattle.store.specs.States.{Commits, Keeps, IsBadOpening, IsFromFuture, HasNoFollowerFor, HasFewPages, HasNoCommitLeft, HasNoCommitFor, HasNoFinderFor, HasNoCursorFor, RefusesRow, RefusesCursor, RefusesFollower, AddsDead, IsListed, MayRefuseDelete, MayRefuseMove, SweepsStore, SweepsStorePart, matching_rows};
+ghost use Rattle.store.specs.States.{Commits, Keeps, IsBadOpening, IsFromFuture, HasNoFollowerFor, HasFewPages, HasNoCommitLeft, HasNoCommitFor, HasNoFinderFor, HasNoCursorFor, RefusesRow, RefusesCursor, RefusesFollower, AddsDead, MayRefuseDelete, MayRefuseMove, SweepsStore, SweepsStorePart, matching_rows};
+ghost use Rattle.relocation.specs.Moves.{IsToldFirst};
 ghost use Rattle.shared_store.specs.Shared.{Turns, Asks, Closes, shared_state};
 
 use crate::taker::Taker;
@@ -149,10 +150,10 @@ impl<C: KeyClass> SharedStore<C> {
     /// the new row's.
     ///
     /// # Errors
-    /// `NoSuchRow` where no insert or move has the number, else `AlreadyDeleted`, else `CommitsFull`; nothing is changed then.
-    /// Else `PagesFull` where fewer than two pages are left when it returns, `FindersFull` once the last finder of the
-    /// store's life was opened, and want of memory. No row is moved then, but pages may have been made, and want of memory
-    /// may have used up a finder.
+    /// `NoSuchRow` where no insert or move has the number, else `AlreadyDeleted`, else `CommitsFull`, else `FindersFull` once the
+    /// last finder of the store's life was opened; nothing is changed then. Else `PagesFull` where fewer than two pages are
+    /// left when it returns, and want of memory. No row is moved then, but pages may have been made, and want of memory may
+    /// have used up a finder.
     pub fn move_row(&mut self, row: u64, key: C::Key) -> Result<u64, Refusal>
         ensures number { IfOk result (λ n. n ≡ length self.old.commits + 1) }
         ensures ok { OnOk result (Commits C.rules.is_match
@@ -167,9 +168,11 @@ impl<C: KeyClass> SharedStore<C> {
             ↔ NamesDead self.old.commits row }
         ensures full { (result ≡ Err CommitsFull)
             ↔ HasNoCommitFor (shared_state C.rules self.old) row }
+        ensures finders_full { (result ≡ Err FindersFull)
+            ↔ HasNoFinderFor (shared_state C.rules self.old) row }
         ensures refusals { IfErr result (MayRefuseMove
             (shared_state C.rules self.old) (shared_state C.rules self.new)) }
-        ensures untouched { IfErr result (λ why. IsListed why → self.new ≡ self.old) }
+        ensures untouched { IfErr result (λ why. IsToldFirst why → self.new ≡ self.old) }
         ensures found { OnOk result (self.new.last_finder ≡ self.old.last_finder + 1) }
         ensures unfound { IfErr result (λ why.
             why ≢ OutOfMemory → self.new.last_finder ≡ self.old.last_finder) }

@@ -16,7 +16,7 @@ use Rattle.cursor.specs.declared.cursor.Turned.TheVariants as turned
 use Rattle.cursor.specs.OpenCursors.{OpenCursor, shown, tree_work, Turns, is_scanning, sent, wants}
 use Rattle.cursor.specs.Sending.{TurnsTo, SendsItems}
 use Rattle.cursor.proofs.Sending.{turn_sends}
-use Rattle.cursor.proofs.Tasks.{HasScanned, rested}
+use Rattle.cursor.proofs.Tasks.{HasScanned, rested, visited}
 use Rattle.cursor.proofs.Turning.{turn_fits, turn_less_work, turn_no_more, offer_less}
 use Rattle.scan.specs.Scanning.{to_find}
 use Rattle.world.proofs.Refusing.{open_from_tests, open_passes}
@@ -336,6 +336,7 @@ module _ {K A : Type 0} (rules : Rules K A) (rule : Rule) where
             after = shown rules rule old.search.tree g.later;
             is_open = open_as rules rule old c g.before g.passed g.was_open;
             strives = g.strives;
+            page_left = (visited rules rule old.commits g.later h.0).1;
             is = now_as;
           },
         )

@@ -195,12 +195,13 @@ module _ {K A : Type 0} (matching : A → K → Bool) where
     pub gives : GivesNext old.commits before given after
     pub is : new ≡ with_open_cursor old after
 
-  -- no item comes for want of memory; the cursor may have got on, and what fits it still fits
+  -- a page is left to be read, and no item comes for want of memory; the cursor may have got on, and what fits it still fits
   pub record Wants (old : StoreState K A) (c : ℕ) (new : StoreState K A) : Type 0 where
     pub before : CursorState K A
     pub after : CursorState K A
     pub is_open : cursor_of old c ≡ Ok before
     pub strives : Strives old.commits before after
+    pub page_left : after.scanning ≡ true
     pub is : new ≡ with_open_cursor old after
 
   -- a cursor gave these items, one after the other
@@ -208,14 +209,14 @@ module _ {K A : Type 0} (matching : A → K → Bool) where
   Gave old c [] new = new ≡ old
   Gave old c (item ∷ items) new = (mid : StoreState K A) × Nexts old c (Some item) mid × Gave mid c items new
 
-  -- refused by its serial, or for memory
+  -- refused by its serial, or for the memory of a page that is left to be read
   abbrev pub RefusesNext : StoreState K A → ℕ → Refusal → StoreState K A → Type 0
   RefusesNext old c why new = LacksCursor old c why new ⊎ ((why ≡ refusal.OutOfMemory) × Wants old c new)
 
-  -- a cursor has nothing more to give, or was refused
+  -- a cursor has nothing more to give, or was refused; or the list found no memory for one more, and the cursor wasn't asked
   abbrev pub EndsDrain : StoreState K A → ℕ → Result (Unit {0}) Refusal → StoreState K A → Type 0
   EndsDrain old c (Ok done) new = Nexts old c None new
-  EndsDrain old c (Err why) new = RefusesNext old c why new
+  EndsDrain old c (Err why) new = RefusesNext old c why new ⊎ ((why ≡ refusal.OutOfMemory) × (new ≡ old))
 
   -- a cursor gave these items until nothing was left or it was refused
   pub record Drains (old : StoreState K A) (c : ℕ) (items : List (Item K)) (result : Result (Unit {0}) Refusal) (new : StoreState K A) : Type 0 where
@@ -302,10 +303,6 @@ module _ {K A : Type 0} where
 -- the room or the depth is out of range
 abbrev pub IsBadOpening : {A : Type 0} → Query A → ℕ → Type 0
 IsBadOpening query room = (room ≡ 0) ⊎ (most_room < room) ⊎ (most_depth < depth_of query)
-
--- the refusals that the list of commits gives
-abbrev pub IsListed : Refusal → Type 0
-IsListed why = (why ≡ refusal.NoSuchRow) ⊎ (why ≡ refusal.AlreadyDeleted) ⊎ (why ≡ refusal.CommitsFull)
 
 -- why no cursor is opened
 abbrev pub RefusesCursor : Refusal → Type 0

@@ -5,8 +5,9 @@ ghost use Rattle.key_class.specs.Queries.{query_of, depth_of};
 ghost use Rattle.change_list.specs.Configs.{IsWithinLimits};
 ghost use Rattle.change_list.specs.declared.write.Write.TheVariants.{Insert, Delete, Move};
 ghost use Rattle.change_list.specs.Changes.{IsLegal, NamesNoRow, NamesDead, commit_at};
+ghost use Rattle.relocation.specs.Moves.{IsToldFirst};
 ghost use Rattle.store.specs.Worlds.{HasCursor};
-ghost use Rattle.store.specs.States.{new_store, Commits, Keeps, cursor_of, IsOpenedFor, IsFollowerFor, IsBadOpening, IsFromFuture, HasNoFollowerFor, HasFewPages, HasNoCommitLeft, HasNoCommitFor, HasNoFinderFor, HasNoCursorFor, RefusesRow, RefusesCursor, RefusesFollower, AddsDead, IsListed, MayRefuseDelete, MayRefuseMove, LacksCursor, Closes, DrainsInto, SweepsStore, SweepsStorePart, Nexts, RefusesNext, ChangesCursor, with_asking, matching_rows};
+ghost use Rattle.store.specs.States.{new_store, Commits, Keeps, cursor_of, IsOpenedFor, IsFollowerFor, IsBadOpening, IsFromFuture, HasNoFollowerFor, HasFewPages, HasNoCommitLeft, HasNoCommitFor, HasNoFinderFor, HasNoCursorFor, RefusesRow, RefusesCursor, RefusesFollower, AddsDead, MayRefuseDelete, MayRefuseMove, LacksCursor, Closes, DrainsInto, SweepsStore, SweepsStorePart, Nexts, RefusesNext, ChangesCursor, with_asking, matching_rows};
 
 use crate::reading::next_item;
 use change_list::{Config, Item, Row, Status, Write};
@@ -130,10 +131,10 @@ impl<C: KeyClass> Store<C> {
     /// the new row's.
     ///
     /// # Errors
-    /// `NoSuchRow` where no insert or move has the number, else `AlreadyDeleted`, else `CommitsFull`; nothing is changed then.
-    /// Else `PagesFull` where fewer than two pages are left when it returns, `FindersFull` once the last finder of the
-    /// store's life was opened, and want of memory. No row is moved then, but pages may have been made, and want of memory
-    /// may have used up a finder.
+    /// `NoSuchRow` where no insert or move has the number, else `AlreadyDeleted`, else `CommitsFull`, else `FindersFull` once the
+    /// last finder of the store's life was opened; nothing is changed then. Else `PagesFull` where fewer than two pages are
+    /// left when it returns, and want of memory. No row is moved then, but pages may have been made, and want of memory may
+    /// have used up a finder.
     pub fn move_row(&mut self, row: u64, key: C::Key) -> Result<u64, Refusal>
         ensures number { IfOk result (λ n. n ≡ length self.old.commits + 1) }
         ensures ok { OnOk result (Commits C.rules.is_match self.old (Move row key) self.new) }
@@ -143,8 +144,9 @@ impl<C: KeyClass> Store<C> {
         ensures already_deleted { (result ≡ Err AlreadyDeleted)
             ↔ NamesDead self.old.commits row }
         ensures full { (result ≡ Err CommitsFull) ↔ HasNoCommitFor self.old row }
+        ensures finders_full { (result ≡ Err FindersFull) ↔ HasNoFinderFor self.old row }
         ensures refusals { IfErr result (MayRefuseMove self.old self.new) }
-        ensures untouched { IfErr result (λ why. IsListed why → self.new ≡ self.old) }
+        ensures untouched { IfErr result (λ why. IsToldFirst why → self.new ≡ self.old) }
         ensures found { OnOk result (self.new.finders ≡ self.old.finders + 1) }
         ensures unfound { IfErr result (λ why.
             why ≢ OutOfMemory → self.new.finders ≡ self.old.finders) }
@@ -211,6 +213,10 @@ impl<C: KeyClass> Store<C> {
     }
 
     /// The next item of a cursor, or none where nothing is left and no mark is asked.
+    ///
+    /// # Errors
+    /// `NoSuchCursor` where the serial was never given, `CursorClosed` where its cursor is closed; and want of memory while a page
+    /// is left to be read.
     pub fn next(&mut self, c: u64) -> Result<Option<Item<C::Key>>, Refusal>
         ensures ok { IfOk result (λ item. Nexts C.rules.is_match self.old c item self.new) }
         ensures err { IfErr result (λ why. RefusesNext C.rules.is_match self.old c why self.new) }
@@ -229,7 +235,8 @@ impl<C: KeyClass> Store<C> {
     /// Puts a cursor's items behind those of a list, until nothing is left to give.
     ///
     /// # Errors
-    /// `NoSuchCursor`, `CursorClosed`, and want of memory. What was given before stands in the list.
+    /// `NoSuchCursor`, `CursorClosed`; and want of memory while a page is left to be read, or for the list. What was given before
+    /// stands in the list.
     pub fn drain(&mut self, c: u64, into: &mut Vec<Item<C::Key>>) -> Result<(), Refusal>
         ensures { DrainsInto C.rules self.old c into.old.items into.new.items result self.new }
     {

@@ -45,3 +45,27 @@ fn is_emptied_on_its_own_side(rt: HostRuntime) -> Result<(), Fail> {
     assert!(rt; !<Tray<u8> as Outlet<u8>>::is_emptied_elsewhere());
     Ok(())
 }
+
+/// Whether a tray takes exactly as many marks as its room, and gives them in their order.
+fn fills_and_empties(tray: &mut Tray<u8>, room: u64) -> bool {
+    (0..room).all(|number| mark(tray, number))
+        && hands_back(tray, room)
+        && (0..room).all(|number| takes(tray, number))
+        && takes_nothing(tray)
+}
+
+/// Whether a new tray with this room does so twice.
+fn has_room_for(alloc: Global, room: u32) -> Result<bool, AllocError> {
+    let (mut tray, ()) = tray(alloc, room)?;
+    let once = fills_and_empties(&mut tray, u64::from(room));
+    Ok(once && fills_and_empties(&mut tray, u64::from(room)))
+}
+
+#[test]
+fn trays_of_each_room_are_filled(rt: HostRuntime) -> Result<(), Fail> {
+    for room in 1..=64 {
+        assert!(rt; has_room_for(rt.alloc(), room)?, "{room}");
+    }
+    assert!(rt; has_room_for(rt.alloc(), 4_096)?);
+    Ok(())
+}

@@ -75,12 +75,16 @@ module _ {K A : Type 0} where
   abbrev pub commit_tests : State K A → List (Bool × Refusal)
   commit_tests old = (nat_le old.limit (length old.commits), refusal.CommitsFull) ∷ []
 
+  -- there is no place or no serial for one more finder
+  abbrev pub is_full_of_finders : State K A → Bool
+  is_full_of_finders old = nat_le most_finders (length old.finders) || nat_le greatest_serial old.last_finder
+
   -- the row was made and isn't ended, and there is a place and a serial for one more finder
   abbrev pub find_tests : State K A → ℕ → List (Bool × Refusal)
   find_tests old row =
       (is_none (row_at old.commits row), refusal.NoSuchRow)
       ∷ (is_ended old.commits row, refusal.AlreadyDeleted)
-      ∷ (nat_le most_finders (length old.finders) || nat_le greatest_serial old.last_finder, refusal.FindersFull)
+      ∷ (is_full_of_finders old, refusal.FindersFull)
       ∷ []
 
   -- the finder is open

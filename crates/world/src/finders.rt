@@ -6,7 +6,7 @@ ghost use Rattle.world.specs.declared.event.Event.TheVariants as event;
 ghost use Rattle.world.specs.Beginnings.{Begins, MayBegin, OpensNear};
 ghost use Rattle.world.specs.Calls.{reply_of_commit, reply_of_finder, reply_of_visit};
 ghost use Rattle.world.specs.States.{Meets};
-ghost use Rattle.world.specs.Steps.{Acts, FirstFails, Step, VisitsFor, find_tests};
+ghost use Rattle.world.specs.Steps.{Acts, FirstFails, Step, VisitsFor, find_tests, is_full_of_finders};
 
 use crate::commit::{LeafChange, commit};
 use crate::hints::page_of;
@@ -21,6 +21,13 @@ use mailbox::Outlet;
 use scan::{Sought, holds_row};
 
 impl<C: KeyClass, O: Outlet<C::Key>> World<C, O> {
+    /// Whether no further finder can be opened: 64 are open, or the last serial was given.
+    pub fn is_full_of_finders(&self) -> bool
+        ensures { result ≡ is_full_of_finders self.now }
+    {
+        self.finders.len() >= MAX_FINDERS || self.last_finder >= MAX_SERIAL
+    }
+
     /// The key of a row that a further finder may look for, or why none may.
     fn key_to_find(&self, row: u64) -> Result<C::Key, Refusal>
         ensures passed { IfOk result (λ key. first_failing (find_tests self.now row) ≡ None) }
@@ -33,7 +40,7 @@ impl<C: KeyClass, O: Outlet<C::Key>> World<C, O> {
         if let Status::Dead = self.changes.status(row) {
             return Err(Refusal::AlreadyDeleted);
         }
-        if self.finders.len() >= MAX_FINDERS || self.last_finder >= MAX_SERIAL {
+        if self.is_full_of_finders() {
             return Err(Refusal::FindersFull);
         }
         Ok(found.key)

@@ -1,13 +1,13 @@
 use Rattle.std.proofs.Common.{◌++◌, ◌∷◌, [], refl, sym, ap, ◌∙◌, inl, inr, append_assoc}
 use Rattle.std.proofs.lemmas.List.{append-nil}
 use Rattle.std.proofs.lemmas.Result.{err_from_is_err_and}
-use Rattle.store.proofs.Cursors.{nexts_less, nexts_open, gave_push, with_same}
+use Rattle.store.proofs.Cursors.{nexts_less, nexts_open, gave_push}
 use Rattle.store.proofs.store.Store.drain.Goals as goal
 
 pub returns-in_err-check : goal.returns-in_err-check
 returns-in_err-check g c =
     let p = err_from_is_err_and c.from_residual.result c.from_residual.ensures.1 in
-    ([], sym (append-nil c.args.into.now.items), record { last_given = c.args.self.now; gave = refl; ended = rw (p.1, p.2) (inl (c.in_err-check.ensures.refused, refl)) })
+    ([], sym (append-nil c.args.into.now.items), record { last_given = c.args.self.now; gave = refl; ended = rw (p.1, p.2) (inl (inl (c.in_err-check.ensures.refused, refl))) })
 
 pub draining-smaller : goal.draining-smaller
 draining-smaller g c =
@@ -27,21 +27,12 @@ draining-preserved g c =
 pub returns-in_default : goal.returns-in_default
 returns-in_default g c =
     let i = c.draining.invariant in
-    let p = i.3 in (
+    (
       i.0,
       c.try_reserve.ensures.items ∙ i.1,
       record {
         last_given = c.draining.self;
         gave = i.2;
-        ended = inr (
-          refl,
-          record {
-            before = p.0;
-            after = p.0;
-            is_open = p.1;
-            strives = record { serial = refl; query = refl; follows = refl; opened = refl; asked = refl; fits = λ items f. f };
-            is = with_same c.draining.self c.args.c p.0 p.1;
-          },
-        );
+        ended = inr (refl, refl);
       },
     )
