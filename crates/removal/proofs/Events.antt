@@ -33,7 +33,7 @@ use Rattle.world.specs.Serials.{without}
 use Rattle.world.specs.Stamps.{Stamp}
 use Rattle.world.specs.States.{State, finder_at, with_finder, IsSoundWorld}
 use Rattle.world.specs.Steps.{Buries, MovesRow, SeeksOn, Step, find_tests, tests}
-use Rattle.world.proofs.FinderSteps.{find_passes, finder_of, sought_on_sound}
+use Rattle.world.proofs.FinderSteps.{find_passes, finder_of, has_place, sought_on_sound}
 use Rattle.world.proofs.Stepping.{step_serves, step_sound}
 
 -- some items have a last one
@@ -124,7 +124,7 @@ module _ {K A : Type 0} (rules : Rules K A) (rule : Rule) (first : State K A) (r
     may_begin =
         let finders = (there rules rule first row f now u).finders in
         find_passes first row (record { row = row; key = u.looks.finder.key; tag = its_key.0 }) its_key.1 (live_kept first.commits row live)
-        (omega (arith, finders.few, length-append first.finders (u.looks.finder ∷ []))) (omega (arith, finders.last_serial))
+        (has_place first row (omega (arith, finders.few, length-append first.finders (u.looks.finder ∷ []))) (omega (arith, finders.last_serial)))
 
     -- the event Find begins it
     begins_at_root : (C O E : Type 0) → Step {C = C} {O = O} {E = E} rules rule 0 first (event.Find row) (reply.Finder f) (looking first from_root)

@@ -24,7 +24,7 @@ use Rattle.world.specs.Beginnings.{MayBegin}
 use Rattle.world.specs.Serials.{without, put}
 use Rattle.world.specs.Stamps.{Stamp}
 use Rattle.world.specs.States.{State, finder_at, with_finder, IsSoundWorld}
-use Rattle.world.specs.Steps.{commit_tests, find_tests, finder_tests, row_tests, visit_tests, where_met, Finds, Buries, MovesRow, SeeksOn, SweepsLeaf}
+use Rattle.world.specs.Steps.{commit_tests, find_tests, finder_tests, is_full_of_finders, row_tests, visit_tests, where_met, Finds, Buries, MovesRow, SeeksOn, SweepsLeaf}
 use Rattle.world.proofs.Refusing.{failing_later, fails_at, passed_first, passed_at, passes_at}
 use Rattle.world.proofs.Serials.{member_all}
 use Rattle.world.proofs.FinderLists.{finders_push, finders_put, finders_without}
@@ -47,26 +47,26 @@ module _ {K A : Type 0} (s : State K A) (row : ℕ) where
     pub few : length s.finders < 64
     pub given : s.last_finder < 4294967295
 
-  abbrev full : Bool
-  full = nat_le 64 (length s.finders) || nat_le 4294967295 s.last_finder
-
   pub may_find : first_failing (find_tests s row) ≡ None → MayFind
   may_find h =
-      let first = passed_at (is_none (row_at s.commits row)) refusal.NoSuchRow ((is_ended s.commits row, refusal.AlreadyDeleted) ∷ (full, refusal.FindersFull) ∷ []) h in
-      let second = passed_at (is_ended s.commits row) refusal.AlreadyDeleted ((full, refusal.FindersFull) ∷ []) first.1 in
-      let third = passed_at full refusal.FindersFull [] second.1 in
+      let first = passed_at (is_none (row_at s.commits row)) refusal.NoSuchRow ((is_ended s.commits row, refusal.AlreadyDeleted) ∷ (is_full_of_finders s, refusal.FindersFull) ∷ []) h in
+      let second = passed_at (is_ended s.commits row) refusal.AlreadyDeleted ((is_full_of_finders s, refusal.FindersFull) ∷ []) first.1 in
+      let third = passed_at (is_full_of_finders s) refusal.FindersFull [] second.1 in
       record { alive = second.0; few = search (arith, third.0); given = search (arith, third.0) }
+
+  pub has_place : length s.finders < 64 → s.last_finder < 4294967295 → is_full_of_finders s ≡ false
+  has_place few last = search (arith, few, last)
 
   -- where a row isn't dead and there is no place for a finder, and where there is one
   module _ (r : Row K) (found : row_at s.commits row ≡ Some r) (alive : is_ended s.commits row ≡ false) where
-    find_decides : first_failing (find_tests s row) ≡ first_failing ((full, refusal.FindersFull) ∷ [])
+    find_decides : first_failing (find_tests s row) ≡ first_failing ((is_full_of_finders s, refusal.FindersFull) ∷ [])
     find_decides = rw (found, alive) refl
 
-    pub find_full : (64 ≤ length s.finders) ⊎ (4294967295 ≤ s.last_finder) → first_failing (find_tests s row) ≡ Some refusal.FindersFull
-    find_full h = find_decides ∙ fails_at full refusal.FindersFull [] (elim h [ inl few ↦ search (arith, few) | inr last ↦ search (arith, last) ])
+    pub find_full : is_full_of_finders s ≡ true → first_failing (find_tests s row) ≡ Some refusal.FindersFull
+    find_full e = find_decides ∙ fails_at (is_full_of_finders s) refusal.FindersFull [] e
 
-    pub find_passes : length s.finders < 64 → s.last_finder < 4294967295 → first_failing (find_tests s row) ≡ None
-    find_passes few last = let t : full ≡ false = search (arith, few, last) in find_decides ∙ passes_at full refusal.FindersFull [] t
+    pub find_passes : is_full_of_finders s ≡ false → first_failing (find_tests s row) ≡ None
+    find_passes e = find_decides ∙ passes_at (is_full_of_finders s) refusal.FindersFull [] e
 
 -- a row that was made and isn't dead isn't ended
 pub alive_from : {K : Type 0} (commits : List (Write K)) (row : ℕ) (r : Row K) → row_at commits row ≡ Some r → (status_of commits row ≡ Dead → ⊥) → is_ended commits row ≡ false
