@@ -16,6 +16,8 @@ mod limits;
 #[cfg(test)]
 mod moves;
 #[cfg(test)]
+mod orders;
+#[cfg(test)]
 mod pumped;
 #[cfg(test)]
 mod queries;
