@@ -18,6 +18,8 @@ mod moves;
 #[cfg(test)]
 mod orders;
 #[cfg(test)]
+mod pages;
+#[cfg(test)]
 mod pumped;
 #[cfg(test)]
 mod queries;
