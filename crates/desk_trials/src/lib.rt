@@ -32,4 +32,6 @@ mod resumed;
 #[cfg(test)]
 mod seats;
 #[cfg(test)]
+mod storms;
+#[cfg(test)]
 mod two_threads;
