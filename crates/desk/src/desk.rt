@@ -426,7 +426,7 @@ impl<C: KeyClass, L: Ledger> DeskOver<World<C, Ring<C::Key>>, L> {
         ensures query { IfOk result (λ t. t.query ≡ query_of query) }
         ensures follows { IfOk result (λ t. t.follows ≡ false) }
         ensures opened { IfOk result (λ t. length seat.old.stamps ≤ t.opened) }
-        ensures taken { IfOk result (λ t. t.taken ≡ []) }
+        ensures taken { IfOk result (λ t. t.end.taken ≡ []) }
         ensures opens { IfOk result (λ t. IsVisit C.rules (OpensFor query room t)) }
         ensures refusals { IfErr result (OutOfMemoryOr (IsOpeningRefused C.rules query room)) }
     {
@@ -459,7 +459,7 @@ impl<C: KeyClass, L: Ledger> DeskOver<World<C, Ring<C::Key>>, L> {
         ensures query { IfOk result (λ t. t.query ≡ query_of query) }
         ensures follows { IfOk result (λ t. t.follows ≡ true) }
         ensures opened { IfOk result (λ t. t.opened ≡ commit) }
-        ensures taken { IfOk result (λ t. t.taken ≡ []) }
+        ensures taken { IfOk result (λ t. t.end.taken ≡ []) }
         ensures opens { IfOk result (λ t. IsVisit C.rules (FollowsFor query room commit t)) }
         ensures future { (result ≡ Err Refusal.FromFuture) → length seat.old.stamps < commit }
         ensures refusals { IfErr result

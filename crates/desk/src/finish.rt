@@ -14,29 +14,34 @@ use std::marker::Model;
 use std::sync::ledger::{Book, Ledger, Share};
 use world::World;
 
-/// The commits, and the sum of the shares.
+/// The commits and the seats, which fit, and the sum of the shares.
 #[derive(Drop)]
-pub struct Closing<K> {
-    commits: ChangeList<K>,
+pub struct Closing<C: KeyClass, L: Ledger> {
+    commits: ChangeList<C::Key>,
+    seats: Vec<Seat<C, L>>,
     sum: u64,
 }
 
-impl<K> Model for Closing<K> {
+impl<C: KeyClass, L: Ledger> Model for Closing<C, L> {
     ghost use Rattle.desk.specs.Seats.{Closed};
 
-    ghost Value = { Closed K };
+    ghost Value = { Closed C.Key };
 
-    ghost view = { λ c. record { commits = c.commits; sum = c.sum } };
+    ghost view = { λ c. record { commits = c.commits; seats = c.seats.items; sum = c.sum } };
 }
 
-impl<K: Copy> Closing<K> {
-    pub(crate) fn new(commits: ChangeList<K>, sum: u64) -> Closing<K>
-        ensures { result ≡ record { commits = commits; sum = sum } }
+impl<C: KeyClass, L: Ledger> Closing<C, L> {
+    pub(crate) fn new(commits: ChangeList<C::Key>, seats: Vec<Seat<C, L>>, sum: u64) -> Self
+        ensures { result ≡ record { commits = commits; seats = seats.items; sum = sum } }
     {
-        Closing { commits, sum }
+        Closing {
+            commits,
+            seats,
+            sum,
+        }
     }
 
-    pub fn commits(&self) -> &ChangeList<K>
+    pub fn commits(&self) -> &ChangeList<C::Key>
         ensures { result.now ≡ self.now.commits }
     {
         &self.commits
@@ -47,6 +52,14 @@ impl<K: Copy> Closing<K> {
         ensures { result ≡ self.now.sum }
     {
         self.sum
+    }
+
+    /// The commits and the seats.
+    pub fn into_parts(self) -> (ChangeList<C::Key>, Vec<Seat<C, L>>)
+        ensures { (result.0 ≡ self.commits) × (result.1.items ≡ self.seats) }
+    {
+        let Closing { commits, seats, .. } = self;
+        (commits, seats)
     }
 }
 
@@ -59,7 +72,7 @@ pub struct Torn<C: KeyClass, L: Ledger> {
 
 #[derive(Drop)]
 pub enum Finished<C: KeyClass, L: Ledger> {
-    Closing(Closing<C::Key>),
+    Closing(Closing<C, L>),
     Torn(Torn<C, L>),
     SeatsOut(Desk<C, L>, Vec<Seat<C, L>>),
 }
@@ -109,8 +122,9 @@ impl<C: KeyClass, L: Ledger> DeskOver<World<C, Ring<C::Key>>, L> {
     pub fn finish(self, seats: Vec<Seat<C, L>>) -> Finished<C, L>
         ensures out { IsOut result ↔ (length seats.items ≢ self) }
         ensures back { IfOut result (λ d s. (d ≡ self) × (s ≡ seats.items)) }
+        ensures seats { IfClosing result (λ c. c.seats ≡ seats.items) }
         ensures legal { IfClosing result (λ c. IsLegal c.commits) }
-        ensures woven { IfClosing result (λ c. Woven c.commits seats.items) }
+        ensures woven { IfClosing result (λ c. Woven c.commits c.seats) }
         ensures sum { IfClosing result (IsSumOf seats.items) }
         ensures torn { IfTorn result (IsTornBy seats.items) }
     {
@@ -125,7 +139,7 @@ impl<C: KeyClass, L: Ledger> DeskOver<World<C, Ring<C::Key>>, L> {
         let commits = world.into_commits();
         let sum = commits.len() as u64;
         if woven(commits.as_view(), seats.as_slice()) {
-            Finished::Closing(Closing::new(commits, sum))
+            Finished::Closing(Closing::new(commits, seats, sum))
         } else {
             Finished::Torn(Torn { commits, seats })
         }

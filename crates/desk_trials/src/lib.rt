@@ -16,6 +16,10 @@ mod limits;
 #[cfg(test)]
 mod moves;
 #[cfg(test)]
+mod orders;
+#[cfg(test)]
+mod pages;
+#[cfg(test)]
 mod pumped;
 #[cfg(test)]
 mod queries;
@@ -27,5 +31,7 @@ mod receipts;
 mod resumed;
 #[cfg(test)]
 mod seats;
+#[cfg(test)]
+mod storms;
 #[cfg(test)]
 mod two_threads;

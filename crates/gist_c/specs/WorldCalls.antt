@@ -9,6 +9,7 @@ use Rattle.key_class.specs.declared.refusal.Refusal.{Refusal}
 use Rattle.key_class.specs.declared.refusal.Refusal.TheVariants.{BadConfig, OutOfMemory, CursorsFull, FromFuture, QueryText}
 use Rattle.query_text.specs.ClassTexts.{Texts}
 use Rattle.query_text.specs.Grammar.{SpellsText, RefusesText}
+use Rattle.mailbox.specs.RingEnds.{RingEnd, TakesNext}
 use Rattle.change_list.specs.declared.item.Item.{Item}
 use Rattle.cursor.specs.OpenCursors.{OpenCursor}
 use Rattle.cursor.specs.declared.cursor.Turned.{Turned}
@@ -17,7 +18,6 @@ use Rattle.world.specs.States.{State}
 use Rattle.world.specs.Steps.{Opens, opened_cursor, following_cursor}
 use Rattle.store.specs.States.{StoreState, IsFullOf}
 use Rattle.shared_store.specs.Shared.{Turns, shared_state}
-use Rattle.shared_store.specs.Takers.{TakerState, Takes}
 use Rattle.gist_c.specs.Calls.{RefusesOpening, SpellsSome}
 use Rattle.gist_c.specs.Shown.{shown_item}
 use Rattle.gist_c.specs.declared.shown.Shown.{Shown}
@@ -107,7 +107,7 @@ module _ {K A : Type 0} (rules : Rules K A) where
       pub unchanged : OnErr answer (new ≡ old)
 
 -- a taker is asked for an item, which is shown, or that none was seen
-pub record ShowsTaken {K I : Type 0} (item_of : Shown K → I) (old : TakerState K) (answer : Result I Refusal) (new : TakerState K) : Type 0 where
+pub record ShowsTaken {K I : Type 0} (item_of : Shown K → I) (old : RingEnd K) (answer : Result I Refusal) (new : RingEnd K) : Type 0 where
   pub given : Option (Item K)
   pub shown : answer ≡ Ok (item_of (shown_item given))
-  pub takes : Takes old given new
+  pub takes : TakesNext old given new

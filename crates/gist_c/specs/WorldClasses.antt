@@ -20,11 +20,11 @@ use Rattle.query_text.specs.ClassTexts.{Texts}
 use Rattle.query_text.specs.IntervalTexts.{interval_texts}
 use Rattle.query_text.specs.BoxTexts.{box_texts}
 use Rattle.query_text.specs.SetTexts.{set_texts}
+use Rattle.mailbox.specs.RingEnds.{RingEnd}
 use Rattle.mailbox.specs.Rings.{ring_rule}
 use Rattle.change_list.specs.declared.config.Config.{Config}
 use Rattle.world.specs.Promises.{MailboxesFit}
 use Rattle.world.specs.States.{State, new_state}
-use Rattle.shared_store.specs.Takers.{TakerState}
 use Rattle.gist_c.specs.WorldCalls.{IsRingOpeningOn}
 use Rattle.gist_c.specs.declared.any_world.AnyWorld.{AnyWorld}
 use Rattle.gist_c.specs.declared.any_world.AnyWorld.TheVariants.{Intervals, Boxes, Sets}
@@ -111,16 +111,16 @@ module _ {V : Type 0} where
   OfSetWorld call old answer new = (answer ≡ Err BadConfig) × (new ≡ old)
 
   -- a call of a taker of intervals; one of another class is refused, and nothing changes
-  abbrev pub OfIntervalTaker : (TakerState Interval → Result V Refusal → TakerState Interval → Type 0) → AnyTaker → Result V Refusal → AnyTaker → Type 0
+  abbrev pub OfIntervalTaker : (RingEnd Interval → Result V Refusal → RingEnd Interval → Type 0) → AnyTaker → Result V Refusal → AnyTaker → Type 0
   OfIntervalTaker call (taker.Intervals old) answer (taker.Intervals new) = call old answer new
   OfIntervalTaker call old answer new = (answer ≡ Err BadConfig) × (new ≡ old)
 
   -- of boxes
-  abbrev pub OfBoxTaker : (TakerState BoxKey → Result V Refusal → TakerState BoxKey → Type 0) → AnyTaker → Result V Refusal → AnyTaker → Type 0
+  abbrev pub OfBoxTaker : (RingEnd BoxKey → Result V Refusal → RingEnd BoxKey → Type 0) → AnyTaker → Result V Refusal → AnyTaker → Type 0
   OfBoxTaker call (taker.Boxes old) answer (taker.Boxes new) = call old answer new
   OfBoxTaker call old answer new = (answer ≡ Err BadConfig) × (new ≡ old)
 
   -- of sets
-  abbrev pub OfSetTaker : (TakerState Elements → Result V Refusal → TakerState Elements → Type 0) → AnyTaker → Result V Refusal → AnyTaker → Type 0
+  abbrev pub OfSetTaker : (RingEnd Elements → Result V Refusal → RingEnd Elements → Type 0) → AnyTaker → Result V Refusal → AnyTaker → Type 0
   OfSetTaker call (taker.Sets old) answer (taker.Sets new) = call old answer new
   OfSetTaker call old answer new = (answer ≡ Err BadConfig) × (new ≡ old)

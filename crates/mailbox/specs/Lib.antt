@@ -1,2 +1,3 @@
 pub mod Outlets
+pub mod RingEnds
 pub mod Rings

@@ -1,4 +1,4 @@
-ghost use Rattle.std.specs.Prelude.{◌≡◌, ◌↔◌, ◌⊎◌, ◌<◌, Err, IfOk, IfErr};
+ghost use Rattle.std.specs.Prelude.{◌≡◌, ◌↔◌, ◌⊎◌, ◌<◌, ◌≤◌, ◌+◌, min, Err, IfOk, IfErr};
 ghost use Rattle.key_class.specs.Limits.{most_pumps};
 
 use crossbeam_channel::Receiver;
@@ -64,7 +64,10 @@ impl Pumped {
     };
 
     /// What both did.
-    fn and(self, other: Pumped) -> Pumped {
+    fn and(self, other: Pumped) -> Pumped
+        ensures turns { result.turns ≡ min (self.turns + other.turns) u64.MAX }
+        ensures skipped { result.skipped ≡ min (self.skipped + other.skipped) u64.MAX }
+    {
         Pumped {
             turns: self.turns.saturating_add(other.turns),
             skipped: self.skipped.saturating_add(other.skipped),
@@ -127,18 +130,23 @@ impl<G: Gate> Pumps<G> {
         desk: &D,
         cursor: u64,
         times: u64,
-    ) -> Pumped {
-        let mut turns: u64 = 0;
-        for _ in 0..times {
+    ) -> Pumped
+        ensures turns { result.turns ≤ times }
+        ensures skipped { result.skipped ≤ 1 }
+        ensures left { result.skipped ≡ 1 → result.turns < times }
+    {
+        for turns in 0..times {
             if !self.opens(rt, cursor) {
                 return Pumped { turns, skipped: 1 };
             }
             if !desk.turn_cursor(rt, cursor) {
                 return Pumped { turns, skipped: 0 };
             }
-            turns = turns.saturating_add(1);
         }
-        Pumped { turns, skipped: 0 }
+        Pumped {
+            turns: times,
+            skipped: 0,
+        }
     }
 
     /// One pump, which ends at a stop, or where no sender is left.

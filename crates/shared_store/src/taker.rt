@@ -1,5 +1,5 @@
 ghost use Rattle.std.specs.Prelude.{◌≡◌};
-ghost use Rattle.shared_store.specs.Takers.{Takes, taker_state};
+ghost use Rattle.mailbox.specs.RingEnds.{TakesNext, shown_by};
 
 use change_list::Item;
 use rtrb::Consumer;
@@ -13,24 +13,24 @@ pub struct Taker<K> {
 }
 
 impl<K> Model for Taker<K> {
-    ghost use Rattle.shared_store.specs.Takers.{TakerState, taker_state};
+    ghost use Rattle.mailbox.specs.RingEnds.{RingEnd, shown_by};
 
-    ghost Value = { TakerState K };
+    ghost Value = { RingEnd K };
 
-    ghost view = { λ t. taker_state t.items };
+    ghost view = { λ t. shown_by t.items };
 }
 
 impl<K: Copy> Taker<K> {
     /// The taker over a ring's end.
     pub(crate) fn new(items: Consumer<Item<K>>) -> Taker<K>
-        ensures { result ≡ taker_state items }
+        ensures { result ≡ shown_by items }
     {
         Taker { items }
     }
 
     /// Takes the item at the front, where one is seen. It waits for nobody.
     pub fn take(&mut self) -> Option<Item<K>>
-        ensures { Takes self.old result self.new }
+        ensures { TakesNext self.old result self.new }
     {
         match self.items.pop() {
             Ok(item) => return Some(item),

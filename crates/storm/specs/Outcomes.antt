@@ -1,5 +1,5 @@
 -- What came of a storm.
-use Rattle.std.specs.Prelude.{◌≡◌, IsTrue, List, Option, ◌+◌, ◌*◌, length, pos, Vec}
+use Rattle.std.specs.Prelude.{◌≡◌, ◌↔◌, IsTrue, List, Option, ◌+◌, ◌*◌, length, map, pos, Vec}
 use Rattle.std.specs.List.{list_all}
 use Rattle.key_class.specs.Queries.{Query, query_of, atom, both, either, never}
 use Rattle.key_class.specs.declared.pred.Pred.{Pred}
@@ -8,6 +8,9 @@ use Rattle.interval_class.specs.Intervals.{interval_rules}
 use Rattle.interval_class.specs.declared.interval.Interval.{Interval}
 use Rattle.interval_class.specs.declared.atom.Atom.{Atom}
 use Rattle.change_list.specs.declared.write.Write.{Write}
+use Rattle.world.specs.Stamps.{Stamp}
+use Rattle.desk.specs.Seats.{Seated}
+use Rattle.desk.specs.Weaving.{Woven}
 use Rattle.storm.specs.Judging.{TellsFates, is_whole_reader}
 use Rattle.storm.specs.declared.judge.Reading.{Reading}
 use Rattle.storm.specs.declared.judge.Verdict.{Verdict}
@@ -25,13 +28,21 @@ AsksFirst500 (never part) = ⊥
 abbrev pub TellsReaders : {Z : Type 0} → Pred Atom → List (Write Interval) → List (Option (Reading Interval)) → Vec Verdict Z → Type 0
 TellsReaders query commits readings told = TellsFates interval_rules (query_of query) commits readings told.items
 
--- There is a list of so many commits, and each verdict tells how the reader in its place fared by them.
+-- each list is the stamps of the seat in its place
+abbrev pub AreStampsOf : {K Z : Type 0} → List (Seated K) → List (Vec (Stamp K) Z) → Type 0
+AreStampsOf seats stamps = map (λ list. list.items) stamps ≡ map (λ seat. seat.stamps) seats
+
+-- There is a list of so many commits, and each verdict tells how the reader in its place fared by them. The stamps of the
+-- seats are told to be the commits of that list exactly where they are.
 pub record IsTrueOutcome (o : Outcome) : Type 0 where
   pub query : Query Atom
   pub commits : List (Write Interval)
   pub asks : AsksFirst500 query
   pub count : o.commits ≡ length commits
   pub verdicts : TellsFates interval_rules query commits o.readings.items o.verdicts.items
+  pub seats : List (Seated Interval)
+  pub stamps : AreStampsOf seats o.stamps.items
+  pub woven : IsTrue o.is_woven ↔ Woven commits seats
 
 -- all rows were written and deleted, and each of all readers is whole
 pub record IsWholeStorm (limits : Limits) (o : Outcome) : Type 0 where

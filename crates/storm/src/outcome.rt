@@ -1,7 +1,8 @@
 //! A whole storm.
-ghost use Rattle.std.specs.Prelude.{◌≡◌, ◌↔◌, ◌+◌, Err, IfErr, IfOk, IsTrue, OnOk};
+ghost use Rattle.std.specs.Prelude.{◌≡◌, ◌↔◌, ◌+◌, Err, IfErr, IfOk, IsTrue, OnOk, length};
+ghost use Rattle.desk.specs.Weaving.{Woven};
 ghost use Rattle.key_class.specs.Refusals.{IsEither};
-ghost use Rattle.storm.specs.Outcomes.{IsTrueOutcome, IsWholeStorm, TellsReaders};
+ghost use Rattle.storm.specs.Outcomes.{AreStampsOf, IsTrueOutcome, IsWholeStorm, TellsReaders};
 ghost use Rattle.storm.specs.Sizes.{IsStorm};
 
 use crate::clients::{Reader, asked, work_beside};
@@ -9,7 +10,7 @@ use crate::judge::{Reading, Verdict, are_whole, judged};
 use crate::limits::Limits;
 use change_list::{ChangeList, Config};
 use crossbeam_channel::bounded;
-use desk::{Desk, Finished, Seat};
+use desk::{Desk, Finished, Seat, Torn};
 use interval_class::{Atom, Interval, Intervals};
 use key_class::limits::{MAX_COMMITS, MAX_PAGES};
 use key_class::{Pred, Refusal};
@@ -19,6 +20,7 @@ use std::rt::Clock;
 use std::sync::Wait;
 use std::sync::ledger::{Blank, Ledger};
 use std::thread::Threads;
+use world::Stamped;
 
 const CONFIG: Config = Config {
     fan: 8,
@@ -49,6 +51,8 @@ pub struct Outcome {
     pub readings: Vec<Option<Reading<Interval>>>,
     /// How each reader fared, in the same order.
     pub verdicts: Vec<Verdict>,
+    /// What each seat was answered.
+    pub stamps: Vec<Vec<Stamped<Interval>>>,
     /// Whether the stamps of all seats are the commits.
     pub is_woven: bool,
 }
@@ -95,7 +99,9 @@ where
 fn readers_of<L: Ledger>(
     alloc: Global,
     seats: Vec<Seat<Intervals, L>>,
-) -> Result<Vec<Reader<L>>, AllocError> {
+) -> Result<Vec<Reader<L>>, AllocError>
+    ensures { IfOk result (λ readers. length readers.items ≡ length seats.items) }
+{
     let mut readers = Vec::with_capacity(alloc, seats.len())?;
     for seat in seats {
         readers.push(Reader {
@@ -129,35 +135,70 @@ fn verdicts_of(
     Ok(verdicts)
 }
 
-/// What came of it, once all seats came back.
-fn outcome_of<L: Ledger>(
+/// What seats were answered.
+fn stamps_of<L: Ledger>(
     alloc: Global,
-    finished: Finished<Intervals, L>,
+    seats: Vec<Seat<Intervals, L>>,
+) -> Result<Vec<Vec<Stamped<Interval>>>, AllocError>
+    ensures stamps { IfOk result (λ stamps. AreStampsOf seats.items stamps.items) }
+    ensures count { IfOk result (λ stamps. length stamps.items ≡ length seats.items) }
+{
+    let mut stamps = Vec::with_capacity(alloc, seats.len())?;
+    for seat in seats {
+        stamps.push(seat.into_stamps())?;
+    }
+    Ok(stamps)
+}
+
+/// What came of a storm of these commits, by which the readers are judged.
+fn outcome_by<L: Ledger>(
+    alloc: Global,
+    commits: ChangeList<Interval>,
+    seats: Vec<Seat<Intervals, L>>,
+    is_woven: bool,
     readings: Vec<Option<Reading<Interval>>>,
 ) -> Result<Outcome, Refusal>
+    requires { IsTrue is_woven ↔ Woven commits seats.items }
     ensures told { IfOk result IsTrueOutcome }
+    ensures seats { IfOk result (λ o. length o.stamps.items ≡ length seats.items) }
     ensures refusals { IfErr result (λ why. why ≡ Refusal.OutOfMemory) }
 {
-    let query = asked();
-    let (commits, verdicts, is_woven) = match finished {
-        Finished::Closing(closing) => {
-            let commits = closing.commits();
-            let verdicts = verdicts_of(alloc, commits, &query, readings.as_slice())?;
-            (commits.len() as u64, verdicts, true)
-        }
-        Finished::Torn(torn) => {
-            let commits = &torn.commits;
-            let verdicts = verdicts_of(alloc, commits, &query, readings.as_slice())?;
-            (commits.len() as u64, verdicts, false)
-        }
-        Finished::SeatsOut(_, _) => return Err(Refusal::OutOfMemory),
+    let verdicts = verdicts_of(alloc, &commits, &asked(), readings.as_slice())?;
+    let Ok(stamps) = stamps_of(alloc, seats) else {
+        return Err(Refusal::OutOfMemory);
     };
     Ok(Outcome {
-        commits,
+        commits: commits.len() as u64,
         readings,
         verdicts,
+        stamps,
         is_woven,
     })
+}
+
+/// What came of it, where all seats came back.
+fn outcome_of<L: Ledger>(
+    alloc: Global,
+    desk: Desk<Intervals, L>,
+    seats: Vec<Seat<Intervals, L>>,
+    readings: Vec<Option<Reading<Interval>>>,
+) -> Result<Outcome, Refusal>
+    requires { length seats.items ≡ desk }
+    ensures told { IfOk result IsTrueOutcome }
+    ensures seats { IfOk result (λ o. length o.stamps.items ≡ desk) }
+    ensures refusals { IfErr result (λ why. why ≡ Refusal.OutOfMemory) }
+{
+    match desk.finish(seats) {
+        Finished::Closing(closing) => {
+            let (commits, seats) = closing.into_parts();
+            return outcome_by(alloc, commits, seats, true, readings);
+        }
+        Finished::Torn(torn) => {
+            let Torn { commits, seats } = torn;
+            return outcome_by(alloc, commits, seats, false, readings);
+        }
+        Finished::SeatsOut(_, _) => unreachable!(),
+    }
 }
 
 /// Writers, readers, pumps and a sweeper at one desk of intervals, each in a thread of its own. Each writer inserts rows with
@@ -179,6 +220,7 @@ where
     requires parts { blank.parts ≡ L.parts }
     requires one_each { blank.parts ≡ limits.writers + limits.readers }
     ensures told { IfOk result IsTrueOutcome }
+    ensures seats { IfOk result (λ o. length o.stamps.items ≡ limits.writers + limits.readers) }
     ensures within { OnOk result (IsStorm limits) }
     ensures bad { (result ≡ Err Refusal.BadConfig) ↔ (¬ IsStorm limits) }
     ensures refusals { IfErr result (IsEither Refusal.BadConfig Refusal.OutOfMemory) }
@@ -206,7 +248,7 @@ where
     let Ok(readings) = take_back(alloc, &mut writers, readers) else {
         return Err(Refusal::OutOfMemory);
     };
-    outcome_of(alloc, desk.finish(writers), readings)
+    outcome_of(alloc, desk, writers, readings)
 }
 
 /// Puts the seats of readers behind those of writers, and gives what the readers read.
@@ -214,7 +256,10 @@ fn take_back<L: Ledger>(
     alloc: Global,
     seats: &mut Vec<Seat<Intervals, L>>,
     readers: Vec<Reader<L>>,
-) -> Result<Vec<Option<Reading<Interval>>>, AllocError> {
+) -> Result<Vec<Option<Reading<Interval>>>, AllocError>
+    ensures { OnOk result
+        (length seats.new.items ≡ length seats.old.items + length readers.items) }
+{
     let mut readings = Vec::with_capacity(alloc, readers.len())?;
     for reader in readers {
         let Reader { seat, reading } = reader;

@@ -7,7 +7,7 @@ returns-then-woven-clause-legal g c = rw c.new.ensures c.len-sum.ensures.legal
 
 pub returns-then-woven-clause-woven : goal.returns-then-woven-clause-woven
 returns-then-woven-clause-woven g c =
-    rw c.new.ensures (subst (λ s. Woven c.into_commits-commits.result s) (c.as_slice.ensures.value ∙ c.audit_seats.ensures.seats) (subst (λ l. Woven l c.as_slice.result.now) c.as_view.ensures (c.woven.ensures.0 c.if-woven.true)))
+    rw c.new.ensures (subst (λ s. Woven c.into_commits-commits.result s) c.as_slice.ensures.value (subst (λ l. Woven l c.as_slice.result.now) c.as_view.ensures (c.woven.ensures.0 c.if-woven.true)))
 
 pub returns-clause-torn : goal.returns-clause-torn
 returns-clause-torn g c = (

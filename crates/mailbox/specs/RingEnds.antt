@@ -1,4 +1,4 @@
--- What contracts see of the end from which the items of a ring are taken.
+-- What contracts see of the end from which the items of a ring are taken, and what a take does there.
 use Rattle.std.specs.Prelude.{◌≡◌, List, [], ◌∷◌, ◌++◌, Option, Some, None}
 use mathlib.Core.List.{IsPrefix}
 use Rattle.std.specs.declared.alloc.Global.{Global}
@@ -7,19 +7,19 @@ use Rattle.rtrb.specs.declared.consumer.Consumer.{Consumer}
 use Rattle.rtrb.specs.Ring.{received, known_items}
 use Rattle.change_list.specs.declared.item.Item.{Item}
 
-pub record TakerState (K : Type 0) : Type 0 where
+-- what an end of a ring shows
+pub record RingEnd (K : Type 0) : Type 0 where
   -- the items that were taken, the first that came out of the ring first
   pub taken : List (Item K)
   -- the items that were seen in the ring, which are taken next
   pub seen : List (Item K)
 
 module _ {K : Type 0} where
-  -- what an end of a ring shows
-  abbrev pub taker_state : Consumer (Item K) Global AnyItems → TakerState K
-  taker_state end = record { taken = received end; seen = known_items end }
+  abbrev pub shown_by : Consumer (Item K) Global AnyItems → RingEnd K
+  shown_by end = record { taken = received end; seen = known_items end }
 
   -- An item is taken: it comes behind those that were taken, and is the first of those that were seen. Or none is, since the
   -- ring was seen to be empty.
-  abbrev pub Takes : TakerState K → Option (Item K) → TakerState K → Type 0
-  Takes old (Some item) new = (new.taken ≡ old.taken ++ item ∷ []) × IsPrefix old.seen (item ∷ new.seen)
-  Takes old None new = (new.taken ≡ old.taken) × (old.seen ≡ []) × (new.seen ≡ [])
+  abbrev pub TakesNext : RingEnd K → Option (Item K) → RingEnd K → Type 0
+  TakesNext old (Some item) new = (new.taken ≡ old.taken ++ item ∷ []) × IsPrefix old.seen (item ∷ new.seen)
+  TakesNext old None new = (new.taken ≡ old.taken) × (old.seen ≡ []) × (new.seen ≡ [])
