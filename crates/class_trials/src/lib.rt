@@ -1,4 +1,5 @@
-//! Trials of key classes: refusals, sides and queries, three classes against vectors, and the texts of their keys and queries.
+//! Trials of key classes: refusals, sides and queries, three classes against vectors and, on random
+//! pages, against plain splits, and the texts of their keys and queries.
 #![tactic(auto)]
 
 #[cfg(test)]
@@ -8,9 +9,19 @@ mod groupings;
 #[cfg(test)]
 mod intervals;
 #[cfg(test)]
+mod letters;
+#[cfg(test)]
 mod picks;
 #[cfg(test)]
+mod plain_boxes;
+#[cfg(test)]
+mod plain_intervals;
+#[cfg(test)]
+mod plain_sets;
+#[cfg(test)]
 mod queries;
+#[cfg(test)]
+mod random_pages;
 #[cfg(test)]
 mod refusals;
 #[cfg(test)]

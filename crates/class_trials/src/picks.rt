@@ -3,7 +3,10 @@ use std::alloc::Global;
 
 /// Whether sides are those that letters name: l for left, r for right.
 pub fn are(sides: &Sides, letters: &str) -> bool {
-    let letters = letters.as_bytes();
+    have_letters(sides, letters.as_bytes())
+}
+
+fn have_letters(sides: &Sides, letters: &[u8]) -> bool {
     if sides.len() != letters.len() {
         return false;
     }
@@ -21,11 +24,16 @@ pub fn are(sides: &Sides, letters: &str) -> bool {
 
 /// Whether a class puts keys on these sides.
 pub fn splits<C: KeyClass>(alloc: Global, keys: &[C::Key], least: usize, wanted: &str) -> bool {
+    splits_as::<C>(alloc, keys, least, wanted.as_bytes())
+}
+
+/// The same of the letters one by one.
+pub fn splits_as<C: KeyClass>(alloc: Global, keys: &[C::Key], least: usize, wanted: &[u8]) -> bool {
     if least < 1 {
         return false;
     }
     match C::pick_split(alloc, keys, least) {
-        Ok(sides) => are(&sides, wanted),
+        Ok(sides) => have_letters(&sides, wanted),
         Err(_) => false,
     }
 }

@@ -1,3 +1,4 @@
+pub mod Coming
 pub mod Moving
 pub mod OnWay
 pub mod Visiting

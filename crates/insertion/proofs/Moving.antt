@@ -29,6 +29,7 @@ use Rattle.world.specs.States.{State, with_pages, IsSoundWorld}
 use Rattle.world.specs.Steps.{Step, Changes, IsCarriedOut, IsRefused, Places}
 use Rattle.world.specs.Traces.{taken_by}
 use Rattle.insertion.specs.PageSteps.{IsWanting, MayMove, Moves, MovesPages}
+use Rattle.insertion.specs.Visits.{IsOfPages}
 
 -- tests before the last, none of which tells of too few pages
 abbrev pub NoneFull : List (Bool × Refusal) → Type 0
@@ -116,26 +117,39 @@ rows_pages : {K : Type 0} (t : Tree K) (p : ℕ) (rows : List (Entry K)) → len
 unfolding after_rows
 rows_pages t p rows = replaced-length t p (with_rows (page_at t p) rows)
 
+module _ {C K A : Type 0} (is_cover : K → K → Bool) (old : State K A) where
+  -- an event that may be made changes pages alone
+  of_pages : (e : Event C K A) → MayMove is_cover old e → IsOfPages e
+  of_pages (event.Enlarge page child key) may = tt
+  of_pages (event.Split page sides) may = tt
+  of_pages (event.Post page child) may = tt
+  of_pages (event.Grow sides) may = tt
+  of_pages e may = absurd may
+
 module _ {C O K A E : Type 0} (rules : Rules K A) (rule : Rule) (old new : State K A) where
   -- an answer that doesn't refuse
   done_of : (seat : ℕ) (e : Event C K A) (r : Reply C O K A E) → ((why : Refusal) → r ≡ reply.Refused why → ⊥) → Step rules rule seat old e r new → IsCarriedOut rules rule seat old e r new
   done_of seat e (reply.Refused why) not d = absurd (not why refl)
   done_of seat e r not d = d
 
-  changed_pages : (seat : ℕ) (e : Event C K A) (r : Reply C O K A E) → MayMove rules.is_cover old e → Changes rules rule seat old e r new → Moves rules.union_of old e new
-  changed_pages seat (event.Enlarge page child key) reply.Enlarged may d = d
-  changed_pages seat (event.Enlarge page child key) r may d = absurd d
-  changed_pages seat (event.Split page sides) (reply.Split sibling) may d = d.1
-  changed_pages seat (event.Split page sides) r may d = absurd d
-  changed_pages seat (event.Post page child) reply.Posted may d = d
-  changed_pages seat (event.Post page child) r may d = absurd d
-  changed_pages seat (event.Grow sides) (reply.Grown first second) may d = d.2
-  changed_pages seat (event.Grow sides) r may d = absurd d
-  changed_pages seat e r may d = absurd may
+  changed_pages : (seat : ℕ) (e : Event C K A) (r : Reply C O K A E) → IsOfPages e → Changes rules rule seat old e r new → Moves rules.union_of old e new
+  changed_pages seat (event.Enlarge page child key) reply.Enlarged own d = d
+  changed_pages seat (event.Enlarge page child key) r own d = absurd d
+  changed_pages seat (event.Split page sides) (reply.Split sibling) own d = d.1
+  changed_pages seat (event.Split page sides) r own d = absurd d
+  changed_pages seat (event.Post page child) reply.Posted own d = d
+  changed_pages seat (event.Post page child) r own d = absurd d
+  changed_pages seat (event.Grow sides) (reply.Grown first second) own d = d.2
+  changed_pages seat (event.Grow sides) r own d = absurd d
+  changed_pages seat e r own d = absurd own
 
-  -- where it wasn't refused
+  -- where an event of pages wasn't refused
+  pub made_of_pages : (seat : ℕ) (e : Event C K A) (r : Reply C O K A E) → IsOfPages e → ((why : Refusal) → r ≡ reply.Refused why → ⊥) → Step rules rule seat old e r new → Moves rules.union_of old e new
+  made_of_pages seat e r own not d = changed_pages seat e r own (done_of seat e r not d).change
+
+  -- where one wasn't that may be made
   pub made_moves : (seat : ℕ) (e : Event C K A) (r : Reply C O K A E) → MayMove rules.is_cover old e → ((why : Refusal) → r ≡ reply.Refused why → ⊥) → Step rules rule seat old e r new → Moves rules.union_of old e new
-  made_moves seat e r may not d = changed_pages seat e r may (done_of seat e r not d).change
+  made_moves seat e r may not d = made_of_pages seat e r (of_pages rules.is_cover old e may) not d
 
   moved_to : (e : Event C K A) (r : Reply C O K A E) (tree : Tree K) → new ≡ with_pages old tree → ServesAll rules rule old e r new → ((c : ℕ) → taken_by c (e, r) ≡ None) → KeepsRows old.search.tree new.search.tree → MovesPages rules rule old new
   moved_to e r tree is serves none kept = record {

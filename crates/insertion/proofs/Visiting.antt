@@ -1,5 +1,5 @@
 -- Why a visit of an insertion is refused for good.
-use Rattle.std.proofs.Common.{◌≡◌, ◌⊎◌, ◌+◌, ◌<◌, Bool, true, false, List, [], ◌∷◌, length, Some, None, Result, Ok, Err, IfErr, inl, inr, sym, ◌∙◌, arith}
+use Rattle.std.proofs.Common.{◌≡◌, ◌⊎◌, ◌+◌, ◌<◌, Bool, true, false, List, [], ◌∷◌, length, Some, None, Result, Ok, Err, IfErr, OnOk, ◌≢◌, inl, inr, sym, ◌∙◌, arith}
 use Rattle.std.proofs.lemmas.Option.{same_Some}
 use Rattle.key_class.specs.Rules.{Rules}
 use Rattle.mailbox.specs.Outlets.{Rule}
@@ -11,6 +11,7 @@ use Rattle.world.specs.declared.event.Event.TheVariants as event
 use Rattle.world.specs.States.{State}
 use Rattle.world.specs.Steps.{IsRefused, tests, RefusesLater}
 use Rattle.insertion.specs.PageSteps.{IsWanting}
+use Rattle.insertion.specs.Splitting.{MovesUnlessBarred}
 use Rattle.insertion.specs.Visits.{IsOfPages}
 use Rattle.insertion.proofs.Moving.{NoneFull, split_full, grow_full}
 
@@ -45,3 +46,14 @@ module _ {C K A : Type 0} (rules : Rules K A) (rule : Rule) (old new : State K A
   told_wanting e why (Ok b) own refused same some = tt
   told_wanting e why (Err r) own refused same (inl memory) = inl memory
   told_wanting e why (Err r) own refused same (inr full) = inr (full, from_cause e why own (sym same ∙ full) refused.cause)
+
+  failing : (e : Event C K A) (why : Refusal) → IsOfPages e → why ≢ refusal.OutOfMemory → (first_failing (tests rules rule old e) ≡ Some why) ⊎ ((first_failing (tests rules rule old e) ≡ None) × RefusesLater rules rule old e why)
+      → first_failing (tests rules rule old e) ≡ Some why
+  failing e why own memory (inl fails) = fails
+  failing e why own memory (inr later) = absurd (memory (later_memory e why own later.1))
+
+  -- where a refusal isn't told, for it is none by want of pages or memory, the event is barred
+  pub untold_barred : {B : Type 0} (e : Event C K A) (why : Refusal) (told : Result B Refusal) → IsOfPages e → IsRefused rules rule old e why new
+      → OnOk told (why ≢ refusal.OutOfMemory) → OnOk told (why ≢ refusal.PagesFull) → OnOk told (MovesUnlessBarred rules rule old e new)
+  untold_barred e why (Ok b) own refused memory pages = inr (record { why = why; fails = failing e why own memory refused.cause; not_full = pages }, refused.unchanged)
+  untold_barred e why (Err r) own refused memory pages = tt

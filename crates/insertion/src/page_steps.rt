@@ -4,6 +4,7 @@ ghost use Rattle.change_list.specs.declared.write.Write.TheVariants.{Insert};
 ghost use Rattle.world.specs.Promises.{KeepsMailboxes};
 ghost use Rattle.world.specs.Resting.{Rests, deaths};
 ghost use Rattle.world.specs.States.{AddsCommit, IsNextStamp, IsSoundWorld};
+ghost use Rattle.world.specs.Steps.{Places};
 ghost use Rattle.world.specs.Visits.{IsOneEvent};
 ghost use Rattle.insertion.specs.PageSteps.{MayMove, MayPlace, Moves, MovesPages, IsWanting};
 
@@ -48,6 +49,8 @@ pub(crate) fn place<C: KeyClass, O: Outlet<C::Key>>(
 ) -> Result<Stamped<C::Key>, Refusal>
     requires passes { MayPlace C.rules.is_cover world.old.search leaf key }
     requires room { length world.old.commits < world.old.limit }
+    ensures placed { IfOk result (λ stamp.
+        Places seat world.old leaf key tag stamp world.new) }
     ensures stamped { IfOk result (IsNextStamp world.old seat (Insert key tag)) }
     ensures committed { OnOk result (AddsCommit world.old (Insert key tag) world.new) }
     ensures unchanged { OnErr result (world.new ≡ world.old) }

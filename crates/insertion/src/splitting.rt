@@ -1,10 +1,11 @@
 //! Splits of an insertion by visits: their sides may be worked out beside the world.
-ghost use Rattle.std.specs.Prelude.{◌≡◌, IfErr, OnErr};
+ghost use Rattle.std.specs.Prelude.{◌≡◌, ◌≢◌, IfOk, IfErr, IsTrue, OnErr, OnOk};
 ghost use Rattle.key_class.specs.Refusals.{IsEither};
 ghost use Rattle.world.specs.Promises.{KeepsMailboxes};
 ghost use Rattle.world.specs.States.{IsSoundWorld};
 ghost use Rattle.world.specs.Visits.{Makes};
 ghost use Rattle.insertion.specs.PageSteps.{IsWanting};
+ghost use Rattle.insertion.specs.Splitting.{MovesUnlessBarred, SplitsBySides, SplitsIfAny};
 ghost use Rattle.insertion.specs.Visits.{IsOfPages, SplitsAtMost, TellsInTime};
 
 use key_class::{KeyClass, Refusal};
@@ -15,6 +16,8 @@ use world::{Event, Reply, SplitTask, World};
 fn tell_want(why: Refusal) -> Result<(), Refusal>
     ensures told { IfErr result (λ told. told ≡ why) }
     ensures refusals { IfErr result (IsEither Refusal.OutOfMemory Refusal.PagesFull) }
+    ensures memory { OnOk result (why ≢ Refusal.OutOfMemory) }
+    ensures pages { OnOk result (why ≢ Refusal.PagesFull) }
 {
     match why {
         Refusal::OutOfMemory => Err(Refusal::OutOfMemory),
@@ -34,6 +37,7 @@ fn make<C: KeyClass, O: Outlet<C::Key>>(
 ) -> Result<(), Refusal>
     requires pages { IsOfPages event }
     ensures makes { Makes C O O.End C.rules O.rule seat world.old event world.new }
+    ensures moves { OnOk result (MovesUnlessBarred C.rules O.rule world.old event world.new) }
     ensures commits { world.new.commits ≡ world.old.commits }
     ensures sound { IsSoundWorld C.rules.is_cover world.new }
     ensures mailboxes { KeepsMailboxes C.rules O.rule world.old world.new }
@@ -57,6 +61,8 @@ pub fn split_prepared<C: KeyClass, O: Outlet<C::Key>>(
     task: SplitTask<C>,
 ) -> Result<bool, Refusal>
     ensures splits { TellsInTime C O O.End C.rules O.rule seat world.old task result world.new }
+    ensures made { IfOk result (λ in_time.
+        IsTrue in_time → SplitsBySides C C.rules O.rule world.old task world.new) }
     ensures commits { world.new.commits ≡ world.old.commits }
     ensures sound { IsSoundWorld C.rules.is_cover world.new }
     ensures mailboxes { KeepsMailboxes C.rules O.rule world.old world.new }
@@ -75,7 +81,8 @@ pub fn split_prepared<C: KeyClass, O: Outlet<C::Key>>(
 
 /// Tells a refusal by want of memory; after any other the split is given up.
 fn give_up(why: Refusal) -> Result<(), Refusal>
-    ensures { IfErr result (λ told. told ≡ Refusal.OutOfMemory) }
+    ensures told { IfErr result (λ told. told ≡ Refusal.OutOfMemory) }
+    ensures other { OnOk result (why ≢ Refusal.OutOfMemory) }
 {
     match why {
         Refusal::OutOfMemory => Err(Refusal::OutOfMemory),
@@ -93,6 +100,7 @@ pub fn split_at_once<C: KeyClass, O: Outlet<C::Key>>(
     page: u32,
 ) -> Result<(), Refusal>
     ensures splits { SplitsAtMost C O O.End C.rules O.rule seat world.old page world.new }
+    ensures made { OnOk result (SplitsIfAny C C.rules O.rule world.old page world.new) }
     ensures commits { world.new.commits ≡ world.old.commits }
     ensures sound { IsSoundWorld C.rules.is_cover world.new }
     ensures mailboxes { KeepsMailboxes C.rules O.rule world.old world.new }
