@@ -3,7 +3,7 @@ ghost use Rattle.key_class.specs.Limits.{most_depth};
 ghost use Rattle.key_class.specs.Queries.{query_of, depth_of};
 ghost use Rattle.front.specs.AsTold.{Tells};
 ghost use Rattle.front.specs.Told.{RepliesOpen};
-ghost use Rattle.front.specs.Sessions.{AnswersTokens, TellsFinding, TellsOpening, TellsRequest, TellsTokens, ToldAll, ToldFirst, ToldWhole};
+ghost use Rattle.front.specs.Sessions.{AnswersTokens, LacksPagesOnceTold, TellsFinding, TellsOpening, TellsRequest, TellsTokens, ToldAll, ToldFirst, ToldWhole};
 ghost use Rattle.store.specs.States.{new_store};
 ghost use Rattle.change_list.specs.declared.config.Config.{Config};
 ghost use Rattle.front.specs.Conversations.{IfOutOfMemory, IfReadFails, IfWriteFails, IsConversationFault, Kept, exchange};
@@ -148,6 +148,7 @@ pub fn session<C: ClassText, R: Read, W: Write>(
         (exchange R.remaining reader.old reader.new W.contents writer.old writer.new)) }
     ensures write { IfWriteFails result (ToldFirst C.texts C.rules store.old store.new
         (exchange R.remaining reader.old reader.new W.contents writer.old writer.new)) }
+    ensures pages { LacksPagesOnceTold C.texts C.rules store.new }
     ensures memory { IfOutOfMemory result (Kept reader.old reader.new writer.old writer.new) }
     ensures unchanged { IfOutOfMemory result (store.new ≡ store.old) }
     ensures faults { IfErr result IsConversationFault }
