@@ -5,10 +5,11 @@
  *   READ_AT_ONCE, WRITE_AT_ONCE   at most so many bytes are moved by a call
  *   SHORT_READ, SHORT_WRITE       the call of that number, counted from 1, moves one byte
  *   FAILING_READ, FAILING_WRITE   the call of that number moves nothing and fails
+ *   FAILING_TIMES                 and so do the calls after it, as many in all; one where there is no number
  *   FAILING_ERROR                 with this number of an error; where there is none it answers that it moved nothing
  *
- * The call that fails tells so in a line on standard error, with the number of bytes that were moved before it. The
- * calls after it are as the others.
+ * The first call that fails tells so in a line on standard error, with the number of bytes that were moved before it. The
+ * calls after the last are as the others.
  */
 #define _GNU_SOURCE
 #include <errno.h>
@@ -26,6 +27,7 @@ struct stream {
 
 static struct stream input = {.name = "read", .call = SYS_read};
 static struct stream output = {.name = "write", .call = SYS_write};
+static unsigned long failing_times;
 static int error_number;
 
 static unsigned long number_of(const char *name)
@@ -42,14 +44,29 @@ __attribute__((constructor)) static void begin(void)
     output.at_once = number_of("WRITE_AT_ONCE");
     output.short_call = number_of("SHORT_WRITE");
     output.failing_call = number_of("FAILING_WRITE");
+    failing_times = number_of("FAILING_TIMES");
+    if (failing_times == 0)
+        failing_times = 1;
     error_number = (int)number_of("FAILING_ERROR");
 }
 
-static ssize_t fail(const struct stream *stream)
+static void tell(const struct stream *stream)
 {
     char told[80];
     int length = snprintf(told, sizeof told, "a %s fails after %lu bytes\n", stream->name, stream->bytes);
     (void)!syscall(SYS_write, STDERR_FILENO, told, (size_t)length);
+}
+
+static int fails(const struct stream *stream)
+{
+    return stream->failing_call > 0 && stream->calls >= stream->failing_call
+        && stream->calls - stream->failing_call < failing_times;
+}
+
+static ssize_t fail(const struct stream *stream)
+{
+    if (stream->calls == stream->failing_call)
+        tell(stream);
     errno = error_number;
     return error_number ? -1 : 0;
 }
@@ -57,7 +74,7 @@ static ssize_t fail(const struct stream *stream)
 static ssize_t move_bytes(struct stream *stream, int file, long bytes, size_t count)
 {
     stream->calls++;
-    if (stream->calls == stream->failing_call)
+    if (fails(stream))
         return fail(stream);
     if (stream->calls == stream->short_call && count > 1)
         count = 1;

@@ -30,8 +30,8 @@ room_made items start end overlong o w l =
     rw t refl
 
 pub fills : (before after : Option (List ℕ)) (old : Held) (bytes : List ℕ) (held count : ℕ) (overlong : Bool) → Consumes before after (take count (drop held bytes)) → (count ≡ 0 → IsAtEnd after)
-    → take held bytes ≡ (with_room old).rest → overlong ≡ (with_room old).overlong → FillsHeld before after old (nat_lt 0 count) (holding bytes 0 (held + count) overlong)
-fills before after old bytes held count overlong c e r o = record {
+    → held + count ≤ length bytes → take held bytes ≡ (with_room old).rest → overlong ≡ (with_room old).overlong → FillsHeld before after old (nat_lt 0 count) (holding bytes 0 (held + count) overlong)
+fills before after old bytes held count overlong c e w r o = record {
   bytes = take count (drop held bytes);
   consumed = c;
   held =
@@ -39,6 +39,7 @@ fills before after old bytes held count overlong c e r o = record {
       let a : take (held + count - 0) bytes ≡ (with_room old).rest ++ take count (drop held bytes) = ap (λ k. take k bytes) z ∙ take_both held count bytes ∙ ap (λ xs. xs ++ take count (drop held bytes)) r in
       joined _ _ _ _ a o;
   none_at_end = λ n. let z : count ≡ 0 = search (arith, n) in (ap (λ k. take k (drop held bytes)) z, e z);
+  some_before = λ m none. let z : 0 < count = search (arith, m) in omega (arith, z, w, ap length none, length-take count (drop held bytes), length-drop held bytes);
 }
   where
     joined : (a b : List ℕ) (p q : Bool) → a ≡ b → p ≡ q → ◌≡◌ {A = Held} (record { rest = a; overlong = p }) (record { rest = b; overlong = q })

@@ -2,6 +2,7 @@ pub mod Bytes
 pub mod Conversing
 pub mod Feeds
 pub mod Filling
+pub mod FullPages
 pub mod Opening
 pub mod Progress
 pub mod Replying

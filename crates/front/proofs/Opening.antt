@@ -76,6 +76,7 @@ module _ {K A : Type 0} where
       last = sym (ap (λ (s : StoreState K A). s.last) o.after);
       dead = subst (λ (s : StoreState K A). IsPermutation told.dead s.dead) (sym o.after) t.dead;
       finders = omega (arith, t.finders, ap (λ (s : StoreState K A). s.finders) o.after);
+      pages = λ full. omega (arith, t.pages full, ap (λ (s : StoreState K A). s.pages_left) o.after);
     }
       where
         commits : new.commits ≡ old.commits
@@ -129,6 +130,7 @@ module _ {K A : Type 0} where
             last = t.last ∙ sym (ap (λ (s : StoreState K A). s.last) h.is);
             dead = subst (λ (s : StoreState K A). IsPermutation told.dead s.dead) (sym h.is) t.dead;
             finders = omega (arith, t.finders, ap (λ (s : StoreState K A). s.finders) h.is);
+            pages = λ full. omega (arith, t.pages full, ap (λ (s : StoreState K A). s.pages_left) h.is);
           },
         )
       where

@@ -38,6 +38,7 @@ new_as_told {K} {A} rules store h = subst (λ (s : StoreState K A). IsAsTold rul
   last = refl;
   dead = IsPermutation-refl [];
   finders = omega arith;
+  pages = λ full. cc;
 })
 
 -- A conversation told another way: where each line that is answered in one state tells as much in the other, so do all.

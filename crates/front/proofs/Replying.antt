@@ -20,7 +20,7 @@ use Rattle.front.specs.declared.reply.Reply.TheVariants as reply
 use Rattle.front.specs.Told.{Told, with_client_cursor, IsFullAsTold, HasNoCursorLeft, MayLackPages, IsBadRoom, IsAhead, MayBegin, RefusesToEnd, RepliesInsert, RepliesDelete, RepliesMove, RepliesOpen, RepliesNext, RepliesMark, RepliesSweep, RepliesClose}
 use Rattle.front.specs.AsTold.{IsAsTold}
 use Rattle.front.specs.Sessions.{WithQuery}
-use Rattle.front.proofs.Telling.{told_insert, told_end, told_kept, told_swept, told_given, told_empty, told_wanting, told_asked, told_refusal, each_needed}
+use Rattle.front.proofs.Telling.{told_insert, told_end, told_kept, told_full, told_swept, told_given, told_empty, told_wanting, told_asked, told_refusal, each_needed}
 use Rattle.front.proofs.Opening.{IsBegun, begun_now, begun_behind, told_opened, told_closed}
 
 not_less : (a b : ℕ) → (a < b → ⊥) → b ≤ a
@@ -46,18 +46,32 @@ module _ {K A : Type 0} (rules : Rules K A) (old new : StoreState K A) (told : T
   pub insert_refused : (key : K) (tag : ℕ) (why : Refusal) (r : Result ℕ Refusal) → r ≡ Err why → ((r ≡ Err refusal.CommitsFull) ↔ (old.limit ≤ length old.commits))
       → (why ≡ refusal.OutOfMemory) ⊎ (why ≡ refusal.CommitsFull) ⊎ ((why ≡ refusal.PagesFull) × (new.pages_left < 2)) → Keeps rules.is_match old new → new.finders ≡ old.finders
       → new.page_limit ≤ new.pages_left + length new.commits + 1 → (after : Told K A) × RepliesInsert key tag (reply.Refused why) told after × IsAsTold rules new after
-  insert_refused key tag why r e f w k n few = (told, says why e w, told_kept rules old told t new told.finders k (omega (arith, t.finders, n)))
+  insert_refused key tag why r e f w k n few = says why e w
     where
+      full : Told K A
+      full = record told { pages_full = true }
+
+      finders : new.finders ≤ told.finders
+      finders = omega (arith, t.finders, n)
+
+      kept : IsAsTold rules new told
+      kept = told_kept rules old told t new told.finders k finders
+
       not_full : (x : Refusal) → r ≡ Err x → (x ≡ refusal.CommitsFull → ⊥) → IsFullAsTold told → ⊥
       not_full x p d h = let y : r ≡ Err refusal.CommitsFull = f.1 (full_told.1 h) in let z : Err x ≡ Err refusal.CommitsFull = sym p ∙ y in d (cc)
 
       lacking : new.pages_left < 2 → MayLackPages told
       lacking less = omega (arith, less, few, k.page_limit, t.page_limit, ap length k.commits, ap length t.commits)
 
-      says : (x : Refusal) → r ≡ Err x → (x ≡ refusal.OutOfMemory) ⊎ (x ≡ refusal.CommitsFull) ⊎ ((x ≡ refusal.PagesFull) × (new.pages_left < 2)) → RepliesInsert key tag (reply.Refused x) told told
-      says x p (inl a) = subst (λ y. RepliesInsert key tag (reply.Refused y) told told) (sym a) (not_full refusal.OutOfMemory (p ∙ ap Err a) (λ q. cc), refl)
-      says x p (inr (inl a)) = subst (λ y. RepliesInsert key tag (reply.Refused y) told told) (sym a) (full_told.0 (f.0 (p ∙ ap Err a)), refl)
-      says x p (inr (inr a)) = subst (λ y. RepliesInsert key tag (reply.Refused y) told told) (sym a.0) (not_full refusal.PagesFull (p ∙ ap Err a.0) (λ q. cc), lacking a.1, refl)
+      says : (x : Refusal) → r ≡ Err x → (x ≡ refusal.OutOfMemory) ⊎ (x ≡ refusal.CommitsFull) ⊎ ((x ≡ refusal.PagesFull) × (new.pages_left < 2))
+          → (after : Told K A) × RepliesInsert key tag (reply.Refused x) told after × IsAsTold rules new after
+      says x p (inl a) = (told, subst (λ y. RepliesInsert key tag (reply.Refused y) told told) (sym a) (not_full refusal.OutOfMemory (p ∙ ap Err a) (λ q. cc), refl), kept)
+      says x p (inr (inl a)) = (told, subst (λ y. RepliesInsert key tag (reply.Refused y) told told) (sym a) (full_told.0 (f.0 (p ∙ ap Err a)), refl), kept)
+      says x p (inr (inr a)) = (
+        full,
+        subst (λ y. RepliesInsert key tag (reply.Refused y) told full) (sym a.0) (not_full refusal.PagesFull (p ∙ ap Err a.0) (λ q. cc), lacking a.1, refl),
+        told_full rules old told t new k finders a.1,
+      )
 
   -- the clauses by which a row doesn't end
   pub record EndRefusals (row : ℕ) (r : Result ℕ Refusal) : Type 0 where
@@ -137,10 +151,11 @@ module _ {K A : Type 0} (rules : Rules K A) (old new : StoreState K A) (told : T
         → new.page_limit ≤ new.pages_left + length new.commits + 1 → (after : Told K A) × RepliesMove row key (reply.Refused why) told after × IsAsTold rules new after
     move_refused key (inl w) k u n few = let said = end_refused w k u n in (said.0, inl said.1, said.2)
     move_refused key (inr w) k u n few =
-        let may = may_else refusal.PagesFull w.0 (λ z. cc) (λ z. cc) (λ z. cc) in (
-          told,
+        let may = may_else refusal.PagesFull w.0 (λ z. cc) (λ z. cc) (λ z. cc) in
+        let finders : new.finders ≤ told.finders = omega (arith, t.finders, u (λ z. let f : refusal.PagesFull ≡ refusal.OutOfMemory = sym w.0 ∙ z in cc)) in (
+          record told { pages_full = true },
           inr (w.0, may.0, may.1, omega (arith, w.1, few, k.page_limit, t.page_limit, ap length k.commits, ap length t.commits), refl),
-          told_kept rules old told t new told.finders k (omega (arith, t.finders, u (λ z. let f : refusal.PagesFull ≡ refusal.OutOfMemory = sym w.0 ∙ z in cc))),
+          told_full rules old told t new k finders w.1,
         )
 
   -- the clauses of an opening's refusals, for a query that is not too deep

@@ -1,5 +1,5 @@
 -- What a call of the store does, told to its client.
-use Rattle.std.proofs.Common.{◌≡◌, ◌≢◌, ◌+◌, ◌≤◌, ℕ, suc, Bool, true, false, List, [], ◌∷◌, ◌++◌, length, Some, None, Result, Ok, Err, ◌⊎◌, inl, inr, ⊎_elim, refl, sym, ap, ◌∙◌, arith, subst}
+use Rattle.std.proofs.Common.{◌≡◌, ◌≢◌, ◌+◌, ◌<◌, ◌≤◌, ℕ, suc, Bool, true, false, List, [], ◌∷◌, ◌++◌, length, Some, None, Result, Ok, Err, ◌⊎◌, inl, inr, ⊎_elim, refl, sym, ap, ◌∙◌, arith, subst}
 use Rattle.std.specs.Prelude.{nat_eq, IsPermutation, if◌then◌else◌}
 use Rattle.std.specs.List.{AllByRecursion}
 use Rattle.std.proofs.lemmas.List.Sorted.{IsPermutation-refl, IsPermutation-trans, IsPermutation-cons}
@@ -43,6 +43,7 @@ module _ {K A : Type 0} (rules : Rules K A) where
       last = t.last ∙ sym c.last;
       dead = IsPermutation-trans _ _ _ t.dead d;
       finders = omega (arith, t.finders, f);
+      pages = λ full. omega (arith, t.pages full, c.pages);
     }
 
     -- a commit ended the row
@@ -58,6 +59,7 @@ module _ {K A : Type 0} (rules : Rules K A) where
       last = t.last ∙ sym c.last;
       dead = rw n (IsPermutation-trans _ _ _ (IsPermutation-cons _ _ _ t.dead) d);
       finders = omega (arith, t.finders, f);
+      pages = λ full. omega (arith, t.pages full, c.pages);
     }
 
     -- a call that was refused
@@ -71,7 +73,14 @@ module _ {K A : Type 0} (rules : Rules K A) where
       last = t.last ∙ sym c.last;
       dead = IsPermutation-trans _ _ _ t.dead c.dead;
       finders = f;
+      pages = λ full. omega (arith, t.pages full, c.pages);
     }
+
+    -- a call that was refused for want of pages
+    pub told_full : (new : StoreState K A) → Keeps rules.is_match old new → new.finders ≤ told.finders → new.pages_left < 2 → IsAsTold rules new (record told { pages_full = true })
+    told_full new c f few =
+        let h = told_kept new told.finders c f in
+        record { limit = h.limit; commits = h.commits; page_limit = h.page_limit; cursors = h.cursors; open_cursors = h.open_cursors; last = h.last; dead = h.dead; finders = h.finders; pages = λ full. few }
 
     -- a sweep left these dead rows
     pub told_swept : (new : StoreState K A) → KeepsLiving rules.is_match old new → IsAsTold rules new (record told { dead = new.dead })
@@ -84,6 +93,7 @@ module _ {K A : Type 0} (rules : Rules K A) where
       last = t.last ∙ sym c.last;
       dead = IsPermutation-refl new.dead;
       finders = omega (arith, t.finders, c.finders);
+      pages = λ full. omega (arith, t.pages full, c.pages);
     }
 
     pub needed_told : (d : DeadRow) → IsNeededBy old d → DiedAfterOpening told d
@@ -146,6 +156,7 @@ module _ {K A : Type 0} (rules : Rules K A) where
       last = t.last;
       dead = t.dead;
       finders = t.finders;
+      pages = t.pages;
     })
       where
         as_many : (ks : List (CursorState K A)) (k : CursorState K A) → length (states.put_cursor k ks) ≡ length ks
@@ -161,7 +172,7 @@ module _ {K A : Type 0} (rules : Rules K A) where
         → told.cursors c ≡ Ok f → new ≡ states.with_open_cursor old after → IsAsTold rules new told
     told_unchanged c before after f new o s a i e =
         let h = told_changed c before after f new o s a e in
-        record { limit = h.limit; commits = h.commits; page_limit = h.page_limit; cursors = λ d. back d (nat_eq d c) refl (h.cursors d); open_cursors = h.open_cursors; last = h.last; dead = h.dead; finders = h.finders }
+        record { limit = h.limit; commits = h.commits; page_limit = h.page_limit; cursors = λ d. back d (nat_eq d c) refl (h.cursors d); open_cursors = h.open_cursors; last = h.last; dead = h.dead; finders = h.finders; pages = h.pages }
       where
         back : (d : ℕ) (b : Bool) → nat_eq d c ≡ b → AreSame rules new.commits (cursor_of new d) (if nat_eq d c then Ok f else told.cursors d) → AreSame rules new.commits (cursor_of new d) (told.cursors d)
         back d true e h =

@@ -1,5 +1,5 @@
 -- A store that is as its client was told.
-use Rattle.std.specs.Prelude.{◌≡◌, ℕ, ◌≤◌, List, length, Result, Ok, Err, IsPermutation}
+use Rattle.std.specs.Prelude.{◌≡◌, ℕ, ◌<◌, ◌≤◌, true, List, length, Result, Ok, Err, IsPermutation}
 use Rattle.key_class.specs.Rules.{Rules}
 use Rattle.key_class.specs.declared.refusal.Refusal.{Refusal}
 use Rattle.change_list.specs.declared.write.Write.{Write}
@@ -30,6 +30,8 @@ module _ {K A : Type 0} (rules : Rules K A) where
     pub last : told.last ≡ state.last
     pub dead : IsPermutation told.dead state.dead
     pub finders : state.finders ≤ told.finders
+    -- once that was told, fewer than two pages are left for good
+    pub pages : told.pages_full ≡ true → state.pages_left < 2
 
   -- Whatever was told that the store was as, the replies may follow it, and then the store is as is told.
   abbrev pub Tells : StoreState K A → StoreState K A → (Told K A → Told K A → Type 0) → Type 0

@@ -1,5 +1,5 @@
 -- What a session holds of the line that it reads.
-use Rattle.std.specs.Prelude.{◌≡◌, ℕ, ◌<◌, Bool, true, false, List, [], ◌++◌, ◌-◌, take, drop, length, nat_eq, Option, if◌then◌else◌}
+use Rattle.std.specs.Prelude.{◌≡◌, ◌≢◌, ℕ, ◌<◌, Bool, true, false, List, [], ◌++◌, ◌-◌, take, drop, length, nat_eq, Option, if◌then◌else◌}
 use Rattle.std.specs.Io.KnownBytes.{Consumes, Keeps, IsAtEnd}
 use Rattle.key_class.specs.Limits.{most_bytes}
 use Rattle.key_class.specs.declared.refusal.Fault.{Fault}
@@ -20,6 +20,7 @@ pub record FillsHeld (before after : Option (List ℕ)) (old : Held) (more : Boo
   pub consumed : Consumes before after bytes
   pub held : new ≡ record { rest = (with_room old).rest ++ bytes; overlong = (with_room old).overlong }
   pub none_at_end : more ≡ false → (bytes ≡ []) × IsAtEnd after
+  pub some_before : more ≡ true → bytes ≢ []
 
 -- The same of a reader. remaining tells of a reader what it has left.
 abbrev pub FillsFrom : {R : Type 0} → (R → Option (List ℕ)) → R → R → Held → Held → Bool → Type 0

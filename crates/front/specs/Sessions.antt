@@ -1,5 +1,5 @@
 -- Which texts answer the tokens of a line, and how a session begins and ends.
-use Rattle.std.specs.Prelude.{◌≡◌, ℕ, List, [], ◌∷◌, length, Option, Some, None, Result, Ok, Err, ◌⊎◌}
+use Rattle.std.specs.Prelude.{◌≡◌, ℕ, ◌<◌, true, List, [], ◌∷◌, length, Option, Some, None, Result, Ok, Err, ◌⊎◌}
 use Rattle.key_class.specs.Rules.{Rules}
 use Rattle.key_class.specs.declared.refusal.Refusal.TheVariants as refusal
 use Rattle.key_class.specs.Queries.{Query}
@@ -15,7 +15,7 @@ use Rattle.front.specs.Requests.{Command, insert_row, delete_row, move_row, next
 use Rattle.front.specs.Replies.{reply_text}
 use Rattle.front.specs.Told.{Told, nothing_told, RepliesInsert, RepliesDelete, RepliesMove, RepliesOpen, RepliesNext, RepliesMark, RepliesFind, RepliesSweep, RepliesClose}
 use Rattle.front.specs.AsTold.{IsAsTold, Tells}
-use Rattle.front.specs.Conversations.{Exchange, AnsweredAll, AnsweredWhole, AnsweredFirst}
+use Rattle.front.specs.Conversations.{Exchange, AnswersLines, AnsweredAll, AnsweredWhole, AnsweredFirst}
 
 -- what is written of a reply, if there is one
 abbrev pub text_of_answer : {K : Type 0} → (K → List ℕ) → Option (Reply K) → List ℕ
@@ -89,6 +89,13 @@ module _ {K A : Type 0} (texts : Texts K A) (rules : Rules K A) where
 
   abbrev pub ToldFirst : StoreState K A → StoreState K A → Exchange → Type 0
   ToldFirst old new io = FromNothing rules (λ before after. AnsweredFirst (AnswersTold texts rules) before after io) old new
+
+  -- Where the client was once told that the pages are full, and then what answers these lines, and the store is as was
+  -- told, fewer than two pages are left.
+  abbrev pub LacksPagesOnceTold : StoreState K A → Type 0
+  LacksPagesOnceTold new =
+      (before told : Told K A) (lines : List (List ℕ)) (text : List ℕ) → before.pages_full ≡ true
+      → AnswersLines (AnswersTold texts rules) before lines text told → IsAsTold rules new told → new.pages_left < 2
 
   -- The text answers the tokens of a line with so many bytes: it is one that may, whatever was told that the store is
   -- as, and then the store is as is told.

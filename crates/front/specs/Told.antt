@@ -45,6 +45,8 @@ pub record Told (K A : Type 0) : Type 0 where
   pub dead : List DeadRow
   -- the most finders that can have been opened
   pub finders : ℕ
+  -- the client was told that the pages are full
+  pub pages_full : Bool
 
 abbrev pub IsBadRoom : ℕ → Type 0
 IsBadRoom room = (room ≡ 0) ⊎ (most_room < room)
@@ -52,7 +54,7 @@ IsBadRoom room = (room ≡ 0) ⊎ (most_room < room)
 module _ {K A : Type 0} where
   -- before the first line
   abbrev pub nothing_told : ℕ → ℕ → Told K A
-  nothing_told limit page_limit = record { limit = limit; commits = []; page_limit = page_limit; cursors = λ c. Err refusal.NoSuchCursor; open_cursors = 0; last = 0; dead = []; finders = 0 }
+  nothing_told limit page_limit = record { limit = limit; commits = []; page_limit = page_limit; cursors = λ c. Err refusal.NoSuchCursor; open_cursors = 0; last = 0; dead = []; finders = 0; pages_full = false }
 
   -- the serial has this cursor, or none for this reason, and the others what they had
   abbrev pub with_client_cursor : (ℕ → Result (ClientCursor K A) Refusal) → ℕ → Result (ClientCursor K A) Refusal → ℕ → Result (ClientCursor K A) Refusal
@@ -72,11 +74,15 @@ module _ {K A : Type 0} where
   abbrev pub MayLackPages : Told K A → Type 0
   MayLackPages told = told.page_limit < (length told.commits + 1) + 2
 
+  -- the client is told that the pages are full, and nothing else
+  abbrev pub TellsPagesFull : Told K A → Told K A → Type 0
+  TellsPagesFull old new = new ≡ record old { pages_full = true }
+
   abbrev pub RepliesInsert : K → ℕ → Reply K → Told K A → Told K A → Type 0
   RepliesInsert key tag (reply.Committed n) old new =
       (¬ IsFullAsTold old) × (n ≡ length old.commits + 1) × (new ≡ record old { commits = old.commits ++ write.Insert key tag ∷ [] })
   RepliesInsert key tag (reply.Refused refusal.CommitsFull) old new = IsFullAsTold old × (new ≡ old)
-  RepliesInsert key tag (reply.Refused refusal.PagesFull) old new = (¬ IsFullAsTold old) × MayLackPages old × (new ≡ old)
+  RepliesInsert key tag (reply.Refused refusal.PagesFull) old new = (¬ IsFullAsTold old) × MayLackPages old × TellsPagesFull old new
   RepliesInsert key tag (reply.Refused refusal.OutOfMemory) old new = (¬ IsFullAsTold old) × (new ≡ old)
   RepliesInsert key tag _ old new = ⊥
 
@@ -91,7 +97,7 @@ module _ {K A : Type 0} where
 
   -- the row may end, but there may be too few pages for another key
   abbrev pub LacksPagesFor : ℕ → Refusal → Told K A → Told K A → Type 0
-  LacksPagesFor row why old new = (why ≡ refusal.PagesFull) × (status_of old.commits row ≡ status.Live) × (¬ IsFullAsTold old) × MayLackPages old × (new ≡ old)
+  LacksPagesFor row why old new = (why ≡ refusal.PagesFull) × (status_of old.commits row ≡ status.Live) × (¬ IsFullAsTold old) × MayLackPages old × TellsPagesFull old new
 
   abbrev pub RepliesDelete : ℕ → Reply K → Told K A → Told K A → Type 0
   RepliesDelete row (reply.Committed n) old new =

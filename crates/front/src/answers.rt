@@ -6,12 +6,13 @@ ghost use Rattle.change_list.specs.declared.item.Item.TheVariants.{Inserted};
 ghost use Rattle.front.specs.Written.{HasRoomForLine, Says, TakesBeginning};
 
 use crate::reply::Reply;
+use crate::retrying::write_retrying;
 use arrayvec::ArrayVec;
 use change_list::{Item, Row};
 use itoa::write_digits;
 use key_class::{Fault, Refusal};
 use query_text::{ClassText, Line, append, append_number};
-use std::io::{ErrorKind, Write};
+use std::io::Write;
 
 /// How many bytes of answers are gathered before they are written.
 const GATHERED: usize = 4_096;
@@ -35,21 +36,14 @@ fn write_out<W: Write>(writer: &mut W, bytes: &[u8]) -> Result<(), Fault>
     ensures err { IfErr result (λ e. e ≡ Fault.Write) }
 {
     let mut rest = bytes;
-    'writing: for _ in 0..u64::MAX {
-        if rest.is_empty() {
-            return Ok(());
-        }
-        match writer.write(rest) {
+    'writing: while !rest.is_empty() {
+        match write_retrying(writer, rest) {
             Ok(0) => return Err(Fault::Write),
             Ok(count) => rest = &rest[count..],
-            Err(error) => {
-                if error.kind() != ErrorKind::Interrupted {
-                    return Err(Fault::Write);
-                }
-            }
+            Err(_) => return Err(Fault::Write),
         }
     }
-    Err(Fault::Write)
+    Ok(())
 }
 
 /// Writes what was gathered.

@@ -74,9 +74,9 @@ fn answer_line<S: Responder, W: Write>(
 /// Answers are gathered, and written when there are enough of them and before the reader is asked for more.
 ///
 /// # Errors
-/// `OutOfMemory` where a buffer found no memory at the start; nothing was read then. `Read` where the reader failed: the
-/// whole lines before that were answered. `Write` where the writer failed: some first lines were carried out, and a
-/// beginning of their answers was written.
+/// `OutOfMemory` where a buffer found no memory at the start; nothing was read then. `Read` where the reader failed, or hadn't
+/// ended when it had been read 2^64 - 1 times: the whole lines before that were answered. `Write` where the writer failed:
+/// some first lines were carried out, and a beginning of their answers was written.
 pub fn converse<S: Responder, R: Read, W: Write>(
     alloc: Global,
     reader: &mut R,
@@ -101,6 +101,8 @@ pub fn converse<S: Responder, R: Read, W: Write>(
     };
     let mut gathered = Gathered::new();
     let mut scratch = Line::new();
+    // A reader that has given bytes so often and hasn't ended is left as one that failed (docs/DECISIONS.md, "A reader that
+    // never ends").
     'reading: for _ in 0..u64::MAX {
         send(writer, &mut gathered)?;
         if !lines.fill(reader)? {

@@ -132,9 +132,9 @@ impl<C: ClassText> Responder for World<C, Tray<C::Key>> {
 /// are gathered, and written when there are enough of them and before the reader is asked for more.
 ///
 /// # Errors
-/// `OutOfMemory` where a buffer found no memory at the start; nothing was read then. `Read` where the reader failed: the
-/// whole lines before that were answered. `Write` where the writer failed: the events of some first lines stand, and a
-/// beginning of their answers was written.
+/// `OutOfMemory` where a buffer found no memory at the start; nothing was read then. `Read` where the reader failed, or hadn't
+/// ended when it had been read 2^64 - 1 times: the whole lines before that were answered. `Write` where the writer failed:
+/// the events of some first lines stand, and a beginning of their answers was written.
 pub fn replay<C: ClassText, R: Read, W: Write>(
     alloc: Global,
     reader: &mut R,

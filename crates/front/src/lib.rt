@@ -10,6 +10,7 @@ mod events;
 mod line_buffer;
 mod reply;
 mod request;
+mod retrying;
 mod serve;
 mod tokens;
 

@@ -3,6 +3,7 @@ ghost use Rattle.std.specs.Io.KnownBytes.{IsAtEnd};
 ghost use Rattle.front.specs.Lines.{HasNoFeed, IsFirstFeed, IsFirstLine};
 ghost use Rattle.front.specs.Held.{Held, AreMovedToFront, FailsToRead, FillsFrom, ReadsMore};
 
+use crate::retrying::read_retrying;
 use key_class::Fault;
 use key_class::limits::MAX_LINE;
 use memchr::memchr;
@@ -81,11 +82,11 @@ impl LineBuffer {
         self.overlong = false;
     }
 
-    /// Reads more bytes behind those that are held; false where the reader has none left. Bytes of a line that has no
-    /// room here are let go.
+    /// Reads more bytes behind those that are held, one at least; false where the reader has none left. Bytes of a line that
+    /// has no room here are let go.
     ///
     /// # Errors
-    /// `Read` where the reader failed. What it had left, it has.
+    /// `Read` where the reader failed, and not by a signal alone. What it had left, it has.
     pub fn fill<R: Read>(&mut self, reader: &mut R) -> Result<bool, Fault>
         ensures ok { IfOk result (FillsFrom R.remaining reader.old reader.new self.old self.new) }
         ensures err { IfErr result (FailsToRead R.remaining reader.old reader.new) }
@@ -121,6 +122,9 @@ fn moved_to_front(bytes: &mut [u8], start: usize, end: usize) -> Option<usize>
 }
 
 /// Reads bytes behind the first `held`, and gives their number.
+///
+/// # Errors
+/// `Read` where the reader failed, and not by a signal alone. What it had left, it has.
 fn read_behind<R: Read>(bytes: &mut [u8], held: usize, reader: &mut R) -> Result<usize, Fault>
     requires { held < length bytes.old }
     ensures ok { IfOk result (ReadsMore R.remaining reader.old reader.new held bytes.new) }
@@ -129,7 +133,7 @@ fn read_behind<R: Read>(bytes: &mut [u8], held: usize, reader: &mut R) -> Result
     ensures held { take held bytes.new ≡ take held bytes.old }
     ensures err { IfErr result (FailsToRead R.remaining reader.old reader.new) }
 {
-    match reader.read(&mut bytes[held..]) {
+    match read_retrying(reader, &mut bytes[held..]) {
         Ok(count) => Ok(count),
         Err(_) => Err(Fault::Read),
     }

@@ -3,7 +3,7 @@ ghost use Rattle.key_class.specs.Limits.{most_depth};
 ghost use Rattle.key_class.specs.Queries.{query_of, depth_of};
 ghost use Rattle.front.specs.AsTold.{Tells};
 ghost use Rattle.front.specs.Told.{RepliesOpen};
-ghost use Rattle.front.specs.Sessions.{AnswersTokens, TellsFinding, TellsOpening, TellsRequest, TellsTokens, ToldAll, ToldFirst, ToldWhole};
+ghost use Rattle.front.specs.Sessions.{AnswersTokens, LacksPagesOnceTold, TellsFinding, TellsOpening, TellsRequest, TellsTokens, ToldAll, ToldFirst, ToldWhole};
 ghost use Rattle.store.specs.States.{new_store};
 ghost use Rattle.change_list.specs.declared.config.Config.{Config};
 ghost use Rattle.front.specs.Conversations.{IfOutOfMemory, IfReadFails, IfWriteFails, IsConversationFault, Kept, exchange};
@@ -132,9 +132,9 @@ impl<C: ClassText> Responder for Store<C> {
 /// Answers are gathered, and written when there are enough of them and before the reader is asked for more.
 ///
 /// # Errors
-/// `OutOfMemory` where a buffer found no memory at the start; nothing was read then. `Read` where the reader failed: the
-/// whole lines before that were answered. `Write` where the writer failed: the commands of some first lines stand, and a
-/// beginning of their answers was written.
+/// `OutOfMemory` where a buffer found no memory at the start; nothing was read then. `Read` where the reader failed, or hadn't
+/// ended when it had been read 2^64 - 1 times: the whole lines before that were answered. `Write` where the writer failed:
+/// the commands of some first lines stand, and a beginning of their answers was written.
 pub fn session<C: ClassText, R: Read, W: Write>(
     alloc: Global,
     reader: &mut R,
@@ -148,6 +148,7 @@ pub fn session<C: ClassText, R: Read, W: Write>(
         (exchange R.remaining reader.old reader.new W.contents writer.old writer.new)) }
     ensures write { IfWriteFails result (ToldFirst C.texts C.rules store.old store.new
         (exchange R.remaining reader.old reader.new W.contents writer.old writer.new)) }
+    ensures pages { LacksPagesOnceTold C.texts C.rules store.new }
     ensures memory { IfOutOfMemory result (Kept reader.old reader.new writer.old writer.new) }
     ensures unchanged { IfOutOfMemory result (store.new ≡ store.old) }
     ensures faults { IfErr result IsConversationFault }

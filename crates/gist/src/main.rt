@@ -8,12 +8,30 @@ mod program;
 mod words;
 
 use program::command;
+use std::alloc::Global;
+use std::io::ErrorKind;
 use std::process::ExitCode;
 use std::{env, io};
 
+/// The words that the program was given; none where one of them is no text.
+fn given_words(rt: &HostRuntime, alloc: Global) -> io::Result<Option<Vec<String>>> {
+    match env::args(rt) {
+        Ok(words) => Ok(Some(words.collect(alloc)?)),
+        Err(error) => {
+            if error.kind() == ErrorKind::InvalidData {
+                return Ok(None);
+            }
+            Err(error)
+        }
+    }
+}
+
 fn main(rt: HostRuntime) -> io::Result<ExitCode> {
     let alloc = rt.alloc();
-    let given: Vec<String> = env::args(&rt)?.collect(alloc)?;
+    let Some(given) = given_words(&rt, alloc)? else {
+        let _ = eprintln!(rt; "error: invalid UTF-8 was detected in one or more arguments");
+        return Ok(ExitCode::from(2));
+    };
     let mut words = Vec::with_capacity(alloc, given.len())?;
     for word in &given {
         words.push(word.as_str())?;

@@ -1,4 +1,5 @@
 use Rattle.front.specs.Conversations.{exchange}
+use Rattle.front.proofs.FullPages.{lacks_pages}
 use Rattle.front.proofs.Progress.{told_all, told_whole, told_first, if_well}
 use Rattle.front.proofs.serve.session.Goals as goal
 
@@ -13,3 +14,6 @@ returns-clause-read g c =
 pub returns-clause-write : goal.returns-clause-write
 returns-clause-write g c =
     λ e. told_first g.C.ClassText.texts g.C.KeyClass.rules c.args.store.now c.converse.new.responder (exchange g.R.Read.remaining c.args.reader.now c.converse.new.reader g.W.Write.contents c.args.writer.now c.converse.new.writer) c.requires (c.converse.ensures.write e)
+
+pub returns-clause-pages : goal.returns-clause-pages
+returns-clause-pages g c = lacks_pages g.C.ClassText.texts g.C.KeyClass.rules c.converse.new.responder

@@ -43,4 +43,4 @@ returns-clause-ok g c =
           ap (λ s. s.overlong) w.self-inside-is ∙ sym (ap (λ (x : Held). x.overlong) (room_made i.bytes.items i.start i.end i.overlong v.1 ends (w.in-None.ensures.none refl ∙ many)))
     ] in
     let ended : c.in_ok-count.count ≡ 0 → IsAtEnd (g.R.Read.remaining c.read_behind.new.reader) = λ z. c.read_behind.ensures.end (c.in_ok-count.was ∙ ap Ok z) in
-    rw (← c.self.view_is, read) (fills (g.R.Read.remaining c.args.reader.now) (g.R.Read.remaining c.read_behind.new.reader) h c.read_behind.new.bytes m.held c.in_ok-count.count m.self-inside.overlong c.in_ok-count.ensures.ok ended rest over)
+    rw (← c.self.view_is, read) (fills (g.R.Read.remaining c.args.reader.now) (g.R.Read.remaining c.read_behind.new.reader) h c.read_behind.new.bytes m.held c.in_ok-count.count m.self-inside.overlong c.in_ok-count.ensures.ok ended c.in_ok-count.ensures.within rest over)
