@@ -20,3 +20,5 @@ mod random_tasks;
 mod steps;
 #[cfg(test)]
 mod tasks;
+#[cfg(test)]
+mod wanting;
