@@ -32,6 +32,4 @@ mod resumed;
 #[cfg(test)]
 mod seats;
 #[cfg(test)]
-mod storms;
-#[cfg(test)]
 mod two_threads;
