@@ -26,8 +26,7 @@ draining-preserved g c =
 
 pub returns-in_default : goal.returns-in_default
 returns-in_default g c =
-    let i = c.draining.invariant in
-    (
+    let i = c.draining.invariant in (
       i.0,
       c.try_reserve.ensures.items ∙ i.1,
       record {
