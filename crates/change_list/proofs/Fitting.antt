@@ -9,7 +9,7 @@ use Rattle.change_list.specs.declared.item.Item.{Item}
 use Rattle.change_list.specs.declared.item.Item.TheVariants as item
 use Rattle.change_list.specs.Changes.{changes}
 use Rattle.change_list.proofs.Pushing.{filter_push, filter_push_not, changes_none, changes_push, changes_split, snapshot_push}
-use Rattle.change_list.specs.Listings.{IsListing, AreChanges, IsListingFor, BeginsListingFor, first_rows, is_mark, without_marks}
+use Rattle.change_list.specs.Listings.{IsListingFor, BeginsListingFor, first_rows, is_mark, without_marks}
 use Rattle.change_list.specs.Cursors.{CursorState, wanted_by, IsPastRows, Fits}
 
 pub record IsCut {X : Type 0} (xs b a : List X) (x m : X) : Type 0 where

@@ -1,5 +1,5 @@
 -- Full segments with a tail, as one list.
-use Rattle.std.proofs.Common.{◌≡◌, ◌+◌, ◌*◌, ◌-◌, ◌/◌, ◌%◌, ◌<◌, ◌≤◌, ℕ, zero, suc, List, [], ◌∷◌, ◌++◌, length, Some, refl, sym, ap, ◌∙◌, arith, slice_get, append_assoc, length-append}
+use Rattle.std.proofs.Common.{◌≡◌, ◌+◌, ◌*◌, ◌-◌, ◌/◌, ◌%◌, ◌<◌, ◌≤◌, ℕ, zero, suc, List, [], ◌∷◌, ◌++◌, length, Some, refl, sym, ap, subst, ◌∙◌, arith, slice_get, append_assoc, length-append}
 use Rattle.std.specs.List.{flat_map, AllByRecursion}
 use Rattle.std.proofs.lemmas.List.{append-nil}
 use Rattle.change_list.specs.Segments.{joined, IsSegmented, Fills}
@@ -32,6 +32,11 @@ module _ {X : Type 0} where
       ap (λ i. slice_get ((x ++ together xs) ++ tail) i) place ∙ ap (λ l. slice_get l (length x + (q * 256 + r))) (append_assoc x (together xs) tail)
       ∙ at_behind x (together xs ++ tail) (q * 256 + r) ∙ place_in xs tail all.1 q r s h l
 
+  pub full_at : (segments : List (List X)) → AllByRecursion (λ s. length s ≡ 256) segments → (q : ℕ) (s : List X) → slice_get segments q ≡ Some s → length s ≡ 256
+  full_at [] all q s h = absurd (cc)
+  full_at (x ∷ xs) all zero s h = let same : x ≡ s = cc in ap length (sym same) ∙ all.0
+  full_at (x ∷ xs) all (suc q) s h = full_at xs all.1 q s h
+
   all_push : (segments : List (List X)) (s : List X) → AllByRecursion (λ s. length s ≡ 256) segments → length s ≡ 256 → AllByRecursion (λ s. length s ≡ 256) (segments ++ s ∷ [])
   all_push [] s all p = (p, tt)
   all_push (x ∷ xs) s all p = (all.0, all_push xs s all.1 p)
@@ -62,11 +67,15 @@ module _ {X : Type 0} (segments : List (List X)) (tail : List X) (is : IsSegment
   rest_length = omega (arith, whole_length, is.short)
 
   -- with one more element the tail becomes a segment, or is longer by one
-  pub joined_filled : (x : X) (s : List X) → Fills tail x s → joined (segments ++ s ∷ []) [] ≡ joined segments tail ++ x ∷ []
-  joined_filled x s f = append-nil (together (segments ++ s ∷ [])) ∙ together_push segments s ∙ ap (λ r. together segments ++ r) f.is ∙ sym (append_assoc (together segments) tail (x ∷ []))
+  pub joined_filled : (x : X) (filled : List (List X)) → Fills segments tail x filled → joined filled [] ≡ joined segments tail ++ x ∷ []
+  joined_filled x filled f =
+      ap (λ all. joined all []) f.is ∙ append-nil (together (segments ++ (tail ++ x ∷ []) ∷ [])) ∙ together_push segments (tail ++ x ∷ []) ∙ sym (append_assoc (together segments) tail (x ∷ []))
 
-  pub segmented_filled : (x : X) (s : List X) → Fills tail x s → IsSegmented (segments ++ s ∷ []) []
-  segmented_filled x s f = record { each_full = all_push segments s is.each_full f.full; short = omega arith }
+  pub segmented_filled : (x : X) (filled : List (List X)) → Fills segments tail x filled → IsSegmented filled []
+  segmented_filled x filled f = record {
+    each_full = subst (λ all. AllByRecursion (λ s. length s ≡ 256) all) (sym f.is) (all_push segments (tail ++ x ∷ []) is.each_full (omega (arith, f.lacks_one, length-append tail (x ∷ []))));
+    short = omega arith;
+  }
 
   pub joined_longer : (x : X) → joined segments (tail ++ x ∷ []) ≡ joined segments tail ++ x ∷ []
   joined_longer x = sym (append_assoc (together segments) tail (x ∷ []))

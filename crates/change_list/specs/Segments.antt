@@ -1,5 +1,9 @@
 -- A list kept as full segments and a tail.
-use Rattle.std.specs.Prelude.{◌≡◌, ◌<◌, List, ◌++◌, ◌∷◌, [], length, Option, Some, None}
+use Rattle.std.specs.Prelude.{◌≡◌, ◌<◌, List, ◌++◌, ◌∷◌, [], length, Option, Some, None, vec_items}
+use Rattle.std.specs.Arc.{arc_value}
+use Rattle.std.specs.declared.alloc.Global.{Global}
+use Rattle.std.specs.declared.sync.Arc.{Arc}
+use Rattle.std.specs.declared.vec.Vec.{Vec}
 use Rattle.std.specs.List.{flat_map, AllByRecursion}
 
 -- a list, and an element for which there is memory
@@ -8,6 +12,11 @@ pub record Growing (X : Type 0) : Type 0 where
   pub next : X
 
 module _ {X : Type 0} where
+  -- the items that somebody keeps, or none
+  abbrev pub items_in : Option (Arc (Vec X Global) Global) → List X
+  items_in (Some items) = vec_items (arc_value items)
+  items_in None = []
+
   -- the list with that element
   abbrev pub with_next : Growing X → List X
   with_next g = g.list ++ g.next ∷ []
@@ -25,12 +34,12 @@ module _ {X : Type 0} where
     pub each_full : AllByRecursion (λ segment. length segment ≡ 256) segments
     pub short : length tail < 256
 
-  -- the segment that an element fills, where the tail lacks one to be full
-  pub record Fills (tail : List X) (x : X) (segment : List X) : Type 0 where
-    pub is : segment ≡ tail ++ x ∷ []
-    pub full : length segment ≡ 256
+  -- the segments with the one that an element fills, where the tail lacks one to be full
+  pub record Fills (segments : List (List X)) (tail : List X) (x : X) (filled : List (List X)) : Type 0 where
+    pub is : filled ≡ segments ++ (tail ++ x ∷ []) ∷ []
+    pub lacks_one : length tail ≡ 255
 
-  -- what a further element needs: the segment that it fills, or else a tail that stays shorter than a segment
-  abbrev pub IsReady : List X → X → Option (List X) → Type 0
-  IsReady tail x (Some segment) = Fills tail x segment
-  IsReady tail x None = length tail < 255
+  -- what a further element needs: the segments with the one that it fills, or else a tail that stays shorter than one
+  abbrev pub IsReady : List (List X) → List X → X → Option (List (List X)) → Type 0
+  IsReady segments tail x (Some filled) = Fills segments tail x filled
+  IsReady segments tail x None = length tail < 255

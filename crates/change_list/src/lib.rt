@@ -5,11 +5,12 @@
 mod change_list;
 mod changes;
 mod config;
+mod frozen;
+mod groups;
 mod item;
 mod laws;
 mod recorded;
 mod roomy_list;
-mod segment;
 mod shared_list;
 mod view;
 mod write;

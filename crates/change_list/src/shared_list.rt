@@ -2,14 +2,17 @@ ghost use Rattle.std.specs.Prelude.{◌≡◌, ◌<◌, ◌/◌, ◌%◌, [], le
 ghost use Rattle.std.specs.Vec.{vec_capacity};
 ghost use Rattle.change_list.specs.Segments.{IsReady, IsSegmented, joined, joined_with, with_next};
 
-use crate::segment::{SEGMENT, Segment, at};
+use crate::groups::{Groups, Segment};
 use std::alloc::{AllocError, Global};
 use std::marker::Model;
+
+/// How many elements a segment has.
+const SEGMENT: usize = 256;
 
 /// A list that grows at its end. Its full segments are shared with its copies.
 #[derive(Drop)]
 pub(crate) struct SharedList<T> {
-    full: Vec<Segment<T>>,
+    full: Groups<T>,
     tail: Vec<T>,
     count: usize,
 }
@@ -20,20 +23,20 @@ impl<T> Model for SharedList<T> {
 
     ghost Value = { List T };
 
-    ghost view = { λ l. joined l.full.items l.tail.items };
+    ghost view = { λ l. joined l.full l.tail.items };
 
-    ghost invariant = { λ l. IsSegmented l.full.items l.tail.items × (l.count ≡ length (joined l.full.items l.tail.items)) };
+    ghost invariant = { λ l. IsSegmented l.full l.tail.items × (l.count ≡ length (joined l.full l.tail.items)) };
 }
 
 /// A list with memory for one more element.
 #[derive(Drop)]
 pub(crate) struct RoomySharedList<T> {
-    full: Vec<Segment<T>>,
+    full: Groups<T>,
     tail: Vec<T>,
     count: usize,
     next: T,
-    /// The segment that the element fills.
-    filled: Option<Segment<T>>,
+    /// The full segments with the one that the element fills, where it fills one.
+    filled: Option<Groups<T>>,
 }
 
 impl<T> Model for RoomySharedList<T> {
@@ -43,9 +46,9 @@ impl<T> Model for RoomySharedList<T> {
 
     ghost Value = { Growing T };
 
-    ghost view = { λ r. record { list = joined r.full.items r.tail.items; next = r.next } };
+    ghost view = { λ r. record { list = joined r.full r.tail.items; next = r.next } };
 
-    ghost invariant = { λ r. IsSegmented r.full.items r.tail.items × (r.count ≡ length (joined r.full.items r.tail.items)) × IsReady r.tail.items r.next r.filled × (length r.full.items < vec_capacity r.full) × (length r.tail.items < vec_capacity r.tail) × (r.count < 4294967295) };
+    ghost invariant = { λ r. IsSegmented r.full r.tail.items × (r.count ≡ length (joined r.full r.tail.items)) × IsReady r.full r.tail.items r.next r.filled × (length r.tail.items < vec_capacity r.tail) × (r.count < 4294967295) };
 }
 
 impl<T: Copy> SharedList<T> {
@@ -54,7 +57,7 @@ impl<T: Copy> SharedList<T> {
         ensures { result ≡ [] }
     {
         SharedList {
-            full: Vec::new(alloc),
+            full: Groups::empty(),
             tail: Vec::new(alloc),
             count: 0,
         }
@@ -67,31 +70,30 @@ impl<T: Copy> SharedList<T> {
     }
 
     /// The element at a place, counted from 0.
-    #[tactic(auto, using(crate::proofs::Joining::at_segment, crate::proofs::Joining::at_tail))]
+    #[tactic(auto, using(crate::proofs::Joining::at_segment, crate::proofs::Joining::at_tail, crate::proofs::Joining::full_segments))]
     pub(crate) fn get(&self, place: usize) -> Option<T>
         ensures { result ≡ slice_get self.now place }
     {
         let segment = place / SEGMENT;
-        if segment < self.full.len() {
-            return self.full[segment].get(place % SEGMENT);
+        let full = self.segments();
+        if segment < full {
+            return at(self.full.segment(segment).as_slice(), place % SEGMENT);
         }
-        at(self.tail.as_slice(), place - self.full.len() * SEGMENT)
+        at(self.tail.as_slice(), place - full * SEGMENT)
     }
 
     /// How many full segments of 256 elements it has.
-    #[tactic(auto, using(crate::proofs::Joining::full_segments))]
     pub(crate) fn segments(&self) -> usize
         ensures { result ≡ length self.now / 256 }
     {
-        self.full.len()
+        self.count / SEGMENT
     }
 
     /// How many elements it has beside those of its full segments.
-    #[tactic(auto, using(crate::proofs::Joining::rest_length))]
     pub(crate) fn tail_len(&self) -> usize
         ensures { result ≡ length self.now % 256 }
     {
-        self.tail.len()
+        self.count % SEGMENT
     }
 
     /// The same list, over the same segments.
@@ -101,9 +103,8 @@ impl<T: Copy> SharedList<T> {
     pub(crate) fn copy(&self) -> Result<SharedList<T>, AllocError>
         ensures { IfOk result (λ copy. copy ≡ self.now) }
     {
-        let alloc = *self.full.allocator();
-        let full = shared(alloc, self.full.as_slice())?;
-        let tail = Vec::from_slice(alloc, self.tail.as_slice())?;
+        let full = self.full.share()?;
+        let tail = Vec::from_slice(*self.tail.allocator(), self.tail.as_slice())?;
         let count = self.count;
         Ok(SharedList { full, tail, count })
     }
@@ -119,14 +120,14 @@ impl<T: Copy> SharedList<T> {
         ensures err { IfErr result (λ list. list ≡ self) }
     {
         let SharedList {
-            mut full,
+            full,
             mut tail,
             count,
         } = self;
-        if full.try_reserve(1).is_err() || tail.try_reserve(1).is_err() {
+        if tail.try_reserve(1).is_err() {
             return Err(SharedList { full, tail, count });
         }
-        match filled(*full.allocator(), tail.as_slice(), next) {
+        match filled(*tail.allocator(), &full, tail.as_slice(), next) {
             Ok(filled) => Ok(RoomySharedList {
                 full,
                 tail,
@@ -173,23 +174,20 @@ impl<T: Copy> RoomySharedList<T> {
 /// Segments and a tail with one more element.
 #[tactic(auto, using(crate::proofs::Joining::joined_filled, crate::proofs::Joining::segmented_filled, crate::proofs::Joining::joined_longer, crate::proofs::Joining::segmented_longer))]
 fn longer<T: Copy>(
-    full: Vec<Segment<T>>,
+    full: Groups<T>,
     tail: Vec<T>,
     next: T,
-    filled: Option<Segment<T>>,
-) -> (Vec<Segment<T>>, Vec<T>)
-    requires segmented { IsSegmented full.items tail.items }
-    requires ready { IsReady tail.items next filled }
-    requires segment { length full.items < vec_capacity full }
+    filled: Option<Groups<T>>,
+) -> (Groups<T>, Vec<T>)
+    requires segmented { IsSegmented full tail.items }
+    requires ready { IsReady full tail.items next filled }
     requires element { length tail.items < vec_capacity tail }
-    ensures list { joined result.0.items result.1.items ≡ joined_with full.items tail.items next }
-    ensures segmented { IsSegmented result.0.items result.1.items }
+    ensures list { joined result.0 result.1.items ≡ joined_with full tail.items next }
+    ensures segmented { IsSegmented result.0 result.1.items }
 {
-    let mut full = full;
     let mut tail = tail;
     match filled {
-        Some(segment) => {
-            full.push_reserved(segment);
+        Some(full) => {
             tail.clear();
             return (full, tail);
         }
@@ -200,27 +198,29 @@ fn longer<T: Copy>(
     }
 }
 
-/// The same segments, each with one more owner.
-fn shared<T: Copy>(alloc: Global, segments: &[Segment<T>]) -> Result<Vec<Segment<T>>, AllocError>
-    ensures { IfOk result (λ made. made.items ≡ segments.now) }
-{
-    let mut made = Vec::with_capacity(alloc, segments.len())?;
-    for segment in segments {
-        made.push(segment.share()?)?;
-    }
-    Ok(made)
-}
-
-/// The segment that an element fills, where the tail lacks one to be full.
+/// The segments with the one that an element fills, where the tail lacks one to be full.
 ///
 /// # Errors
 /// Memory was wanting.
-fn filled<T: Copy>(alloc: Global, tail: &[T], next: T) -> Result<Option<Segment<T>>, AllocError>
+fn filled<T: Copy>(
+    alloc: Global,
+    full: &Groups<T>,
+    tail: &[T],
+    next: T,
+) -> Result<Option<Groups<T>>, AllocError>
     requires { length tail.now < 256 }
-    ensures { IfOk result (IsReady tail.now next) }
+    ensures { IfOk result (IsReady full.now tail.now next) }
 {
     if tail.len() + 1 < SEGMENT {
         return Ok(None);
     }
-    Ok(Some(Segment::new(alloc, tail, next)?))
+    let segment = Segment::new(alloc, tail, next)?;
+    Ok(Some(full.with(alloc, segment)?))
+}
+
+/// The element at a place, counted from 0.
+fn at<T: Copy>(elements: &[T], place: usize) -> Option<T>
+    ensures { result ≡ slice_get elements.now place }
+{
+    elements.get(place).copied()
 }

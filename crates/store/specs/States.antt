@@ -10,10 +10,11 @@ use Rattle.key_class.specs.declared.refusal.Refusal.{Refusal}
 use Rattle.key_class.specs.declared.refusal.Refusal.TheVariants as refusal
 use Rattle.key_class.specs.declared.pred.Pred.{Pred}
 use Rattle.key_class.specs.Queries.{Query, query_of, depth_of}
-use Rattle.key_class.specs.Rules.{Rules, satisfies}
+use Rattle.key_class.specs.Rules.{Rules}
 use Rattle.change_list.specs.declared.item.Row.{Row}
-use Rattle.change_list.specs.Changes.{NamesLive, snapshot}
+use Rattle.change_list.specs.Changes.{NamesLive}
 use Rattle.change_list.specs.Cursors.{CursorState, Fits, HasNothingToCome, work}
+use Rattle.snapshot.specs.Snapshots.{found_in}
 
 -- a dead row that a sweep hasn't removed
 pub record DeadRow : Type 0 where
@@ -82,7 +83,7 @@ module _ {K A : Type 0} where
 
   -- the live rows whose keys satisfy a query, by rising number
   abbrev pub matching_rows : Rules K A → StoreState K A → Pred A → List (Row K)
-  matching_rows rules state query = snapshot (satisfies rules (query_of query)) (length state.commits) state.commits
+  matching_rows rules state query = found_in rules query state.commits
 
   -- the least opening number of the cursors whose scan isn't over, or the number of commits
   abbrev pub horizon_of : ℕ → List (CursorState K A) → ℕ

@@ -14,6 +14,7 @@ use change_list::{Config, Item, Row, Status, Write};
 use key_class::limits::{MAX_DEPTH, MAX_ROOM};
 use key_class::{KeyClass, Pred, Refusal};
 use mailbox::Tray;
+use snapshot::Snapshot;
 use std::alloc::Global;
 use std::marker::Model;
 use world::World;
@@ -80,6 +81,17 @@ impl<C: KeyClass> Store<C> {
         ensures { result ≡ commit_at self.now.commits number }
     {
         self.world.commit(number)
+    }
+
+    /// The commits as they are now, whatever follows, to be searched beside the store by any number of threads.
+    ///
+    /// # Errors
+    /// Want of memory.
+    pub fn snapshot(&self) -> Result<Snapshot<C>, Refusal>
+        ensures list { IfOk result (λ snapshot. snapshot ≡ self.now.commits) }
+        ensures refused { IfErr result (λ why. why ≡ OutOfMemory) }
+    {
+        self.world.snapshot()
     }
 
     /// Adds a row.

@@ -1,0 +1,92 @@
+ghost use Rattle.std.specs.Prelude.{◌≡◌, ◌++◌, ◌∷◌, [], IfOk};
+
+use std::alloc::{AllocError, Global};
+use std::marker::Model;
+use std::sync::Arc;
+
+/// A list that nobody changes, so that it may have many owners.
+#[derive(Drop)]
+pub(crate) struct Frozen<T> {
+    /// None where it is empty: that takes no memory.
+    items: Option<Arc<Vec<T>>>,
+}
+
+impl<T> Model for Frozen<T> {
+    ghost use Rattle.std.specs.Prelude.{List};
+    ghost use Rattle.change_list.specs.Segments.{items_in};
+
+    ghost Value = { List T };
+
+    ghost view = { λ list. items_in list.items };
+}
+
+impl<T> Frozen<T> {
+    pub(crate) fn empty() -> Frozen<T>
+        ensures { result ≡ [] }
+    {
+        Frozen { items: None }
+    }
+
+    pub(crate) fn as_slice(&self) -> &[T]
+        ensures { result.now ≡ self.now }
+    {
+        match &self.items {
+            Some(items) => items.as_slice(),
+            None => &[],
+        }
+    }
+
+    /// One more owner of the same list.
+    ///
+    /// # Errors
+    /// There are too many.
+    pub(crate) fn share(&self) -> Result<Frozen<T>, AllocError>
+        ensures { IfOk result (λ shared. shared ≡ self.now) }
+    {
+        match &self.items {
+            Some(items) => Ok(Frozen {
+                items: Some(Arc::try_clone(items)?),
+            }),
+            None => Ok(Frozen::empty()),
+        }
+    }
+}
+
+impl<T: Copy> Frozen<T> {
+    /// Some items and one more.
+    ///
+    /// # Errors
+    /// Memory was wanting.
+    pub(crate) fn new(alloc: Global, before: &[T], last: T) -> Result<Frozen<T>, AllocError>
+        ensures { IfOk result (λ list. list ≡ before.now ++ last ∷ []) }
+    {
+        let mut items = Vec::with_capacity(alloc, before.len().saturating_add(1))?;
+        items.extend_from_slice(before)?;
+        items.push(last)?;
+        let items = Arc::new(alloc, items)?;
+        Ok(Frozen { items: Some(items) })
+    }
+}
+
+impl<T: Drop> Frozen<Frozen<T>> {
+    /// These lists and one more. Each of them gets one more owner.
+    ///
+    /// # Errors
+    /// Memory was wanting, or a list has too many owners.
+    pub(crate) fn with(
+        &self,
+        alloc: Global,
+        last: Frozen<T>,
+    ) -> Result<Frozen<Frozen<T>>, AllocError>
+        ensures { IfOk result (λ lists. lists ≡ self.now ++ last ∷ []) }
+    {
+        let before = self.as_slice();
+        let mut items = Vec::with_capacity(alloc, before.len().saturating_add(1))?;
+        for list in before {
+            items.push(list.share()?)?;
+        }
+        items.push(last)?;
+        let items = Arc::new(alloc, items)?;
+        Ok(Frozen { items: Some(items) })
+    }
+}
