@@ -1,6 +1,6 @@
 pub mod Arranged
-pub mod Aside
 pub mod Chains
+pub mod Chunks
 pub mod Counting
 pub mod Entries
 pub mod Facts
@@ -16,6 +16,7 @@ pub mod SameLinks
 pub mod Scans
 pub mod Stacks
 pub mod Sweeping
+pub mod Tables
 pub mod Under
 pub mod Visits
 pub mod Weights

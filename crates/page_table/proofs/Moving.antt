@@ -1,5 +1,5 @@
 -- A row that moves from one leaf to another, or within one.
-use Rattle.std.proofs.Common.{◌≡◌, ◌≢◌, ℕ, ◌<◌, List, [], ◌∷◌, ◌++◌, length, map, cond, set, get_or, ap, ap₂, sym, ◌∙◌}
+use Rattle.std.proofs.Common.{◌≡◌, ◌≢◌, ℕ, ◌<◌, List, [], ◌∷◌, ◌++◌, length, map, cond, ap, sym, ◌∙◌}
 use Rattle.std.proofs.lemmas.Bool.{ne_eqb}
 use Rattle.std.proofs.lemmas.List.{map-append, set_comm, set-set, get_or-set_same, get_or-set_other}
 use Rattle.row_version.specs.Entries.{Entry, marked, died_at}
@@ -7,7 +7,6 @@ use Rattle.node.specs.Pages.{Page}
 use Rattle.node.specs.Changes.{with_row}
 use Rattle.page_table.specs.Trees.{Tree, page_at, no_page, replaced, after_rows}
 use Rattle.page_table.specs.LeafChanges.{after_move, with_dead}
-use Rattle.page_table.proofs.Aside.{put_back, page_read, page_beside}
 
 module _ {K : Type 0} where
   -- the entry of another row stays as it is
@@ -33,19 +32,10 @@ module _ {K : Type 0} where
       ∙ ap (λ to. after_move t p row n to e) pq
 
   -- from one leaf to another
-  moved_apart : (t : Tree K) (p q row n : ℕ) (e : Entry K) → p ≢ q → after_move t p row n q e ≡ replaced (replaced t q (with_row (page_at t q) e)) p (with_dead (page_at t p) row n)
+  pub moved_apart : (t : Tree K) (p q row n : ℕ) (e : Entry K) → p ≢ q → after_move t p row n q e ≡ replaced (replaced t q (with_row (page_at t q) e)) p (with_dead (page_at t p) row n)
   unfolding after_rows
   moved_apart t p q row n e d =
       let back : List (Page K) → Tree K = λ pages. record { pages = pages; counter = t.counter } in
       let dead : Page K = with_dead (page_at t p) row n in
       ap (λ page. replaced (replaced t p dead) q (with_row page e)) (get_or-set_other t.pages p q dead no_page (λ e. d (sym e)))
       ∙ ap back (set_comm t.pages p q dead (with_row (page_at t q) e) d)
-
-  pub moved_aside : (t : Tree K) (p q row n : ℕ) (e : Entry K) (s x y low up : Page K) → p < length t.pages → q < length t.pages → p ≢ q →
-      x ≡ get_or t.pages q x → y ≡ get_or (set t.pages q s) p y → low ≡ with_row x e → up ≡ with_dead y row n →
-      replaced (replaced (replaced t q s) p up) q low ≡ after_move t p row n q e
-  moved_aside t p q row n e s x y low up lp lq d ex ey el eu =
-      let back : List (Page K) → Tree K = λ pages. record { pages = pages; counter = t.counter } in
-      ap back (put_back t.pages q p s low up d)
-      ∙ ap₂ (λ a b. replaced (replaced t q a) p b) (el ∙ ap (λ page. with_row page e) (page_read t q x lq ex)) (eu ∙ ap (λ page. with_dead page row n) (page_beside t q p s y lp d ey))
-      ∙ sym (moved_apart t p q row n e d)

@@ -4,14 +4,12 @@ use Rattle.std.proofs.lemmas.List.{length-append, get_or-set_same, get_or-set_ot
 use Rattle.std.proofs.Math.ListN.{get_or-append, length-set}
 use Rattle.std.proofs.Math.Seq.{get_or-append_seam}
 use Rattle.node.specs.Pages.{Page}
+pub use Rattle.page_table.specs.PlaceLaws.{is_or_not}
 use Rattle.page_table.specs.Trees.{Tree, added, no_page, page_at, replaced}
 
 -- every number below n + 1 is n or below n
 pub below_or_last : (q n : ℕ) → q < suc n → (q < n) ⊎ (q ≡ n)
 below_or_last q n h = grind arith
-
-pub is_or_not : (q p : ℕ) → (q ≡ p) ⊎ ((q ≡ p) → ⊥)
-is_or_not q p = grind arith
 
 -- a page of a tree with one more
 pub added_pages : {K : Type 0} (t : Tree K) (page : Page K) (P : ℕ → Page K → Type 0) →

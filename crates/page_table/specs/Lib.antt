@@ -1,6 +1,8 @@
+pub mod Chunks
 pub mod Keeping
 pub mod LeafChanges
 pub mod PageChanges
+pub mod PlaceLaws
 pub mod Soundness
 pub mod Stacks
 pub mod TraversalLaws

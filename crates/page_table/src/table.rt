@@ -4,35 +4,44 @@ ghost use Rattle.page_table.specs.Trees.{page_at, replaced, added, new_tree};
 ghost use Rattle.page_table.specs.contracts.table.PageTable.{the_row};
 ghost use Rattle.node.specs.contracts.page.Page.{the_row as page_row};
 ghost use Rattle.node.specs.Pages.{entries_of, has_unneeded};
-ghost use Rattle.node.specs.Changes.{post_child, post_sibling, enlarge_parent, enlarge_child, post_up, with_row};
+ghost use Rattle.node.specs.Changes.{with_row};
 ghost use Rattle.page_table.specs.LeafChanges.{after_place, after_sweep, CountsUnneeded, after_bury, after_move, with_dead};
 ghost use Rattle.page_table.specs.PageChanges.{with_rise, with_posting, with_wider, with_part};
 
+use crate::change::{Moving, Posting, Widening};
+use crate::places::{Places, Single};
+use crate::shared::Shared;
 use crate::shared_page::SharedPage;
+use crate::top::{TOP, Top, change_pages, change_three, filler, put_next, shared};
 use key_class::{KeyClass, Sides};
 use node::{Branch, Page};
 use row_version::Entry;
 use std::alloc::{AllocError, Global};
 use std::marker::Model;
-use std::mem;
 
 /// Pages by number, and the number of the latest posting.
 ///
-/// A step that changes several pages puts all but one of them aside first, so that it can write to all of them at once.
+/// The pages stand in chunks of chunks of chunks, which tables share until one of them writes to a page: then it gets a copy
+/// of the chunks that lead there.
 #[derive(Drop)]
 pub struct PageTable<K> {
-    pages: Vec<SharedPage<K>>,
+    chunks: Vec<Shared<Top<K>>>,
+    /// How many pages there are. What stands in the places behind them doesn't count.
+    count: usize,
     counter: u32,
-    aside: SharedPage<K>,
-    further_aside: SharedPage<K>,
+    /// A chunk of pages with nothing in them.
+    filler: Shared<Top<K>>,
 }
 
 impl<K> Model for PageTable<K> {
     ghost use Rattle.page_table.specs.Trees.{Tree};
+    ghost use Rattle.page_table.specs.Chunks.{HasFiller, first_pages};
 
     ghost Value = { Tree K };
 
-    ghost view = { λ t. record { pages = t.pages.items; counter = t.counter } };
+    ghost view = { λ t. record { pages = first_pages t.count t.chunks.items; counter = t.counter } };
+
+    ghost invariant = { λ t. HasFiller t.filler t.chunks.items t.count };
 }
 
 impl<K: Copy> PageTable<K> {
@@ -44,14 +53,15 @@ impl<K: Copy> PageTable<K> {
     pub fn new(alloc: Global, fan: usize) -> Result<PageTable<K>, AllocError>
         ensures { IfOk result (λ table. table ≡ new_tree) }
     {
-        let root = SharedPage::new(alloc, Page::leaf(alloc, fan)?)?;
-        let mut pages = Vec::with_capacity(alloc, 1)?;
-        pages.push_reserved(root);
+        let root = Page::leaf(alloc, fan)?;
+        let filler = filler(alloc)?;
+        let mut chunks = Vec::new(alloc);
+        put_next(&mut chunks, &filler, 0, root)?;
         Ok(PageTable {
-            pages,
+            chunks,
+            count: 1,
             counter: 0,
-            aside: SharedPage::new(alloc, Page::leaf(alloc, 0)?)?,
-            further_aside: SharedPage::new(alloc, Page::leaf(alloc, 0)?)?,
+            filler,
         })
     }
 
@@ -59,7 +69,7 @@ impl<K: Copy> PageTable<K> {
     pub fn len(&self) -> usize
         ensures { result ≡ length self.now.pages }
     {
-        self.pages.len()
+        self.count
     }
 
     /// The number of the latest posting, 0 before the first.
@@ -73,7 +83,7 @@ impl<K: Copy> PageTable<K> {
         requires { number < length self.now.pages }
         ensures { result.now ≡ page_at self.now number }
     {
-        self.pages[number as usize].get()
+        &self.slot(number).get().page
     }
 
     /// One more owner of a page.
@@ -84,10 +94,38 @@ impl<K: Copy> PageTable<K> {
         requires { number < length self.now.pages }
         ensures { IfOk result (λ shared. shared ≡ page_at self.now number) }
     {
-        self.pages[number as usize].share()
+        let page = self.slot(number).share()?;
+        Ok(SharedPage { page })
     }
 
-    /// A page, to write to. Where tasks hold it too, the table gets a copy of it first.
+    /// The same table, over the same chunks: each has one more owner, until one of the tables writes to it.
+    ///
+    /// # Errors
+    /// Memory was wanting, or a chunk has too many owners.
+    pub fn copy(&self) -> Result<PageTable<K>, AllocError>
+        ensures { IfOk result (λ copy. copy ≡ self.now) }
+    {
+        let chunks = shared(*self.chunks.allocator(), self.chunks.as_slice())?;
+        let count = self.count;
+        let counter = self.counter;
+        let filler = self.filler.share()?;
+        Ok(PageTable {
+            chunks,
+            count,
+            counter,
+            filler,
+        })
+    }
+
+    fn slot(&self, number: u32) -> &Shared<Single<K>>
+        requires { number < length self.now.pages }
+        ensures { result.now ≡ page_at self.now number }
+    {
+        let number = number as usize;
+        Top::slot(&self.chunks[number / TOP], number % TOP)
+    }
+
+    /// A page, to write to. Where tasks or other tables hold it too, the table gets a copy of it first.
     ///
     /// # Errors
     /// Memory was wanting; the table is as it was.
@@ -96,7 +134,9 @@ impl<K: Copy> PageTable<K> {
         ensures* lends { sem 𝓛 (LendsIfOk (the_row K.row) (page_row K.row) self.entry result (λ page. replaced self.old number page) self.old) }
         ensures value { IfOk result (λ page. page.now ≡ page_at self.old number) }
     {
-        self.pages[number as usize].get_mut()
+        self.chunks[number as usize / TOP]
+            .get_mut()?
+            .page_mut(number as usize % TOP)
     }
 
     /// Adds a page under the next number.
@@ -109,10 +149,10 @@ impl<K: Copy> PageTable<K> {
         ensures added { OnOk result (self.new ≡ added self.old page) }
         ensures unchanged { OnErr result (self.new ≡ self.old) }
     {
-        let number = self.pages.len() as u32;
-        let page = SharedPage::new(*self.pages.allocator(), page)?;
-        self.pages.push(page)?;
-        Ok(number)
+        let number = self.count;
+        put_next(&mut self.chunks, &self.filler, number, page)?;
+        self.count = number + 1;
+        Ok(number as u32)
     }
 
     /// Leaves the left entries of a page in it, which owes a posting to the page under the next number, the one given.
@@ -134,14 +174,14 @@ impl<K: Copy> PageTable<K> {
             (self.new ≡ with_part C.rules self.old page sides.now right) }
         ensures unchanged { OnErr result (self.new ≡ self.old) }
     {
-        let number = self.pages.len() as u32;
-        let right = SharedPage::new(*self.pages.allocator(), right)?;
-        self.pages.reserve(1)?;
-        self.pages[page as usize]
+        let number = self.count;
+        put_next(&mut self.chunks, &self.filler, number, right)?;
+        self.chunks[page as usize / TOP]
             .get_mut()?
-            .keep_left::<C>(sides, number);
-        self.pages.push_reserved(right);
-        Ok(number)
+            .page_mut(page as usize % TOP)?
+            .keep_left::<C>(sides, number as u32);
+        self.count = number + 1;
+        Ok(number as u32)
     }
 
     /// Adds two pages under the next numbers, and raises page 0 above them, with those branches.
@@ -159,13 +199,15 @@ impl<K: Copy> PageTable<K> {
         ensures raised { OnOk result (self.new ≡ with_rise self.old branches.items left right) }
         ensures unchanged { OnErr result (self.new ≡ self.old) }
     {
-        let alloc = *self.pages.allocator();
-        let left = SharedPage::new(alloc, left)?;
-        let right = SharedPage::new(alloc, right)?;
-        self.pages.reserve(2)?;
-        self.pages[0].get_mut()?.rise(alloc, branches);
-        self.pages.push_reserved(left);
-        self.pages.push_reserved(right);
+        let alloc = *self.chunks.allocator();
+        let number = self.count;
+        let Some(after) = number.checked_add(2) else {
+            return Err(AllocError);
+        };
+        put_next(&mut self.chunks, &self.filler, number, left)?;
+        put_next(&mut self.chunks, &self.filler, number + 1, right)?;
+        self.chunks[0].get_mut()?.page_mut(0)?.rise(alloc, branches);
+        self.count = after;
         Ok(())
     }
 
@@ -173,7 +215,6 @@ impl<K: Copy> PageTable<K> {
     ///
     /// # Errors
     /// Memory was wanting; the table is as it was.
-    #[tactic(auto, using(crate::proofs::Aside::widened_aside, crate::proofs::Aside::kept_aside))]
     pub fn widen<C: KeyClass<Key = K>>(
         &mut self,
         parent: u32,
@@ -186,15 +227,12 @@ impl<K: Copy> PageTable<K> {
         ensures widened { OnOk result (self.new ≡ with_wider C.rules self.old parent child key) }
         ensures unchanged { OnErr result (self.new ≡ self.old) }
     {
-        mem::swap(&mut self.pages[child as usize], &mut self.aside);
-        let widened = widen_both::<C>(
-            &mut self.pages[parent as usize],
-            &mut self.aside,
-            child,
-            key,
-        );
-        mem::swap(&mut self.pages[child as usize], &mut self.aside);
-        widened
+        change_pages(
+            &mut self.chunks,
+            parent as usize,
+            child as usize,
+            &Widening::<C> { child, key },
+        )
     }
 
     /// Has the parent name the child and its right sibling, which is hung by that; the child owes nothing any more and has
@@ -202,7 +240,6 @@ impl<K: Copy> PageTable<K> {
     ///
     /// # Errors
     /// Memory was wanting; the table is as it was.
-    #[tactic(auto, using(crate::proofs::Aside::posted_aside, crate::proofs::Aside::unposted_aside))]
     pub fn post(&mut self, parent: u32, child: u32, sibling: u32) -> Result<(), AllocError>
         requires parent_exists { parent < length self.old.pages }
         requires child_exists { child < length self.old.pages }
@@ -215,19 +252,18 @@ impl<K: Copy> PageTable<K> {
         ensures unchanged { OnErr result (self.new ≡ self.old) }
     {
         let number = self.counter + 1;
-        mem::swap(&mut self.pages[child as usize], &mut self.aside);
-        mem::swap(&mut self.pages[sibling as usize], &mut self.further_aside);
-        let posted = post_both(
-            &mut self.pages[parent as usize],
-            &mut self.aside,
-            &mut self.further_aside,
+        let posting = Posting {
             child,
             sibling,
             number,
-        );
-        mem::swap(&mut self.pages[sibling as usize], &mut self.further_aside);
-        mem::swap(&mut self.pages[child as usize], &mut self.aside);
-        posted?;
+        };
+        change_three(
+            &mut self.chunks,
+            parent as usize,
+            child as usize,
+            sibling as usize,
+            &posting,
+        )?;
         self.counter = number;
         Ok(())
     }
@@ -265,7 +301,6 @@ impl<K: Copy> PageTable<K> {
     ///
     /// # Errors
     /// Memory was wanting; the table is as it was.
-    #[tactic(auto, using(crate::proofs::Moving::moved_aside, crate::proofs::Aside::kept_aside))]
     pub fn relocate(
         &mut self,
         from: u32,
@@ -285,16 +320,12 @@ impl<K: Copy> PageTable<K> {
             let page = self.page_mut(from)?;
             return move_within(page, row, commit, entry);
         }
-        mem::swap(&mut self.pages[to as usize], &mut self.aside);
-        let moved = move_row(
-            &mut self.pages[from as usize],
-            row,
-            commit,
-            &mut self.aside,
-            entry,
-        );
-        mem::swap(&mut self.pages[to as usize], &mut self.aside);
-        moved
+        change_pages(
+            &mut self.chunks,
+            from as usize,
+            to as usize,
+            &Moving { row, commit, entry },
+        )
     }
 
     /// Takes the dead rows out of a leaf that nobody needs who opened at the commit `horizon` or later, and gives their number.
@@ -316,53 +347,6 @@ impl<K: Copy> PageTable<K> {
     }
 }
 
-/// Has the key of the upper page's branch to the child, and the lower page's cover, take in the key.
-fn widen_both<C: KeyClass>(
-    upper: &mut SharedPage<C::Key>,
-    lower: &mut SharedPage<C::Key>,
-    child: u32,
-    key: C::Key,
-) -> Result<(), AllocError>
-    ensures upper { OnOk result
-        (upper.new ≡ enlarge_parent C.rules.union_of child key upper.old) }
-    ensures lower { OnOk result (lower.new ≡ enlarge_child C.rules.union_of key lower.old) }
-    ensures upper_stays { OnErr result (upper.new ≡ upper.old) }
-    ensures lower_stays { OnErr result (lower.new ≡ lower.old) }
-{
-    let above = upper.get_mut()?;
-    let below = lower.get_mut()?;
-    below.widen_cover::<C>(key);
-    above.widen_branch::<C>(child, key);
-    Ok(())
-}
-
-/// Has the upper page name the lower one and its right sibling, which is hung by that; the lower page owes nothing any
-/// more and has the number of the posting.
-fn post_both<K: Copy>(
-    upper: &mut SharedPage<K>,
-    lower: &mut SharedPage<K>,
-    right: &mut SharedPage<K>,
-    child: u32,
-    sibling: u32,
-    number: u32,
-) -> Result<(), AllocError>
-    ensures upper { OnOk result
-        (upper.new ≡ post_up upper.old child lower.old sibling right.old) }
-    ensures lower { OnOk result (lower.new ≡ post_child lower.old number) }
-    ensures right { OnOk result (right.new ≡ post_sibling right.old) }
-    ensures upper_stays { OnErr result (upper.new ≡ upper.old) }
-    ensures lower_stays { OnErr result (lower.new ≡ lower.old) }
-    ensures right_stays { OnErr result (right.new ≡ right.old) }
-{
-    let below = lower.get_mut()?;
-    let beside = right.get_mut()?;
-    let above = upper.get_mut()?;
-    above.name_both((child, below.cover()), (sibling, beside.cover()))?;
-    below.settle(number);
-    beside.hang();
-    Ok(())
-}
-
 /// Marks a row of a page as ended by that commit, and adds another row to the same page, at the end.
 #[tactic(auto, using(crate::proofs::Moving::marked_around))]
 fn move_within<K: Copy>(
@@ -378,26 +362,5 @@ fn move_within<K: Copy>(
 {
     page.place(entry)?;
     page.bury(row, commit);
-    Ok(())
-}
-
-/// Marks a row of a page as ended by that commit, and adds a row to another page, at the end.
-fn move_row<K: Copy>(
-    from: &mut SharedPage<K>,
-    row: u32,
-    commit: u32,
-    to: &mut SharedPage<K>,
-    entry: Entry<K>,
-) -> Result<(), AllocError>
-    requires { 0 < commit }
-    ensures from { OnOk result (from.new ≡ with_dead from.old row commit) }
-    ensures to { OnOk result (to.new ≡ with_row to.old entry) }
-    ensures from_stays { OnErr result (from.new ≡ from.old) }
-    ensures to_stays { OnErr result (to.new ≡ to.old) }
-{
-    let source = from.get_mut()?;
-    let target = to.get_mut()?;
-    target.place(entry)?;
-    source.bury(row, commit);
     Ok(())
 }

@@ -1,0 +1,93 @@
+-- Pages kept in places, sixteen of which make a chunk, sixteen of which make a larger one, and so on.
+use Rattle.std.specs.Prelude.{◌≡◌, ℕ, ◌+◌, ◌*◌, ◌/◌, ◌%◌, ◌≤◌, List, [], ◌∷◌, ◌++◌, length, take, flat_map, slice_index_or, slice_set, All}
+use Rattle.node.specs.Pages.{Page}
+use Rattle.page_table.specs.Trees.{no_page}
+
+-- sixteen chunks of sixteen chunks of sixteen pages
+abbrev pub Chunk4096 : Type 0 → Type 0
+Chunk4096 K = List (List (List (Page K)))
+
+module _ {K : Type 0} where
+  -- the pages of all places, one after the other
+  abbrev pub joined : {X : Type 0} → (X → List (Page K)) → List X → List (Page K)
+  joined pages places = flat_map pages places
+
+  -- n places, each of `size` pages
+  pub record ArePlaces {X : Type 0} (pages : X → List (Page K)) (is_full : X → Type 0) (size n : ℕ) (places : List X) : Type 0 where
+    pub count : length places ≡ n
+    pub each : All is_full places
+    pub sizes : All (λ x. length (pages x) ≡ size) places
+
+  -- with another page in a place
+  abbrev pub put_in : {X : Type 0} → (X → ℕ → Page K → X) → X → ℕ → List X → ℕ → Page K → List X
+  put_in put none size places i page = slice_set places (i / size) (put (slice_index_or places (i / size) none) (i % size) page)
+
+  -- with two pages changed by both
+  abbrev pub both_changed : (Page K → Page K → Page K) → (Page K → Page K → Page K) → ℕ → ℕ → List (Page K) → List (Page K)
+  both_changed up low upper lower pages =
+      let above = slice_index_or pages upper no_page in
+      let below = slice_index_or pages lower no_page in
+      slice_set (slice_set pages lower (low above below)) upper (up above below)
+
+  -- with three pages changed by all
+  abbrev pub three_changed : (Page K → Page K → Page K → Page K) → (Page K → Page K → Page K → Page K) → (Page K → Page K → Page K → Page K) → ℕ → ℕ → ℕ → List (Page K) → List (Page K)
+  three_changed up low by upper lower beside pages =
+      let page = slice_index_or pages beside no_page in
+      slice_set (both_changed (λ x y. up x y page) (λ x y. low x y page) upper lower pages) beside
+      (by (slice_index_or pages upper no_page) (slice_index_or pages lower no_page) page)
+
+  -- full as before, and these are its pages
+  pub record Becomes {X : Type 0} (pages_of : X → List (Page K)) (is_full : X → Type 0) (new : X) (after : List (Page K)) : Type 0 where
+    pub full : is_full new
+    pub pages : pages_of new ≡ after
+
+  -- a page alone
+  abbrev pub alone : Page K → List (Page K)
+  alone page = page ∷ []
+
+  abbrev pub IsPage : Page K → Type 0
+  IsPage page = Unit {0}
+
+  abbrev pub pages_of_16 : List (Page K) → List (Page K)
+  pages_of_16 chunk = joined alone chunk
+
+  abbrev pub pages_of_256 : List (List (Page K)) → List (Page K)
+  pages_of_256 chunk = joined pages_of_16 chunk
+
+  abbrev pub pages_of_4096 : Chunk4096 K → List (Page K)
+  pages_of_4096 chunk = joined pages_of_256 chunk
+
+  abbrev pub IsFull16 : List (Page K) → Type 0
+  IsFull16 chunk = ArePlaces alone IsPage 1 16 chunk
+
+  abbrev pub IsFull256 : List (List (Page K)) → Type 0
+  IsFull256 chunk = ArePlaces pages_of_16 IsFull16 16 16 chunk
+
+  abbrev pub IsFull4096 : Chunk4096 K → Type 0
+  IsFull4096 chunk = ArePlaces pages_of_256 IsFull256 256 16 chunk
+
+  -- the first n pages of chunks
+  abbrev pub first_pages : ℕ → List (Chunk4096 K) → List (Page K)
+  first_pages n chunks = take n (joined pages_of_4096 chunks)
+
+  -- full chunks with at least n places
+  pub record HasPlaces (chunks : List (Chunk4096 K)) (n : ℕ) : Type 0 where
+    pub full : ArePlaces pages_of_4096 IsFull4096 4096 (length chunks) chunks
+    pub enough : n ≤ 4096 * length chunks
+
+  -- a full chunk, and full chunks with at least n places
+  pub record HasFiller (filler : Chunk4096 K) (chunks : List (Chunk4096 K)) (n : ℕ) : Type 0 where
+    pub whole : IsFull4096 filler
+    pub size : length (pages_of_4096 filler) ≡ 4096
+    pub places : HasPlaces chunks n
+
+  -- the first n are as they were
+  pub record StaysTo (n : ℕ) (old new : List (Chunk4096 K)) : Type 0 where
+    pub places : HasPlaces new n
+    pub pages : first_pages n new ≡ first_pages n old
+
+  -- and a page follows them
+  pub record PutsNext (n : ℕ) (old : List (Chunk4096 K)) (page : Page K) (new : List (Chunk4096 K)) : Type 0 where
+    pub places : HasPlaces new (n + 1)
+    pub pages : first_pages (n + 1) new ≡ first_pages n old ++ page ∷ []
+    pub kept : first_pages n new ≡ first_pages n old

@@ -1,0 +1,177 @@
+//! What steps change of several pages at once.
+ghost use Rattle.std.specs.Prelude.{◌≡◌, ◌<◌, OnOk, OnErr};
+ghost use Rattle.node.specs.Pages as model;
+ghost use Rattle.node.specs.Changes.{post_parent, post_child, post_sibling, enlarge_parent, enlarge_child, with_row};
+ghost use Rattle.page_table.specs.LeafChanges.{with_dead};
+
+use key_class::KeyClass;
+use node::Page;
+use row_version::Entry;
+use std::alloc::AllocError;
+
+/// A change of two pages at once, an upper and a lower one, and of what is beside them: another page, or nothing. The new value
+/// of each may depend on all.
+pub(crate) trait PageChange<K, B> {
+    ghost may: { Self → Type 0 };
+
+    ghost upper_after: { Self → model.Page K → model.Page K → B → model.Page K };
+
+    ghost lower_after: { Self → model.Page K → model.Page K → B → model.Page K };
+
+    ghost beside_after: { Self → model.Page K → model.Page K → B → B };
+
+    fn change(
+        &self,
+        upper: &mut Page<K>,
+        lower: &mut Page<K>,
+        beside: &mut B,
+    ) -> Result<(), AllocError>
+        requires { may self.now }
+        ensures upper { OnOk result
+            (upper.new ≡ upper_after self.now upper.old lower.old beside.old) }
+        ensures lower { OnOk result
+            (lower.new ≡ lower_after self.now upper.old lower.old beside.old) }
+        ensures beside { OnOk result
+            (beside.new ≡ beside_after self.now upper.old lower.old beside.old) }
+        ensures upper_stays { OnErr result (upper.new ≡ upper.old) }
+        ensures lower_stays { OnErr result (lower.new ≡ lower.old) }
+        ensures beside_stays { OnErr result (beside.new ≡ beside.old) };
+}
+
+/// The key of the upper page's branch to the child, and the lower page's cover, take in the key.
+#[derive(Drop)]
+pub(crate) struct Widening<C: KeyClass> {
+    pub(crate) child: u32,
+    pub(crate) key: C::Key,
+}
+
+impl<C: KeyClass> PageChange<C::Key, ()> for Widening<C> {
+    ghost may = { λ change. Unit {0} };
+
+    ghost upper_after = { λ change upper lower beside. enlarge_parent C.rules.union_of change.child change.key upper };
+
+    ghost lower_after = { λ change upper lower beside. enlarge_child C.rules.union_of change.key lower };
+
+    ghost beside_after = { λ change upper lower beside. beside };
+
+    fn change(
+        &self,
+        upper: &mut Page<C::Key>,
+        lower: &mut Page<C::Key>,
+        _beside: &mut (),
+    ) -> Result<(), AllocError> {
+        lower.widen_cover::<C>(self.key);
+        upper.widen_branch::<C>(self.child, self.key);
+        Ok(())
+    }
+}
+
+/// The upper page names the lower one, the child, and the one beside it, its sibling, which is hung by that; the child owes
+/// nothing any more and has the number of the posting.
+#[derive(Drop)]
+pub(crate) struct Posting {
+    pub(crate) child: u32,
+    pub(crate) sibling: u32,
+    pub(crate) number: u32,
+}
+
+impl<K: Copy> PageChange<K, Page<K>> for Posting {
+    ghost may = { λ change. Unit {0} };
+
+    ghost upper_after = { λ change upper lower beside. post_parent upper change.child lower.cover change.sibling beside.cover };
+
+    ghost lower_after = { λ change upper lower beside. post_child lower change.number };
+
+    ghost beside_after = { λ change upper lower beside. post_sibling beside };
+
+    fn change(
+        &self,
+        upper: &mut Page<K>,
+        lower: &mut Page<K>,
+        beside: &mut Page<K>,
+    ) -> Result<(), AllocError> {
+        upper.name_both((self.child, lower.cover()), (self.sibling, beside.cover()))?;
+        lower.settle(self.number);
+        beside.hang();
+        Ok(())
+    }
+}
+
+/// A row of the upper page is ended by a commit, and the lower page has another row at its end.
+#[derive(Drop)]
+pub(crate) struct Moving<K> {
+    pub(crate) row: u32,
+    pub(crate) commit: u32,
+    pub(crate) entry: Entry<K>,
+}
+
+impl<K: Copy> PageChange<K, ()> for Moving<K> {
+    ghost may = { λ change. 0 < change.commit };
+
+    ghost upper_after = { λ change upper lower beside. with_dead upper change.row change.commit };
+
+    ghost lower_after = { λ change upper lower beside. with_row lower change.entry };
+
+    ghost beside_after = { λ change upper lower beside. beside };
+
+    fn change(
+        &self,
+        upper: &mut Page<K>,
+        lower: &mut Page<K>,
+        _beside: &mut (),
+    ) -> Result<(), AllocError> {
+        lower.place(self.entry)?;
+        upper.bury(self.row, self.commit);
+        Ok(())
+    }
+}
+
+/// A change of three pages, which gets the second of them first, then the third, and the first one last.
+#[derive(Drop)]
+pub(crate) struct Turned<'a, C> {
+    pub(crate) change: &'a C,
+}
+
+impl<'a, K, C: PageChange<K, Page<K>>> PageChange<K, Page<K>> for Turned<'a, C> {
+    ghost may = { λ turned. C.may turned.change.now };
+
+    ghost upper_after = { λ turned upper lower beside. C.beside_after turned.change.now lower beside upper };
+
+    ghost lower_after = { λ turned upper lower beside. C.upper_after turned.change.now lower beside upper };
+
+    ghost beside_after = { λ turned upper lower beside. C.lower_after turned.change.now lower beside upper };
+
+    fn change(
+        &self,
+        upper: &mut Page<K>,
+        lower: &mut Page<K>,
+        beside: &mut Page<K>,
+    ) -> Result<(), AllocError> {
+        self.change.change(lower, beside, upper)
+    }
+}
+
+/// A change of three pages, which gets them in the opposite order.
+#[derive(Drop)]
+pub(crate) struct Reversed<'a, C> {
+    pub(crate) change: &'a C,
+}
+
+impl<'a, K, C: PageChange<K, Page<K>>> PageChange<K, Page<K>> for Reversed<'a, C> {
+    ghost may = { λ reversed. C.may reversed.change.now };
+
+    ghost upper_after = { λ reversed upper lower beside. C.beside_after reversed.change.now beside lower upper };
+
+    ghost lower_after = { λ reversed upper lower beside. C.lower_after reversed.change.now beside lower upper };
+
+    ghost beside_after = { λ reversed upper lower beside. C.upper_after reversed.change.now beside lower upper };
+
+    fn change(
+        &self,
+        upper: &mut Page<K>,
+        lower: &mut Page<K>,
+        beside: &mut Page<K>,
+    ) -> Result<(), AllocError> {
+        self.change.change(beside, lower, upper)
+    }
+}

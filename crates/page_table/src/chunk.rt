@@ -1,0 +1,140 @@
+//! Sixteen places, which tables share until one of them writes to one.
+ghost use Rattle.std.specs.Prelude.{◌≡◌, ◌<◌, [], length, All, slice_index_or, slice_set, IfOk};
+ghost use Rattle.std.specs.Borrow.{LendsIfOk, sem};
+ghost use Rattle.page_table.specs.contracts.chunk.Chunk.{the_row};
+ghost use Rattle.page_table.specs.Chunks.{ArePlaces, joined, put_in};
+ghost use Rattle.page_table.specs.PlaceLaws.{put_becomes, put_stays as put_in_stays};
+
+use crate::change::PageChange;
+use crate::places::{Places, Single, change_all, change_both};
+use crate::shared::{Copied, Shared};
+use arrayvec::ArrayVec;
+use node::Page;
+use std::alloc::{AllocError, Global};
+use std::marker::Model;
+
+/// How many places a chunk has.
+pub(crate) const CHUNK: usize = 16;
+
+/// Places, each for as many pages as `SIZE` tells.
+#[derive(Drop)]
+pub(crate) struct Chunk<T, const SIZE: usize> {
+    children: ArrayVec<Shared<T>, CHUNK>,
+}
+
+impl<T, const SIZE: usize> Model for Chunk<T, SIZE> {
+    ghost use Rattle.std.specs.Prelude.{◌≡◌, List, length};
+
+    ghost Value = { List T };
+
+    ghost view = { λ c. c.children.items };
+
+    ghost invariant = { λ c. length c.children.items ≡ 16 };
+}
+
+impl<T: Copied, const SIZE: usize> Clone for Chunk<T, SIZE> {
+    ghost is_clone = { λ chunk copy. copy ≡ chunk };
+
+    /// The same places, each with one more owner.
+    #[cold]
+    fn clone(&self) -> Result<Chunk<T, SIZE>, AllocError> {
+        match self.children.as_slice().first_chunk::<CHUNK>() {
+            Some(children) => Ok(Chunk {
+                children: ArrayVec::from_array_in((), children.clone()?),
+            }),
+            None => unreachable!(),
+        }
+    }
+}
+
+impl<T: Copied, const SIZE: usize> Copied for Chunk<T, SIZE> {
+    ghost same = { λ value copy same. same };
+}
+
+impl<T: Copied, const SIZE: usize> Chunk<T, SIZE> {
+    /// A chunk with the same value in each place.
+    ///
+    /// # Errors
+    /// The value has too many owners.
+    pub(crate) fn filled(child: &Shared<T>) -> Result<Chunk<T, SIZE>, AllocError>
+        ensures length { IfOk result (λ chunk. length chunk ≡ 16) }
+        ensures each { IfOk result (All (λ place. place ≡ child.now)) }
+    {
+        let children = [child; CHUNK].try_map(
+            |child: &Shared<T>| -> Result<Shared<T>, AllocError>
+                ensures { IfOk result (λ shared. shared ≡ child.now) }
+            { child.share() },
+        )?;
+        Ok(Chunk {
+            children: ArrayVec::from_array_in((), children),
+        })
+    }
+
+    pub(crate) fn child(&self, place: usize) -> &Shared<T>
+        requires { place < length self.now }
+        ensures { result.now ≡ slice_index_or self.now place result.now }
+    {
+        &self.children[place]
+    }
+
+    /// What is in a place, to write to. Where it has other owners, this one gets a copy of it first.
+    ///
+    /// # Errors
+    /// Memory was wanting; the places are as they were.
+    pub(crate) fn child_mut(&mut self, place: usize) -> Result<&mut T, AllocError>
+        requires { place < length self.old }
+        ensures* lends { sem 𝓛
+            (LendsIfOk (the_row T.row SIZE.row) T.row self.entry result (slice_set self.old place) self.old) }
+        ensures value { IfOk result
+            (λ child. child.now ≡ slice_index_or self.old place child.now) }
+    {
+        match self.children.get_mut(place) {
+            Some(child) => child.get_mut(),
+            None => Err(AllocError),
+        }
+    }
+}
+
+impl<K: Copy, T: Places<K>, const SIZE: usize> Places<K> for Chunk<T, SIZE> {
+    ghost pages = { joined T.pages };
+
+    ghost is_full = { ArePlaces T.pages T.is_full SIZE 16 };
+
+    ghost none = { [] };
+
+    ghost put = { put_in T.put T.none SIZE };
+
+    fn slot(this: &Shared<Chunk<T, SIZE>>, place: usize) -> &Shared<Single<K>> {
+        T::slot(this.get().child(place / SIZE), place % SIZE)
+    }
+
+    fn page_mut(&mut self, place: usize) -> Result<&mut Page<K>, AllocError> {
+        self.child_mut(place / SIZE)?.page_mut(place % SIZE)
+    }
+
+    fn change_two<B, C: PageChange<K, B>>(
+        &mut self,
+        upper: usize,
+        lower: usize,
+        beside: &mut B,
+        change: &C,
+    ) -> Result<(), AllocError> {
+        change_both::<K, T, B, C, SIZE>(self.children.as_mut_slice(), upper, lower, beside, change)
+    }
+
+    fn change_three<C: PageChange<K, Page<K>>>(
+        &mut self,
+        upper: usize,
+        lower: usize,
+        beside: usize,
+        change: &C,
+    ) -> Result<(), AllocError> {
+        change_all::<K, T, C, SIZE>(self.children.as_mut_slice(), upper, lower, beside, change)
+    }
+
+    ghost put_pages = { λ places i page full l. (put_becomes T.pages T.is_full T.none T.put SIZE T.put_pages T.put_full 16 places full i l page).pages };
+
+    ghost put_full = { λ places i page full l. (put_becomes T.pages T.is_full T.none T.put SIZE T.put_pages T.put_full 16 places full i l page).full };
+
+    ghost put_stays = { λ places i page full l. put_in_stays T.pages T.is_full T.none T.put SIZE T.put_pages T.put_full 16 places full i l T.put_stays page };
+}

@@ -1,0 +1,81 @@
+//! What several owners hold until one of them writes to it.
+ghost use Rattle.std.specs.Prelude.{◌≡◌, IfOk};
+ghost use Rattle.std.specs.Borrow.{LendsIfOk, sem};
+ghost use Rattle.page_table.specs.contracts.shared.Shared.{the_row};
+
+use std::alloc::{AllocError, Global};
+use std::marker::Model;
+use std::sync::Arc;
+
+/// A value whose clone is the same value.
+pub(crate) trait Copied: Clone + Drop {
+    ghost same: { (value copy : Self) → Self.is_clone value copy → copy ≡ value };
+}
+
+/// A value that may have several owners. Who writes to it while there are others gets a copy of it first.
+#[derive(Drop)]
+pub(crate) struct Shared<T> {
+    inner: Arc<T>,
+}
+
+impl<T> Model for Shared<T> {
+    ghost use Rattle.std.specs.Arc.{arc_value};
+
+    ghost Value = { T };
+
+    ghost view = { λ s. arc_value s.inner };
+}
+
+impl<T> Shared<T> {
+    /// A value that nobody shares yet.
+    ///
+    /// # Errors
+    /// Memory was wanting.
+    pub(crate) fn new(alloc: Global, value: T) -> Result<Shared<T>, AllocError>
+    where
+        T: Drop,
+        ensures { IfOk result (λ shared. shared ≡ value) }
+    {
+        let inner = Arc::new(alloc, value)?;
+        Ok(Shared { inner })
+    }
+
+    pub(crate) fn get(&self) -> &T
+        ensures { result.now ≡ self.now }
+    {
+        &self.inner
+    }
+
+    /// One more owner of the same value.
+    ///
+    /// # Errors
+    /// There are too many.
+    pub(crate) fn share(&self) -> Result<Shared<T>, AllocError>
+        ensures { IfOk result (λ shared. shared ≡ self.now) }
+    {
+        let inner = Arc::try_clone(&self.inner)?;
+        Ok(Shared { inner })
+    }
+}
+
+impl<T: Drop> Clone for Shared<T> {
+    ghost is_clone = { λ shared copy. copy ≡ shared };
+
+    /// One more owner of the same value.
+    fn clone(&self) -> Result<Shared<T>, AllocError> {
+        self.share()
+    }
+}
+
+impl<T: Copied> Shared<T> {
+    /// The value, to write to. Where it has other owners, this one gets a copy of it first.
+    ///
+    /// # Errors
+    /// Memory was wanting; the value is as it was.
+    pub(crate) fn get_mut(&mut self) -> Result<&mut T, AllocError>
+        ensures* lends { sem 𝓛 (LendsIfOk (the_row T.row) T.row self.entry result (λ value. value) self.old) }
+        ensures value { IfOk result (λ value. value.now ≡ self.old) }
+    {
+        Arc::make_mut(&mut self.inner)
+    }
+}

@@ -1,0 +1,144 @@
+//! The chunks that a table holds.
+ghost use Rattle.std.specs.Prelude.{◌≡◌, ◌≢◌, ◌+◌, length, IfOk, OnOk, OnErr};
+ghost use Rattle.page_table.specs.Chunks.{ArePlaces, Becomes, HasFiller, HasPlaces, IsFull4096, PutsNext, StaysTo, both_changed, joined, pages_of_4096, three_changed};
+
+use crate::change::{PageChange, Reversed, Turned};
+use crate::chunk::Chunk;
+use crate::places::{Places, Single, change_all, change_both};
+use crate::shared::Shared;
+use node::Page;
+use std::alloc::{AllocError, Global};
+
+/// How many pages a chunk has that the table holds.
+pub(crate) const TOP: usize = 4096;
+
+/// Sixteen chunks of sixteen chunks of sixteen pages.
+pub(crate) type Top<K> = Chunk<Chunk<Chunk<Single<K>, 1>, 16>, 256>;
+
+/// Changes two pages at once.
+///
+/// # Errors
+/// Memory was wanting, or both are the same page; the pages are as they were.
+pub(crate) fn change_pages<K: Copy, C: PageChange<K, ()>>(
+    chunks: &mut Vec<Shared<Top<K>>>,
+    upper: usize,
+    lower: usize,
+    change: &C,
+) -> Result<(), AllocError>
+    requires upper_exists { HasPlaces chunks.old.items (upper + 1) }
+    requires lower_exists { HasPlaces chunks.old.items (lower + 1) }
+    requires may { C.may change.now }
+    ensures changed { OnOk result
+        (Becomes (joined pages_of_4096) (ArePlaces pages_of_4096 IsFull4096 4096 (length chunks.old.items)) chunks.new.items
+        (both_changed
+        (λ x y. C.upper_after change.now x y tt)
+        (λ x y. C.lower_after change.now x y tt)
+        upper lower (joined pages_of_4096 chunks.old.items))) }
+    ensures unchanged { OnErr result (chunks.new.items ≡ chunks.old.items) }
+{
+    change_both::<K, Top<K>, (), C, TOP>(chunks.as_mut_slice(), upper, lower, &mut (), change)
+}
+
+/// Changes three pages at once.
+///
+/// # Errors
+/// Memory was wanting; the pages are as they were.
+pub(crate) fn change_three<K: Copy, C: PageChange<K, Page<K>>>(
+    chunks: &mut Vec<Shared<Top<K>>>,
+    upper: usize,
+    lower: usize,
+    beside: usize,
+    change: &C,
+) -> Result<(), AllocError>
+    requires upper_exists { HasPlaces chunks.old.items (upper + 1) }
+    requires lower_exists { HasPlaces chunks.old.items (lower + 1) }
+    requires beside_exists { HasPlaces chunks.old.items (beside + 1) }
+    requires lower_apart { upper ≢ lower }
+    requires upper_beside { upper ≢ beside }
+    requires lower_beside { lower ≢ beside }
+    requires may { C.may change.now }
+    ensures changed { OnOk result
+        (Becomes (joined pages_of_4096) (ArePlaces pages_of_4096 IsFull4096 4096 (length chunks.old.items)) chunks.new.items
+        (three_changed
+        (C.upper_after change.now) (C.lower_after change.now) (C.beside_after change.now)
+        upper lower beside (joined pages_of_4096 chunks.old.items))) }
+    ensures unchanged { OnErr result (chunks.new.items ≡ chunks.old.items) }
+{
+    let places = chunks.as_mut_slice();
+    if upper <= beside && lower <= beside {
+        change_all::<K, Top<K>, C, TOP>(places, upper, lower, beside, change)
+    } else if upper <= lower {
+        let change = Turned { change };
+        change_all::<K, Top<K>, Turned<C>, TOP>(places, beside, upper, lower, &change)
+    } else {
+        let change = Reversed { change };
+        change_all::<K, Top<K>, Reversed<C>, TOP>(places, beside, lower, upper, &change)
+    }
+}
+
+/// A chunk of pages with nothing in them.
+///
+/// # Errors
+/// Memory was wanting.
+pub(crate) fn filler<K: Copy>(alloc: Global) -> Result<Shared<Top<K>>, AllocError>
+    ensures full { IfOk result IsFull4096 }
+    ensures size { IfOk result (λ chunk. length (pages_of_4096 chunk) ≡ 4096) }
+{
+    let page = Page::leaf(alloc, 0)?;
+    let page = Shared::new(alloc, Single { page })?;
+    let sixteen = Shared::new(alloc, Chunk::filled(&page)?)?;
+    let more = Shared::new(alloc, Chunk::filled(&sixteen)?)?;
+    Ok(Shared::new(alloc, Chunk::filled(&more)?)?)
+}
+
+/// Puts a page behind the first `count`. Where there is no place for it, there is a chunk more.
+///
+/// # Errors
+/// Memory was wanting; the first pages are as they were.
+pub(crate) fn put_next<K: Copy>(
+    chunks: &mut Vec<Shared<Top<K>>>,
+    filler: &Shared<Top<K>>,
+    count: usize,
+    page: Page<K>,
+) -> Result<(), AllocError>
+    requires { HasFiller filler.now chunks.old.items count }
+    ensures put { OnOk result (PutsNext count chunks.old.items page chunks.new.items) }
+    ensures stays { OnErr result (StaysTo count chunks.old.items chunks.new.items) }
+{
+    make_place(chunks, filler, count)?;
+    *chunks[count / TOP].get_mut()?.page_mut(count % TOP)? = page;
+    Ok(())
+}
+
+/// Makes a place behind the first `count` pages, where there is none.
+///
+/// # Errors
+/// Memory was wanting; the pages are as they were.
+fn make_place<K: Copy>(
+    chunks: &mut Vec<Shared<Top<K>>>,
+    filler: &Shared<Top<K>>,
+    count: usize,
+) -> Result<(), AllocError>
+    requires { HasFiller filler.now chunks.old.items count }
+    ensures made { OnOk result (HasPlaces chunks.new.items (count + 1)) }
+    ensures stays { StaysTo count chunks.old.items chunks.new.items }
+{
+    if count / TOP == chunks.len() {
+        chunks.push(filler.share()?)?;
+    }
+    Ok(())
+}
+
+/// The same chunks, each with one more owner.
+pub(crate) fn shared<T: Drop>(
+    alloc: Global,
+    chunks: &[Shared<T>],
+) -> Result<Vec<Shared<T>>, AllocError>
+    ensures { IfOk result (λ made. made.items ≡ chunks.now) }
+{
+    let mut made = Vec::with_capacity(alloc, chunks.len())?;
+    for chunk in chunks {
+        made.push(chunk.share()?)?;
+    }
+    Ok(made)
+}
