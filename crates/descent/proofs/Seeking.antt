@@ -16,15 +16,15 @@ use Rattle.page_table.specs.Trees.{Tree, page_at}
 use Rattle.page_table.specs.Weights.{weigh}
 use Rattle.row_version.specs.Entries.{Entry, is_needed, marked}
 use Rattle.scan.proofs.Commits.{live_pushed}
-use Rattle.scan.proofs.Finders.{begin_finder, bury_finder, finder_open, further_finder, keeps_finder, place_finder, sweep_finder}
+use Rattle.scan.proofs.Finders.{begin_finder, bury_finder, finder_open, further_finder, further_stack, keeps_finder, place_finder, sweep_finder}
 use Rattle.scan.proofs.Opening.{open_stack}
 use Rattle.scan.proofs.Scans.{keeps_stack, rows_stack}
 use Rattle.scan.proofs.Seeking.{holds_weigh, lacks_weigh}
-use Rattle.scan.proofs.Visiting.{next_exists, visit_stack}
+use Rattle.scan.proofs.Visiting.{next_exists}
 use Rattle.scan.specs.Agreement.{Agrees, is_row}
 use Rattle.scan.specs.Finding.{IsFinder, LacksNext, Seeks, SeeksFurther, holds}
 use Rattle.page_table.specs.LeafChanges.{after_bury, after_place, after_sweep}
-use Rattle.scan.specs.Scanning.{IsNext, seen}
+use Rattle.scan.specs.Scanning.{IsNext}
 use Rattle.scan.specs.declared.stack.Sought.{Sought}
 use Rattle.scan.specs.declared.stack.Sought.TheVariants.{Here, Further}
 use Rattle.descent.specs.Finders.{FindsRow, GoesFurther, IsSeeking, OpenFinder, SeeksRow, holds_at, is_at_row}
@@ -48,15 +48,10 @@ module _ {K : Type 0} where
     }
 
   module _ (is_cover : K → K → Bool) (fan : ℕ) (t : Tree K) (sound : IsSound is_cover fan t) (k : OpenFinder K) (stack : IsStack t k.stack) where
-    further_stack : (page : ℕ) (new : List StackItem) → SeeksFurther (λ bound. is_cover bound k.key) k.row t k.stack page new → IsStack t new
-    further_stack page new further =
-        visit_stack is_cover t fan sound (λ key. true) (λ bound. is_cover bound k.key) 0 k.stack new page (seen (λ key. true) 0 (page_at t page).rows) stack
-        (record { rest = further.goes_on.rest; memo = further.memo; before = further.goes_on.before; after = further.goes_on.after; noted_is = refl })
-
     -- what a visit leaves to be visited exists
     pub sought_stack : (met : Sought) (new : OpenFinder K) → SeeksRow is_cover t k met new → IsStack t new.stack
     sought_stack (Here page) new seeks = subst (λ (n : OpenFinder K). IsStack t n.stack) (sym seeks.1) stack
-    sought_stack (Further page) new seeks = subst (λ (n : OpenFinder K). IsStack t n.stack) (sym seeks.after) (further_stack page seeks.stack seeks.further)
+    sought_stack (Further page) new seeks = subst (λ (n : OpenFinder K). IsStack t n.stack) (sym seeks.after) (further_stack is_cover t fan sound k.key k.row k.stack seeks.stack page stack seeks.further)
 
   module _ (is_cover : K → K → Bool) (fan : ℕ) (t : Tree K) (sound : IsSound is_cover fan t) (commits : List (Write K)) where
     -- the finder of a row begins at the root
@@ -73,7 +68,7 @@ module _ {K : Type 0} where
       pub seeking_further : ((a b c : K) → is_cover a b ≡ true → is_cover b c ≡ true → is_cover a c ≡ true) → Agrees t commits
           → (page : ℕ) (new : OpenFinder K) → GoesFurther is_cover t k page new → IsSeeking t commits new
       seeking_further through agrees page new on = subst (λ n. IsSeeking t commits n) (sym on.after) (record {
-        stack = further_stack is_cover fan t sound k seeking.stack page on.stack on.further;
+        stack = further_stack is_cover t fan sound k.key k.row k.stack on.stack page seeking.stack on.further;
         made = seeking.made;
         there = λ live. further_finder is_cover t fan sound commits agrees k.row through k.key seeking.made.0 seeking.made.1 k.stack page on.stack on.further (seeking.there live);
       })

@@ -5,7 +5,7 @@ use Rattle.key_class.specs.Splits.{IsSplit}
 use Rattle.key_class.specs.declared.sides.Side.{Side}
 use Rattle.key_class.specs.declared.refusal.Refusal.{Refusal}
 use Rattle.key_class.specs.declared.refusal.Refusal.TheVariants as refusal
-use Rattle.node.specs.Pages.{entries_of, is_within}
+use Rattle.node.specs.Pages.{entries_of, is_within, keys_of}
 use Rattle.page_table.specs.Trees.{page_at}
 use Rattle.split.specs.SearchTrees.{SearchTree}
 use Rattle.split.specs.Tests.{first_failing, place_tests, enlarge_tests, split_tests, post_tests, grow_tests}
@@ -44,30 +44,34 @@ module _ {K : Type 0} where
     pub not_owed : (page_at s.tree c).owed ≡ false
     pub full : s.fan ≤ entries_of (page_at s.tree c)
 
-  module _ (is_cover : K → K → Bool) (union : K → K → K) (size : K → ℕ) (s : SearchTree K) (p : ℕ) (key : K) where
-    -- the step that comes next
+  -- the class picks these sides for the page's entries
+  abbrev pub IsPick : {A : Type 0} → Rules K A → SearchTree K → ℕ → List Side → Type 0
+  IsPick rules s p sides = rules.picks (keys_of (page_at s.tree p).rows (page_at s.tree p).branches) s.least sides
+
+  module _ {A : Type 0} (rules : Rules K A) (s : SearchTree K) (p : ℕ) (key : K) where
+    -- the best branch of page p leads to child c
+    abbrev pub IsBestChild : ℕ → Type 0
+    IsBestChild c = IsChosen rules.union_of rules.size_of s p key c
+
+    -- the step that comes next, a growth or a split by sides that the class picks
     abbrev pub IsNextStep : Step → Type 0
-    IsNextStep (Grow sides) = (p ≡ 0) × OnlyPagesFull (grow_tests s sides)
-    IsNextStep (Place leaf) = (leaf ≡ p) × (first_failing (place_tests is_cover s p key) ≡ None)
-    IsNextStep (Post parent c) = (parent ≡ p) × IsChosen union size s p key c × (first_failing (post_tests s p c) ≡ None)
-    IsNextStep (Split c sides) = IsChosen union size s p key c × OnlyPagesFull (split_tests s c sides)
+    IsNextStep (Grow sides) = (p ≡ 0) × OnlyPagesFull (grow_tests s sides) × IsPick rules s p sides
+    IsNextStep (Place leaf) = (leaf ≡ p) × (first_failing (place_tests rules.is_cover s p key) ≡ None)
+    IsNextStep (Post parent c) = (parent ≡ p) × IsBestChild c × (first_failing (post_tests s p c) ≡ None)
+    IsNextStep (Split c sides) = IsBestChild c × OnlyPagesFull (split_tests s c sides) × IsPick rules s c sides
     IsNextStep (Enlarge parent c) =
-        (parent ≡ p) × IsChosen union size s p key c × IsOpenBelow s p c
-        × (is_within is_cover (page_at s.tree c).cover key ≡ false) × (first_failing (enlarge_tests is_cover s p c key) ≡ None)
-    IsNextStep (Down c) = IsChosen union size s p key c × IsOpenBelow s p c × (is_within is_cover (page_at s.tree c).cover key ≡ true)
+        (parent ≡ p) × IsBestChild c × IsOpenBelow s p c
+        × (is_within rules.is_cover (page_at s.tree c).cover key ≡ false) × (first_failing (enlarge_tests rules.is_cover s p c key) ≡ None)
+    IsNextStep (Down c) = IsBestChild c × IsOpenBelow s p c × (is_within rules.is_cover (page_at s.tree c).cover key ≡ true)
 
     -- what comes next, before any sides are worked out: a page that grows or is split is full
     abbrev pub IsPlan : Plan → Type 0
     IsPlan plan.Grow = (p ≡ 0) × (s.fan ≤ entries_of (page_at s.tree p))
-    IsPlan (plan.Split c) = IsChosen union size s p key c × IsFull s c
+    IsPlan (plan.Split c) = IsBestChild c × IsFull s c
     IsPlan (plan.Place leaf) = IsNextStep (Place leaf)
     IsPlan (plan.Post parent c) = IsNextStep (Post parent c)
     IsPlan (plan.Enlarge parent c) = IsNextStep (Enlarge parent c)
     IsPlan (plan.Down c) = IsNextStep (Down c)
-
-  -- the step comes next by the rules of a class
-  abbrev pub IsNextStepBy : {A : Type 0} → Rules K A → SearchTree K → ℕ → K → Step → Type 0
-  IsNextStepBy rules s p key step = IsNextStep rules.is_cover rules.union_of rules.size_of s p key step
 
   -- the sides part a page's entries in two groups of at least the fewest
   abbrev pub PartsPage : SearchTree K → ℕ → List Side → Type 0

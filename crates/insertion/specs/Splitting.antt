@@ -7,7 +7,7 @@ use Rattle.key_class.specs.declared.sides.Side.{Side}
 use Rattle.mailbox.specs.Outlets.{Rule}
 use Rattle.node.specs.Pages.{entries_of}
 use Rattle.page_table.specs.Trees.{page_at}
-use Rattle.descent.specs.NextSteps.{PartsPage}
+use Rattle.descent.specs.NextSteps.{IsPick, PartsPage}
 use Rattle.world.specs.States.{State}
 use Rattle.world.specs.Steps.{FirstFails, tests}
 use Rattle.world.specs.Tasks.{SplitTask, prepare_split_tests}
@@ -39,9 +39,10 @@ module _ (C : Type 0) {K A : Type 0} (rules : Rules K A) (rule : Rule) where
     pub worked : task.sides ≡ Some sides
     pub moves : MovesUnlessBarred {C = C} rules rule old (event.Split task.number sides) new
 
-  -- the page was split by sides that part it well, or that is barred
+  -- the page was split by sides that the class picks for it and that part it well, or that is barred
   pub record SplitsUnlessBarred (old : State K A) (page : ℕ) (new : State K A) : Type 0 where
     pub sides : List Side
+    pub picked : IsPick rules old.search page sides
     pub parts : PartsPage old.search page sides
     pub moves : MovesUnlessBarred {C = C} rules rule old (event.Split page sides) new
 

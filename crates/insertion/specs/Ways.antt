@@ -1,7 +1,7 @@
 -- The way of a row from the root to the leaf that takes it.
 use Rattle.std.specs.Prelude.{◌≡◌, ℕ}
 use Rattle.key_class.specs.Rules.{Rules}
-use Rattle.descent.specs.NextSteps.{IsNextStepBy}
+use Rattle.descent.specs.NextSteps.{IsNextStep}
 use Rattle.descent.specs.declared.step.Step.{Step}
 use Rattle.descent.specs.declared.step.Step.TheVariants as step
 use Rattle.world.specs.Stamps.{Stamp}
@@ -25,7 +25,7 @@ module _ (C : Type 0) {K A : Type 0} (rules : Rules K A) (key : K) where
   -- the way goes on from here by the step that comes next
   pub record AdvancesTo (old : State K A) (here : ℕ) (new : State K A) (next : ℕ) : Type 0 where
     pub taken : Step
-    pub comes_next : IsNextStepBy rules old.search here key taken
+    pub comes_next : IsNextStep rules old.search here key taken
     pub takes : TakesStep old here taken new next
 
   -- a way of the key that began at the root of the first world has come to this page, and made this world

@@ -1,8 +1,9 @@
-use Rattle.std.specs.Prelude.{◌≡◌, ◌↔◌, ℕ, Bool, true}
+use Rattle.std.specs.Prelude.{◌≡◌, ◌↔◌, ℕ, Bool, true, List}
 use Rattle.key_class.specs.Queries.{Query, matches_query, consistent_with_query}
+use Rattle.key_class.specs.declared.sides.Side.{Side}
 
 -- what a class of keys means by its calls
-pub record Rules (K A : Type 0) : Type 0 where
+pub record Rules (K A : Type 0) : Type 1 where
   -- whether a row's key matches an atom
   pub is_match : A → K → Bool
   -- whether a key below a bound may match an atom
@@ -13,6 +14,8 @@ pub record Rules (K A : Type 0) : Type 0 where
   pub is_cover : K → K → Bool
   -- how large a key is
   pub size_of : K → ℕ
+  -- which sides a split of these keys gives, with at least so many on each
+  pub picks : List K → ℕ → List Side → Type 0
 
 -- whether a key satisfies a query
 abbrev pub satisfies : {K A : Type 0} → Rules K A → Query A → K → Bool

@@ -1,5 +1,5 @@
 -- A finder's row stands once under its stack through every step, until a visit meets it.
-use Rattle.std.proofs.Common.{◌≡◌, ◌+◌, ◌<◌, ◌≤◌, ℕ, Bool, true, false, List, [], ◌∷◌, ◌++◌, length, map, filter, Some, sym, ap, ◌∙◌, arith, subst}
+use Rattle.std.proofs.Common.{◌≡◌, ◌+◌, ◌<◌, ◌≤◌, ℕ, Bool, true, false, List, [], ◌∷◌, ◌++◌, length, map, filter, Some, refl, sym, ap, ◌∙◌, arith, subst}
 use Rattle.std.proofs.lemmas.Bool.{both_ways}
 use Rattle.std.proofs.lemmas.List.Elements.{All-append, All-weaker}
 use Rattle.change_list.proofs.Tracking.{live_kept}
@@ -25,14 +25,21 @@ use Rattle.row_version.specs.Entries.{Entry, is_needed, marked}
 use Rattle.scan.proofs.Agreement.{marked_row, swept_dead}
 use Rattle.scan.proofs.Opening.{open_stack}
 use Rattle.scan.proofs.Scans.{keeps_stack, rows_stack}
-use Rattle.scan.proofs.Visiting.{next_exists}
+use Rattle.scan.proofs.Visiting.{next_exists, visit_stack}
 use Rattle.scan.specs.Agreement.{Agrees, IsEntryOf, is_row}
 use Rattle.scan.specs.Finding.{FindsHere, IsFinder, SeeksFurther}
-use Rattle.scan.specs.Scanning.{GoesOn, row_of}
+use Rattle.scan.specs.Scanning.{GoesOn, row_of, seen}
 
 -- a finder has something left to visit
 pub finder_open : {K : Type 0} (row : ℕ) (t : Tree K) → IsFinder row t [] → ⊥
 finder_open row t find = let e = find.there in omega (arith, e)
+
+-- what is still to be visited behind a page that lacks the row exists
+pub further_stack : {K : Type 0} (is_cover : K → K → Bool) (t : Tree K) (fan : ℕ) → IsSound is_cover fan t → (key : K) (row : ℕ) (old new : List StackItem) (page : ℕ)
+    → IsStack t old → SeeksFurther (λ bound. is_cover bound key) row t old page new → IsStack t new
+further_stack is_cover t fan sound key row old new page stack further =
+    visit_stack is_cover t fan sound (λ k. true) (λ bound. is_cover bound key) 0 old new page (seen (λ k. true) 0 (page_at t page).rows) stack
+    (record { rest = further.goes_on.rest; memo = further.memo; before = further.goes_on.before; after = further.goes_on.after; noted_is = refl })
 
 module _ {K : Type 0} (row : ℕ) (t : Tree K) (stack : List StackItem) where
   -- a step that moves entries

@@ -1,6 +1,6 @@
 use Rattle.std.proofs.Common.{◌∙◌, refl, subst}
 use Rattle.descent.proofs.Rising.{grow_makes, post_makes, split_makes}
-use Rattle.descent.specs.NextSteps.{IsNextStepBy, IsOpenBelow}
+use Rattle.descent.specs.NextSteps.{IsNextStep, IsOpenBelow}
 use Rattle.descent.specs.declared.step.Step.TheVariants as step
 use Rattle.world.specs.Steps.{Posts}
 use Rattle.world.specs.declared.event.Event.TheVariants as event
@@ -94,8 +94,8 @@ descending-init g c = record {
 
 pub descending-preserved : goal.descending-preserved
 descending-preserved g c =
-    let next : IsNextStepBy g.C.KeyClass.rules c.descending.world.search c.descending.page c.args.key (step.Down c.in-Down.child)
-    = subst (λ s. IsNextStepBy g.C.KeyClass.rules s c.descending.page c.args.key (step.Down c.in-Down.child)) c.search.ensures (rw c.in-Down.is at c.in_ok-sides.ensures.step) in record {
+    let next : IsNextStep g.C.KeyClass.rules c.descending.world.search c.descending.page c.args.key (step.Down c.in-Down.child)
+    = subst (λ s. IsNextStep g.C.KeyClass.rules s c.descending.page c.args.key (step.Down c.in-Down.child)) c.search.ensures (rw c.in-Down.is at c.in_ok-sides.ensures.step) in record {
       on = on_child g.C.KeyClass.rules g.O.Outlet.rule c.args.key c.args.world.now c.descending.world c.descending.page c.in-Down.child c.descending.invariant.on next.1 next.2;
       come = come_by g.row.C.Denot g.C.KeyClass.rules c.args.key c.args.world.now c.descending.world c.descending.world c.descending.page c.in-Down.child (step.Down c.in-Down.child) c.descending.invariant.come c.descending.world.search refl next (refl, refl);
     }
