@@ -6,7 +6,7 @@ use Rattle.key_class.specs.declared.refusal.Refusal.{Refusal}
 use Rattle.key_class.specs.declared.refusal.Refusal.TheVariants as refusal
 use Rattle.key_class.specs.declared.sides.Side.{Side}
 use Rattle.key_class.specs.Splits.{IsSplit}
-use Rattle.node.specs.Pages.{Page, entries_of}
+use Rattle.node.specs.Pages.{Page, entries_of, keys_of}
 use Rattle.page_table.specs.Trees.{page_at}
 use Rattle.scan.specs.Prepared.{PreparedVisit}
 use Rattle.cursor.specs.OpenCursors.{OpenCursor}
@@ -32,11 +32,15 @@ pub record VisitTask (K A : Type 0) : Type 0 where
   pub cursor : ℕ
   pub visit : PreparedVisit K A
 
-module _ {K : Type 0} where
-  -- a split of its page was worked out for the task
-  abbrev pub WorksOutSides : SplitTask K → SplitTask K → Type 0
-  WorksOutSides old new = (sides : List Side) × IsSplit (entries_of old.page) old.least sides × (new ≡ record old { sides = Some sides })
+module _ {K A : Type 0} (rules : Rules K A) where
+  -- for the task a split of its page's entries was worked out, by sides that the class picks for their keys
+  pub record WorksOutSides (old new : SplitTask K) : Type 0 where
+    pub sides : List Side
+    pub picked : rules.picks (keys_of old.page.rows old.page.branches) old.least sides
+    pub parts : IsSplit (entries_of old.page) old.least sides
+    pub after : new ≡ record old { sides = Some sides }
 
+module _ {K : Type 0} where
   -- why no split is worked out: the page has too few entries, or memory is wanting
   abbrev pub RefusesSides : SplitTask K → Refusal → Type 0
   RefusesSides task why = ((why ≡ refusal.TooFew) × (entries_of task.page < 2 * task.least)) ⊎ (why ≡ refusal.OutOfMemory)

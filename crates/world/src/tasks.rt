@@ -48,7 +48,7 @@ impl<C: KeyClass> SplitTask<C> {
     /// # Errors
     /// TooFew where the page has too few entries, else want of memory; the task is as it was.
     pub fn work(&mut self) -> Result<(), Refusal>
-        ensures worked { OnOk result (WorksOutSides self.old self.new) }
+        ensures worked { OnOk result (WorksOutSides C.rules self.old self.new) }
         ensures too_few { IfErr result (RefusesSides self.old) }
         ensures unchanged { OnErr result (self.new ≡ self.old) }
     {

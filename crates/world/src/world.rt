@@ -17,6 +17,7 @@ use descent::Finder;
 use key_class::{KeyClass, Refusal};
 use mailbox::Outlet;
 use node::Page;
+use snapshot::Snapshot;
 use split::SearchTree;
 use std::alloc::Global;
 use std::marker::Model;
@@ -112,6 +113,19 @@ impl<C: KeyClass, O: Outlet<C::Key>> World<C, O> {
         ensures refused { IfErr result (λ why. why ≡ Refusal.OutOfMemory) }
     {
         self.changes.view()
+    }
+
+    /// The world as it stands, whatever follows, to be searched beside it by any number of threads.
+    ///
+    /// # Errors
+    /// Want of memory.
+    pub fn snapshot(&self) -> Result<Snapshot<C>, Refusal>
+        ensures list { IfOk result (λ snapshot. snapshot ≡ self.now.commits) }
+        ensures refused { IfErr result (λ why. why ≡ Refusal.OutOfMemory) }
+    {
+        let pages = self.search.pages().copy()?;
+        let list = self.changes.view()?;
+        Ok(Snapshot::new(self.allocator(), pages, list))
     }
 
     /// What is known of a row number.

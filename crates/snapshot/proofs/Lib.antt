@@ -1,0 +1,4 @@
+mod Counting
+mod Going
+mod Living
+mod Passing

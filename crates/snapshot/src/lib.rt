@@ -1,0 +1,12 @@
+//! A world's commits as they stood, with the tree that agrees with them: any number of threads search it, without a lock.
+#![tactic(auto)]
+
+mod count;
+mod crossing;
+mod laws;
+mod life;
+mod snapshot;
+
+pub use crossing::snapshots_may_cross;
+pub use laws::snapshots_go_on;
+pub use snapshot::Snapshot;
