@@ -6,9 +6,12 @@ ghost use Rattle.key_class.specs.Queries.{query_of};
 ghost use Rattle.change_list.specs.declared.write.Write.TheVariants.{Insert, Delete, Move};
 ghost use Rattle.world.specs.declared.event.Event.TheVariants as event;
 ghost use Rattle.desk.specs.Seats.{AreFresh, IsStampOf};
-ghost use Rattle.desk.specs.Visits.{CountsMoving, CountsSearch, IsDelete, IsMove, IsVisit, IsCommitted, IsMovingCommitted, IsSearchCommitted, CountsOne, IsBadDesk, OutOfMemoryOr, OpensFor, IsReplied, FollowsFor, ClosesWithView, IsInsertRefused, IsDeleteRefused, IsMoveRefused, IsOpeningRefused, IsFollowingRefused};
+ghost use Rattle.desk.specs.Visits.{CountsMoving, CountsSearch, IsDelete, IsMove, IsVisit, IsCommitted, IsMovingCommitted, IsSearchCommitted, CountsOne, IsBadDesk, OutOfMemoryOr, OpensFor, IsReplied, FollowsFor, ClosesWithView, IsInsertRefused, IsDeleteRefused, IsMoveRefused, IsOpeningRefused, IsFollowingRefused, ShowsCommits, CountsCommits};
+ghost use Rattle.desk.specs.Weaving.{SeatStands};
 ghost use Rattle.key_class.specs.Refusals.{IsEither};
+ghost use Rattle.std.specs.Vec.{vec_capacity};
 
+use crate::checks::seat_stands;
 use crate::latches::Latches;
 use crate::locked::{Guarded, Locked};
 use crate::seat::Seat;
@@ -20,10 +23,12 @@ use key_class::{KeyClass, Pred, Refusal};
 use mailbox::Ring;
 use relocation::Moving;
 use removal::Search;
+use snapshot::Snapshot;
 use std::alloc::{AllocError, Global};
 use std::marker::Model;
+use std::sync::atomic::{AtomicBool, Ordering};
 use std::sync::ledger::{Blank, Ledger, Share};
-use std::sync::{Mutex, Wait};
+use std::sync::{Condvar, Mutex, Wait};
 use world::{Reply, SplitTask, Stamped, VisitTask, World};
 
 /// A world under a lock, which as many seats as the ledger has parts share.
@@ -31,6 +36,8 @@ use world::{Reply, SplitTask, Stamped, VisitTask, World};
 pub struct DeskOver<W: Guarded, L: Ledger> {
     pub(crate) alloc: Global,
     pub(crate) locked: Mutex<Locked<W, L>>,
+    /// What who waits for a commit sleeps on, under the lock.
+    grown: Condvar,
     pub(crate) latches: Latches,
     pub(crate) seats: usize,
 }
@@ -127,6 +134,7 @@ impl<C: KeyClass, L: Ledger> DeskOver<World<C, Ring<C::Key>>, L> {
             DeskOver {
                 alloc,
                 locked,
+                grown: Condvar::new(),
                 latches: Latches::new(),
                 seats,
             },
@@ -158,8 +166,17 @@ impl<C: KeyClass, L: Ledger> DeskOver<World<C, Ring<C::Key>>, L> {
         }
         let number = seat.number;
         let stamped = self.insert_for(rt, number, &mut seat.share, key, tag)?;
-        seat.stamps.push_reserved(stamped);
+        self.keep(&mut seat.stamps, stamped);
         Ok(stamped)
+    }
+
+    /// Keeps the stamp of a commit that was made for a seat, and wakes who waits for a commit.
+    fn keep(&self, stamps: &mut Vec<Stamped<C::Key>>, stamped: Stamped<C::Key>)
+        requires room { length stamps.old.items < vec_capacity stamps.old }
+        ensures { stamps.new.items ≡ stamps.old.items ++ stamped ∷ [] }
+    {
+        self.grown.notify_all();
+        stamps.push_reserved(stamped);
     }
 
     /// Visits the lock until the row is placed or a visit is refused.
@@ -239,7 +256,7 @@ impl<C: KeyClass, L: Ledger> DeskOver<World<C, Ring<C::Key>>, L> {
         }
         let number = seat.number;
         let stamped = self.delete_for(rt, number, &mut seat.share, row)?;
-        seat.stamps.push_reserved(stamped);
+        self.keep(&mut seat.stamps, stamped);
         Ok(stamped)
     }
 
@@ -327,7 +344,7 @@ impl<C: KeyClass, L: Ledger> DeskOver<World<C, Ring<C::Key>>, L> {
         }
         let number = seat.number;
         let stamped = self.move_for(rt, number, &mut seat.share, row, key)?;
-        seat.stamps.push_reserved(stamped);
+        self.keep(&mut seat.stamps, stamped);
         Ok(stamped)
     }
 
@@ -558,6 +575,7 @@ impl<C: KeyClass, L: Ledger> DeskOver<World<C, Ring<C::Key>>, L> {
     {
         self.locked.lock(rt).sweep(leaf)
     }
+
     /// Closes a cursor.
     pub(crate) fn close_cursor<R: Wait>(&self, rt: &R, cursor: u64) -> Reply<C, Ring<C::Key>>
         ensures visit { IsReplied C.rules (event.Close cursor) result }
@@ -579,5 +597,73 @@ impl<C: KeyClass, L: Ledger> DeskOver<World<C, Ring<C::Key>>, L> {
         self.locked
             .lock(rt)
             .close_with_view(&mut seat.share, cursor)
+    }
+
+    /// The commits as they stand, whatever follows, to be searched without the lock by any number of threads: no fewer than
+    /// the seat was answered, and its stamps stand in them. None where memory is wanting, or a stamp isn't there.
+    ///
+    /// One visit to the lock makes the snapshot, and no event; the stamps are looked up without it.
+    pub fn snapshot<R: Wait>(&self, rt: &R, seat: &mut Seat<C, L>) -> Option<Snapshot<C>>
+        ensures seat { seat.new ≡ seat.old }
+        ensures visit { IsVisit C.rules (ShowsCommits result) }
+        ensures share { IfSome result (λ snapshot. length seat.old.stamps ≤ length snapshot) }
+        ensures stamps { IfSome result (λ snapshot. SeatStands snapshot seat.old) }
+    {
+        match self.snapshot_for(rt, seat) {
+            None => return None,
+            Some(snapshot) => {
+                if !seat_stands(snapshot.list(), seat) {
+                    return None;
+                }
+                return Some(snapshot);
+            }
+        }
+    }
+
+    /// The commits as they stand, with the tree, where there is memory for a snapshot.
+    fn snapshot_for<R: Wait>(&self, rt: &R, seat: &mut Seat<C, L>) -> Option<Snapshot<C>>
+        ensures seat { seat.new ≡ seat.old }
+        ensures visit { IsVisit C.rules (ShowsCommits result) }
+        ensures share { IfSome result (λ snapshot. length seat.old.stamps ≤ length snapshot) }
+    {
+        self.locked.lock(rt).snapshot(&mut seat.share)
+    }
+
+    /// Waits until there are more commits than that, and tells how many there are then. The thread sleeps meanwhile, and is
+    /// woken by each commit.
+    ///
+    /// A visit to the lock makes no event. Where no such commit comes, it doesn't return.
+    pub fn wait_past<R: Wait>(&self, rt: &R, commits: u64) -> u64
+        ensures past { commits < result }
+        ensures visit { IsVisit C.rules (CountsCommits result) }
+    {
+        let locked = self.grown.wait_while(
+            rt,
+            self.locked.lock(rt),
+            |locked| locked.commits() <= commits,
+        );
+        locked.commits()
+    }
+
+    /// Waits until there are more commits than that or the flag is raised, and tells how many commits there are then. Who
+    /// raises the flag calls `wake` behind that.
+    ///
+    /// A visit to the lock makes no event.
+    pub fn wait_past_unless<R: Wait>(&self, rt: &R, commits: u64, is_over: &AtomicBool) -> u64
+        ensures visit { IsVisit C.rules (CountsCommits result) }
+    {
+        let locked = self.grown.wait_while(
+            rt,
+            self.locked.lock(rt),
+            |locked| locked.commits() <= commits && !is_over.load(Ordering::SeqCst),
+        );
+        locked.commits()
+    }
+
+    /// Wakes who waits for a commit, to look at its flag. It takes the lock, so that nobody is missed who has looked at its
+    /// flag and doesn't sleep yet.
+    pub fn wake<R: Wait>(&self, rt: &R) {
+        let _locked = self.locked.lock(rt);
+        self.grown.notify_all();
     }
 }

@@ -19,6 +19,7 @@ use mailbox::Ring;
 use relocation::{Moving, move_step};
 use removal::{Search, find_row, seek_row};
 use rtrb::Consumer;
+use snapshot::Snapshot;
 use std::alloc::Global;
 use std::marker::Model;
 use std::sync::ledger::{Book, Ledger, Share};
@@ -382,5 +383,27 @@ impl<C: KeyClass, L: Ledger> Locked<World<C, Ring<C::Key>>, L> {
         let view = world.view().ok();
         let _closed = world.step(Event::Close(cursor));
         view
+    }
+
+    /// The commits as they are, with the tree, where there is memory for a snapshot. The share is at most their number.
+    pub(crate) fn snapshot(&mut self, share: &mut Share<L>) -> Option<Snapshot<C>>
+        ensures shows { IfSome result (λ snapshot. snapshot ≡ self.old.commits) }
+        ensures unchanged { self.new ≡ self.old }
+        ensures number { share.new.amount ≤ length self.old.commits }
+        ensures share { share.new.amount ≡ share.old.amount }
+        ensures parts { share.new.parts ≡ share.old.parts }
+        ensures held { IsHeld C.rules self.old × IsHeld C.rules self.new }
+    {
+        let Locked { world, book } = self;
+        book.audit(share);
+        world.snapshot().ok()
+    }
+
+    /// How many commits there are.
+    pub(crate) fn commits(&self) -> u64
+        ensures number { result ≡ length self.now.commits }
+        ensures held { IsHeld C.rules self.now }
+    {
+        self.world.commits()
     }
 }

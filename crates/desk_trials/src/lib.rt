@@ -32,4 +32,6 @@ mod resumed;
 #[cfg(test)]
 mod seats;
 #[cfg(test)]
+mod snapshots;
+#[cfg(test)]
 mod two_threads;
