@@ -1,4 +1,4 @@
--- What a storm tells of its readers.
+-- What a storm tells of its readers and lookers.
 use Rattle.std.specs.Prelude.{ℕ, ◌+◌, List, [], ◌∷◌, ◌++◌, Option, Result, OnOk, codes}
 use Rattle.std.specs.Fmt.{decimal}
 use Rattle.std.specs.Io.KnownBytes.{Appends}
@@ -8,34 +8,44 @@ use Rattle.storm.specs.declared.judge.Verdict.{Verdict}
 use Rattle.storm.specs.declared.judge.Verdict.TheVariants as verdict
 use Rattle.storm.specs.declared.limits.Limits.{Limits}
 use Rattle.storm.specs.declared.outcome.Outcome.{Outcome}
+use Rattle.gist.specs.declared.options.Role.{Role}
+use Rattle.gist.specs.declared.options.Role.TheVariants as role
 
 -- where it ends well, the writer has this text more. contents tells of a writer what it has.
 abbrev pub Outputs : {W E : Type 0} → (W → Option (List ℕ)) → W → W → List ℕ → Result (Unit {0}) E → Type 0
 Outputs contents old new text returned = OnOk returned (Appends (contents old) (contents new) text)
 
--- how a reader fared, of a storm of so many commits
-abbrev pub verdict_text : ℕ → Verdict → List ℕ
-verdict_text commits verdict.Whole = codes " whole at " ++ decimal commits
-verdict_text commits verdict.NotWhole = codes " not whole"
-verdict_text commits verdict.NoReceipt = codes " no receipt"
+abbrev pub role_text : Role → List ℕ
+role_text role.Reader = codes "reader "
+role_text role.Looker = codes "looker "
 
--- the line of a reader with its number
-abbrev pub reader_line : ℕ → ℕ → Verdict → List ℕ
-reader_line commits number told = codes "reader " ++ (decimal number ++ (verdict_text commits told ++ codes "\n"))
+abbrev pub missing_text : Role → List ℕ
+missing_text role.Reader = codes " no receipt"
+missing_text role.Looker = codes " no snapshot"
 
--- the lines of readers, of which so many stand before them
-abbrev pub reader_lines : ℕ → ℕ → List Verdict → List ℕ
-reader_lines commits before [] = []
-reader_lines commits before (told ∷ verdicts) = reader_line commits (before + 1) told ++ reader_lines commits (before + 1) verdicts
+-- how a client fared, of a storm of so many commits
+abbrev pub verdict_text : Role → ℕ → Verdict → List ℕ
+verdict_text client commits verdict.Whole = codes " whole at " ++ decimal commits
+verdict_text client commits verdict.NotWhole = codes " not whole"
+verdict_text client commits verdict.Missing = missing_text client
+
+-- the line of a client with its number
+abbrev pub client_line : Role → ℕ → ℕ → Verdict → List ℕ
+client_line client commits number told = role_text client ++ (decimal number ++ (verdict_text client commits told ++ codes "\n"))
+
+-- the lines of clients, of which so many stand before them
+abbrev pub client_lines : Role → ℕ → ℕ → List Verdict → List ℕ
+client_lines client commits before [] = []
+client_lines client commits before (told ∷ verdicts) = client_line client commits (before + 1) told ++ client_lines client commits (before + 1) verdicts
 
 abbrev pub count_line : ℕ → List ℕ
 count_line commits = codes "commits " ++ (decimal commits ++ codes "\n")
 
--- a line with the number of commits, and one for each reader
+-- a line with the number of commits, one for each reader, and one for each looker
 abbrev pub storm_text : Outcome → List ℕ
-storm_text o = count_line o.commits ++ reader_lines o.commits 0 o.verdicts.items
+storm_text o = count_line o.commits ++ (client_lines role.Reader o.commits 0 o.readers.items ++ client_lines role.Looker o.commits 0 o.lookers.items)
 
--- A storm passed: all rows were written, each reader is whole as the commits tell, and that was written.
+-- A storm passed: all rows were written, each reader and each looker is whole as the commits tell, and that was written.
 pub record TellsStorm (held written : Option (List ℕ)) (limits : Limits) : Type 0 where
   pub outcome : Outcome
   pub within : IsStorm limits

@@ -107,33 +107,43 @@ pub const FAN_HELP: &str = "Most entries of a page, 4 to 64, 32 for many [defaul
 pub const LEAST_HELP: &str = "Fewest on a side of a split, 2 to half M [default: 3]";
 
 /// What `storm` does.
-pub const STORM_ABOUT: &str = "Lets many clients work at one tree, and checks what each reader got";
+pub const STORM_ABOUT: &str =
+    "Lets many clients work at one tree, and checks what each of them got";
 
 /// What a storm is, and what it shows.
 pub const STORM_GUIDE: &str = "\
 Writers insert small intervals and delete the first of them. Each reader follows
-a cursor on overlaps(0 499). Pumps do the cursors' work, and one thread more
-sweeps leaves. Each is a thread of its own, and all work at one tree. At the end
-what each reader took is compared with the commits.
+a cursor on overlaps(0 499). Each looker takes one snapshot after the other,
+finds overlaps(0 499) in each, and takes the changes since the one before. Pumps
+do the cursors' work, and one thread more sweeps leaves. Each is a thread of its
+own, and all work at one tree. At the end what each reader took and each looker
+found is compared with the commits.
 
-  commits N            how many changes were made: W times I and D together
-  reader K whole at N  reader K took each row of its opening once, then each
-                       later change once, in order, and a mark of all N commits
-  reader K not whole   it took something else
-  reader K no receipt  its cursor was closed without a receipt
-Where a row was refused or a reader isn't whole, the status is 1.
+  commits N             how many changes were made: W times I and D together
+  reader K whole at N   reader K took each row of its opening once, then each
+                        later change once, in order, and a mark of all N commits
+  reader K not whole    it took something else
+  reader K no receipt   its cursor was closed without a receipt
+  looker K whole at N   looker K found exactly the rows of each of its snapshots
+                        and the changes in between, up to all N commits
+  looker K not whole    it found something else
+  looker K no snapshot  it got no snapshot
+Where a row was refused, or a reader or looker isn't whole, the status is 1.
 
 What is proved of each call holds for every order of the threads. A storm shows
 the whole program at work in some of these orders. It doesn't try all of them,
 and what it trusts (the machine's threads, its memory) it can't show.
 
-Each writer, reader and pump costs a thread, and each row some 100 bytes.
+There are at most 64 writers, readers and lookers. Each of them and each pump
+costs a thread, each row some 100 bytes, and each row or change that a looker
+gets some 40 more.
 
 A storm:
-  $ gist storm --writers 4 --inserts 250 --readers 2 --room 2
+  $ gist storm --writers 4 --inserts 250 --readers 2 --lookers 1 --room 2
   commits 1000
   reader 1 whole at 1000
-  reader 2 whole at 1000";
+  reader 2 whole at 1000
+  looker 1 whole at 1000";
 
 pub const WRITERS_HELP: &str = "How many threads write, 1 to 32 [default: 4]";
 
@@ -142,6 +152,8 @@ pub const INSERTS_HELP: &str = "How many rows each writer inserts, 0 to 1000 [de
 pub const DELETES_HELP: &str = "How many of them it deletes, 0 to I [default: 0]";
 
 pub const READERS_HELP: &str = "How many threads follow a cursor, 0 to 32 [default: 2]";
+
+pub const LOOKERS_HELP: &str = "How many threads look at snapshots, 0 to 32 [default: 0]";
 
 pub const ROOM_HELP: &str = "How many items a mailbox holds, 1 to 4096 [default: 2]";
 

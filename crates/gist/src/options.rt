@@ -29,10 +29,19 @@ pub enum Settings {
     Storm(Limits),
 }
 
+/// What a client of a storm is that tells how it fared.
+#[derive(Clone, Copy, Debug, PartialEq, Eq)]
+pub enum Role {
+    /// It follows a cursor.
+    Reader,
+    /// It looks at snapshots.
+    Looker,
+}
+
 /// How a command ended.
 #[derive(Clone, Copy, Debug, PartialEq, Eq)]
 pub enum Ending {
     Well,
-    /// Rows of a storm were refused, or a reader isn't whole.
+    /// Rows of a storm were refused, or a reader or a looker isn't whole.
     StormFailed,
 }

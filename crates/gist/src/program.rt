@@ -6,11 +6,11 @@ ghost use Rattle.front.specs.Conversations.{Kept, exchange};
 ghost use Rattle.clap.specs.Words.{kind_of};
 ghost use Rattle.clap.specs.declared.error.ErrorKind.{ErrorKind};
 ghost use Rattle.storm.specs.Sizes.{IsStorm};
-ghost use Rattle.gist.specs.Storms.{TellsStorm, Outputs, count_line, reader_line, storm_text};
+ghost use Rattle.gist.specs.Storms.{TellsStorm, Outputs, client_line, client_lines, count_line, storm_text};
 ghost use Rattle.gist.specs.CommandLine.{texts_of, AreWellFormed, NameNothing, AreRefused, AsksForText, IsOfWords, WantText};
 ghost use Rattle.gist.specs.Served.{limits_of, AnsweredOver, EventsAnsweredOver, ServesOptions, Replays, Does, DoesAsked, IfWell, HaveBadLimits, AreOutOfLimits, RefusesLimits, NameBadLimits, AreUnfit};
 
-use crate::options::{Class, Ending, Settings, StoreOptions};
+use crate::options::{Class, Ending, Role, Settings, StoreOptions};
 use crate::words::settings;
 use arrayvec::ArrayVec;
 use box_class::Boxes;
@@ -135,28 +135,50 @@ fn replay<R: Read, W: Write>(
     }
 }
 
-/// Writes the line of a reader.
-fn tell_reader<W: Write>(
+/// Writes the line of a reader or a looker.
+fn tell_client<W: Write>(
     writer: &mut W,
+    role: Role,
     commits: u64,
     number: u64,
     verdict: Verdict,
 ) -> io::Result<()>
-    ensures { Outputs W.contents writer.old writer.new (reader_line commits number verdict) result }
+    ensures { Outputs W.contents writer.old writer.new
+        (client_line role commits number verdict) result }
 {
     let mut line = ArrayVec::<u8, 64>::new();
-    append(&mut line, b"reader ");
+    match role {
+        Role::Reader => append(&mut line, b"reader "),
+        Role::Looker => append(&mut line, b"looker "),
+    }
     append_number(&mut line, number);
-    match verdict {
-        Verdict::Whole => {
+    match (verdict, role) {
+        (Verdict::Whole, _) => {
             append(&mut line, b" whole at ");
             append_number(&mut line, commits);
         }
-        Verdict::NotWhole => append(&mut line, b" not whole"),
-        Verdict::NoReceipt => append(&mut line, b" no receipt"),
+        (Verdict::NotWhole, _) => append(&mut line, b" not whole"),
+        (Verdict::Missing, Role::Reader) => append(&mut line, b" no receipt"),
+        (Verdict::Missing, Role::Looker) => append(&mut line, b" no snapshot"),
     }
     append(&mut line, b"\n");
     writer.write_all(line.as_slice())
+}
+
+/// Writes a line for each client with a role.
+fn tell_clients<W: Write>(
+    writer: &mut W,
+    role: Role,
+    commits: u64,
+    verdicts: &[Verdict],
+) -> io::Result<()>
+    ensures { Outputs W.contents writer.old writer.new
+        (client_lines role commits 0 verdicts.now) result }
+{
+    for place in 0..verdicts.len() {
+        tell_client(writer, role, commits, place as u64 + 1, verdicts[place])?;
+    }
+    Ok(())
 }
 
 /// Writes the line with the number of commits.
@@ -170,19 +192,17 @@ fn tell_count<W: Write>(writer: &mut W, commits: u64) -> io::Result<()>
     writer.write_all(line.as_slice())
 }
 
-/// Writes the number of commits, and how each reader fared.
+/// Writes the number of commits, and how each reader and each looker fared.
 fn tell_storm<W: Write>(writer: &mut W, outcome: &Outcome) -> io::Result<()>
     ensures { Outputs W.contents writer.old writer.new (storm_text outcome.now) result }
 {
-    tell_count(writer, outcome.commits)?;
-    let verdicts = outcome.verdicts.as_slice();
-    for place in 0..verdicts.len() {
-        tell_reader(writer, outcome.commits, place as u64 + 1, verdicts[place])?;
-    }
-    Ok(())
+    let commits = outcome.commits;
+    tell_count(writer, commits)?;
+    tell_clients(writer, Role::Reader, commits, outcome.readers.as_slice())?;
+    tell_clients(writer, Role::Looker, commits, outcome.lookers.as_slice())
 }
 
-/// Lets the clients of a storm work at once, and tells how each reader fared.
+/// Lets the clients of a storm work at once, and tells how each reader and each looker fared.
 ///
 /// # Errors
 /// `Refused` with `BadConfig` where a number is out of its range, and else want of memory, or `Write`.

@@ -7,7 +7,7 @@ use Rattle.change_list.specs.declared.write.Write.{Write}
 use Rattle.change_list.specs.declared.item.Item.{Item}
 use Rattle.change_list.specs.declared.item.Item.TheVariants as item
 use Rattle.change_list.specs.Changes.{commit_at}
-use Rattle.change_list.specs.Listings.{IsListing, without_marks}
+use Rattle.change_list.specs.Listings.{IsListing, IsListingFor, without_marks}
 use Rattle.desk.specs.declared.ending.Ended.{Ended}
 use Rattle.desk.specs.declared.ending.Ended.TheVariants as ended
 use Rattle.storm.specs.declared.judge.Reading.{Reading}
@@ -43,6 +43,10 @@ IsWholeReading rules query commits reading =
 abbrev pub HasNoReceipt : {K : Type 0} → Reading K → Type 0
 HasNoReceipt reading = reading.ended ≡ ended.NoReceipt
 
+-- it tells whether the items, marks left out, are all that a cursor of a query gives from one commit to another
+abbrev pub TellsGiven : {K A : Type 0} → Rules K A → Pred A → Bool → ℕ → ℕ → List (Write K) → List (Item K) → Bool → Type 0
+TellsGiven rules query follows from upto commits items told = IsTrue told ↔ IsListingFor follows (satisfies rules (query_of query)) from upto commits (without_marks items)
+
 -- it tells whether the items are such a listing of a query
 abbrev pub TellsListing : {K A : Type 0} → Rules K A → Pred A → ℕ → List (Write K) → List (Item K) → Bool → Type 0
 TellsListing rules query opened commits items told = IsTrue told ↔ IsWholeListing (satisfies rules (query_of query)) opened commits items
@@ -53,18 +57,22 @@ TellsWhole rules query commits reading told = (told ≡ verdict.Whole) ↔ IsWho
 
 -- it tells how a reader of a query fared: one that took nothing has no receipt
 abbrev pub TellsFate : {K A : Type 0} → Rules K A → Query A → List (Write K) → Option (Reading K) → Verdict → Type 0
-TellsFate rules query commits None told = told ≡ verdict.NoReceipt
+TellsFate rules query commits None told = told ≡ verdict.Missing
 TellsFate rules query commits (Some reading) told =
-    ((told ≡ verdict.Whole) ↔ IsWholeReading rules query commits reading) × ((told ≡ verdict.NoReceipt) ↔ HasNoReceipt reading)
+    ((told ≡ verdict.Whole) ↔ IsWholeReading rules query commits reading) × ((told ≡ verdict.Missing) ↔ HasNoReceipt reading)
+
+-- each tells how the client in its place fared
+abbrev pub TellsEach : {X : Type 0} → (X → Verdict → Type 0) → List X → List Verdict → Type 0
+TellsEach Tells [] [] = ⊤
+TellsEach Tells [] (v ∷ told) = ⊥
+TellsEach Tells (x ∷ clients) [] = ⊥
+TellsEach Tells (x ∷ clients) (v ∷ told) = Tells x v × TellsEach Tells clients told
 
 -- each tells how the reader in its place fared
 abbrev pub TellsFates : {K A : Type 0} → Rules K A → Query A → List (Write K) → List (Option (Reading K)) → List Verdict → Type 0
-TellsFates rules query commits [] [] = ⊤
-TellsFates rules query commits [] (v ∷ told) = ⊥
-TellsFates rules query commits (r ∷ readings) [] = ⊥
-TellsFates rules query commits (r ∷ readings) (v ∷ told) = TellsFate rules query commits r v × TellsFates rules query commits readings told
+TellsFates rules query commits readings told = TellsEach (TellsFate rules query commits) readings told
 
-abbrev pub is_whole_reader : Verdict → Bool
-is_whole_reader verdict.Whole = true
-is_whole_reader verdict.NotWhole = false
-is_whole_reader verdict.NoReceipt = false
+abbrev pub is_whole : Verdict → Bool
+is_whole verdict.Whole = true
+is_whole verdict.NotWhole = false
+is_whole verdict.Missing = false

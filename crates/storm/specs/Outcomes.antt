@@ -11,10 +11,12 @@ use Rattle.change_list.specs.declared.write.Write.{Write}
 use Rattle.world.specs.Stamps.{Stamp}
 use Rattle.desk.specs.Seats.{Seated}
 use Rattle.desk.specs.Weaving.{Woven}
-use Rattle.storm.specs.Judging.{TellsFates, is_whole_reader}
+use Rattle.storm.specs.Judging.{TellsFates, is_whole}
+use Rattle.storm.specs.Looking.{TellsSights}
 use Rattle.storm.specs.declared.judge.Reading.{Reading}
 use Rattle.storm.specs.declared.judge.Verdict.{Verdict}
 use Rattle.storm.specs.declared.limits.Limits.{Limits}
+use Rattle.storm.specs.declared.looks.Look.{Look}
 use Rattle.storm.specs.declared.outcome.Outcome.{Outcome}
 
 -- the query is whether a key has a number from 0 to 499
@@ -28,25 +30,32 @@ AsksFirst500 (never part) = ⊥
 abbrev pub TellsReaders : {Z : Type 0} → Pred Atom → List (Write Interval) → List (Option (Reading Interval)) → Vec Verdict Z → Type 0
 TellsReaders query commits readings told = TellsFates interval_rules (query_of query) commits readings told.items
 
+-- each verdict tells how the looker in its place fared, by these commits
+abbrev pub TellsLookers : {Z Y : Type 0} → Pred Atom → List (Write Interval) → List (Vec (Look Interval) Z) → Vec Verdict Y → Type 0
+TellsLookers query commits looks told = TellsSights interval_rules (query_of query) commits looks told.items
+
 -- each list is the stamps of the seat in its place
 abbrev pub AreStampsOf : {K Z : Type 0} → List (Seated K) → List (Vec (Stamp K) Z) → Type 0
 AreStampsOf seats stamps = map (λ list. list.items) stamps ≡ map (λ seat. seat.stamps) seats
 
--- There is a list of so many commits, and each verdict tells how the reader in its place fared by them. The stamps of the
--- seats are told to be the commits of that list exactly where they are.
+-- There is a list of so many commits, and each verdict tells how the reader or the looker in its place fared by them. The
+-- stamps of the seats are told to be the commits of that list exactly where they are.
 pub record IsTrueOutcome (o : Outcome) : Type 0 where
   pub query : Query Atom
   pub commits : List (Write Interval)
   pub asks : AsksFirst500 query
   pub count : o.commits ≡ length commits
-  pub verdicts : TellsFates interval_rules query commits o.readings.items o.verdicts.items
+  pub readers : TellsFates interval_rules query commits o.readings.items o.readers.items
+  pub lookers : TellsSights interval_rules query commits o.looks.items o.lookers.items
   pub seats : List (Seated Interval)
   pub stamps : AreStampsOf seats o.stamps.items
   pub woven : IsTrue o.is_woven ↔ Woven commits seats
 
--- all rows were written and deleted, and each of all readers is whole
+-- all rows were written and deleted, and each of all readers and lookers is whole
 pub record IsWholeStorm (limits : Limits) (o : Outcome) : Type 0 where
   pub woven : IsTrue o.is_woven
   pub commits : o.commits ≡ limits.writers * (limits.inserts + limits.deletes)
-  pub readers : length o.verdicts.items ≡ limits.readers
-  pub whole : IsTrue (list_all is_whole_reader o.verdicts.items)
+  pub readers : length o.readers.items ≡ limits.readers
+  pub lookers : length o.lookers.items ≡ limits.lookers
+  pub whole_readers : IsTrue (list_all is_whole o.readers.items)
+  pub whole_lookers : IsTrue (list_all is_whole o.lookers.items)

@@ -1,6 +1,6 @@
 -- How large a storm may be.
-use Rattle.std.specs.Prelude.{◌≤◌}
-use Rattle.key_class.specs.Limits.{most_room}
+use Rattle.std.specs.Prelude.{◌+◌, ◌≤◌}
+use Rattle.key_class.specs.Limits.{most_room, most_seats}
 use Rattle.storm.specs.declared.limits.Limits.{Limits}
 
 pub record IsStorm (s : Limits) : Type 0 where
@@ -9,6 +9,8 @@ pub record IsStorm (s : Limits) : Type 0 where
   pub inserts : s.inserts ≤ 1000
   pub deletes : s.deletes ≤ s.inserts
   pub readers : s.readers ≤ 32
+  pub lookers : s.lookers ≤ 32
+  pub seats : s.writers + s.readers + s.lookers ≤ most_seats
   pub some_room : 1 ≤ s.room
   pub room : s.room ≤ most_room
   pub some_pump : 1 ≤ s.pumps

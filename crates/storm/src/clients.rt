@@ -1,9 +1,11 @@
 //! What the clients of a storm do, each in a thread of its own.
 ghost use Rattle.key_class.specs.Queries.{query_of};
 ghost use Rattle.storm.specs.Outcomes.{AsksFirst500};
+ghost use Rattle.storm.specs.Sizes.{IsStorm};
 
 use crate::judge::Reading;
 use crate::limits::Limits;
+use crate::looks::Look;
 use change_list::Item;
 use crossbeam_channel::Sender;
 use desk::{Desk, Ended, Seat, Taker};
@@ -15,7 +17,7 @@ use rand_pcg::Pcg32;
 use std::alloc::Global;
 use std::rt::Clock;
 use std::sync::Wait;
-use std::sync::atomic::{AtomicU64, Ordering};
+use std::sync::atomic::{AtomicBool, AtomicU64, Ordering};
 use std::sync::ledger::Ledger;
 use std::thread;
 use std::thread::Threads;
@@ -33,7 +35,10 @@ const PAUSE: u64 = 200;
 /// After how many such pauses without an item a reader gives up: a minute.
 const PAUSES: u32 = 300_000;
 
-/// The query of all readers.
+/// A looker looks again when more commits have come than one of so many parts of all.
+const PARTS: u64 = 16;
+
+/// The query of all readers and lookers.
 pub fn asked() -> Pred<Atom>
     ensures { AsksFirst500 (query_of result) }
 {
@@ -59,17 +64,28 @@ pub struct Reader<L: Ledger> {
     pub reading: Option<Reading<Interval>>,
 }
 
-/// What a storm tells its readers.
+/// A looker: its seat, and what it found.
+#[derive(Drop)]
+pub struct Looker<L: Ledger> {
+    pub seat: Seat<Intervals, L>,
+    pub looks: Vec<Look<Interval>>,
+}
+
+/// What a storm tells its readers and lookers.
 #[derive(Drop)]
 pub struct Told<'s> {
     pub limits: Limits,
     pub orders: &'s Sender<Order>,
     /// The number of commits once all rows were written, `WRITING` before that.
     pub commits: &'s AtomicU64,
+    /// Raised once all rows were written.
+    pub is_over: &'s AtomicBool,
+    /// A looker looks again when more than so many commits have come, or the flag is raised.
+    pub pace: u64,
 }
 
-/// Where clients of a storm work: writers `W` and readers `V`.
-pub trait Clients<W, V> {
+/// Where clients of a storm work: writers `W`, readers `V` and lookers `X`.
+pub trait Clients<W, V, X> {
     /// Inserts rows and deletes the first of them, up to the first refusal.
     fn write<R: Wait>(&self, rt: &R, limits: Limits, writer: &mut W);
 
@@ -78,6 +94,12 @@ pub trait Clients<W, V> {
 
     /// Follows a cursor up to a mark of all commits.
     fn read<R: Wait + Clock>(&self, rt: &R, alloc: Global, told: &Told<'_>, reader: &mut V);
+
+    /// Looks at snapshots, one after the other, up to one of all commits.
+    fn look<R: Wait>(&self, rt: &R, alloc: Global, told: &Told<'_>, looker: &mut X);
+
+    /// Wakes lookers, to see that all rows were written.
+    fn wake_lookers<R: Wait>(&self, rt: &R);
 
     /// Sweeps pages 0 to 63 in turn, and passes over refusals.
     fn sweep_pages<R: Wait>(&self, rt: &R, times: u32);
@@ -129,7 +151,33 @@ fn follow<L: Ledger, R: Wait + Clock>(
     }
 }
 
-impl<L: Ledger> Clients<Seat<Intervals, L>, Reader<L>> for Desk<Intervals, L> {
+/// Keeps what a looker finds in a snapshot, with the changes after one of `from` commits. How many commits it has; none where
+/// memory is wanting. Its snapshot is dropped, so that writers needn't copy pages that it shares.
+fn look_behind<L: Ledger, R: Wait>(
+    rt: &R,
+    alloc: Global,
+    desk: &Desk<Intervals, L>,
+    looker: &mut Looker<L>,
+    from: u64,
+) -> Option<u64> {
+    let query = asked();
+    let snapshot = desk.snapshot(rt, &mut looker.seat)?;
+    let commits = snapshot.commits();
+    let rows = snapshot.find(&query).ok()?;
+    let mut changes = Vec::new(alloc);
+    let _upto = snapshot
+        .changes(&query, from, &mut changes, usize::MAX)
+        .ok()?;
+    let look = Look {
+        commits,
+        rows,
+        changes,
+    };
+    looker.looks.push(look).ok()?;
+    Some(commits)
+}
+
+impl<L: Ledger> Clients<Seat<Intervals, L>, Reader<L>, Looker<L>> for Desk<Intervals, L> {
     fn write<R: Wait>(&self, rt: &R, limits: Limits, seat: &mut Seat<Intervals, L>) {
         let state = u64::from(limits.seed) + u64::from(seat.number());
         let mut generator = Pcg32::new(state, 0);
@@ -177,6 +225,26 @@ impl<L: Ledger> Clients<Seat<Intervals, L>, Reader<L>> for Desk<Intervals, L> {
         });
     }
 
+    fn look<R: Wait>(&self, rt: &R, alloc: Global, told: &Told<'_>, looker: &mut Looker<L>) {
+        let mut from = 0;
+        for _ in rt.forever() {
+            // read before the snapshot is made: where the flag is raised, that has all commits
+            let is_last = told.is_over.load(Ordering::SeqCst);
+            let Some(commits) = look_behind(rt, alloc, self, looker, from) else {
+                return;
+            };
+            if is_last {
+                return;
+            }
+            from = commits;
+            let _count = self.wait_past_unless(rt, from.saturating_add(told.pace), told.is_over);
+        }
+    }
+
+    fn wake_lookers<R: Wait>(&self, rt: &R) {
+        self.wake(rt);
+    }
+
     fn sweep_pages<R: Wait>(&self, rt: &R, times: u32) {
         for time in 0..times {
             let _reply = self.sweep(rt, u64::from(time % 64));
@@ -185,9 +253,9 @@ impl<L: Ledger> Clients<Seat<Intervals, L>, Reader<L>> for Desk<Intervals, L> {
 }
 
 /// Lets all writers write, each in a thread of its own.
-fn write_all<D, W, V, R>(rt: &R, desk: &D, limits: Limits, writers: &mut [W])
+fn write_all<D, W, V, X, R>(rt: &R, desk: &D, limits: Limits, writers: &mut [W])
 where
-    D: Clients<W, V> + Sync,
+    D: Clients<W, V, X> + Sync,
     W: Send,
     R: Threads + Wait + Sync,
 {
@@ -201,9 +269,9 @@ where
 }
 
 /// Lets all readers read, each in a thread of its own.
-fn read_all<D, W, V, R>(rt: &R, alloc: Global, desk: &D, told: &Told<'_>, readers: &mut [V])
+fn read_all<D, W, V, X, R>(rt: &R, alloc: Global, desk: &D, told: &Told<'_>, readers: &mut [V])
 where
-    D: Clients<W, V> + Sync,
+    D: Clients<W, V, X> + Sync,
     V: Send,
     R: Threads + Wait + Clock + Sync,
 {
@@ -216,10 +284,27 @@ where
     )
 }
 
-/// Lets all writers write while another thread sweeps, and then tells readers how many commits were made.
-fn write_and_sweep<D, W, V, R>(rt: &R, desk: &D, told: &Told<'_>, writers: &mut [W])
+/// Lets all lookers look, each in a thread of its own.
+fn look_all<D, W, V, X, R>(rt: &R, alloc: Global, desk: &D, told: &Told<'_>, lookers: &mut [X])
 where
-    D: Clients<W, V> + Sync,
+    D: Clients<W, V, X> + Sync,
+    X: Send,
+    R: Threads + Wait + Sync,
+{
+    let threads = lookers.len().max(1);
+    thread::for_each_mut(
+        rt,
+        lookers,
+        threads,
+        &|_, looker| desk.look(rt, alloc, told, looker),
+    )
+}
+
+/// Lets all writers write while another thread sweeps, and then tells readers how many commits were made, and lookers that
+/// no more come.
+fn write_and_sweep<D, W, V, X, R>(rt: &R, desk: &D, told: &Told<'_>, writers: &mut [W])
+where
+    D: Clients<W, V, X> + Sync,
     W: Send,
     R: Threads + Wait + Sync,
 {
@@ -228,17 +313,19 @@ where
     thread::join(
         rt,
         sweep,
-        || write_all::<D, W, V, R>(rt, desk, limits, writers),
+        || write_all::<D, W, V, X, R>(rt, desk, limits, writers),
     );
     let mut commits: u64 = 0;
     for writer in writers {
         commits = commits.saturating_add(desk.share(writer));
     }
     told.commits.store(commits, Ordering::SeqCst);
+    told.is_over.store(true, Ordering::SeqCst);
+    desk.wake_lookers(rt);
 }
 
-/// Lets all clients work at once, until the last of them has ended.
-fn work_at_once<D, W, V, R>(
+/// Lets writers and readers work at once, until the last of them has ended.
+fn write_and_read<D, W, V, X, R>(
     rt: &R,
     alloc: Global,
     desk: &D,
@@ -247,46 +334,79 @@ fn work_at_once<D, W, V, R>(
     readers: &mut [V],
 )
 where
-    D: Clients<W, V> + Sync,
+    D: Clients<W, V, X> + Sync,
     W: Send,
     V: Send,
     R: Threads + Wait + Clock + Sync,
 {
-    let read = || read_all::<D, W, V, R>(rt, alloc, desk, told, readers);
+    let read = || read_all::<D, W, V, X, R>(rt, alloc, desk, told, readers);
     thread::join(
         rt,
         read,
-        || write_and_sweep::<D, W, V, R>(rt, desk, told, writers),
+        || write_and_sweep::<D, W, V, X, R>(rt, desk, told, writers),
+    );
+}
+
+/// Lets all clients work at once, until the last of them has ended. Where there is no thread for lookers they come last, and
+/// find all rows written.
+fn work_at_once<D, W, V, X, R>(
+    rt: &R,
+    alloc: Global,
+    desk: &D,
+    told: &Told<'_>,
+    writers: &mut [W],
+    readers: &mut [V],
+    lookers: &mut [X],
+)
+where
+    D: Clients<W, V, X> + Sync,
+    W: Send,
+    V: Send,
+    X: Send,
+    R: Threads + Wait + Clock + Sync,
+{
+    let look = || look_all::<D, W, V, X, R>(rt, alloc, desk, told, lookers);
+    thread::join(
+        rt,
+        look,
+        || write_and_read::<D, W, V, X, R>(rt, alloc, desk, told, writers, readers),
     );
 }
 
 /// Lets all clients work beside what pumps, whose orders end with the last client.
-pub fn work_beside<D, W, V, R, P>(
+pub fn work_beside<D, W, V, X, R, P>(
     rt: &R,
     alloc: Global,
     desk: &D,
     limits: Limits,
     writers: &mut [W],
     readers: &mut [V],
+    lookers: &mut [X],
     orders: Sender<Order>,
     pump: P,
 )
 where
-    D: Clients<W, V> + Sync,
+    D: Clients<W, V, X> + Sync,
     W: Send,
     V: Send,
+    X: Send,
     R: Threads + Wait + Clock + Sync,
     P: FnOnce(),
-    requires { P.pre pump }
+    requires limits { IsStorm limits }
+    requires pump { P.pre pump }
 {
     let commits = AtomicU64::new(WRITING);
+    let is_over = AtomicBool::new(false);
+    let pace = limits.commits() / PARTS;
     let clients = move || {
         let told = Told {
             limits,
             orders: &orders,
             commits: &commits,
+            is_over: &is_over,
+            pace,
         };
-        work_at_once(rt, alloc, desk, &told, writers, readers);
+        work_at_once(rt, alloc, desk, &told, writers, readers, lookers);
     };
     thread::join(rt, clients, pump);
 }

@@ -2,7 +2,7 @@
 ghost use Rattle.std.specs.Prelude.{◌≡◌, ◌↔◌, IsTrue, IfOk, IfErr};
 ghost use Rattle.std.specs.List.{list_all};
 ghost use Rattle.change_list.specs.Listings.{is_mark, without_marks};
-ghost use Rattle.storm.specs.Judging.{Begins, HasNoReceipt, TellsListing, TellsWhole, is_whole_reader};
+ghost use Rattle.storm.specs.Judging.{Begins, HasNoReceipt, TellsGiven, TellsListing, TellsWhole, is_whole};
 
 use change_list::{Item, View, Write};
 use desk::Ended;
@@ -10,20 +10,20 @@ use key_class::{KeyClass, Pred, Refusal};
 use listing::is_delivered;
 use std::alloc::Global;
 
-/// How a reader fared.
+/// How a reader or a looker fared.
 #[derive(Clone, Copy, Debug, PartialEq, Eq)]
 pub enum Verdict {
-    /// It took a listing of all commits, and a mark of them.
+    /// A reader took a listing of all commits, and a mark of them. A looker found what there was, up to all commits.
     Whole,
-    /// It took something else.
+    /// It took or found something else.
     NotWhole,
-    /// Its cursor was closed without a receipt.
-    NoReceipt,
+    /// A reader's cursor was closed without a receipt. A looker got no snapshot.
+    Missing,
 }
 
-/// Whether each reader is whole.
+/// Whether each client is whole.
 pub(crate) fn are_whole(verdicts: &[Verdict]) -> bool
-    ensures { result ≡ list_all is_whole_reader verdicts.now }
+    ensures { result ≡ list_all is_whole verdicts.now }
 {
     verdicts
         .iter()
@@ -39,7 +39,7 @@ pub struct Reading<K> {
     pub ended: Ended<K>,
 }
 
-fn is_mark<K: Copy>(item: Item<K>) -> bool
+pub(crate) fn is_mark<K: Copy>(item: Item<K>) -> bool
     ensures { result ≡ is_mark item }
 {
     matches!(item, Item::Mark(_))
@@ -59,6 +59,28 @@ fn without_marks<K: Copy>(alloc: Global, items: &[Item<K>]) -> Result<Vec<Item<K
     Ok(left)
 }
 
+/// Whether items, marks left out, are all that a cursor gives from one commit up to another: the rows of the snapshot at the
+/// first, unless it follows that one, then the later changes in the order of their commits.
+pub(crate) fn is_given<C: KeyClass>(
+    alloc: Global,
+    commits: &View<C::Key>,
+    query: &Pred<C::Atom>,
+    follows: bool,
+    from: u64,
+    upto: u64,
+    items: &[Item<C::Key>],
+) -> Result<bool, Refusal>
+    ensures given { IfOk result
+        (TellsGiven C.rules query.now follows from upto commits.now items.now) }
+    ensures refusals { IfErr result (λ why. why ≡ Refusal.OutOfMemory) }
+{
+    let mut left = without_marks(alloc, items)?;
+    if left.push(Item::Mark(upto)).is_err() {
+        return Err(Refusal::OutOfMemory);
+    }
+    is_delivered::<C>(alloc, commits, query, follows, from, left.as_slice())
+}
+
 /// Whether items, marks left out, are a listing of all commits for a query since an opening: the rows of its snapshot, each
 /// once and in any order, then the later changes in the order of their commits.
 ///
@@ -74,11 +96,8 @@ pub fn is_listing<C: KeyClass>(
     ensures listing { IfOk result (TellsListing C.rules query.now opened commits.now items.now) }
     ensures refusals { IfErr result (λ why. why ≡ Refusal.OutOfMemory) }
 {
-    let mut left = without_marks(alloc, items)?;
-    if left.push(Item::Mark(commits.len() as u64)).is_err() {
-        return Err(Refusal::OutOfMemory);
-    }
-    is_delivered::<C>(alloc, commits, query, false, opened, left.as_slice())
+    let count = commits.len() as u64;
+    is_given::<C>(alloc, commits, query, false, opened, count, items)
 }
 
 fn is_same_commit<C: KeyClass>(a: Option<Write<C::Key>>, b: Option<Write<C::Key>>) -> bool
@@ -120,12 +139,12 @@ pub fn judged<C: KeyClass>(
     reading: &Reading<C::Key>,
 ) -> Result<Verdict, Refusal>
     ensures whole { IfOk result (TellsWhole C.rules query.now commits.now reading.now) }
-    ensures no_receipt { IfOk result (λ v. (v ≡ Verdict.NoReceipt)
+    ensures no_receipt { IfOk result (λ v. (v ≡ Verdict.Missing)
         ↔ HasNoReceipt reading.now) }
     ensures refusals { IfErr result (λ why. why ≡ Refusal.OutOfMemory) }
 {
     let Ended::Receipt(receipt) = &reading.ended else {
-        return Ok(Verdict::NoReceipt);
+        return Ok(Verdict::Missing);
     };
     let Some((Item::Mark(number), before)) = reading.items.as_slice().split_last() else {
         return Ok(Verdict::NotWhole);

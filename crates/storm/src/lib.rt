@@ -1,11 +1,14 @@
-//! A storm: many clients of one desk at once. What each reader took is compared with the commits when all is over.
+//! A storm: many clients of one desk at once. What each reader took, and what each looker found in its snapshots, is compared
+//! with the commits when all is over.
 #![tactic(auto)]
 
 mod clients;
 mod judge;
 mod limits;
+mod looks;
 mod outcome;
 
 pub use judge::{Reading, Verdict, begins, is_listing, judged};
 pub use limits::Limits;
+pub use looks::{Look, looker_judged};
 pub use outcome::{Outcome, run_storm};

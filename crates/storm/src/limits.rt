@@ -2,7 +2,7 @@
 ghost use Rattle.std.specs.Prelude.{◌≡◌, ◌↔◌, ◌+◌, ◌*◌, IsTrue};
 ghost use Rattle.storm.specs.Sizes.{IsStorm};
 
-use key_class::limits::MAX_ROOM;
+use key_class::limits::{MAX_ROOM, MAX_SEATS};
 
 /// How many clients a storm has, and what they do.
 #[derive(Clone, Copy, Debug, PartialEq, Eq)]
@@ -15,6 +15,8 @@ pub struct Limits {
     pub deletes: u32,
     /// How many threads follow a cursor: 0 to 32.
     pub readers: u32,
+    /// How many threads look at snapshots: 0 to 32. There are at most 64 writers, readers and lookers.
+    pub lookers: u32,
     /// How many items a cursor's mailbox holds: 1 to 4,096.
     pub room: u32,
     /// How many threads turn cursors: 1 to 8.
@@ -35,6 +37,8 @@ impl Limits {
             && self.inserts <= 1_000
             && self.deletes <= self.inserts
             && self.readers <= 32
+            && self.lookers <= 32
+            && (self.writers + self.readers + self.lookers) as usize <= MAX_SEATS
             && self.room >= 1
             && u64::from(self.room) <= MAX_ROOM
             && self.pumps >= 1
@@ -45,10 +49,11 @@ impl Limits {
     /// How many seats it takes.
     pub fn seats(&self) -> usize
         requires { IsStorm self.now }
-        ensures { result ≡ self.now.writers + self.now.readers }
+        ensures { result ≡ self.now.writers + self.now.readers + self.now.lookers }
     {
-        (self.writers + self.readers) as usize
+        (self.writers + self.readers + self.lookers) as usize
     }
+
     /// How many commits it makes where nothing is refused.
     pub fn commits(&self) -> u64
         requires { IsStorm self.now }

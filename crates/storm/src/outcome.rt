@@ -2,12 +2,13 @@
 ghost use Rattle.std.specs.Prelude.{◌≡◌, ◌↔◌, ◌+◌, Err, IfErr, IfOk, IsTrue, OnOk, length};
 ghost use Rattle.desk.specs.Weaving.{Woven};
 ghost use Rattle.key_class.specs.Refusals.{IsEither};
-ghost use Rattle.storm.specs.Outcomes.{AreStampsOf, IsTrueOutcome, IsWholeStorm, TellsReaders};
+ghost use Rattle.storm.specs.Outcomes.{AreStampsOf, IsTrueOutcome, IsWholeStorm, TellsLookers, TellsReaders};
 ghost use Rattle.storm.specs.Sizes.{IsStorm};
 
-use crate::clients::{Reader, asked, work_beside};
+use crate::clients::{Looker, Reader, asked, work_beside};
 use crate::judge::{Reading, Verdict, are_whole, judged};
 use crate::limits::Limits;
+use crate::looks::{Look, looker_judged};
 use change_list::{ChangeList, Config};
 use crossbeam_channel::bounded;
 use desk::{Desk, Finished, Seat, Torn};
@@ -50,7 +51,11 @@ pub struct Outcome {
     /// What each reader took, in the order of their seats; none where its cursor wasn't opened.
     pub readings: Vec<Option<Reading<Interval>>>,
     /// How each reader fared, in the same order.
-    pub verdicts: Vec<Verdict>,
+    pub readers: Vec<Verdict>,
+    /// What each looker found, in the order of their seats.
+    pub looks: Vec<Vec<Look<Interval>>>,
+    /// How each looker fared, in the same order.
+    pub lookers: Vec<Verdict>,
     /// What each seat was answered.
     pub stamps: Vec<Vec<Stamped<Interval>>>,
     /// Whether the stamps of all seats are the commits.
@@ -58,15 +63,17 @@ pub struct Outcome {
 }
 
 impl Outcome {
-    /// Whether all rows of a storm were written and deleted, and each of its readers is whole.
+    /// Whether all rows of a storm were written and deleted, and each of its readers and lookers is whole.
     pub fn is_whole(&self, limits: Limits) -> bool
         requires { IsStorm limits }
         ensures { IsTrue result ↔ IsWholeStorm limits self.now }
     {
         self.is_woven
             && self.commits == limits.commits()
-            && self.verdicts.len() == limits.readers as usize
-            && are_whole(self.verdicts.as_slice())
+            && self.readers.len() == limits.readers as usize
+            && self.lookers.len() == limits.lookers as usize
+            && are_whole(self.readers.as_slice())
+            && are_whole(self.lookers.as_slice())
     }
 }
 
@@ -79,10 +86,12 @@ fn run_all<L, R>(
     limits: Limits,
     writers: &mut [Seat<Intervals, L>],
     readers: &mut [Reader<L>],
+    lookers: &mut [Looker<L>],
 ) -> Result<(), Refusal>
 where
     L: Ledger + Send + Sync,
     R: Threads + Wait + Clock + Sync,
+    requires { IsStorm limits }
     ensures refusals { IfErr result (λ why. why ≡ Refusal.OutOfMemory) }
 {
     let Ok((orders, told)) = bounded(alloc, ORDERS) else {
@@ -91,11 +100,13 @@ where
     let pump = move || {
         let _pumped = pumps.run(rt, alloc, desk, &told);
     };
-    work_beside(rt, alloc, desk, limits, writers, readers, orders, pump);
+    work_beside(
+        rt, alloc, desk, limits, writers, readers, lookers, orders, pump,
+    );
     Ok(())
 }
 
-/// The last seats as readers.
+/// Some seats as readers.
 fn readers_of<L: Ledger>(
     alloc: Global,
     seats: Vec<Seat<Intervals, L>>,
@@ -112,6 +123,21 @@ fn readers_of<L: Ledger>(
     Ok(readers)
 }
 
+/// Some seats as lookers.
+fn lookers_of<L: Ledger>(
+    alloc: Global,
+    seats: Vec<Seat<Intervals, L>>,
+) -> Result<Vec<Looker<L>>, AllocError>
+    ensures { IfOk result (λ lookers. length lookers.items ≡ length seats.items) }
+{
+    let mut lookers = Vec::with_capacity(alloc, seats.len())?;
+    for seat in seats {
+        let looks = Vec::new(alloc);
+        lookers.push(Looker { seat, looks })?;
+    }
+    Ok(lookers)
+}
+
 /// How readers of a query fared, told by the commits.
 fn verdicts_of(
     alloc: Global,
@@ -125,9 +151,34 @@ fn verdicts_of(
     let mut verdicts = Vec::new(alloc);
     for reading in readings {
         let verdict = match reading {
-            None => Verdict::NoReceipt,
+            None => Verdict::Missing,
             Some(reading) => judged::<Intervals>(alloc, commits.as_view(), query, reading)?,
         };
+        if verdicts.push(verdict).is_err() {
+            return Err(Refusal::OutOfMemory);
+        }
+    }
+    Ok(verdicts)
+}
+
+/// How lookers with a query fared, told by the commits.
+fn sights_of(
+    alloc: Global,
+    commits: &ChangeList<Interval>,
+    query: &Pred<Atom>,
+    lookers: &[Vec<Look<Interval>>],
+) -> Result<Vec<Verdict>, Refusal>
+    ensures told { IfOk result (TellsLookers query.now commits.now lookers.now) }
+    ensures refusals { IfErr result (λ why. why ≡ Refusal.OutOfMemory) }
+{
+    let mut verdicts = Vec::new(alloc);
+    for looks in lookers {
+        let verdict = looker_judged::<Intervals>(
+            alloc,
+            commits.as_view(),
+            query,
+            looks.as_slice(),
+        )?;
         if verdicts.push(verdict).is_err() {
             return Err(Refusal::OutOfMemory);
         }
@@ -150,27 +201,39 @@ fn stamps_of<L: Ledger>(
     Ok(stamps)
 }
 
-/// What came of a storm of these commits, by which the readers are judged.
+/// What the readers of a storm took, and what its lookers found.
+#[derive(Drop)]
+struct Gathered {
+    readings: Vec<Option<Reading<Interval>>>,
+    looks: Vec<Vec<Look<Interval>>>,
+}
+
+/// What came of a storm of these commits, by which readers and lookers are judged.
 fn outcome_by<L: Ledger>(
     alloc: Global,
     commits: ChangeList<Interval>,
     seats: Vec<Seat<Intervals, L>>,
     is_woven: bool,
-    readings: Vec<Option<Reading<Interval>>>,
+    gathered: Gathered,
 ) -> Result<Outcome, Refusal>
     requires { IsTrue is_woven ↔ Woven commits seats.items }
     ensures told { IfOk result IsTrueOutcome }
     ensures seats { IfOk result (λ o. length o.stamps.items ≡ length seats.items) }
     ensures refusals { IfErr result (λ why. why ≡ Refusal.OutOfMemory) }
 {
-    let verdicts = verdicts_of(alloc, &commits, &asked(), readings.as_slice())?;
+    let Gathered { readings, looks } = gathered;
+    let query = asked();
+    let readers = verdicts_of(alloc, &commits, &query, readings.as_slice())?;
+    let lookers = sights_of(alloc, &commits, &query, looks.as_slice())?;
     let Ok(stamps) = stamps_of(alloc, seats) else {
         return Err(Refusal::OutOfMemory);
     };
     Ok(Outcome {
         commits: commits.len() as u64,
         readings,
-        verdicts,
+        readers,
+        looks,
+        lookers,
         stamps,
         is_woven,
     })
@@ -181,7 +244,7 @@ fn outcome_of<L: Ledger>(
     alloc: Global,
     desk: Desk<Intervals, L>,
     seats: Vec<Seat<Intervals, L>>,
-    readings: Vec<Option<Reading<Interval>>>,
+    gathered: Gathered,
 ) -> Result<Outcome, Refusal>
     requires { length seats.items ≡ desk }
     ensures told { IfOk result IsTrueOutcome }
@@ -191,19 +254,20 @@ fn outcome_of<L: Ledger>(
     match desk.finish(seats) {
         Finished::Closing(closing) => {
             let (commits, seats) = closing.into_parts();
-            return outcome_by(alloc, commits, seats, true, readings);
+            return outcome_by(alloc, commits, seats, true, gathered);
         }
         Finished::Torn(torn) => {
             let Torn { commits, seats } = torn;
-            return outcome_by(alloc, commits, seats, false, readings);
+            return outcome_by(alloc, commits, seats, false, gathered);
         }
         Finished::SeatsOut(_, _) => unreachable!(),
     }
 }
 
-/// Writers, readers, pumps and a sweeper at one desk of intervals, each in a thread of its own. Each writer inserts rows with
-/// small keys and deletes the first of them. Each reader follows a cursor up to a mark of all commits. Then the desk is
-/// finished, and what each reader took is compared with the commits.
+/// Writers, readers, lookers, pumps and a sweeper at one desk of intervals, each in a thread of its own. Each writer inserts
+/// rows with small keys and deletes the first of them. Each reader follows a cursor up to a mark of all commits. Each looker
+/// takes snapshots, finds in each what readers ask for, and takes the changes after the one before, up to a snapshot of all
+/// commits. Then the desk is finished, and what each reader took and each looker found is compared with the commits.
 ///
 /// # Errors
 /// `BadConfig` where a number lies out of its range, or want of memory.
@@ -218,9 +282,10 @@ where
     R: Threads + Wait + Clock + Sync,
     requires name { blank.name ≡ L.name }
     requires parts { blank.parts ≡ L.parts }
-    requires one_each { blank.parts ≡ limits.writers + limits.readers }
+    requires one_each { blank.parts ≡ limits.writers + limits.readers + limits.lookers }
     ensures told { IfOk result IsTrueOutcome }
-    ensures seats { IfOk result (λ o. length o.stamps.items ≡ limits.writers + limits.readers) }
+    ensures seats { IfOk result
+        (λ o. length o.stamps.items ≡ limits.writers + limits.readers + limits.lookers) }
     ensures within { OnOk result (IsStorm limits) }
     ensures bad { (result ≡ Err Refusal.BadConfig) ↔ (¬ IsStorm limits) }
     ensures refusals { IfErr result (IsEither Refusal.BadConfig Refusal.OutOfMemory) }
@@ -229,10 +294,16 @@ where
         return Err(Refusal::BadConfig);
     }
     let (desk, mut writers) = Desk::<Intervals, L>::new(alloc, blank, CONFIG, limits.seats())?;
-    let Ok(seats) = writers.split_off(limits.writers as usize) else {
+    let Ok(mut rest) = writers.split_off(limits.writers as usize) else {
         return Err(Refusal::OutOfMemory);
     };
-    let Ok(mut readers) = readers_of(alloc, seats) else {
+    let Ok(last) = rest.split_off(limits.readers as usize) else {
+        return Err(Refusal::OutOfMemory);
+    };
+    let Ok(mut readers) = readers_of(alloc, rest) else {
+        return Err(Refusal::OutOfMemory);
+    };
+    let Ok(mut lookers) = lookers_of(alloc, last) else {
         return Err(Refusal::OutOfMemory);
     };
     let pumps = Pumps::new(limits.pumps as usize, Open)?;
@@ -244,15 +315,31 @@ where
         limits,
         writers.as_mut_slice(),
         readers.as_mut_slice(),
+        lookers.as_mut_slice(),
     )?;
-    let Ok(readings) = take_back(alloc, &mut writers, readers) else {
+    let Ok(gathered) = take_back(alloc, &mut writers, readers, lookers) else {
         return Err(Refusal::OutOfMemory);
     };
-    outcome_of(alloc, desk, writers, readings)
+    outcome_of(alloc, desk, writers, gathered)
 }
 
-/// Puts the seats of readers behind those of writers, and gives what the readers read.
+/// Puts the seats of readers and lookers behind those of writers, and gives what these took and found.
 fn take_back<L: Ledger>(
+    alloc: Global,
+    seats: &mut Vec<Seat<Intervals, L>>,
+    readers: Vec<Reader<L>>,
+    lookers: Vec<Looker<L>>,
+) -> Result<Gathered, AllocError>
+    ensures { OnOk result (length seats.new.items
+        ≡ length seats.old.items + length readers.items + length lookers.items) }
+{
+    let readings = take_readings(alloc, seats, readers)?;
+    let looks = take_looks(alloc, seats, lookers)?;
+    Ok(Gathered { readings, looks })
+}
+
+/// Puts the seats of readers behind others, and gives what the readers read.
+fn take_readings<L: Ledger>(
     alloc: Global,
     seats: &mut Vec<Seat<Intervals, L>>,
     readers: Vec<Reader<L>>,
@@ -267,4 +354,22 @@ fn take_back<L: Ledger>(
         readings.push(reading)?;
     }
     Ok(readings)
+}
+
+/// Puts the seats of lookers behind others, and gives what the lookers found.
+fn take_looks<L: Ledger>(
+    alloc: Global,
+    seats: &mut Vec<Seat<Intervals, L>>,
+    lookers: Vec<Looker<L>>,
+) -> Result<Vec<Vec<Look<Interval>>>, AllocError>
+    ensures { OnOk result
+        (length seats.new.items ≡ length seats.old.items + length lookers.items) }
+{
+    let mut found = Vec::with_capacity(alloc, lookers.len())?;
+    for looker in lookers {
+        let Looker { seat, looks } = looker;
+        seats.push(seat)?;
+        found.push(looks)?;
+    }
+    Ok(found)
 }

@@ -1,23 +1,25 @@
-use Rattle.std.proofs.Common.{arith, [], ap, get_or, refl}
-use Rattle.std.proofs.KnownBytes.{Appends-nil}
-use Rattle.storm.specs.declared.judge.Verdict.TheVariants.{Whole}
-use Rattle.gist.specs.Storms.{count_line}
-use Rattle.gist.proofs.Telling.{said_more, said_all}
+use Rattle.std.proofs.Common.{◌++◌, subst}
+use Rattle.std.specs.Prelude.{OnOk}
+use Rattle.std.specs.Io.KnownBytes.{Appends}
+use Rattle.std.proofs.KnownBytes.{Appends-trans}
+use Rattle.std.proofs.lemmas.Result.{on_ok_weaker}
+use Rattle.gist.specs.Storms.{client_lines, count_line}
+use Rattle.gist.specs.declared.options.Role.TheVariants as role
 use Rattle.gist.proofs.program.tell_storm.Goals as goal
-
-pub loop-place-init : goal.loop-place-init
-loop-place-init g c = ([], Appends-nil (g.W.Write.contents c.tell_count.new.writer), refl)
-
-pub loop-place-preserved : goal.loop-place-preserved
-loop-place-preserved g c =
-    let w = g.W.Write.contents in
-    let o = c.args.outcome.now in
-    let inv = c.loop-place.invariant in
-    said_more (w c.tell_count.new.writer) (w c.loop-place.writer) (w c.tell_reader.new.writer) o.commits c.loop-place.place o.verdicts.items Whole _ inv.0 inv.1 inv.2 (omega (arith, c.loop-place-test.true)) (ap (λ vs. get_or vs c.loop-place.place Whole) c.as_slice-verdicts.ensures.value) c.in_ok-tell_reader.ensures
 
 pub returns : goal.returns
 returns g c =
     let w = g.W.Write.contents in
     let o = c.args.outcome.now in
-    let inv = c.loop-place.invariant in
-    said_all (w c.args.writer.now) (w c.tell_count.new.writer) (w c.loop-place.writer) (count_line o.commits) o.commits c.loop-place.place o.verdicts.items inv.0 c.in_ok-tell_count.ensures inv.1 inv.2 (omega (arith, c.loop-place-test.false))
+    let held = w c.args.writer.now in
+    let counted = w c.tell_count.new.writer in
+    let between = w c.tell_clients.new.writer in
+    let whole = w c.tell_clients-2.new.writer in
+    let count = count_line o.commits in
+    let readers = client_lines role.Reader o.commits 0 c.as_slice.result.now in
+    let lookers = client_lines role.Looker o.commits 0 c.as_slice-2.result.now in
+    subst (λ told. OnOk c.tell_clients-2.result (Appends held whole (count ++ (client_lines role.Reader o.commits 0 told ++ client_lines role.Looker o.commits 0 o.lookers.items)))) c.as_slice.ensures.value
+    (subst (λ told. OnOk c.tell_clients-2.result (Appends held whole (count ++ (readers ++ client_lines role.Looker o.commits 0 told)))) c.as_slice-2.ensures.value
+    (on_ok_weaker c.tell_clients-2.result
+    (λ last. Appends-trans held counted whole count (readers ++ lookers) c.in_ok-tell_count.ensures (Appends-trans counted between whole readers lookers c.in_ok-tell_clients.ensures last))
+    c.tell_clients-2.ensures))

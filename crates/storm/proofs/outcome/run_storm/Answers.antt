@@ -1,4 +1,4 @@
-use Rattle.std.proofs.Common.{◌≡◌, ◌++◌, ℕ, List, length, take, drop, arith, length-append, length-drop, length-take}
+use Rattle.std.proofs.Common.{◌≡◌, ◌++◌, ℕ, IsTrue, List, length, take, drop, arith, length-append, length-drop, length-take}
 use Rattle.storm.proofs.outcome.run_storm.Goals as goal
 
 -- a vector of which all elements were lent out has as many when they are back
@@ -6,11 +6,18 @@ back : {X : Type 0} (len : ℕ) (lent kept : List X) → length lent ≡ len →
 back len lent kept lent_all kept_all =
     omega (arith, length-take len (lent ++ drop (length lent) kept), length-append lent (drop (length lent) kept), length-drop (length lent) kept)
 
+pub run_all-requires-after_bounds : goal.run_all-requires-after_bounds
+run_all-requires-after_bounds g c κs lives =
+    let within : IsTrue c.is_within.result = cc c.if-not-is_within.false in
+    c.is_within.ensures.0 within
+
 pub outcome_of-requires : goal.outcome_of-requires
 outcome_of-requires g c =
     let grown = c.in-Ok-take_back.ensures in
-    let split = c.in-Ok.ensures in
+    let first = c.in-Ok.ensures in
+    let second = c.in-Ok-split_off.ensures in
     let desk = c.in_ok-desk.ensures in
     let writers = back c.split_off.new.self.len c.run_all.new.writers c.split_off.new.self.items (omega (arith, c.run_all.auto.writers, c.as_mut_slice.ensures.len)) (omega arith) in
     let readers = back c.in-Ok-readers_of.readers.len c.run_all.new.readers c.in-Ok-readers_of.readers.items (omega (arith, c.run_all.auto.readers, c.as_mut_slice-2.ensures.len)) (omega arith) in
-    omega (arith, grown, writers, readers, split.len, split.tail_len, c.in-Ok-readers_of.ensures, desk.desk, desk.seats, c.seats.ensures)
+    let lookers = back c.in-Ok-lookers_of.lookers.len c.run_all.new.lookers c.in-Ok-lookers_of.lookers.items (omega (arith, c.run_all.auto.lookers, c.as_mut_slice-3.ensures.len)) (omega arith) in
+    omega (arith, grown, writers, readers, lookers, first.len, first.tail_len, second.len, second.tail_len, c.in-Ok-readers_of.ensures, c.in-Ok-lookers_of.ensures, desk.desk, desk.seats, c.seats.ensures)

@@ -22,8 +22,8 @@ loop-reading-preserved c =
     let items : c.push.new.self.items ≡ c.loop-reading.verdicts.items ++ c.match-reading.verdict ∷ [] = search rules in
     λ rest left.
     subst (λ l. TellsFates interval_rules query commits readings (l ++ rest)) (sym items)
-    (one_told interval_rules query commits readings c.loop-reading.reading-index c.loop-reading.verdicts.items c.reading-item.result c.match-reading.verdict (omega (arith, c.loop-reading-test.true)) c.reading-item.is fate c.loop-reading.invariant rest left)
+    (one_told (TellsFate interval_rules query commits) readings c.loop-reading.reading-index c.loop-reading.verdicts.items c.reading-item.result c.match-reading.verdict (omega (arith, c.loop-reading-test.true)) c.reading-item.is fate c.loop-reading.invariant rest left)
 
 pub returns-clause-told : goal.returns-clause-told
 returns-clause-told c =
-    all_told interval_rules (query_of c.args.query.now) c.args.commits.now c.args.readings.now c.loop-reading.reading-index c.loop-reading.verdicts.items (omega (arith, c.loop-reading-test.false)) c.loop-reading.invariant
+    all_told (TellsFate interval_rules (query_of c.args.query.now) c.args.commits.now) c.args.readings.now c.loop-reading.reading-index c.loop-reading.verdicts.items (omega (arith, c.loop-reading-test.false)) c.loop-reading.invariant
