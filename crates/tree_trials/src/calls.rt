@@ -78,7 +78,7 @@ fn entry_count(page: &Page<Interval>) -> Option<usize>
 }
 
 /// Whether there is a side for each entry of a page.
-fn fit(page: &Page<Interval>, sides: &Sides) -> bool
+pub(crate) fn fit(page: &Page<Interval>, sides: &Sides) -> bool
     ensures { IsTrue result → entries_of page.now ≡ length sides.now }
 {
     match entry_count(page) {
@@ -255,7 +255,7 @@ fn sweep(table: &mut PageTable<Interval>, page: u32) -> Result<usize, Fail> {
 }
 
 /// What is done to a page.
-#[derive(Clone, Copy, Debug)]
+#[derive(Clone, Copy)]
 enum Deed {
     Settle,
     Place,
@@ -278,7 +278,7 @@ fn keeps_pages_by_number(rt: HostRuntime) -> Result<(), Fail> {
     assert!(rt; table.len() == 2);
     for deed in [Deed::Settle, Deed::Place, Deed::Bury] {
         carry_out(&mut table, 1, deed)?;
-        assert!(rt; table.len() == 2 && nsn(&table, 1) == Some(5), "{deed:?}");
+        assert!(rt; table.len() == 2 && nsn(&table, 1) == Some(5));
     }
     assert!(rt; sweep(&mut table, 1)? == 1);
     Ok(())

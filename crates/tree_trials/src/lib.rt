@@ -7,6 +7,8 @@ mod calls;
 #[cfg(test)]
 mod commits;
 #[cfg(test)]
+mod copies;
+#[cfg(test)]
 mod laws;
 #[cfg(test)]
 mod limits;

@@ -18,6 +18,7 @@ impl KeyClass for Limits {
       union_of = max;
       is_cover = λ bound key. nat_le key bound;
       size_of = λ key. key;
+      picks = λ keys least sides. ⊥;
     } };
 
     fn matches(atom: &u8, key: u8) -> bool {

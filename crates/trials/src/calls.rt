@@ -54,7 +54,7 @@ fn store_of(alloc: Global, commits: u32) -> Result<Store<Intervals>, Refusal> {
 }
 
 /// A call of a store, which it answers by a number.
-#[derive(Clone, Copy, Debug)]
+#[derive(Clone, Copy)]
 enum Call {
     Insert(i64, i64, u64),
     Delete(u64),
@@ -94,15 +94,15 @@ fn count_left(alloc: Global, store: &mut Store<Intervals>, cursor: u64) -> Resul
     Ok(items.len() as u64)
 }
 
-/// The first of some calls that a store doesn't answer as wanted.
+/// The place of the first of some calls that a store doesn't answer as wanted.
 fn first_wrong(
     alloc: Global,
     store: &mut Store<Intervals>,
     calls: &[(Call, Result<u64, Refusal>)],
-) -> Option<Call> {
-    for (call, wanted) in calls {
+) -> Option<usize> {
+    for (place, (call, wanted)) in calls.iter().enumerate() {
         if answer(alloc, store, *call) != *wanted {
-            return Some(*call);
+            return Some(place);
         }
     }
     None

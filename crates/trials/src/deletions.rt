@@ -52,7 +52,7 @@ fn two_leaves(alloc: Global) -> Result<Trial, Fail> {
 }
 
 /// What is done to a world.
-#[derive(Clone, Copy, Debug)]
+#[derive(Clone, Copy)]
 enum Deed {
     /// Answered by the commit that deletes the row.
     Delete(u64),
@@ -73,11 +73,11 @@ fn answer(world: &mut Trial, deed: Deed) -> Result<u64, Refusal> {
     Ok(0)
 }
 
-/// The first deed that isn't answered as wanted.
-fn first_wrong(world: &mut Trial, deeds: &[(Deed, Result<u64, Refusal>)]) -> Option<Deed> {
-    for (deed, wanted) in deeds {
+/// The place of the first deed that isn't answered as wanted.
+fn first_wrong(world: &mut Trial, deeds: &[(Deed, Result<u64, Refusal>)]) -> Option<usize> {
+    for (place, (deed, wanted)) in deeds.iter().enumerate() {
         if answer(world, *deed) != *wanted {
-            return Some(*deed);
+            return Some(place);
         }
     }
     None

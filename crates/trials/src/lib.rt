@@ -1,6 +1,8 @@
-//! Trials over memory, of what no line reaches: calls of a store and of a world, and readers and writers that fail.
+//! Trials over memory, of what no line reaches: calls of a store, of its snapshots and of a world, and readers and writers that fail.
 #![tactic(auto)]
 
+#[cfg(test)]
+mod beside;
 #[cfg(test)]
 mod calls;
 #[cfg(test)]
@@ -9,3 +11,5 @@ mod deletions;
 mod faults;
 #[cfg(test)]
 mod runs;
+#[cfg(test)]
+mod snapshots;

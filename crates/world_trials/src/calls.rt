@@ -160,7 +160,7 @@ fn followed(alloc: Global, world: &mut Trial, commit: u64) -> Result<Result<u64,
 }
 
 /// What a world does or tells.
-#[derive(Clone, Copy, Debug)]
+#[derive(Clone, Copy)]
 enum Deed {
     Place,
     Find(u64),
@@ -200,11 +200,11 @@ fn is_done(alloc: Global, world: &mut Trial, deed: Deed) -> Result<bool, Fail> {
     }
 }
 
-/// The first of some deeds that a world doesn't do.
-fn first_wrong(alloc: Global, world: &mut Trial, deeds: &[Deed]) -> Result<Option<Deed>, Fail> {
-    for deed in deeds {
+/// The place of the first of some deeds that a world doesn't do.
+fn first_wrong(alloc: Global, world: &mut Trial, deeds: &[Deed]) -> Result<Option<usize>, Fail> {
+    for (place, deed) in deeds.iter().enumerate() {
         if !is_done(alloc, world, *deed)? {
-            return Ok(Some(*deed));
+            return Ok(Some(place));
         }
     }
     Ok(None)

@@ -1,7 +1,6 @@
 //! Random events, with splits and visits that are prepared, worked on and published at later times, beside a world that is
 //! given events alone.
-use super::checker::first_flaw;
-use super::random_lists::{Source, Use};
+use super::source::{Source, Use};
 use super::steps::{Answer, Ask, Step, Trial, answer_of, new_world};
 use change_list::Config;
 use interval_class::{Interval, Intervals};
@@ -40,8 +39,8 @@ struct Parting {
 struct Visiting {
     cursor: u64,
     is_worked: bool,
-    /// How many steps there were when it was prepared.
-    prepared_at: usize,
+    /// How many events had been answered when it was prepared.
+    prepared_at: u64,
     task: VisitTask<Intervals>,
 }
 
@@ -51,7 +50,8 @@ struct Pair {
     world: Trial,
     twin: Trial,
     source: Source,
-    steps: Vec<Step>,
+    /// How many events were answered, and tasks published.
+    answered: u64,
     partings: Vec<Parting>,
     visits: Vec<Visiting>,
     /// How many publications were carried out, and how many were not.
@@ -65,7 +65,7 @@ impl Pair {
             world: new_world(alloc, CONFIG)?,
             twin: new_world(alloc, CONFIG)?,
             source: Source::new(alloc, seed),
-            steps: Vec::new(alloc),
+            answered: 0,
             partings: Vec::new(alloc),
             visits: Vec::new(alloc),
             published: 0,
@@ -83,7 +83,7 @@ impl Pair {
                 let ask = self.source.ask(&self.world);
                 let answer = answer_of(alloc, &mut self.world, ask)?;
                 let other = answer_of(alloc, &mut self.twin, ask)?;
-                assert!(rt; answer == other, "{} {}", answer.word(), other.word());
+                assert!(rt; answer == other, "event {}", self.answered);
                 self.note((ask, answer))
             }
         }
@@ -91,7 +91,7 @@ impl Pair {
 
     fn note(&mut self, step: Step) -> Result<(), Fail> {
         self.source.take_in(step)?;
-        self.steps.push(step)?;
+        self.answered = self.answered.saturating_add(1);
         Ok(())
     }
 
@@ -126,7 +126,7 @@ impl Pair {
             self.visits.push(Visiting {
                 cursor,
                 is_worked,
-                prepared_at: self.steps.len(),
+                prepared_at: self.answered,
                 task,
             })?;
         }
@@ -159,7 +159,7 @@ impl Pair {
             return self.compare(rt);
         }
         let other = self.split_twin(alloc, number, &page)?;
-        assert!(rt; answer == other, "{} {}", answer.word(), other.word());
+        assert!(rt; answer == other, "event {}", self.answered);
         self.published = self.published.saturating_add(1);
         self.note((Ask::Split(number, ""), answer))
     }
@@ -185,7 +185,7 @@ impl Pair {
             prepared_at,
             task,
         } = visiting;
-        let is_fresh = prepared_at == self.steps.len();
+        let is_fresh = prepared_at == self.answered;
         let answer = Answer::of(self.world.publish_visit(0, task));
         if let Answer::Refused(Refusal::NotHere) = answer {
             assert!(rt; !is_worked || !is_fresh);
@@ -194,7 +194,7 @@ impl Pair {
         }
         let other = Answer::of(self.twin.step(Event::Turn(cursor)));
         assert!(rt; is_worked);
-        assert!(rt; answer == other, "{} {}", answer.word(), other.word());
+        assert!(rt; answer == other, "event {}", self.answered);
         self.published = self.published.saturating_add(1);
         self.note((Ask::Turn(cursor), answer))
     }
@@ -229,41 +229,28 @@ fn keys_of(alloc: Global, page: &Page<Interval>) -> Result<Vec<Interval>, Fail> 
     Ok(keys)
 }
 
-/// What came of a random list that was given to a pair.
-#[derive(Clone, Copy, Debug)]
-struct Outcome {
-    is_flawless: bool,
-    published: u64,
-    stale: u64,
-}
-
-fn outcome_of(rt: &impl Abort, alloc: Global, pair: &mut Pair) -> Result<Outcome, Fail> {
+/// How many tasks of a random list are published, and how many come too late.
+fn counts_of(rt: &impl Abort, alloc: Global, pair: &mut Pair) -> Result<(u64, u64), Fail> {
     for _ in 0..EVENTS {
         pair.go_on(rt, alloc)?;
     }
     pair.compare(rt)?;
-    Ok(Outcome {
-        is_flawless: first_flaw(alloc, &pair.steps)?.is_none(),
-        published: pair.published,
-        stale: pair.stale,
-    })
+    Ok((pair.published, pair.stale))
 }
 
-fn outcome_of_new(rt: &impl Abort, alloc: Global, seed: u64) -> Result<Outcome, Fail> {
+fn counts_of_new(rt: &impl Abort, alloc: Global, seed: u64) -> Result<(u64, u64), Fail> {
     let mut pair = Pair::new(alloc, seed)?;
-    outcome_of(rt, alloc, &mut pair)
+    counts_of(rt, alloc, &mut pair)
 }
 
 #[test]
 fn tasks_do_what_their_events_do(rt: HostRuntime) -> Result<(), Fail> {
-    let mut published = 0;
-    let mut stale = 0;
     for seed in 1..=SEEDS {
-        let outcome = outcome_of_new(&rt, rt.alloc(), seed)?;
-        assert!(rt; outcome.is_flawless, "seed {seed}");
-        published = u64::saturating_add(published, outcome.published);
-        stale = u64::saturating_add(stale, outcome.stale);
+        let (published, stale) = counts_of_new(&rt, rt.alloc(), seed)?;
+        assert!(rt;
+            published > 20 && stale > 20,
+            "seed {seed}, {published} {stale}"
+        );
     }
-    assert!(rt; published > 100 && stale > 100, "{published} {stale}");
     Ok(())
 }

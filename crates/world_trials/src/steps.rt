@@ -26,15 +26,6 @@ pub enum Query {
 }
 
 impl Query {
-    /// Whether a key matches, told by the ends.
-    pub fn asks_for(self, key: Interval) -> bool {
-        match self {
-            Query::Overlaps(lo, hi) => key.lo <= hi && lo <= key.hi,
-            Query::Within(lo, hi) => lo <= key.lo && key.hi <= hi,
-            Query::Misses(lo, hi) => hi < key.lo || key.hi < lo,
-        }
-    }
-
     fn pred(self, alloc: Global) -> Result<Pred<Atom>, Fail> {
         match self {
             Query::Overlaps(lo, hi) => atom(Rel::Overlaps, lo, hi),
@@ -99,32 +90,6 @@ impl Ask {
             Ask::Close(cursor) => Ok(Event::Close(cursor)),
         }
     }
-
-    /// Whether it may be answered by a commit.
-    pub fn writes(self) -> bool {
-        matches!(
-            self,
-            Ask::Place(_, _, _) | Ask::Seek(_) | Ask::Move(_, _, _)
-        )
-    }
-
-    /// The cursor that is asked.
-    pub fn cursor(self) -> Option<u64> {
-        match self {
-            Ask::Turn(cursor) | Ask::AskMark(cursor) | Ask::Take(cursor) | Ask::Close(cursor) => {
-                Some(cursor)
-            }
-            _ => None,
-        }
-    }
-
-    /// The finder that is asked.
-    pub fn finder(self) -> Option<u64> {
-        match self {
-            Ask::Seek(finder) | Ask::Move(finder, _, _) | Ask::Unfind(finder) => Some(finder),
-            _ => None,
-        }
-    }
 }
 
 /// The sides of a word of the letters `l` and `r`.
@@ -184,37 +149,6 @@ impl Answer {
             Reply::Nothing => Answer::Nothing,
             Reply::Closed => Answer::Closed,
             Reply::Refused(refusal) => Answer::Refused(refusal),
-        }
-    }
-
-    /// The word that begins its text. A refusal is told by its name, and the commits of a delete and of a move by words of
-    /// their own.
-    pub fn word(self) -> &'static str {
-        match self {
-            Answer::Enlarged => "enlarged",
-            Answer::Committed(_, Write::Insert(_, _)) => "committed",
-            Answer::Committed(_, Write::Delete(_)) => "buried",
-            Answer::Committed(_, Write::Move(_, _)) => "relocated",
-            Answer::Split(_) => "split",
-            Answer::Posted => "posted",
-            Answer::Grown(_, _) => "grown",
-            Answer::Finder(_) => "finder",
-            Answer::Seeking => "seeking",
-            Answer::Unfound => "unfound",
-            Answer::Swept(_) => "swept",
-            Answer::Opened(_) => "opened",
-            Answer::Offered => "offered",
-            Answer::Visited(_) => "visited",
-            Answer::Passed(_) => "passed",
-            Answer::Asked => "asked",
-            Answer::Taken(Item::Row(_)) => "row",
-            Answer::Taken(Item::Inserted(_)) => "inserted",
-            Answer::Taken(Item::Deleted(_, _)) => "deleted",
-            Answer::Taken(Item::Moved(_, _)) => "moved",
-            Answer::Taken(Item::Mark(_)) => "mark",
-            Answer::Nothing => "nothing",
-            Answer::Closed => "closed",
-            Answer::Refused(refusal) => refusal.name(),
         }
     }
 }
