@@ -16,6 +16,9 @@ HERE = os.path.dirname(os.path.abspath(__file__))
 SOURCES = os.path.join(HERE, "threads")
 OUT = os.path.join(HERE, "out")
 PROGRAM = os.path.join(OUT, "desk_bench")
+PEER_SOURCE = os.path.join(HERE, "peer", "threads.cpp")
+PEER = os.path.join(OUT, "peer_threads")
+PEER_FLAGS = ["-O2", "-march=x86-64-v2", "-std=c++17", "-DNDEBUG", "-pthread"]
 
 # What is aimed at: instructions of an insert beside those of a store, and instructions of a take.
 INSERT_AIM = 1.5
@@ -72,6 +75,13 @@ def build():
         shutil.copy2(built, PROGRAM)
     with open(stamp, "w", encoding="ascii") as file:
         file.write(now)
+
+
+def build_peer():
+    """Builds the peer, which needs a C++ compiler and Boost's headers."""
+    compiler = shutil.which("c++")
+    if compiler is None or subprocess.run([compiler, *PEER_FLAGS, "-o", PEER, PEER_SOURCE]).returncode != 0:
+        raise SystemExit("bench: the peer can't be built; it needs c++ and Boost's headers")
 
 
 def parts(words):
@@ -170,6 +180,64 @@ def print_readers(options):
         print(f"  {count:>7}  {rates[0]:>20,.0f}  {rates[1]:>17,.0f}", flush=True)
 
 
+def a_second(part):
+    return part["calls"] / part["wall"] * 1e9
+
+
+def best(runs):
+    return max(runs, key=lambda run: a_second(run[1]))
+
+
+def peer_runs(words, turns):
+    """What the peer tells of a measurement, some times."""
+    told = [subprocess.run([PEER, *map(str, words)], stdout=subprocess.PIPE, check=True, text=True).stdout for _ in range(turns)]
+    return [[dict(zip(FIELDS, map(int, line.split()))) for line in lines.splitlines()] for lines in told]
+
+
+def print_looks(options):
+    """Finds in snapshots a second, by number of threads, alone and beside one that inserts; and a peer's, where it is asked for."""
+    print(f"Finds of ten rows a second in snapshots, {options.rows:,} rows, {options.finds:,} finds in all")
+    print("  threads  a snapshot every          alone  beside an insert   inserts a second meanwhile")
+    for count in options.threads:
+        for every in (1, 10, 100):
+            alone, beside = (
+                best([parts(["looks", count + 1, options.rows, options.finds, every, inserts]) for _ in range(options.turns)])
+                for inserts in (0, 1)
+            )
+            print(
+                f"  {count:>7}  {every:>16}  {a_second(alone[1]):>13,.0f}  {a_second(beside[1]):>16,.0f}"
+                f"  {a_second(beside[0]):>27,.0f}",
+                flush=True,
+            )
+        if options.peer:
+            alone, beside = (
+                best(peer_runs([count, options.rows, options.finds, inserts], options.turns)) for inserts in (0, 1)
+            )
+            print(
+                f"  {count:>7}  {'the peer':>16}  {a_second(alone[1]):>13,.0f}  {a_second(beside[1]):>16,.0f}"
+                f"  {a_second(beside[0]):>27,.0f}",
+                flush=True,
+            )
+
+
+def print_snapshots(options):
+    """What a snapshot of a store costs, and the inserts behind it."""
+    more = min(options.rows, 100_000)
+    costs = {
+        every: min(
+            (parts(["snapshots", options.rows, more, every]) for _ in range(options.turns)),
+            key=lambda run: run[0]["wall"],
+        )
+        for every in (0, 1_000, 100, 10, 1)
+    }
+    print(f"Snapshots of a store of {options.rows:,} rows")
+    for every, run in costs.items():
+        name = f"a snapshot every {every:,}" if every else "without snapshots"
+        print(f"  an insert, {name:<26} {run[0]['wall'] / run[0]['calls']:>10,.0f} ns")
+    view = min(run[1]["wall"] / run[1]["calls"] for run in costs.values())
+    print(f"  a snapshot, made and dropped          {view:>10,.0f} ns")
+
+
 def told(value, aim):
     return f"{value:.2f}, aim {aim}: {'met' if value <= aim else 'MISSED'}"
 
@@ -199,6 +267,8 @@ def main():
     parser.add_argument("--finds", type=int, default=20_000, help="finds in all")
     parser.add_argument("--pages", type=int, default=100_000, help="pages that each reader reads")
     parser.add_argument("--turns", type=int, default=3, help="runs, the least of which counts")
+    parser.add_argument("--snapshots", action="store_true", help="what snapshots cost and give, and nothing else")
+    parser.add_argument("--peer", action="store_true", help="beside finds in snapshots those in Boost's tree under a lock")
     parser.add_argument("--callgrind", action="store_true", help="instructions in place of time, by valgrind")
     parser.add_argument("--build", action="store_true", help="build the program and measure nothing")
     options = parser.parse_args()
@@ -213,13 +283,20 @@ def main():
     build()
     if options.build:
         return
+    if options.peer:
+        build_peer()
     if options.callgrind:
         print_instructions(options.rows)
+    elif options.snapshots:
+        print_looks(options)
+        print_snapshots(options)
     else:
         print_threads(options)
         print_visits(options)
         print_prepared(options)
         print_readers(options)
+        print_looks(options)
+        print_snapshots(options)
 
 
 if __name__ == "__main__":
