@@ -4,10 +4,9 @@ Events are drawn by what the model holds, so that trees grow, scans and finders 
 about one name in seven is drawn from 0 up to twice the greatest that was given, so that it is stale, foreign or by
 chance a fitting one.
 """
-from random import Random
-
 from drawn_lines import Drawer
 from keys import CLASSES
+from pcg import Pcg32
 from world_model import MOST_CURSORS, MOST_FINDERS, MOST_ROOM, World
 
 EVENTS = 2_000
@@ -33,7 +32,7 @@ class TraceDrawer(Drawer):
     """Draws a list of events. `asked` are the lines, and `answers` those of the model, or of another of its kind."""
 
     def __init__(self, seed, model=World):
-        random = Random(f"trace {seed}")
+        random = Pcg32(seed)
         super().__init__(CLASSES[seed % len(CLASSES)], random, SHAPES)
         self.seed = seed
         self.fan = random.randint(4, 8)
