@@ -14,6 +14,7 @@ ghost use Rattle.std.specs.Vec.{vec_capacity};
 use crate::checks::seat_stands;
 use crate::latches::Latches;
 use crate::locked::{Guarded, Locked};
+use crate::priority_lock::PriorityLock;
 use crate::seat::Seat;
 use crate::taker::Taker;
 use change_list::{Config, View};
@@ -28,14 +29,14 @@ use std::alloc::{AllocError, Global};
 use std::marker::Model;
 use std::sync::atomic::{AtomicBool, Ordering};
 use std::sync::ledger::{Blank, Ledger, Share};
-use std::sync::{Condvar, Mutex, Wait};
+use std::sync::{Condvar, Wait};
 use world::{Reply, SplitTask, Stamped, VisitTask, World};
 
 /// A world under a lock, which as many seats as the ledger has parts share.
 #[derive(Drop)]
 pub struct DeskOver<W: Guarded, L: Ledger> {
     pub(crate) alloc: Global,
-    pub(crate) locked: Mutex<Locked<W, L>>,
+    pub(crate) locked: PriorityLock<Locked<W, L>>,
     /// What who waits for a commit sleeps on, under the lock.
     grown: Condvar,
     pub(crate) latches: Latches,
@@ -129,7 +130,7 @@ impl<C: KeyClass, L: Ledger> DeskOver<World<C, Ring<C::Key>>, L> {
         let Ok(made) = seats_of(alloc, all, seats) else {
             return Err(Refusal::OutOfMemory);
         };
-        let locked = Mutex::new(Locked::new(world, book));
+        let locked = PriorityLock::new(Locked::new(world, book));
         Ok((
             DeskOver {
                 alloc,
@@ -626,7 +627,7 @@ impl<C: KeyClass, L: Ledger> DeskOver<World<C, Ring<C::Key>>, L> {
         ensures visit { IsVisit C.rules (ShowsCommits result) }
         ensures share { IfSome result (λ snapshot. length seat.old.stamps ≤ length snapshot) }
     {
-        self.locked.lock(rt).snapshot(&mut seat.share)
+        self.locked.lock_first(rt).snapshot(&mut seat.share)
     }
 
     /// Waits until there are more commits than that, and tells how many there are then. The thread sleeps meanwhile, and is

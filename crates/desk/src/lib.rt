@@ -7,6 +7,7 @@ mod ending;
 mod finish;
 mod latches;
 mod locked;
+mod priority_lock;
 mod receipt;
 mod seat;
 mod taker;
