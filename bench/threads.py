@@ -24,6 +24,9 @@ PEER_FLAGS = ["-O2", "-march=x86-64-v2", "-std=c++17", "-DNDEBUG", "-pthread"]
 INSERT_AIM = 1.5
 TAKE_AIM = 60
 
+# Nanoseconds a commit and follower, of a thousand that poll.
+FOLLOWER_AIM = 15
+
 # The most items that stand in a ring.
 ROOM = 4_096
 
@@ -238,6 +241,22 @@ def print_snapshots(options):
     print(f"  a snapshot, made and dropped          {view:>10,.0f} ns")
 
 
+def print_followers(options):
+    """What a commit costs each of many followers that take a snapshot behind each hundred commits, and the changes that match."""
+    for count in (1, 1_000):
+        inserts, polls, views = min(
+            (parts(["followers", options.rows, 10_000, count]) for _ in range(options.turns)),
+            key=lambda run: run[1]["wall"],
+        )
+        if polls["calls"] != count * inserts["calls"]:
+            raise SystemExit("bench: a follower missed a commit")
+        each = polls["wall"] / polls["calls"]
+        print(f"Followers that poll: {count:,}, {polls['items']:,} items of {inserts['calls']:,} commits")
+        print(f"  a commit and follower                 {told(each, FOLLOWER_AIM)} ns")
+        print(f"  an insert beside them                 {inserts['wall'] / inserts['calls']:>10,.0f} ns")
+        print(f"  a snapshot of a seat of {views['items']:,} stamps {views['wall'] / views['calls']:>12,.0f} ns")
+
+
 def told(value, aim):
     return f"{value:.2f}, aim {aim}: {'met' if value <= aim else 'MISSED'}"
 
@@ -289,6 +308,7 @@ def main():
         print_instructions(options.rows)
     elif options.snapshots:
         print_looks(options)
+        print_followers(options)
         print_snapshots(options)
     else:
         print_threads(options)
@@ -296,6 +316,7 @@ def main():
         print_prepared(options)
         print_readers(options)
         print_looks(options)
+        print_followers(options)
         print_snapshots(options)
 
 

@@ -76,6 +76,26 @@ impl<T: Copied> Shared<T> {
         ensures* lends { sem 𝓛 (LendsIfOk (the_row T.row) T.row self.entry result (λ value. value) self.old) }
         ensures value { IfOk result (λ value. value.now ≡ self.old) }
     {
-        Arc::make_mut(&mut self.inner)
+        if Arc::strong_count(&self.inner) > 1 {
+            self.part()?;
+        }
+        match Arc::get_mut(&mut self.inner) {
+            Some(value) => Ok(value),
+            None => Err(AllocError),
+        }
+    }
+
+    /// Takes a copy of the value in the place of the shared one. It stands apart, so that who has the value alone pays nothing
+    /// for the copy's place on the stack.
+    ///
+    /// # Errors
+    /// Memory was wanting.
+    #[cold]
+    #[inline(never)]
+    fn part(&mut self) -> Result<(), AllocError>
+        ensures { self.new ≡ self.old }
+    {
+        let _copy = Arc::make_mut(&mut self.inner)?;
+        Ok(())
     }
 }
