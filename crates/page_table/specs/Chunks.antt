@@ -1,11 +1,11 @@
--- Pages kept in places, sixteen of which make a chunk, sixteen of which make a larger one, and so on.
+-- Pages kept in places, 32 of which make a chunk, 32 of which make a larger one.
 use Rattle.std.specs.Prelude.{◌≡◌, ℕ, ◌+◌, ◌*◌, ◌/◌, ◌%◌, ◌≤◌, List, [], ◌∷◌, ◌++◌, length, take, flat_map, slice_index_or, slice_set, All}
 use Rattle.node.specs.Pages.{Page}
 use Rattle.page_table.specs.Trees.{no_page}
 
--- sixteen chunks of sixteen chunks of sixteen pages
-abbrev pub Chunk4096 : Type 0 → Type 0
-Chunk4096 K = List (List (List (Page K)))
+-- 32 chunks of 32 pages
+abbrev pub Chunk1024 : Type 0 → Type 0
+Chunk1024 K = List (List (Page K))
 
 module _ {K : Type 0} where
   -- the pages of all places, one after the other
@@ -48,46 +48,40 @@ module _ {K : Type 0} where
   abbrev pub IsPage : Page K → Type 0
   IsPage page = Unit {0}
 
-  abbrev pub pages_of_16 : List (Page K) → List (Page K)
-  pages_of_16 chunk = joined alone chunk
+  abbrev pub pages_of_32 : List (Page K) → List (Page K)
+  pages_of_32 chunk = joined alone chunk
 
-  abbrev pub pages_of_256 : List (List (Page K)) → List (Page K)
-  pages_of_256 chunk = joined pages_of_16 chunk
+  abbrev pub pages_of_1024 : Chunk1024 K → List (Page K)
+  pages_of_1024 chunk = joined pages_of_32 chunk
 
-  abbrev pub pages_of_4096 : Chunk4096 K → List (Page K)
-  pages_of_4096 chunk = joined pages_of_256 chunk
+  abbrev pub IsFull32 : List (Page K) → Type 0
+  IsFull32 chunk = ArePlaces alone IsPage 1 32 chunk
 
-  abbrev pub IsFull16 : List (Page K) → Type 0
-  IsFull16 chunk = ArePlaces alone IsPage 1 16 chunk
-
-  abbrev pub IsFull256 : List (List (Page K)) → Type 0
-  IsFull256 chunk = ArePlaces pages_of_16 IsFull16 16 16 chunk
-
-  abbrev pub IsFull4096 : Chunk4096 K → Type 0
-  IsFull4096 chunk = ArePlaces pages_of_256 IsFull256 256 16 chunk
+  abbrev pub IsFull1024 : Chunk1024 K → Type 0
+  IsFull1024 chunk = ArePlaces pages_of_32 IsFull32 32 32 chunk
 
   -- the first n pages of chunks
-  abbrev pub first_pages : ℕ → List (Chunk4096 K) → List (Page K)
-  first_pages n chunks = take n (joined pages_of_4096 chunks)
+  abbrev pub first_pages : ℕ → List (Chunk1024 K) → List (Page K)
+  first_pages n chunks = take n (joined pages_of_1024 chunks)
 
   -- full chunks with at least n places
-  pub record HasPlaces (chunks : List (Chunk4096 K)) (n : ℕ) : Type 0 where
-    pub full : ArePlaces pages_of_4096 IsFull4096 4096 (length chunks) chunks
-    pub enough : n ≤ 4096 * length chunks
+  pub record HasPlaces (chunks : List (Chunk1024 K)) (n : ℕ) : Type 0 where
+    pub full : ArePlaces pages_of_1024 IsFull1024 1024 (length chunks) chunks
+    pub enough : n ≤ 1024 * length chunks
 
   -- a full chunk, and full chunks with at least n places
-  pub record HasFiller (filler : Chunk4096 K) (chunks : List (Chunk4096 K)) (n : ℕ) : Type 0 where
-    pub whole : IsFull4096 filler
-    pub size : length (pages_of_4096 filler) ≡ 4096
+  pub record HasFiller (filler : Chunk1024 K) (chunks : List (Chunk1024 K)) (n : ℕ) : Type 0 where
+    pub whole : IsFull1024 filler
+    pub size : length (pages_of_1024 filler) ≡ 1024
     pub places : HasPlaces chunks n
 
   -- the first n are as they were
-  pub record StaysTo (n : ℕ) (old new : List (Chunk4096 K)) : Type 0 where
+  pub record StaysTo (n : ℕ) (old new : List (Chunk1024 K)) : Type 0 where
     pub places : HasPlaces new n
     pub pages : first_pages n new ≡ first_pages n old
 
   -- and a page follows them
-  pub record PutsNext (n : ℕ) (old : List (Chunk4096 K)) (page : Page K) (new : List (Chunk4096 K)) : Type 0 where
+  pub record PutsNext (n : ℕ) (old : List (Chunk1024 K)) (page : Page K) (new : List (Chunk1024 K)) : Type 0 where
     pub places : HasPlaces new (n + 1)
     pub pages : first_pages (n + 1) new ≡ first_pages n old ++ page ∷ []
     pub kept : first_pages n new ≡ first_pages n old

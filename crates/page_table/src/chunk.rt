@@ -1,4 +1,4 @@
-//! Sixteen places, which tables share until one of them writes to one.
+//! Places, which tables share until one of them writes to one.
 ghost use Rattle.std.specs.Prelude.{◌≡◌, ◌<◌, [], length, All, slice_index_or, slice_set, IfOk};
 ghost use Rattle.std.specs.Borrow.{LendsIfOk, sem};
 ghost use Rattle.page_table.specs.contracts.chunk.Chunk.{the_row};
@@ -14,7 +14,7 @@ use std::alloc::{AllocError, Global};
 use std::marker::Model;
 
 /// How many places a chunk has.
-pub(crate) const CHUNK: usize = 16;
+pub(crate) const CHUNK: usize = 32;
 
 /// Places, each for as many pages as `SIZE` tells.
 #[derive(Drop)]
@@ -29,7 +29,7 @@ impl<T, const SIZE: usize> Model for Chunk<T, SIZE> {
 
     ghost view = { λ c. c.children.items };
 
-    ghost invariant = { λ c. length c.children.items ≡ 16 };
+    ghost invariant = { λ c. length c.children.items ≡ 32 };
 }
 
 impl<T: Copied, const SIZE: usize> Clone for Chunk<T, SIZE> {
@@ -57,7 +57,7 @@ impl<T: Copied, const SIZE: usize> Chunk<T, SIZE> {
     /// # Errors
     /// The value has too many owners.
     pub(crate) fn filled(child: &Shared<T>) -> Result<Chunk<T, SIZE>, AllocError>
-        ensures length { IfOk result (λ chunk. length chunk ≡ 16) }
+        ensures length { IfOk result (λ chunk. length chunk ≡ 32) }
         ensures each { IfOk result (All (λ place. place ≡ child.now)) }
     {
         let children = [child; CHUNK].try_map(
@@ -98,7 +98,7 @@ impl<T: Copied, const SIZE: usize> Chunk<T, SIZE> {
 impl<K: Copy, T: Places<K>, const SIZE: usize> Places<K> for Chunk<T, SIZE> {
     ghost pages = { joined T.pages };
 
-    ghost is_full = { ArePlaces T.pages T.is_full SIZE 16 };
+    ghost is_full = { ArePlaces T.pages T.is_full SIZE 32 };
 
     ghost none = { [] };
 
@@ -132,9 +132,9 @@ impl<K: Copy, T: Places<K>, const SIZE: usize> Places<K> for Chunk<T, SIZE> {
         change_all::<K, T, C, SIZE>(self.children.as_mut_slice(), upper, lower, beside, change)
     }
 
-    ghost put_pages = { λ places i page full l. (put_becomes T.pages T.is_full T.none T.put SIZE T.put_pages T.put_full 16 places full i l page).pages };
+    ghost put_pages = { λ places i page full l. (put_becomes T.pages T.is_full T.none T.put SIZE T.put_pages T.put_full 32 places full i l page).pages };
 
-    ghost put_full = { λ places i page full l. (put_becomes T.pages T.is_full T.none T.put SIZE T.put_pages T.put_full 16 places full i l page).full };
+    ghost put_full = { λ places i page full l. (put_becomes T.pages T.is_full T.none T.put SIZE T.put_pages T.put_full 32 places full i l page).full };
 
-    ghost put_stays = { λ places i page full l. put_in_stays T.pages T.is_full T.none T.put SIZE T.put_pages T.put_full 16 places full i l T.put_stays page };
+    ghost put_stays = { λ places i page full l. put_in_stays T.pages T.is_full T.none T.put SIZE T.put_pages T.put_full 32 places full i l T.put_stays page };
 }

@@ -21,8 +21,8 @@ use std::marker::Model;
 
 /// Pages by number, and the number of the latest posting.
 ///
-/// The pages stand in chunks of chunks of chunks, which tables share until one of them writes to a page: then it gets a copy
-/// of the chunks that lead there.
+/// The pages stand in chunks of chunks, which tables share until one of them writes to a page: then it gets a copy of the two
+/// chunks that lead there.
 #[derive(Drop)]
 pub struct PageTable<K> {
     chunks: Vec<Shared<Top<K>>>,

@@ -1,6 +1,6 @@
 //! The chunks that a table holds.
 ghost use Rattle.std.specs.Prelude.{◌≡◌, ◌≢◌, ◌+◌, length, IfOk, OnOk, OnErr};
-ghost use Rattle.page_table.specs.Chunks.{ArePlaces, Becomes, HasFiller, HasPlaces, IsFull4096, PutsNext, StaysTo, both_changed, joined, pages_of_4096, three_changed};
+ghost use Rattle.page_table.specs.Chunks.{ArePlaces, Becomes, HasFiller, HasPlaces, IsFull1024, PutsNext, StaysTo, both_changed, joined, pages_of_1024, three_changed};
 
 use crate::change::{PageChange, Reversed, Turned};
 use crate::chunk::Chunk;
@@ -10,10 +10,10 @@ use node::Page;
 use std::alloc::{AllocError, Global};
 
 /// How many pages a chunk has that the table holds.
-pub(crate) const TOP: usize = 4096;
+pub(crate) const TOP: usize = 1024;
 
-/// Sixteen chunks of sixteen chunks of sixteen pages.
-pub(crate) type Top<K> = Chunk<Chunk<Chunk<Single<K>, 1>, 16>, 256>;
+/// 32 chunks of 32 pages.
+pub(crate) type Top<K> = Chunk<Chunk<Single<K>, 1>, 32>;
 
 /// Changes two pages at once.
 ///
@@ -29,11 +29,11 @@ pub(crate) fn change_pages<K: Copy, C: PageChange<K, ()>>(
     requires lower_exists { HasPlaces chunks.old.items (lower + 1) }
     requires may { C.may change.now }
     ensures changed { OnOk result
-        (Becomes (joined pages_of_4096) (ArePlaces pages_of_4096 IsFull4096 4096 (length chunks.old.items)) chunks.new.items
+        (Becomes (joined pages_of_1024) (ArePlaces pages_of_1024 IsFull1024 1024 (length chunks.old.items)) chunks.new.items
         (both_changed
         (λ x y. C.upper_after change.now x y tt)
         (λ x y. C.lower_after change.now x y tt)
-        upper lower (joined pages_of_4096 chunks.old.items))) }
+        upper lower (joined pages_of_1024 chunks.old.items))) }
     ensures unchanged { OnErr result (chunks.new.items ≡ chunks.old.items) }
 {
     change_both::<K, Top<K>, (), C, TOP>(chunks.as_mut_slice(), upper, lower, &mut (), change)
@@ -58,10 +58,10 @@ pub(crate) fn change_three<K: Copy, C: PageChange<K, Page<K>>>(
     requires lower_beside { lower ≢ beside }
     requires may { C.may change.now }
     ensures changed { OnOk result
-        (Becomes (joined pages_of_4096) (ArePlaces pages_of_4096 IsFull4096 4096 (length chunks.old.items)) chunks.new.items
+        (Becomes (joined pages_of_1024) (ArePlaces pages_of_1024 IsFull1024 1024 (length chunks.old.items)) chunks.new.items
         (three_changed
         (C.upper_after change.now) (C.lower_after change.now) (C.beside_after change.now)
-        upper lower beside (joined pages_of_4096 chunks.old.items))) }
+        upper lower beside (joined pages_of_1024 chunks.old.items))) }
     ensures unchanged { OnErr result (chunks.new.items ≡ chunks.old.items) }
 {
     let places = chunks.as_mut_slice();
@@ -81,14 +81,13 @@ pub(crate) fn change_three<K: Copy, C: PageChange<K, Page<K>>>(
 /// # Errors
 /// Memory was wanting.
 pub(crate) fn filler<K: Copy>(alloc: Global) -> Result<Shared<Top<K>>, AllocError>
-    ensures full { IfOk result IsFull4096 }
-    ensures size { IfOk result (λ chunk. length (pages_of_4096 chunk) ≡ 4096) }
+    ensures full { IfOk result IsFull1024 }
+    ensures size { IfOk result (λ chunk. length (pages_of_1024 chunk) ≡ 1024) }
 {
     let page = Page::leaf(alloc, 0)?;
     let page = Shared::new(alloc, Single { page })?;
-    let sixteen = Shared::new(alloc, Chunk::filled(&page)?)?;
-    let more = Shared::new(alloc, Chunk::filled(&sixteen)?)?;
-    Ok(Shared::new(alloc, Chunk::filled(&more)?)?)
+    let pages = Shared::new(alloc, Chunk::filled(&page)?)?;
+    Ok(Shared::new(alloc, Chunk::filled(&pages)?)?)
 }
 
 /// Puts a page behind the first `count`. Where there is no place for it, there is a chunk more.

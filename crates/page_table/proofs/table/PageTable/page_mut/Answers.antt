@@ -10,7 +10,7 @@ pub page_mut-requires : goal.page_mut-requires
 page_mut-requires g c =
     let has = c.self.invariant.places in
     let chunk = c.in_ok-self-inside.field-0.now in
-    let read : chunk ≡ get_or c.self.inside.chunks.items (c.args.number / 4096) chunk = search rules in
+    let read : chunk ≡ get_or c.self.inside.chunks.items (c.args.number / 1024) chunk = search rules in
     let there = in_all has (within has c.self.view_is c.requires) in
     (omega arith, (place_full has.full there chunk read, page_within has.full there chunk read))
 
@@ -19,8 +19,8 @@ returns g c =
     let has = c.self.invariant.places in
     let chunks = c.self.inside.chunks.items in
     let chunk = c.in_ok-self-inside.field-0.now in
-    let read : chunk ≡ get_or chunks (c.args.number / 4096) chunk = search rules in
-    let stays = ap (λ cs. tree_of c.self.inside.count cs c.self.inside.counter) (put_same chunks (c.args.number / 4096) chunk read) ∙ c.self.view_is in
+    let read : chunk ≡ get_or chunks (c.args.number / 1024) chunk = search rules in
+    let stays = ap (λ cs. tree_of c.self.inside.count cs c.self.inside.counter) (put_same chunks (c.args.number / 1024) chunk read) ∙ c.self.view_is in
     let found = read_page has c.self.view_is c.requires chunk read in (
       ap₂ (λ f v. read_of (name_if_ok (λ x. x.ghost_name) c.page_mut.result) f v) (fun_ext (λ w. written has c.self.view_is c.requires chunk read w)) stays,
       record { lends = tt; value = rw found at c.page_mut.ensures.value },
@@ -30,8 +30,8 @@ pub invariant_of-self-lent : goal.invariant_of-self-lent
 invariant_of-self-lent g c =
     let has = c.self.invariant.places in
     let chunk = c.in_ok-self-inside.field-0.now in
-    let read : chunk ≡ get_or c.self.inside.chunks.items (c.args.number / 4096) chunk = search rules in
+    let read : chunk ≡ get_or c.self.inside.chunks.items (c.args.number / 1024) chunk = search rules in
     λ r. (
       λ w. record { whole = c.self.invariant.whole; size = c.self.invariant.size; places = written_places has c.self.view_is c.requires chunk read w },
-      record { whole = c.self.invariant.whole; size = c.self.invariant.size; places = same_places (c.args.number / 4096) has read },
+      record { whole = c.self.invariant.whole; size = c.self.invariant.size; places = same_places (c.args.number / 1024) has read },
     )

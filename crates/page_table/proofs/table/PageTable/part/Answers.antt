@@ -21,14 +21,14 @@ pub page_mut-requires : goal.page_mut-requires
 page_mut-requires g c =
     let has = c.in_ok-put_next.ensures.put.places in
     let chunk = c.in_ok-get_mut.field-0.now in
-    let read : chunk ≡ get_or c.put_next.new.chunks.items (c.args.page / 4096) chunk = search rules in
+    let read : chunk ≡ get_or c.put_next.new.chunks.items (c.args.page / 1024) chunk = search rules in
     let there = in_all has (part_within c.self.invariant.places c.self.view_is c.in_ok-put_next.ensures.put c.requires.exists chunk read) in
     (omega arith, (place_full has.full there chunk read, page_within has.full there chunk read))
 
 pub invariant_of-self-in_err-self-inside : goal.invariant_of-self-in_err-self-inside
 invariant_of-self-in_err-self-inside g c =
     let chunk = c.in_ok-get_mut.field-0.now in
-    let read : chunk ≡ get_or c.put_next.new.chunks.items (c.args.page / 4096) chunk = search rules in
+    let read : chunk ≡ get_or c.put_next.new.chunks.items (c.args.page / 1024) chunk = search rules in
     record {
       whole = c.self.invariant.whole;
       size = c.self.invariant.size;
@@ -38,7 +38,7 @@ invariant_of-self-in_err-self-inside g c =
 pub returns-in_err-self-inside-clause-unchanged : goal.returns-in_err-self-inside-clause-unchanged
 returns-in_err-self-inside-clause-unchanged g c =
     let chunk = c.in_ok-get_mut.field-0.now in
-    let read : chunk ≡ get_or c.put_next.new.chunks.items (c.args.page / 4096) chunk = search rules in
+    let read : chunk ≡ get_or c.put_next.new.chunks.items (c.args.page / 1024) chunk = search rules in
     on_err_of _ c.from_residual-in_err-self-inside.result (part_kept c.self.invariant.places c.self.view_is c.in_ok-put_next.ensures.put c.requires.exists chunk read)
 
 pub overflow_cast-number : goal.overflow_cast-number
@@ -47,7 +47,7 @@ overflow_cast-number g c = omega (arith, count_is c.self.invariant.places c.self
 pub keep_left-requires : goal.keep_left-requires
 keep_left-requires g c =
     let chunk = c.in_ok-get_mut.field-0.now in
-    let read : chunk ≡ get_or c.put_next.new.chunks.items (c.args.page / 4096) chunk = search rules in
+    let read : chunk ≡ get_or c.put_next.new.chunks.items (c.args.page / 1024) chunk = search rules in
     ap entries_of (c.in_ok-self-inside.ensures.value ∙ part_page c.self.invariant.places c.self.view_is c.in_ok-put_next.ensures.put c.requires.exists chunk read) ∙ c.requires.one_a_place
 
 pub overflow_add-self : goal.overflow_add-self
@@ -59,7 +59,7 @@ overflow_cast-result g c = omega (arith, count_is c.self.invariant.places c.self
 pub invariant_of-self-2 : goal.invariant_of-self-2
 invariant_of-self-2 g c =
     let chunk = c.in_ok-get_mut.field-0.now in
-    let read : chunk ≡ get_or c.put_next.new.chunks.items (c.args.page / 4096) chunk = search rules in
+    let read : chunk ≡ get_or c.put_next.new.chunks.items (c.args.page / 1024) chunk = search rules in
     record {
       whole = c.self.invariant.whole;
       size = c.self.invariant.size;
@@ -72,7 +72,7 @@ returns-clause-number g c = count_is c.self.invariant.places c.self.view_is
 pub returns-clause-parted : goal.returns-clause-parted
 returns-clause-parted g c =
     let chunk = c.in_ok-get_mut.field-0.now in
-    let read : chunk ≡ get_or c.put_next.new.chunks.items (c.args.page / 4096) chunk = search rules in
+    let read : chunk ≡ get_or c.put_next.new.chunks.items (c.args.page / 1024) chunk = search rules in
     let puts = c.in_ok-put_next.ensures.put in
     let union = g.C.KeyClass.rules.union_of in
     let page = c.in_ok-self-inside.ensures.value ∙ part_page c.self.invariant.places c.self.view_is puts c.requires.exists chunk read in
