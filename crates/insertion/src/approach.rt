@@ -26,13 +26,11 @@ pub enum Approach {
     At(u32),
 }
 
-/// What is done next on a way.
+/// What is to be done next on a way.
 #[derive(Drop)]
 enum Next<C: KeyClass> {
     /// The event, and then the way goes on at this page.
     Make(Event<C>, u32),
-    /// The way goes on at this page.
-    Down(u32),
     /// This page is to be split.
     Split(u32),
     /// This leaf takes the key.
@@ -74,7 +72,7 @@ pub(crate) fn resumed<C: KeyClass, O: Outlet<C::Key>>(
     }
 }
 
-/// What is done next on a way that goes on from the page.
+/// What is to be done next on a way that goes on from the page. It goes down as far as branches lead without anything to be done.
 fn next_on_way<C: KeyClass>(
     alloc: Global,
     search: &SearchTree<C>,
@@ -87,28 +85,31 @@ fn next_on_way<C: KeyClass>(
     ensures next { IfOk result (IsNextOnWay C.rules search.now page key) }
     ensures refusals { IfErr result (λ why. why ≡ Refusal.OutOfMemory) }
 {
-    match plan_at(search, page, key) {
-        Plan::Grow => {
-            let sides = sides_of(alloc, search, 0)?;
-            return Ok(Next::Make(Event::Grow(sides), 0));
+    let mut here = page;
+    'descending: loop {
+        match plan_at(search, here, key) {
+            Plan::Down(child) => here = child,
+            Plan::Grow => {
+                let sides = sides_of(alloc, search, 0)?;
+                return Ok(Next::Make(Event::Grow(sides), 0));
+            }
+            Plan::Post(parent, child) => {
+                let posted = Event::Post(u64::from(parent), u64::from(child));
+                return Ok(Next::Make(posted, 0));
+            }
+            Plan::Split(child) => return Ok(Next::Split(child)),
+            Plan::Enlarge(parent, child) => {
+                let wider = Event::Enlarge(u64::from(parent), u64::from(child), key);
+                return Ok(Next::Make(wider, child));
+            }
+            Plan::Place(leaf) => return Ok(Next::At(leaf)),
         }
-        Plan::Post(parent, child) => {
-            let posted = Event::Post(u64::from(parent), u64::from(child));
-            return Ok(Next::Make(posted, 0));
-        }
-        Plan::Split(child) => return Ok(Next::Split(child)),
-        Plan::Enlarge(parent, child) => {
-            let wider = Event::Enlarge(u64::from(parent), u64::from(child), key);
-            return Ok(Next::Make(wider, child));
-        }
-        Plan::Down(child) => return Ok(Next::Down(child)),
-        Plan::Place(leaf) => return Ok(Next::At(leaf)),
     }
 }
 
-/// One visit of a way to a world, which makes one event or none: the next step from the page to which the way has come,
-/// or from the root where it may not go on there any more. A split is told and not made. At a leaf that takes the key
-/// nothing is done.
+/// One visit of a way to a world, which makes one event or none: it goes down from the page to which the way has come, or
+/// from the root where it may not go on there any more, until an event is due, and makes that. A split is told and not made. At a
+/// leaf that takes the key nothing is done.
 ///
 /// # Errors
 /// `PagesFull`, and want of memory. Nothing is changed then.
@@ -130,7 +131,6 @@ pub fn approach_leaf<C: KeyClass, O: Outlet<C::Key>>(
     world.recall_soundness();
     let here = resumed(world, page, key);
     match next_on_way(alloc, world.search(), here, key)? {
-        Next::Down(child) => return Ok(Approach::On(child)),
         Next::Split(child) => return Ok(Approach::Split(child)),
         Next::At(leaf) => return Ok(Approach::At(leaf)),
         Next::Make(event, then) => {

@@ -24,8 +24,8 @@ pub enum Way<K> {
     Placed(Stamped<K>),
 }
 
-/// One visit of an insertion to a world, which makes one event or none: the next step of its way, or at a leaf that takes
-/// the key the row's placing.
+/// One visit of an insertion to a world, which makes one event or none: its way goes down to the next event that is due, or to a
+/// leaf that takes the key, and makes the event or places the row.
 ///
 /// # Errors
 /// `CommitsFull` where there are as many commits as may be, `PagesFull`, and want of memory. Nothing is changed then.

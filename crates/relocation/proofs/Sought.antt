@@ -14,7 +14,7 @@ module _ (C : Type 0) {K A : Type 0} (rules : Rules K A) (rule : Rule) (old mid 
   -- the world is as it was when the way came to the leaf
   at_leaf : (made : Moving K) → SeeksFrom rules rule mid seat leaf f row key made new → SeeksAtLeaf C rules rule old seat page f row key made new
   at_leaf made seeks =
-      (leaf, (near.0, near.1, (near.2.0, near.2.1, refl)), subst (λ s. SeeksFrom rules rule s seat leaf f row key made new) near.2.2 seeks)
+      (leaf, record { here = near.here; resumes = near.resumes; there = near.there; down = near.down; tells = (near.tells.0, near.tells.1, refl) }, subst (λ s. SeeksFrom rules rule s seat leaf f row key made new) near.tells.2 seeks)
 
   -- what its finder does is what the move does
   pub relocates : {Y : Type 0} (result : Result (Moving K) Y) → IfOk result (λ made. SeeksFrom rules rule mid seat leaf f row key made new) → IfOk result (λ made. Relocates C rules rule old seat page f row key made new)

@@ -1,12 +1,23 @@
-use Rattle.std.proofs.Common.{inr, subst}
-use Rattle.insertion.specs.Visits.{LeadsOn}
+use Rattle.std.proofs.Common.{refl, subst}
+use Rattle.insertion.specs.Visits.{IsNextOnWay}
+use Rattle.insertion.specs.declared.approach.Next.TheVariants.{Make, Split}
 use Rattle.insertion.proofs.Nearing.{leads_there}
 use Rattle.insertion.proofs.approach.approach_leaf.Goals as goal
 
+pub returns-in-Split-clause-nears : goal.returns-in-Split-clause-nears
+returns-in-Split-clause-nears g c =
+    let next = subst (λ s. IsNextOnWay {C = g.row.C.Denot} g.C.KeyClass.rules s c.resumed-here.result c.args.key (Split c.in-Split.child)) c.search.ensures (rw c.in-Split.is at c.in_ok-child.ensures.next) in
+    record { here = c.resumed-here.result; resumes = c.resumed-here.ensures.resumes; there = next.there; down = next.down; tells = (next.is.0, next.is.1, refl) }
+
 pub returns-in-Make-clause-nears : goal.returns-in-Make-clause-nears
 returns-in-Make-clause-nears g c =
-    let leads : LeadsOn {C = g.row.C.Denot} g.C.KeyClass.rules c.args.world.now.search c.resumed-here.result c.args.key c.in-Make.event c.in-Make.then
-    = subst (λ s. LeadsOn {C = g.row.C.Denot} g.C.KeyClass.rules s c.resumed-here.result c.args.key c.in-Make.event c.in-Make.then) c.search.ensures (rw c.in-Make.is at c.in_ok-child.ensures.next) in
+    let next = subst (λ s. IsNextOnWay {C = g.row.C.Denot} g.C.KeyClass.rules s c.resumed-here.result c.args.key (Make c.in-Make.event c.in-Make.then)) c.search.ensures (rw c.in-Make.is at c.in_ok-child.ensures.next) in
     let moved = c.in_ok-move_pages-in-Make.ensures.moved in
-    let there = leads_there g.C.KeyClass.rules c.args.world.now c.move_pages.new.world c.resumed-here.result c.args.key c.in-Make.event c.in-Make.then leads moved c.move_pages.ensures.sound in
-    (c.resumed-here.result, c.resumed-here.ensures.resumes, (there, inr (c.in-Make.event, leads, moved)))
+    let exists = leads_there g.C.KeyClass.rules c.args.world.now c.move_pages.new.world next.there c.args.key c.in-Make.event c.in-Make.then next.is moved c.move_pages.ensures.sound in
+    record {
+      here = c.resumed-here.result;
+      resumes = c.resumed-here.ensures.resumes;
+      there = next.there;
+      down = next.down;
+      tells = record { event = c.in-Make.event; leads = next.is; moved = moved; exists = exists };
+    }
