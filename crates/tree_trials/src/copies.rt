@@ -128,7 +128,7 @@ fn changed(
 }
 
 /// The last places of chunks of each size.
-const LAST: [u32; 4] = [15, 255, 4_095, 65_535];
+const LAST: [u32; 3] = [31, 1_023, 65_535];
 
 #[test]
 fn keeps_a_copy_as_it_was(rt: HostRuntime) -> Result<(), Fail> {
@@ -172,17 +172,17 @@ fn posts_beside_a_copy(rt: HostRuntime) -> Result<(), Fail> {
             "{last}"
         );
     }
-    assert!(rt; table.counter() == 4);
+    assert!(rt; table.counter() == 3);
     Ok(())
 }
 
 /// Three pages of one chunk, of two chunks and of three, and of three that are large.
 const PAGES: [(u32, u32, u32); 5] = [
     (1, 2, 3),
-    (1, 2, 17),
-    (1, 17, 18),
-    (1, 17, 33),
-    (1, 300, 4_500),
+    (1, 2, 33),
+    (1, 33, 34),
+    (1, 33, 65),
+    (1, 1_100, 2_100),
 ];
 
 #[test]
@@ -212,8 +212,8 @@ fn posts_near_and_far(rt: HostRuntime) -> Result<(), Fail> {
 #[test]
 fn grows_behind_a_copy(rt: HostRuntime) -> Result<(), Fail> {
     let alloc = rt.alloc();
-    let mut table = leaves(alloc, 15)?;
-    for pages in [17, 257, 4_097, 65_537] {
+    let mut table = leaves(alloc, 31)?;
+    for pages in [33, 1_025, 65_537] {
         let before = table.len();
         let copy = table.copy()?;
         grow(alloc, &mut table, pages)?;
