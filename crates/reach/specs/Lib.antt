@@ -1,0 +1,4 @@
+pub mod AtomLaws
+pub mod Atoms
+pub mod QueryLaws
+pub mod Reaches

@@ -1,0 +1,25 @@
+ghost use Rattle.reach.specs.Atoms.{box_reach, overlapping_box};
+ghost use Rattle.reach.specs.AtomLaws.{box_overlaps};
+
+use crate::reach::Reach;
+use box_class::{Atom, BoxKey, Boxes};
+use key_class::Rel;
+
+impl Reach for Boxes {
+    ghost reach_of = { box_reach };
+
+    ghost overlap_with = { overlapping_box };
+
+    fn reach(atom: &Atom) -> Option<BoxKey> {
+        Some(atom.operand)
+    }
+
+    fn overlapping(key: BoxKey) -> Atom {
+        Atom {
+            rel: Rel::Overlaps,
+            operand: key,
+        }
+    }
+
+    ghost reaches = { box_overlaps };
+}

@@ -1,0 +1,25 @@
+ghost use Rattle.reach.specs.Atoms.{interval_reach, overlapping_interval};
+ghost use Rattle.reach.specs.AtomLaws.{interval_overlaps};
+
+use crate::reach::Reach;
+use interval_class::{Atom, Interval, Intervals};
+use key_class::Rel;
+
+impl Reach for Intervals {
+    ghost reach_of = { interval_reach };
+
+    ghost overlap_with = { overlapping_interval };
+
+    fn reach(atom: &Atom) -> Option<Interval> {
+        Some(atom.operand)
+    }
+
+    fn overlapping(key: Interval) -> Atom {
+        Atom {
+            rel: Rel::Overlaps,
+            operand: key,
+        }
+    }
+
+    ghost reaches = { interval_overlaps };
+}

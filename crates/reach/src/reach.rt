@@ -1,0 +1,22 @@
+ghost use Rattle.std.specs.Prelude.{◌≡◌, Option};
+ghost use Rattle.reach.specs.Reaches.{MatchesOverlap};
+
+use key_class::KeyClass;
+
+/// A class whose atoms tell where the keys lie that match them.
+pub trait Reach: KeyClass {
+    /// The key that every key which matches the atom overlaps, or none where there is no such key.
+    ghost reach_of: { Self.Atom → Option Self.Key };
+
+    /// The atom that a key matches where it overlaps this one.
+    ghost overlap_with: { Self.Key → Self.Atom };
+
+    fn reach(atom: &Self::Atom) -> Option<Self::Key>
+        ensures { result ≡ reach_of atom.now };
+
+    fn overlapping(key: Self::Key) -> Self::Atom
+        ensures { result ≡ overlap_with key };
+
+    /// A key that matches an atom overlaps its reach.
+    ghost reaches: { MatchesOverlap Self.rules.is_match reach_of overlap_with };
+}

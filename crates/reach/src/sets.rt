@@ -1,0 +1,36 @@
+ghost use Rattle.reach.specs.Atoms.{set_reach, overlapping_set};
+ghost use Rattle.reach.specs.AtomLaws.{set_overlaps};
+
+use crate::reach::Reach;
+use key_class::Rel;
+use set_class::{Atom, Elements, Sets};
+
+impl Reach for Sets {
+    ghost reach_of = { set_reach };
+
+    ghost overlap_with = { overlapping_set };
+
+    /// The empty set overlaps nothing. It is within any set, and any set holds it.
+    fn reach(atom: &Atom) -> Option<Elements> {
+        match atom.rel {
+            Rel::Overlaps => Some(atom.operand),
+            Rel::Within => None,
+            Rel::Holds | Rel::Same => {
+                if atom.operand.mask == 0 {
+                    None
+                } else {
+                    Some(atom.operand)
+                }
+            }
+        }
+    }
+
+    fn overlapping(key: Elements) -> Atom {
+        Atom {
+            rel: Rel::Overlaps,
+            operand: key,
+        }
+    }
+
+    ghost reaches = { set_overlaps };
+}
