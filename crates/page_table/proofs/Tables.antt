@@ -6,7 +6,7 @@ use Rattle.std.proofs.Math.Seq.{take-set-lt}
 use Rattle.std.specs.Prelude.{Result, Ok, Err, OnErr}
 use Rattle.node.specs.Pages.{Page}
 use Rattle.node.specs.Changes.{post_parent, post_child, post_sibling, post_up}
-use Rattle.page_table.specs.Chunks.{ArePlaces, Becomes, Chunk1024, HasPlaces, IsFull1024, IsFull32, IsPage, PutsNext, StaysTo, alone, both_changed, first_pages, joined, pages_of_1024, pages_of_32, put_in, three_changed}
+use Rattle.page_table.specs.Chunks.{ArePlaces, Becomes, Chunk1024, HasPlaces, IsFull1024, IsFull16, IsPage, PutsNext, StaysTo, alone, both_changed, first_pages, joined, pages_of_1024, pages_of_16, put_in, three_changed}
 use Rattle.page_table.specs.PlaceLaws.{joined_length, page_is, page_put, page_within, place_full, put_becomes, put_pages, put_places, put_same, set_before}
 use Rattle.page_table.proofs.Chunks.{last_first}
 use Rattle.page_table.specs.Trees.{Tree, page_at, no_page, replaced, added}
@@ -31,18 +31,18 @@ module _ {X : Type 0} where
 
 module _ {K : Type 0} where
   -- a chunk with another page
-  abbrev pub put_32 : List (Page K) → ℕ → Page K → List (Page K)
-  put_32 chunk i page = put_in (λ old j new. new) no_page 1 chunk i page
+  abbrev pub put_16 : List (Page K) → ℕ → Page K → List (Page K)
+  put_16 chunk i page = put_in (λ old j new. new) no_page 1 chunk i page
 
   abbrev pub put_1024 : Chunk1024 K → ℕ → Page K → Chunk1024 K
-  put_1024 chunk i page = put_in put_32 [] 32 chunk i page
+  put_1024 chunk i page = put_in put_16 [] 16 chunk i page
 
-  put_32_becomes : (chunk : List (Page K)) (i : ℕ) (page : Page K) → IsFull32 chunk → i < length (pages_of_32 chunk) → Becomes pages_of_32 IsFull32 (put_32 chunk i page) (set (pages_of_32 chunk) i page)
-  put_32_becomes chunk i page full l = put_becomes alone IsPage no_page (λ old j new. new) 1 page_put (λ x j p f m. tt) 32 chunk full i l page
+  put_16_becomes : (chunk : List (Page K)) (i : ℕ) (page : Page K) → IsFull16 chunk → i < length (pages_of_16 chunk) → Becomes pages_of_16 IsFull16 (put_16 chunk i page) (set (pages_of_16 chunk) i page)
+  put_16_becomes chunk i page full l = put_becomes alone IsPage no_page (λ old j new. new) 1 page_put (λ x j p f m. tt) 16 chunk full i l page
 
   put_1024_becomes : (chunk : Chunk1024 K) (i : ℕ) (page : Page K) → IsFull1024 chunk → i < length (pages_of_1024 chunk) → Becomes pages_of_1024 IsFull1024 (put_1024 chunk i page) (set (pages_of_1024 chunk) i page)
   put_1024_becomes chunk i page full l =
-      put_becomes pages_of_32 IsFull32 [] put_32 32 (λ x j p f m. (put_32_becomes x j p f m).pages) (λ x j p f m. (put_32_becomes x j p f m).full) 32 chunk full i l page
+      put_becomes pages_of_16 IsFull16 [] put_16 16 (λ x j p f m. (put_16_becomes x j p f m).pages) (λ x j p f m. (put_16_becomes x j p f m).full) 64 chunk full i l page
 
   -- all pages of the chunks, those behind the last too
   abbrev pub all_of : List (Chunk1024 K) → List (Page K)
@@ -141,7 +141,7 @@ module _ {K : Type 0} where
       next_places = fewer n puts.places (omega arith)
 
   -- a chunk of one thing in each place
-  pub filled_places : {X : Type 0} (pages : X → List (Page K)) (is_full : X → Type 0) (size : ℕ) {x : X} {xs : List X} → length xs ≡ 32 → All (λ y. y ≡ x) xs → is_full x → length (pages x) ≡ size → ArePlaces pages is_full size 32 xs
+  pub filled_places : {X : Type 0} (pages : X → List (Page K)) (is_full : X → Type 0) (size : ℕ) {x : X} {xs : List X} {n : ℕ} → length xs ≡ n → All (λ y. y ≡ x) xs → is_full x → length (pages x) ≡ size → ArePlaces pages is_full size n xs
   filled_places pages is_full size long each full sized = record {
     count = long;
     each = λ k d l. subst is_full (sym (each k d l)) full;

@@ -1,9 +1,9 @@
--- Pages kept in places, 32 of which make a chunk, 32 of which make a larger one.
+-- Pages kept in places, 16 of which make a chunk, 64 of which make a larger one.
 use Rattle.std.specs.Prelude.{◌≡◌, ℕ, ◌+◌, ◌*◌, ◌/◌, ◌%◌, ◌≤◌, List, [], ◌∷◌, ◌++◌, length, take, flat_map, slice_index_or, slice_set, All}
 use Rattle.node.specs.Pages.{Page}
 use Rattle.page_table.specs.Trees.{no_page}
 
--- 32 chunks of 32 pages
+-- 64 chunks of 16 pages
 abbrev pub Chunk1024 : Type 0 → Type 0
 Chunk1024 K = List (List (Page K))
 
@@ -48,17 +48,17 @@ module _ {K : Type 0} where
   abbrev pub IsPage : Page K → Type 0
   IsPage page = Unit {0}
 
-  abbrev pub pages_of_32 : List (Page K) → List (Page K)
-  pages_of_32 chunk = joined alone chunk
+  abbrev pub pages_of_16 : List (Page K) → List (Page K)
+  pages_of_16 chunk = joined alone chunk
 
   abbrev pub pages_of_1024 : Chunk1024 K → List (Page K)
-  pages_of_1024 chunk = joined pages_of_32 chunk
+  pages_of_1024 chunk = joined pages_of_16 chunk
 
-  abbrev pub IsFull32 : List (Page K) → Type 0
-  IsFull32 chunk = ArePlaces alone IsPage 1 32 chunk
+  abbrev pub IsFull16 : List (Page K) → Type 0
+  IsFull16 chunk = ArePlaces alone IsPage 1 16 chunk
 
   abbrev pub IsFull1024 : Chunk1024 K → Type 0
-  IsFull1024 chunk = ArePlaces pages_of_32 IsFull32 32 32 chunk
+  IsFull1024 chunk = ArePlaces pages_of_16 IsFull16 16 64 chunk
 
   -- the first n pages of chunks
   abbrev pub first_pages : ℕ → List (Chunk1024 K) → List (Page K)

@@ -1,5 +1,5 @@
 //! Places, which tables share until one of them writes to one.
-ghost use Rattle.std.specs.Prelude.{◌≡◌, ◌<◌, [], length, All, slice_index_or, slice_set, IfOk};
+ghost use Rattle.std.specs.Prelude.{◌≡◌, ◌<◌, [], length, slice_index_or, slice_set, IfOk};
 ghost use Rattle.std.specs.Borrow.{LendsIfOk, sem};
 ghost use Rattle.page_table.specs.contracts.chunk.Chunk.{the_row};
 ghost use Rattle.page_table.specs.Chunks.{ArePlaces, joined, put_in};
@@ -13,32 +13,29 @@ use node::Page;
 use std::alloc::{AllocError, Global};
 use std::marker::Model;
 
-/// How many places a chunk has.
-pub(crate) const CHUNK: usize = 32;
-
 /// Places, each for as many pages as `SIZE` tells.
 #[derive(Drop)]
-pub(crate) struct Chunk<T, const SIZE: usize> {
-    children: ArrayVec<Shared<T>, CHUNK>,
+pub(crate) struct Chunk<T, const SIZE: usize, const LEN: usize> {
+    children: ArrayVec<Shared<T>, LEN>,
 }
 
-impl<T, const SIZE: usize> Model for Chunk<T, SIZE> {
+impl<T, const SIZE: usize, const LEN: usize> Model for Chunk<T, SIZE, LEN> {
     ghost use Rattle.std.specs.Prelude.{◌≡◌, List, length};
 
     ghost Value = { List T };
 
     ghost view = { λ c. c.children.items };
 
-    ghost invariant = { λ c. length c.children.items ≡ 32 };
+    ghost invariant = { λ c. length c.children.items ≡ LEN };
 }
 
-impl<T: Copied, const SIZE: usize> Clone for Chunk<T, SIZE> {
+impl<T: Copied, const SIZE: usize, const LEN: usize> Clone for Chunk<T, SIZE, LEN> {
     ghost is_clone = { λ chunk copy. copy ≡ chunk };
 
     /// The same places, each with one more owner.
     #[cold]
-    fn clone(&self) -> Result<Chunk<T, SIZE>, AllocError> {
-        match self.children.as_slice().first_chunk::<CHUNK>() {
+    fn clone(&self) -> Result<Chunk<T, SIZE, LEN>, AllocError> {
+        match self.children.as_slice().first_chunk::<LEN>() {
             Some(children) => Ok(Chunk {
                 children: ArrayVec::from_array_in((), children.clone()?),
             }),
@@ -47,27 +44,18 @@ impl<T: Copied, const SIZE: usize> Clone for Chunk<T, SIZE> {
     }
 }
 
-impl<T: Copied, const SIZE: usize> Copied for Chunk<T, SIZE> {
+impl<T: Copied, const SIZE: usize, const LEN: usize> Copied for Chunk<T, SIZE, LEN> {
     ghost same = { λ value copy same. same };
 }
 
-impl<T: Copied, const SIZE: usize> Chunk<T, SIZE> {
-    /// A chunk with the same value in each place.
-    ///
-    /// # Errors
-    /// The value has too many owners.
-    pub(crate) fn filled(child: &Shared<T>) -> Result<Chunk<T, SIZE>, AllocError>
-        ensures length { IfOk result (λ chunk. length chunk ≡ 32) }
-        ensures each { IfOk result (All (λ place. place ≡ child.now)) }
+impl<T: Copied, const SIZE: usize, const LEN: usize> Chunk<T, SIZE, LEN> {
+    /// A chunk with these in its places.
+    pub(crate) fn new(children: [Shared<T>; LEN]) -> Chunk<T, SIZE, LEN>
+        ensures { result ≡ children }
     {
-        let children = [child; CHUNK].try_map(
-            |child: &Shared<T>| -> Result<Shared<T>, AllocError>
-                ensures { IfOk result (λ shared. shared ≡ child.now) }
-            { child.share() },
-        )?;
-        Ok(Chunk {
+        Chunk {
             children: ArrayVec::from_array_in((), children),
-        })
+        }
     }
 
     pub(crate) fn child(&self, place: usize) -> &Shared<T>
@@ -84,7 +72,7 @@ impl<T: Copied, const SIZE: usize> Chunk<T, SIZE> {
     pub(crate) fn child_mut(&mut self, place: usize) -> Result<&mut T, AllocError>
         requires { place < length self.old }
         ensures* lends { sem 𝓛
-            (LendsIfOk (the_row T.row SIZE.row) T.row self.entry result (slice_set self.old place) self.old) }
+            (LendsIfOk (the_row T.row SIZE.row LEN.row) T.row self.entry result (slice_set self.old place) self.old) }
         ensures value { IfOk result
             (λ child. child.now ≡ slice_index_or self.old place child.now) }
     {
@@ -95,16 +83,16 @@ impl<T: Copied, const SIZE: usize> Chunk<T, SIZE> {
     }
 }
 
-impl<K: Copy, T: Places<K>, const SIZE: usize> Places<K> for Chunk<T, SIZE> {
+impl<K: Copy, T: Places<K>, const SIZE: usize, const LEN: usize> Places<K> for Chunk<T, SIZE, LEN> {
     ghost pages = { joined T.pages };
 
-    ghost is_full = { ArePlaces T.pages T.is_full SIZE 32 };
+    ghost is_full = { ArePlaces T.pages T.is_full SIZE LEN };
 
     ghost none = { [] };
 
     ghost put = { put_in T.put T.none SIZE };
 
-    fn slot(this: &Shared<Chunk<T, SIZE>>, place: usize) -> &Shared<Single<K>> {
+    fn slot(this: &Shared<Chunk<T, SIZE, LEN>>, place: usize) -> &Shared<Single<K>> {
         T::slot(this.get().child(place / SIZE), place % SIZE)
     }
 
@@ -132,9 +120,9 @@ impl<K: Copy, T: Places<K>, const SIZE: usize> Places<K> for Chunk<T, SIZE> {
         change_all::<K, T, C, SIZE>(self.children.as_mut_slice(), upper, lower, beside, change)
     }
 
-    ghost put_pages = { λ places i page full l. (put_becomes T.pages T.is_full T.none T.put SIZE T.put_pages T.put_full 32 places full i l page).pages };
+    ghost put_pages = { λ places i page full l. (put_becomes T.pages T.is_full T.none T.put SIZE T.put_pages T.put_full LEN places full i l page).pages };
 
-    ghost put_full = { λ places i page full l. (put_becomes T.pages T.is_full T.none T.put SIZE T.put_pages T.put_full 32 places full i l page).full };
+    ghost put_full = { λ places i page full l. (put_becomes T.pages T.is_full T.none T.put SIZE T.put_pages T.put_full LEN places full i l page).full };
 
-    ghost put_stays = { λ places i page full l. put_in_stays T.pages T.is_full T.none T.put SIZE T.put_pages T.put_full 32 places full i l T.put_stays page };
+    ghost put_stays = { λ places i page full l. put_in_stays T.pages T.is_full T.none T.put SIZE T.put_pages T.put_full LEN places full i l T.put_stays page };
 }

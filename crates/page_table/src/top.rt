@@ -1,5 +1,5 @@
 //! The chunks that a table holds.
-ghost use Rattle.std.specs.Prelude.{◌≡◌, ◌≢◌, ◌+◌, length, IfOk, OnOk, OnErr};
+ghost use Rattle.std.specs.Prelude.{◌≡◌, ◌≢◌, ◌+◌, length, All, IfOk, OnOk, OnErr};
 ghost use Rattle.page_table.specs.Chunks.{ArePlaces, Becomes, HasFiller, HasPlaces, IsFull1024, PutsNext, StaysTo, both_changed, joined, pages_of_1024, three_changed};
 
 use crate::change::{PageChange, Reversed, Turned};
@@ -12,8 +12,16 @@ use std::alloc::{AllocError, Global};
 /// How many pages a chunk has that the table holds.
 pub(crate) const TOP: usize = 1024;
 
-/// 32 chunks of 32 pages.
-pub(crate) type Top<K> = Chunk<Chunk<Single<K>, 1>, 32>;
+/// How many pages a chunk of pages has, and how many of these chunks the table's have. A copy of a chunk counts one more owner
+/// of each of its places: pages are seldom in the cache, chunks of them often are, so that the lower chunks are the smaller
+/// ones.
+const LOWER: usize = 16;
+
+const UPPER: usize = 64;
+
+type Lower<K> = Chunk<Single<K>, 1, LOWER>;
+
+pub(crate) type Top<K> = Chunk<Lower<K>, LOWER, UPPER>;
 
 /// Changes two pages at once.
 ///
@@ -86,8 +94,39 @@ pub(crate) fn filler<K: Copy>(alloc: Global) -> Result<Shared<Top<K>>, AllocErro
 {
     let page = Page::leaf(alloc, 0)?;
     let page = Shared::new(alloc, Single { page })?;
-    let pages = Shared::new(alloc, Chunk::filled(&page)?)?;
-    Ok(Shared::new(alloc, Chunk::filled(&pages)?)?)
+    let pages = Shared::new(alloc, Chunk::new(lower_places(&page)?))?;
+    let chunks = Chunk::new(upper_places(&pages)?);
+    Ok(Shared::new(alloc, chunks)?)
+}
+
+/// As many owners of a value as a chunk of pages has places.
+///
+/// # Errors
+/// There are too many.
+fn lower_places<T: Drop>(child: &Shared<T>) -> Result<[Shared<T>; LOWER], AllocError>
+    ensures length { IfOk result (λ places. length places ≡ 16) }
+    ensures each { IfOk result (All (λ place. place ≡ child.now)) }
+{
+    [child; LOWER].try_map(
+        |child: &Shared<T>| -> Result<Shared<T>, AllocError>
+            ensures { IfOk result (λ shared. shared ≡ child.now) }
+        { child.share() },
+    )
+}
+
+/// As many as a chunk of chunks has.
+///
+/// # Errors
+/// There are too many.
+fn upper_places<T: Drop>(child: &Shared<T>) -> Result<[Shared<T>; UPPER], AllocError>
+    ensures length { IfOk result (λ places. length places ≡ 64) }
+    ensures each { IfOk result (All (λ place. place ≡ child.now)) }
+{
+    [child; UPPER].try_map(
+        |child: &Shared<T>| -> Result<Shared<T>, AllocError>
+            ensures { IfOk result (λ shared. shared ≡ child.now) }
+        { child.share() },
+    )
 }
 
 /// Puts a page behind the first `count`. Where there is no place for it, there is a chunk more.

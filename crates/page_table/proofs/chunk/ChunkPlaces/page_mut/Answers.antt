@@ -28,7 +28,7 @@ returns g c =
     let read : child ≡ get_or places (c.args.place / g.row.SIZE) child = c.in_ok-child_mut.ensures.value in
     let found = page_is c.requires.full c.requires.exists child read no_page in (
       ap₂ (λ f v. read_of (name_if_ok (λ x. x.ghost_name) c.page_mut.result) f v)
-          (fun_ext (λ p. put_back g.T.Places.pages g.T.Places.is_full g.T.Places.none g.T.Places.put g.row.SIZE g.met.T.Places.put_pages g.met.T.Places.put_full 32 places c.requires.full c.args.place c.requires.exists child read p))
+          (fun_ext (λ p. put_back g.T.Places.pages g.T.Places.is_full g.T.Places.none g.T.Places.put g.row.SIZE g.met.T.Places.put_pages g.met.T.Places.put_full g.row.LEN places c.requires.full c.args.place c.requires.exists child read p))
           (put_same places (c.args.place / g.row.SIZE) child read),
       record { lends = tt; value = rw found at c.page_mut.ensures.value },
     )
