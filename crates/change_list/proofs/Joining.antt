@@ -1,8 +1,8 @@
 -- Full segments with a tail, as one list.
-use Rattle.std.proofs.Common.{◌≡◌, ◌+◌, ◌*◌, ◌-◌, ◌/◌, ◌%◌, ◌<◌, ◌≤◌, ℕ, zero, suc, List, [], ◌∷◌, ◌++◌, length, Some, refl, sym, ap, subst, ◌∙◌, arith, slice_get, append_assoc, length-append}
+use Rattle.std.proofs.Common.{◌≡◌, ◌+◌, ◌*◌, ◌-◌, ◌/◌, ◌%◌, ◌<◌, ◌≤◌, ℕ, zero, suc, List, [], ◌∷◌, ◌++◌, length, Some, refl, sym, ap, subst, ◌∙◌, arith, drop, slice_get, append_assoc, length-append}
 use Rattle.std.specs.List.{flat_map, AllByRecursion}
-use Rattle.std.proofs.lemmas.List.{append-nil}
-use Rattle.change_list.specs.Segments.{joined, IsSegmented, Fills}
+use Rattle.std.proofs.lemmas.List.{append-nil, length-drop}
+use Rattle.change_list.specs.Segments.{joined, IsRun, IsSegmented, Fills}
 
 module _ {X : Type 0} where
   at_behind : (xs ys : List X) (i : ℕ) → slice_get (xs ++ ys) (length xs + i) ≡ slice_get ys i
@@ -13,6 +13,11 @@ module _ {X : Type 0} where
   at_before [] ys i h = absurd (omega (arith, h))
   at_before (x ∷ xs) ys zero h = refl
   at_before (x ∷ xs) ys (suc i) h = at_before xs ys i (omega (arith, h))
+
+  slice_get-drop : (n : ℕ) (xs : List X) (i : ℕ) → slice_get (drop n xs) i ≡ slice_get xs (n + i)
+  slice_get-drop zero xs i = ap (slice_get xs) (let same : i ≡ zero + i = omega arith in same)
+  slice_get-drop (suc n) [] i = refl
+  slice_get-drop (suc n) (x ∷ xs) i = slice_get-drop n xs i ∙ ap (slice_get (x ∷ xs)) (let same : suc (n + i) ≡ suc n + i = omega arith in same)
 
   abbrev together : List (List X) → List X
   together segments = flat_map (λ segment. segment) segments
@@ -56,6 +61,20 @@ module _ {X : Type 0} (segments : List (List X)) (tail : List X) (is : IsSegment
       let l = together_length segments is.each_full in
       let place : i ≡ length (together segments) + (i - length segments * 256) = omega (arith, l, h) in
       ap (λ n. slice_get (joined segments tail) n) place ∙ at_behind (together segments) tail (i - length segments * 256)
+
+  -- what stands behind a place of a segment, or of the tail
+  pub run_at_segment : (place : ℕ) (s : List X) → slice_get segments (place / 256) ≡ Some s → (run : List X) → run ≡ drop (place % 256) s → IsRun (joined segments tail) place run
+  run_at_segment place s h run behind i l =
+      let long : length run ≡ length s - place % 256 = ap length behind ∙ length-drop (place % 256) s in
+      let within : place % 256 + i < 256 = omega (arith, l, long, full_at segments is.each_full (place / 256) s h) in
+      let there : slice_get (joined segments tail) (place + i) ≡ slice_get s ((place + i) % 256) =
+      at_segment (place + i) s (ap (slice_get segments) (let same : (place + i) / 256 ≡ place / 256 = omega (arith, within) in same) ∙ h) in
+      there ∙ ap (slice_get s) (let same : (place + i) % 256 ≡ place % 256 + i = omega (arith, within) in same) ∙ sym (ap (λ zs. slice_get zs i) behind ∙ slice_get-drop (place % 256) s i)
+
+  pub run_at_tail : (place : ℕ) → length segments ≤ place / 256 → (run : List X) → run ≡ drop (place - length segments * 256) tail → IsRun (joined segments tail) place run
+  run_at_tail place h run behind i l =
+      let start = place - length segments * 256 in
+      at_tail (place + i) (omega (arith, h)) ∙ ap (slice_get tail) (let same : place + i - length segments * 256 ≡ start + i = omega (arith, h) in same) ∙ sym (ap (λ zs. slice_get zs i) behind ∙ slice_get-drop start tail i)
 
   pub whole_length : length (joined segments tail) ≡ 256 * length segments + length tail
   whole_length = omega (arith, length-append (together segments) tail, together_length segments is.each_full)

@@ -1,5 +1,5 @@
 -- Commits as a list keeps them: a move with the insert with which the moves of its row began.
-use Rattle.std.specs.Prelude.{◌≡◌, ℕ, ◌-◌, List, map, take, Option, Some, None, slice_get, MatchOption}
+use Rattle.std.specs.Prelude.{◌≡◌, ℕ, ◌-◌, ◌<◌, ◌≤◌, Bool, true, false, not, length, List, map, take, Option, Some, None, slice_get, MatchOption}
 use Rattle.change_list.specs.declared.write.Write.{Write}
 use Rattle.change_list.specs.declared.write.Write.TheVariants.{Insert, Delete, Move}
 use Rattle.change_list.specs.declared.recorded.Recorded.{Recorded}
@@ -16,6 +16,17 @@ module _ {K : Type 0} where
 
   abbrev pub writes_of : List (Recorded K) → List (Write K)
   writes_of kept = map write_of kept
+
+  -- whether a commit inserts a key that isn't wanted
+  abbrev pub is_unasked : (K → Bool) → Recorded K → Bool
+  is_unasked wanted (recorded.Insert key tag) = not (wanted key)
+  is_unasked wanted (recorded.Delete row) = false
+  is_unasked wanted (recorded.Move key row origin) = false
+
+  -- that holds of the first n commits
+  pub record BeginsUnasked (wanted : K → Bool) (kept : List (Recorded K)) (n : ℕ) : Type 0 where
+    pub within : n ≤ length kept
+    pub each : (place : ℕ) (r : Recorded K) → place < n → slice_get kept place ≡ Some r → is_unasked wanted r ≡ true
 
   -- the tag that a commit gives to its row, where it inserts one
   abbrev pub inserted_tag : Option (Write K) → Option ℕ

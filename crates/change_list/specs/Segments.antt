@@ -1,5 +1,5 @@
 -- A list kept as full segments and a tail.
-use Rattle.std.specs.Prelude.{◌≡◌, ◌<◌, List, ◌++◌, ◌∷◌, [], length, Option, Some, None, vec_items}
+use Rattle.std.specs.Prelude.{◌≡◌, ℕ, ◌+◌, ◌<◌, List, ◌++◌, ◌∷◌, [], length, Option, Some, None, slice_get, vec_items}
 use Rattle.std.specs.Arc.{arc_value}
 use Rattle.std.specs.declared.alloc.Global.{Global}
 use Rattle.std.specs.declared.sync.Arc.{Arc}
@@ -24,6 +24,10 @@ module _ {X : Type 0} where
   -- the segments one after the other, then the tail
   abbrev pub joined : List (List X) → List X → List X
   joined segments tail = flat_map (λ segment. segment) segments ++ tail
+
+  -- these stand in the list from a place on
+  abbrev pub IsRun : List X → ℕ → List X → Type 0
+  IsRun list place run = (i : ℕ) → i < length run → slice_get list (place + i) ≡ slice_get run i
 
   -- with one element more
   abbrev pub joined_with : List (List X) → List X → X → List X

@@ -1,10 +1,13 @@
-ghost use Rattle.std.specs.Prelude.{◌≡◌};
+ghost use Rattle.std.specs.Prelude.{◌≡◌, ◌<◌, ◌^◌, [], length};
 ghost use Rattle.key_class.specs.Queries.{query_of};
 ghost use Rattle.change_list.specs.Changes.{item_at};
 ghost use Rattle.change_list.specs.Asked.{deletion_for, move_between, move_for};
+ghost use Rattle.change_list.specs.Listings.{AreChanges};
+ghost use Rattle.change_list.specs.Records.{BeginsUnasked};
 ghost use Rattle.key_class.specs.Rules.{satisfies};
 
 use crate::item::{Item, Row};
+use crate::recorded::Recorded;
 use crate::view::View;
 use crate::write::Write;
 use key_class::{KeyClass, Pred};
@@ -31,6 +34,28 @@ pub fn change_item<C: KeyClass>(
         Some(Write::Move(row, key)) => move_item::<C>(commits, query, number, row, key),
         None => None,
     }
+}
+
+/// The place of the next commit that may have an item, from `place` on. Inserts of keys that the query doesn't ask for are
+/// passed, as many as stand in one segment.
+pub fn next_asked<C: KeyClass>(commits: &View<C::Key>, query: &Pred<C::Atom>, place: u64) -> u64
+    requires exists { place < length commits.now }
+    requires countable { length commits.now < 2 ^ 64 }
+    ensures { AreChanges (satisfies C.rules (query_of query.now)) place result commits.now [] }
+{
+    let run = commits.run(place as usize);
+    place + count_unasked::<C>(run, query) as u64
+}
+
+/// How many of the first commits insert keys that the query doesn't ask for.
+fn count_unasked<C: KeyClass>(commits: &[Recorded<C::Key>], query: &Pred<C::Atom>) -> usize
+    ensures { BeginsUnasked (satisfies C.rules (query_of query.now)) commits.now result }
+{
+    let mut passed = 0;
+    while passed < commits.len() && commits[passed].is_unasked::<C>(query) {
+        passed += 1;
+    }
+    passed
 }
 
 /// The item of a delete, where the query asks for the key of its row.

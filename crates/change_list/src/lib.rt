@@ -16,7 +16,7 @@ mod view;
 mod write;
 
 pub use change_list::ChangeList;
-pub use changes::change_item;
+pub use changes::{change_item, next_asked};
 pub use config::Config;
 pub use item::{Item, Row};
 pub use laws::listings_go_on;

@@ -1,7 +1,10 @@
 ghost use Rattle.std.specs.Prelude.{◌≡◌};
-ghost use Rattle.change_list.specs.Records.{origin_of, write_of};
+ghost use Rattle.key_class.specs.Queries.{query_of};
+ghost use Rattle.key_class.specs.Rules.{satisfies};
+ghost use Rattle.change_list.specs.Records.{is_unasked, origin_of, write_of};
 
 use crate::write::Write;
+use key_class::{KeyClass, Pred};
 
 /// A commit as a list keeps it.
 ///
@@ -24,6 +27,16 @@ impl<K: Copy> Recorded<K> {
             Recorded::Insert(key, tag) => Write::Insert(key, tag),
             Recorded::Delete(row) => Write::Delete(row),
             Recorded::Move(key, row, _) => Write::Move(u64::from(row), key),
+        }
+    }
+
+    /// Whether the commit inserts a key that isn't asked for, so that it has no item.
+    pub(crate) fn is_unasked<C: KeyClass<Key = K>>(&self, query: &Pred<C::Atom>) -> bool
+        ensures { result ≡ is_unasked (satisfies C.rules (query_of query.now)) self.now }
+    {
+        match self {
+            Recorded::Insert(key, _) => !query.matches::<C>(*key),
+            Recorded::Delete(_) | Recorded::Move(_, _, _) => false,
         }
     }
 

@@ -1,6 +1,6 @@
-ghost use Rattle.std.specs.Prelude.{◌≡◌, ◌<◌, ◌/◌, ◌%◌, [], length, slice_get, IfOk, IfErr};
+ghost use Rattle.std.specs.Prelude.{◌≡◌, ◌<◌, ◌≤◌, ◌/◌, ◌%◌, [], length, drop, slice_get, IfOk, IfErr};
 ghost use Rattle.std.specs.Vec.{vec_capacity};
-ghost use Rattle.change_list.specs.Segments.{IsReady, IsSegmented, joined, joined_with, with_next};
+ghost use Rattle.change_list.specs.Segments.{IsReady, IsRun, IsSegmented, joined, joined_with, with_next};
 
 use crate::groups::{Groups, Segment};
 use std::alloc::{AllocError, Global};
@@ -80,6 +80,19 @@ impl<T: Copy> SharedList<T> {
             return at(self.full.segment(segment).as_slice(), place % SEGMENT);
         }
         at(self.tail.as_slice(), place - full * SEGMENT)
+    }
+
+    /// The elements from a place on, up to the end of the segment in which it stands.
+    pub(crate) fn run(&self, place: usize) -> &[T]
+        requires { place < length self.now }
+        ensures { IsRun self.now place result.now }
+    {
+        let segment = place / SEGMENT;
+        let full = self.segments();
+        if segment < full {
+            return behind(self.full.segment(segment).as_slice(), place % SEGMENT);
+        }
+        behind(self.tail.as_slice(), place - full * SEGMENT)
     }
 
     /// How many full segments of 256 elements it has.
@@ -169,6 +182,14 @@ impl<T: Copy> RoomySharedList<T> {
         } = self;
         SharedList { full, tail, count }
     }
+}
+
+/// The elements behind the first `place`.
+fn behind<T>(elements: &[T], place: usize) -> &[T]
+    requires { place ≤ length elements.now }
+    ensures { result.now ≡ drop place elements.now }
+{
+    elements.split_at(place).1
 }
 
 /// Segments and a tail with one more element.

@@ -1,7 +1,8 @@
 ghost use Rattle.std.specs.Prelude.{◌≡◌, ◌/◌, ◌%◌, ◌<◌, [], length, IfOk};
 ghost use Rattle.change_list.specs.Changes.{commit_at, row_at, status_of, MayFollow, IsLegal};
 ghost use Rattle.change_list.specs.declared.write.Status.TheVariants.{Live};
-ghost use Rattle.change_list.specs.Records.{FindsKept, HasTagOf, KeepsWrite, inserted_tag};
+ghost use Rattle.change_list.specs.Records.{FindsKept, HasTagOf, KeepsWrite, inserted_tag, writes_of};
+ghost use Rattle.change_list.specs.Segments.{IsRun};
 
 use crate::item::Row;
 use crate::recorded::Recorded;
@@ -89,6 +90,14 @@ impl<K: Copy> View<K> {
             return None;
         }
         self.kept.get((number - 1) as usize)
+    }
+
+    /// The commits behind the first `place`, as they are kept, up to the end of a segment.
+    pub(crate) fn run(&self, place: usize) -> &[Recorded<K>]
+        requires { place < length self.now }
+        ensures { IsRun self.now place (writes_of result.now) }
+    {
+        self.kept.run(place)
     }
 
     /// The tag that a commit gives to its row, where it inserts one.

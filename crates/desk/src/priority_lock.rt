@@ -4,11 +4,12 @@ use std::sync::atomic::{AtomicUsize, Ordering};
 use std::sync::{Mutex, MutexGuard, Wait};
 
 /// How often a thread that comes to the lock looks whether it may go on, before it joins the queue: the rounds of a
-/// `Backoff`, of which the last ones leave the processor to others. They take some microseconds.
-const ROUNDS: u32 = 11;
+/// `Backoff`, of which all but the first ones leave the processor to others. They take some 20 microseconds: longer than any
+/// visit has the lock, so that a reader seldom sleeps, since it takes longer to wake it than a visit takes.
+const ROUNDS: u32 = 64;
 
 /// A lock for two kinds of visits. Those who come with `lock_first` go before those who come with `lock`, though these wait no
-/// longer for them than some microseconds. Without it, who writes again and again takes the lock anew before a thread
+/// longer for them than those rounds. Without it, who writes again and again takes the lock anew before a thread
 /// that sleeps in front of it is awake.
 #[derive(Drop)]
 pub(crate) struct PriorityLock<T> {

@@ -7,7 +7,7 @@ ghost use Rattle.snapshot.specs.Snapshots.{IsSnapshot, Appends, IsAfterAll, Refu
 
 use crate::count::counted;
 use crate::life::lives;
-use change_list::{Item, Row, Status, View, Write, change_item};
+use change_list::{Item, Row, Status, View, Write, change_item, next_asked};
 use key_class::limits::MAX_DEPTH;
 use key_class::{KeyClass, Pred, Refusal};
 use page_table::PageTable;
@@ -158,14 +158,15 @@ impl<C: KeyClass> Snapshot<C> {
         let before = into.len();
         let mut upto = from;
         'passing: while upto < count && into.len() - before < most {
-            if let Some(item) = change_item::<C>(&self.list, query, upto) {
+            let next = next_asked::<C>(&self.list, query, upto);
+            if let Some(item) = change_item::<C>(&self.list, query, next) {
                 let Ok(()) = into.try_reserve(1) else {
                     into.truncate(before);
                     return Err(Refusal::OutOfMemory);
                 };
                 into.push_reserved(item);
             }
-            upto += 1;
+            upto = count.min(next + 1);
         }
         Ok(upto)
     }

@@ -1,5 +1,6 @@
-use change_list::{ChangeList, RoomyList, Row, Status, Write};
-use key_class::Refusal;
+use change_list::{ChangeList, RoomyList, Row, Status, Write, next_asked};
+use interval_class::{Atom, Interval, Intervals, Rel};
+use key_class::{Pred, Refusal};
 use std::alloc::Global;
 use std::test::Fail;
 
@@ -162,6 +163,39 @@ fn moves_end_a_row_and_make_one_with_its_tag(rt: HostRuntime) -> Result<(), Fail
         (4, None, Status::NeverIssued, None),
     ] {
         assert!(rt; told(&list, number) == (row, status, write), "{number}");
+    }
+    Ok(())
+}
+
+/// A list of 600 inserts, of the keys 1 to 600.
+fn of_keys(alloc: Global) -> Result<ChangeList<Interval>, Fail> {
+    let mut list = ChangeList::new(alloc);
+    for key in 1..=600 {
+        if list.len() >= MOST_COMMITS {
+            return Err(Refusal::CommitsFull.into());
+        }
+        list.push(Write::Insert(Interval::new(key, key)?, 9))?;
+    }
+    Ok(list)
+}
+
+/// The place of the next commit that a query for keys that overlap 300 may ask for.
+fn next_place(list: &ChangeList<Interval>, place: u64) -> Result<u64, Fail> {
+    let query = Pred::Atom(Atom {
+        rel: Rel::Overlaps,
+        operand: Interval::new(300, 300)?,
+    });
+    if place >= list.len() as u64 {
+        return Err(Refusal::FromFuture.into());
+    }
+    Ok(next_asked::<Intervals>(list.as_view(), &query, place))
+}
+
+#[test]
+fn inserts_that_nobody_asks_for_are_passed(rt: HostRuntime) -> Result<(), Fail> {
+    let list = of_keys(rt.alloc())?;
+    for (place, next) in [(0, 256), (255, 256), (256, 299), (299, 299), (300, 512)] {
+        assert!(rt; next_place(&list, place)? == next, "{place}");
     }
     Ok(())
 }
