@@ -1,20 +1,17 @@
 #!/usr/bin/env python3
 """Measures the crate `desk`: threads at one lock by the clock, and single calls by their instructions.
 
-The program is built from bench/threads. Its files end in `.in`, since the gate refuses code that it doesn't prove; here
-they are put into a folder of their own, which is removed once the program is built. The program stays in bench/out.
+The program is built from bench/threads, and stays in bench/out.
 """
 
 import argparse
-import hashlib
 import os
 import shutil
 import subprocess
 import tempfile
 
-HERE = os.path.dirname(os.path.abspath(__file__))
-SOURCES = os.path.join(HERE, "threads")
-OUT = os.path.join(HERE, "out")
+from program import HERE, OUT, build
+
 PROGRAM = os.path.join(OUT, "desk_bench")
 PEER_SOURCE = os.path.join(HERE, "peer", "threads.cpp")
 PEER = os.path.join(OUT, "peer_threads")
@@ -31,53 +28,6 @@ FOLLOWER_AIM = 15
 ROOM = 4_096
 
 FIELDS = ("wall", "threads_wall", "threads_cpu", "calls", "visits", "items")
-
-
-def files_below(folder):
-    """The files of a folder, by their places in it."""
-    found = []
-    for at, folders, names in os.walk(folder):
-        folders[:] = sorted(name for name in folders if name != "out")
-        found += [os.path.relpath(os.path.join(at, name), folder) for name in sorted(names)]
-    return found
-
-
-def state():
-    """A sum of all that the program is built from."""
-    told = hashlib.sha256()
-    crates = os.path.join(os.path.dirname(HERE), "crates")
-    for folder in (SOURCES, crates):
-        for name in files_below(folder):
-            told.update(name.encode("utf-8") + b"\0")
-            with open(os.path.join(folder, name), "rb") as file:
-                told.update(hashlib.sha256(file.read()).digest())
-    return told.hexdigest()
-
-
-def build():
-    """Builds the program, where that or a crate has changed. It may take some minutes."""
-    stamp = PROGRAM + ".stamp"
-    now = state()
-    if os.path.isfile(PROGRAM) and os.path.isfile(stamp):
-        with open(stamp, encoding="ascii") as file:
-            if file.read() == now:
-                return
-    os.makedirs(OUT, exist_ok=True)
-    with tempfile.TemporaryDirectory(prefix="building-", dir=OUT) as folder:
-        for name in files_below(SOURCES):
-            to = os.path.join(folder, name.removesuffix(".in"))
-            os.makedirs(os.path.dirname(to), exist_ok=True)
-            shutil.copyfile(os.path.join(SOURCES, name), to)
-        # Without a measurement's name the program does nothing and ends with 1.
-        log = os.path.join(OUT, "build.log")
-        with open(log, "wb") as file:
-            subprocess.run(["rt", "run", "--jobs", "1"], cwd=folder, stdin=subprocess.DEVNULL, stdout=file, stderr=file)
-        built = os.path.join(folder, "out", "desk_bench")
-        if not os.path.isfile(built):
-            raise SystemExit(f"bench: the program isn't built; {log} tells why")
-        shutil.copy2(built, PROGRAM)
-    with open(stamp, "w", encoding="ascii") as file:
-        file.write(now)
 
 
 def build_peer():
@@ -299,7 +249,7 @@ def main():
         parser.error("--threads is 1 to 64")
     if not 100 <= options.rows <= 1_000_000 or options.finds < 100 or options.turns < 1:
         parser.error("--rows is 100 to 1,000,000, --finds at least 100 and --turns at least 1")
-    build()
+    build("threads", "desk_bench")
     if options.build:
         return
     if options.peer:
