@@ -1,6 +1,6 @@
 use change_list::{ChangeList, RoomyList, Row, Status, Write, next_asked};
-use interval_class::{Atom, Interval, Intervals, Rel};
-use key_class::{Pred, Refusal};
+use interval_class::{Atom, Interval, Intervals};
+use key_class::{Pred, Refusal, Rel};
 use std::alloc::Global;
 use std::test::Fail;
 
