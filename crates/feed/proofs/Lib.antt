@@ -1,0 +1,7 @@
+mod Advancing
+mod Asked
+mod Concerning
+mod Giving
+mod Keeping
+mod Members
+mod Tending
