@@ -170,3 +170,23 @@ module _ {K A : Type 0} (rules : Rules K A) (commits : List (Write K)) (feed : F
         | inl none ↦ inl (ap (λ o. option_map_or (due_at rules commits place) o []) e ∙ nothing_due s none)
         | inr c ↦ inr c
       ]
+
+module _ {K A : Type 0} (rules : Rules K A) (commits : List (Write K)) (feed : FeedState A) (place : ℕ) where
+  -- what commit `place + 1` gives to a serial
+  abbrev pub due_to : ℕ → List (Item K)
+  due_to serial = option_map_or (due_at rules commits place) (subscription_of feed serial) []
+
+  -- all who are concerned were given what is due
+  pub commit_gives : (serials : List ℕ) → AreAllConcerned rules commits feed place serials → IsStrictlyIncreasing serials → Gives (due_at rules commits place) feed (told_to due_to serials)
+  commit_gives serials all rising serial = told_each due_to serial serials rising (by_subscription (subscription_of feed serial) (λ s found. all serial s found))
+    where
+      none_due : (b : Bool) (o : Option (Item K)) → o ≡ None → cond b (option_to_list o) [] ≡ []
+      none_due true o e = ap option_to_list e
+      none_due false o e = refl
+
+      by_subscription : (o : Option (Subscription A)) → ((s : Subscription A) → o ≡ Some s → (item_for rules commits s.query place ≡ None) ⊎ Contains serials serial) → (option_map_or (due_at rules commits place) o [] ≡ []) ⊎ Contains serials serial
+      by_subscription None h = inl refl
+      by_subscription (Some s) h = elim (h s refl) [
+        | inl none ↦ inl (none_due (nat_le s.at place) (item_for rules commits s.query place) none)
+        | inr c ↦ inr c
+      ]

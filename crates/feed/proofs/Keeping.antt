@@ -3,13 +3,14 @@ use Rattle.std.proofs.Common.{◌≡◌, ◌⊎◌, ◌+◌, ◌<◌, ◌≤◌,
 use Rattle.std.specs.Prelude.{Contains, nat_eq, nat_le, option_map, vec_items}
 use Rattle.std.specs.List.{find}
 use Rattle.std.proofs.lemmas.List.Elements.{Contains-append_left, Contains-push}
+use Rattle.key_class.specs.Queries.{Query, query_of}
 use Rattle.change_list.specs.declared.write.Write.{Write}
 use Rattle.change_list.specs.Changes.{IsLegal}
 use Rattle.world.specs.Serials.{Rise, member, without}
 use Rattle.world.proofs.Serials.{member_serial, member_within, push_other, push_same, rise_push, rise_within, rise_without, without_other, without_same}
 use Rattle.feed.specs.declared.subscriber.Subscriber.{Subscriber}
 use Rattle.feed.specs.Feeds.{FeedState, Subscription, given_upto, subscription_of, with_subscription, without_subscription}
-use Rattle.feed.specs.Holding.{IsHolding, IsPlantedIn, feed_state, serial_of, shown, shown_at}
+use Rattle.feed.specs.Holding.{IsEnrolled, IsHolding, IsPlantedIn, feed_state, serial_of, shown, shown_at}
 use Rattle.feed.specs.Planting.{AreTagged, IsPlanted, Tends}
 use Rattle.feed.proofs.Members.{contains_filter}
 use Rattle.feed.proofs.Tending.{are_tagged_stay, rows_stay}
@@ -55,8 +56,8 @@ module _ {A : Type 0} where
       ∙ ap (λ l. given_upto later (shown upto passed s) ∷ l) (all_given upto passed s.serial last later subscribers rise.1 further)
 
 module _ {K A : Type 0} (reach_of : A → Option K) (size_of : K → ℕ) where
-  planted_stays : (tag : ℕ) (commits later : List (Write K)) (s : Subscriber A) → Tends tag commits later → (s.serial ≡ tag → ⊥) → IsPlantedIn reach_of size_of commits s → IsPlantedIn reach_of size_of later s
-  planted_stays tag commits later s t apart p = record { keys = p.keys; reaches = p.reaches; rows = rows_stay tag s.serial p.keys commits later t apart p.rows }
+  planted_stays : (tag : ℕ) (commits later : List (Write K)) (query : Query A) (serial : ℕ) → Tends tag commits later → (serial ≡ tag → ⊥) → IsPlantedIn reach_of size_of commits query serial → IsPlantedIn reach_of size_of later query serial
+  planted_stays tag commits later query serial t apart p = record { keys = p.keys; reaches = p.reaches; rows = rows_stay tag serial p.keys commits later t apart p.rows }
 
   module _ (commits later : List (Write K)) (passed last : ℕ) (always : List ℕ) (subscribers : List (Subscriber A)) (h : IsHolding reach_of size_of commits passed last always subscribers) where
     -- while rows are tended that bear a serial which was never given
@@ -67,7 +68,7 @@ module _ {K A : Type 0} (reach_of : A → Option K) (size_of : K → ℕ) where
       legal = t.legal;
       asked = λ serial s is. elim (h.asked serial s is) [
         | inl c ↦ inl c
-        | inr p ↦ inr (planted_stays tag commits later s t (λ e. omega (arith, e, new, member_serial serial_of serial subscribers s is, (member_within serial_of serial 0 last subscribers s h.rise is).1)) p)
+        | inr p ↦ inr (planted_stays tag commits later (query_of s.query) serial t (λ e. omega (arith, e, new, (member_within serial_of serial 0 last subscribers s h.rise is).1)) p)
       ];
       tagged = λ serial s is. are_tagged_stay tag serial (vec_items s.rows) commits later t (h.tagged serial s is);
     }
@@ -98,17 +99,17 @@ module _ {K A : Type 0} (reach_of : A → Option K) (size_of : K → ℕ) where
         before serial s is true f = absurd (none_gone serial s is f)
         before serial s is false f = h.tagged serial s (member_before serial s is f)
 
-        by_serial : (serial : ℕ) (s : Subscriber A) → member serial_of serial (without serial_of gone subscribers) ≡ Some s → (b : Bool) → nat_eq serial gone ≡ b → Contains kept serial ⊎ IsPlantedIn reach_of size_of later s
+        by_serial : (serial : ℕ) (s : Subscriber A) → member serial_of serial (without serial_of gone subscribers) ≡ Some s → (b : Bool) → nat_eq serial gone ≡ b → Contains kept serial ⊎ IsPlantedIn reach_of size_of later (query_of s.query) serial
         by_serial serial s is true f = absurd (none_gone serial s is f)
         by_serial serial s is false f = elim (h.asked serial s (member_before serial s is f)) [
           | inl c ↦ inl (subst (λ l. Contains l serial) (sym e) (contains_filter (λ n. not (nat_eq n gone)) always serial (ap not f) c))
-          | inr p ↦ inr (planted_stays gone commits later s t (λ same. not_gone serial f (sym (member_serial serial_of serial subscribers s (member_before serial s is f)) ∙ same)) p)
+          | inr p ↦ inr (planted_stays gone commits later (query_of s.query) serial t (not_gone serial f) p)
         ]
 
-    -- with one subscriber more, which each commit asks or whose rows were planted
-    pub holding_more : (s : Subscriber A) (more : List ℕ) → s.serial ≡ last + 1 → Tends (last + 1) commits later → ((serial : ℕ) → Contains always serial → Contains more serial)
-        → Contains more s.serial ⊎ IsPlantedIn reach_of size_of later s → AreTagged later s.serial (vec_items s.rows) → IsHolding reach_of size_of later passed s.serial more (subscribers ++ s ∷ [])
-    holding_more s more is t keeps asked tagged = record {
+    -- with one subscriber more, which was enrolled
+    pub holding_more : (s : Subscriber A) (more : List ℕ) → s.serial ≡ last + 1 → Tends (last + 1) commits later
+        → IsEnrolled reach_of size_of later (query_of s.query) s.serial always more (vec_items s.rows) → IsHolding reach_of size_of later passed s.serial more (subscribers ++ s ∷ [])
+    holding_more s more is t enrolled = record {
       rise = rise_push serial_of 0 last subscribers s (omega (arith, is)) h.rise;
       passed_given = omega (arith, is, h.passed_given);
       legal = t.legal;
@@ -118,6 +119,18 @@ module _ {K A : Type 0} (reach_of : A → Option K) (size_of : K → ℕ) where
       where
         old : IsHolding reach_of size_of later passed last always subscribers
         old = holding_stays (last + 1) (omega arith) t
+
+        asked : Contains more s.serial ⊎ IsPlantedIn reach_of size_of later (query_of s.query) s.serial
+        asked = elim enrolled.asked [
+          | inl e ↦ inl (subst (λ l. Contains l s.serial) (sym e) (Contains-push always s.serial))
+          | inr p ↦ inr p.1
+        ]
+
+        keeps : (serial : ℕ) → Contains always serial → Contains more serial
+        keeps serial c = elim enrolled.asked [
+          | inl e ↦ subst (λ l. Contains l serial) (sym e) (Contains-append_left always (s.serial ∷ []) serial c)
+          | inr p ↦ subst (λ l. Contains l serial) (sym p.0) c
+        ]
 
         apart : (serial : ℕ) → nat_eq serial s.serial ≡ false → serial ≡ s.serial → ⊥
         apart serial f e = let t : nat_eq serial s.serial ≡ true = search (arith, e) in let c : true ≡ false = sym t ∙ f in absurd (cc)
@@ -131,14 +144,14 @@ module _ {K A : Type 0} (reach_of : A → Option K) (size_of : K → ℕ) where
         an_old : (serial : ℕ) (x : Subscriber A) → member serial_of serial (subscribers ++ s ∷ []) ≡ Some x → nat_eq serial s.serial ≡ false → member serial_of serial subscribers ≡ Some x
         an_old serial x found f = sym (push_other serial_of serial s subscribers (apart serial f)) ∙ found
 
-        by_serial : (serial : ℕ) (x : Subscriber A) → member serial_of serial (subscribers ++ s ∷ []) ≡ Some x → (b : Bool) → nat_eq serial s.serial ≡ b → Contains more serial ⊎ IsPlantedIn reach_of size_of later x
+        by_serial : (serial : ℕ) (x : Subscriber A) → member serial_of serial (subscribers ++ s ∷ []) ≡ Some x → (b : Bool) → nat_eq serial s.serial ≡ b → Contains more serial ⊎ IsPlantedIn reach_of size_of later (query_of x.query) serial
         by_serial serial x found true f =
             let n = the_new serial x found f in
-            subst (λ y. Contains more serial ⊎ IsPlantedIn reach_of size_of later y) n.0 (subst (λ m. Contains more m ⊎ IsPlantedIn reach_of size_of later s) n.1 asked)
+            subst (λ (y : Subscriber A). Contains more serial ⊎ IsPlantedIn reach_of size_of later (query_of y.query) serial) n.0 (subst (λ m. Contains more m ⊎ IsPlantedIn reach_of size_of later (query_of s.query) m) n.1 asked)
         by_serial serial x found false f = elim (old.asked serial x (an_old serial x found f)) [ inl c ↦ inl (keeps serial c) | inr p ↦ inr p ]
 
         by_tag : (serial : ℕ) (x : Subscriber A) → member serial_of serial (subscribers ++ s ∷ []) ≡ Some x → (b : Bool) → nat_eq serial s.serial ≡ b → AreTagged later serial (vec_items x.rows)
         by_tag serial x found true f =
             let n = the_new serial x found f in
-            subst (λ y. AreTagged later serial (vec_items y.rows)) n.0 (subst (λ m. AreTagged later m (vec_items s.rows)) n.1 tagged)
+            subst (λ (y : Subscriber A). AreTagged later serial (vec_items y.rows)) n.0 (subst (λ m. AreTagged later m (vec_items s.rows)) n.1 enrolled.tagged)
         by_tag serial x found false f = old.tagged serial x (an_old serial x found f)

@@ -1,6 +1,7 @@
 mod Advancing
 mod Asked
 mod Concerning
+mod Dues
 mod Giving
 mod Keeping
 mod Members

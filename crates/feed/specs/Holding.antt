@@ -1,6 +1,6 @@
 -- How a feed holds its subscriptions.
-use Rattle.std.specs.Prelude.{◌≡◌, ◌⊎◌, ℕ, ◌≤◌, max, nat_le, List, map, vec_items, Contains, Option, Some, None, if◌then◌else◌}
-use Rattle.key_class.specs.Queries.{query_of}
+use Rattle.std.specs.Prelude.{◌≡◌, ◌⊎◌, ℕ, ◌≤◌, max, nat_le, List, [], ◌∷◌, ◌++◌, map, vec_items, Contains, Option, Some, None, if◌then◌else◌}
+use Rattle.key_class.specs.Queries.{Query, query_of}
 use Rattle.change_list.specs.declared.write.Write.{Write}
 use Rattle.change_list.specs.Changes.{IsLegal}
 use Rattle.reach.specs.Reaches.{reaches_of}
@@ -25,16 +25,21 @@ module _ {A : Type 0} where
   feed_state upto passed last subscribers = record { upto = upto; subscriptions = map (shown upto passed) subscribers; last = last }
 
 module _ {K A : Type 0} (reach_of : A → Option K) (size_of : K → ℕ) where
-  -- where it is looked for, there are rows with its serial
-  pub record IsPlantedIn (commits : List (Write K)) (s : Subscriber A) : Type 0 where
+  -- under each key under which a query is looked for lives a row with the serial
+  pub record IsPlantedIn (commits : List (Write K)) (query : Query A) (serial : ℕ) : Type 0 where
     pub keys : List K
-    pub reaches : reaches_of reach_of size_of (query_of s.query) ≡ Some keys
-    pub rows : HasRows commits s.serial keys
+    pub reaches : reaches_of reach_of size_of query ≡ Some keys
+    pub rows : HasRows commits serial keys
+
+  -- the serial came to the list of those that each commit asks, or the query was planted in the tree; the rows bear the serial
+  pub record IsEnrolled (commits : List (Write K)) (query : Query A) (serial : ℕ) (before after rows : List ℕ) : Type 0 where
+    pub asked : (after ≡ before ++ serial ∷ []) ⊎ ((after ≡ before) × IsPlantedIn commits query serial)
+    pub tagged : AreTagged commits serial rows
 
   -- the subscriptions' serials rise; each is asked at every commit or planted in the tree; its rows bear its serial
   pub record IsHolding (commits : List (Write K)) (passed last : ℕ) (always : List ℕ) (subscribers : List (Subscriber A)) : Type 0 where
     pub rise : Rise serial_of 0 last subscribers
     pub passed_given : passed ≤ last
     pub legal : IsLegal commits
-    pub asked : (serial : ℕ) (s : Subscriber A) → member serial_of serial subscribers ≡ Some s → Contains always serial ⊎ IsPlantedIn commits s
+    pub asked : (serial : ℕ) (s : Subscriber A) → member serial_of serial subscribers ≡ Some s → Contains always serial ⊎ IsPlantedIn commits (query_of s.query) serial
     pub tagged : (serial : ℕ) (s : Subscriber A) → member serial_of serial subscribers ≡ Some s → AreTagged commits serial (vec_items s.rows)

@@ -1,8 +1,11 @@
 -- The tree of a feed: rows whose keys are where queries are looked for, and whose tags are the serials of their subscriptions.
-use Rattle.std.specs.Prelude.{◌≡◌, ℕ, Bool, false, List, ◌++◌, All, Option, Some, None, option_map, map}
+use Rattle.std.specs.Prelude.{◌≡◌, ℕ, Bool, false, List, [], ◌++◌, All, Option, Some, None, option_map, map}
+use Rattle.key_class.specs.Rules.{Rules}
+use Rattle.key_class.specs.declared.pred.Pred.TheVariants.{Atom}
 use Rattle.change_list.specs.declared.item.Row.{Row}
 use Rattle.change_list.specs.declared.write.Write.{Write}
 use Rattle.change_list.specs.Changes.{IsLegal, is_ended, row_at}
+use Rattle.snapshot.specs.Snapshots.{found_in}
 
 module _ {K : Type 0} where
   -- the row with a number lives, and is this one
@@ -48,3 +51,9 @@ module _ {K : Type 0} where
   abbrev pub MayBePlanted : List (Write K) → ℕ → List K → Option (List ℕ) → Type 0
   MayBePlanted commits tag keys (Some numbers) = IsPlanted commits tag keys numbers
   MayBePlanted commits tag keys None = Unit {0}
+
+module _ {K A : Type 0} (rules : Rules K A) (overlap_with : K → A) (commits : List (Write K)) where
+  -- the tags of the live rows that a key overlaps, where there is one
+  abbrev pub tags_at : Option K → List ℕ
+  tags_at (Some key) = map (λ r. r.tag) (found_in rules (Atom (overlap_with key)) commits)
+  tags_at None = []

@@ -7,13 +7,14 @@ ghost use Rattle.key_class.specs.declared.refusal.Refusal.TheVariants.{BadConfig
 ghost use Rattle.feed.specs.Asking.{AreAllConcerned, GivesInto, due_at, due_upto};
 ghost use Rattle.feed.specs.Feeds.{AdvancesInto, HasNoPlaceFor, RefusesSubscription, new_feed, subscription_of, with_subscription, without_subscription};
 
+use crate::enrolling::enrol;
 use crate::keys::keys_at;
 use crate::subscriber::{Subscriber, place_of, take_out, tell_since};
-use crate::tree::{find_tags, plant, uproot};
+use crate::tree::{find_tags, uproot};
 use change_list::{Config, Item, change_item};
 use key_class::limits::{MAX_COMMITS, MAX_DEPTH, MAX_PAGES, MAX_SERIAL};
 use key_class::{Pred, Refusal};
-use reach::{Reach, reaches};
+use reach::Reach;
 use snapshot::Snapshot;
 use std::alloc::Global;
 use std::marker::Model;
@@ -123,21 +124,8 @@ impl<C: Reach> Feed<C> {
         let Ok(()) = self.subscribers.try_reserve(1) else {
             return Err(Refusal::OutOfMemory);
         };
-        let Ok(()) = self.always.try_reserve(1) else {
-            return Err(Refusal::OutOfMemory);
-        };
         let serial = self.last + 1;
-        let planted = match reaches::<C>(self.alloc, &query)? {
-            Some(keys) => plant(self.alloc, &mut self.tree, &keys, serial)?,
-            None => None,
-        };
-        let rows = match planted {
-            Some(rows) => rows,
-            None => {
-                self.always.push_reserved(serial);
-                Vec::new(self.alloc)
-            }
-        };
+        let rows = enrol(self.alloc, &mut self.tree, &mut self.always, &query, serial)?;
         self.subscribers.push_reserved(Subscriber {
             serial,
             query,
@@ -299,17 +287,27 @@ impl<C: Reach> Feed<C> {
         ensures rising { IfOk result (λ serials. IsStrictlyIncreasing serials.items) }
         ensures refused { IfErr result (λ why. why ≡ OutOfMemory) }
     {
-        let mut serials = Vec::new(self.alloc);
-        serials.extend_from_slice(&self.always)?;
-        let (ended, made) = keys_at(snapshot, place);
-        if let Some(key) = ended {
-            find_tags(&self.tree, key, &mut serials)?;
-        }
-        if let Some(key) = made {
-            find_tags(&self.tree, key, &mut serials)?;
-        }
+        let mut serials = self.gathered(snapshot, place)?;
         serials.sort_unstable();
         serials.dedup();
+        Ok(serials)
+    }
+
+    /// The same serials as they are found, so that one may come twice.
+    ///
+    /// # Errors
+    /// Want of memory.
+    fn gathered(&self, snapshot: &Snapshot<C>, place: u64) -> Result<Vec<u64>, Refusal>
+        requires { place < length snapshot.now }
+        ensures all { IfOk result (λ serials.
+            AreAllConcerned C.rules snapshot.now self.now place serials.items) }
+        ensures refused { IfErr result (λ why. why ≡ OutOfMemory) }
+    {
+        let (ended, made) = keys_at(snapshot, place);
+        let mut serials = Vec::new(self.alloc);
+        serials.extend_from_slice(&self.always)?;
+        find_tags(&self.tree, ended, &mut serials)?;
+        find_tags(&self.tree, made, &mut serials)?;
         Ok(serials)
     }
 }

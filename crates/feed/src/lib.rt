@@ -1,6 +1,7 @@
 //! A feed: many subscriptions to the changes of queries, of which a commit asks only those that its keys may match.
 #![tactic(auto)]
 
+mod enrolling;
 mod feed;
 mod keys;
 mod laws;

@@ -1,10 +1,8 @@
 //! The tree of a feed.
-ghost use Rattle.std.specs.Prelude.{◌≡◌, ◌++◌, OnOk, IfOk, IfErr, map, option_map, vec_items};
-ghost use Rattle.key_class.specs.declared.pred.Pred.TheVariants.{Atom};
+ghost use Rattle.std.specs.Prelude.{◌≡◌, ◌++◌, OnOk, IfOk, IfErr, option_map, vec_items};
 ghost use Rattle.key_class.specs.declared.refusal.Refusal.TheVariants.{OutOfMemory};
 ghost use Rattle.change_list.specs.Changes.{IsLegal};
-ghost use Rattle.store.specs.States.{matching_rows};
-ghost use Rattle.feed.specs.Planting.{AreTagged, MayBePlanted, Tends};
+ghost use Rattle.feed.specs.Planting.{AreTagged, MayBePlanted, Tends, tags_at};
 
 use key_class::{KeyClass, Pred, Refusal};
 use reach::Reach;
@@ -59,19 +57,22 @@ pub(crate) fn uproot<C: KeyClass>(tree: &mut Store<C>, rows: &[u64], tag: u64)
     }
 }
 
-/// Puts the tags of the rows that a key overlaps behind those of a list.
+/// Puts the tags of the rows that a key overlaps, where there is one, behind those of a list.
 ///
 /// # Errors
 /// Want of memory.
 pub(crate) fn find_tags<C: Reach>(
     tree: &Store<C>,
-    key: C::Key,
+    key: Option<C::Key>,
     tags: &mut Vec<u64>,
 ) -> Result<(), Refusal>
     ensures ok { OnOk result (tags.new.items ≡ tags.old.items
-        ++ map (λ row. row.tag) (matching_rows C.rules tree.now (Atom (C.overlap_with key)))) }
+        ++ tags_at C.rules C.overlap_with tree.now.commits key) }
     ensures refused { IfErr result (λ why. why ≡ OutOfMemory) }
 {
+    let Some(key) = key else {
+        return Ok(());
+    };
     let query = Pred::Atom(C::overlapping(key));
     let rows = tree.find(&query)?;
     for row in &rows {
