@@ -1,21 +1,33 @@
 -- What is due to the subscription of a subscriber.
-use Rattle.std.proofs.Common.{◌≡◌, ◌+◌, ◌<◌, ◌≤◌, ℕ, zero, suc, max, Bool, true, false, cond, List, [], ◌∷◌, length, drop, Option, Some, None, refl, sym, ap, ◌∙◌, arith, subst}
+use Rattle.std.proofs.Common.{◌≡◌, ◌+◌, ◌<◌, ◌≤◌, ℕ, zero, suc, max, Bool, true, false, cond, List, [], ◌∷◌, ◌++◌, length, drop, drop-cons, Option, Some, None, refl, sym, ap, ◌∙◌, arith, subst, get_or}
 use Rattle.std.specs.Prelude.{nat_eq, nat_le, option_map, option_to_list, slice_get}
 use Rattle.std.specs.Option.{option_map_or}
+use Rattle.std.proofs.lemmas.List.{drop_all}
+use Rattle.std.proofs.lemmas.Option.{slice_get-get_or}
 use Rattle.key_class.specs.Queries.{query_of}
 use Rattle.key_class.specs.Rules.{Rules, satisfies}
 use Rattle.change_list.specs.declared.item.Item.{Item}
 use Rattle.change_list.specs.declared.write.Write.{Write}
 use Rattle.change_list.specs.Changes.{changes, item_at}
 use Rattle.change_list.proofs.Pushing.{changes_none}
-use Rattle.world.specs.Serials.{Rise, member}
+use Rattle.change_list.proofs.Lists.{slice_get_within}
+use Rattle.world.specs.Serials.{IsMember, Rise, member}
 use Rattle.world.proofs.Serials.{member_serial, rise_places}
 use Rattle.feed.specs.declared.subscriber.Subscriber.{Subscriber}
-use Rattle.feed.specs.Asking.{Gives, due_at, due_upto}
+use Rattle.feed.specs.Asking.{Gives, due_at, due_upto, under}
 use Rattle.feed.specs.Feeds.{items_under, subscription_of}
 use Rattle.feed.specs.Holding.{feed_state, serial_of, shown, shown_at}
-use Rattle.feed.proofs.Advancing.{TellsThose}
+use Rattle.feed.proofs.Advancing.{TellsThose, one_before, rise_behind}
 use Rattle.feed.proofs.Keeping.{found_shown}
+
+-- the member at a place that was read
+pub member_read : {A : Type 0} (serial at : ℕ) (xs ys : List (Subscriber A)) (x : Subscriber A) → ys ≡ xs → IsMember serial_of ys serial at → x ≡ get_or xs at x → member serial_of serial xs ≡ Some x
+member_read serial at xs ys x same m r =
+    let there = subst (λ l. slice_get l at ≡ Some m.value) same m.is in
+    subst (λ l. member serial_of serial l ≡ Some m.value) same m.found ∙ (sym there ∙ slice_get-get_or xs at x (slice_get_within xs at m.value there) ∙ ap Some (sym r))
+
+pub member_within_list : {A : Type 0} (serial at : ℕ) (xs ys : List (Subscriber A)) → ys ≡ xs → IsMember serial_of ys serial at → at < length xs
+member_within_list serial at xs ys same m = subst (λ l. at < length l) same (slice_get_within ys at m.value m.is)
 
 module _ {K A : Type 0} (rules : Rules K A) (commits : List (Write K)) (upto passed last : ℕ) (subscribers : List (Subscriber A)) where
   -- where no subscriber has the serial
@@ -121,3 +133,33 @@ module _ {A X : Type 0} (missed : Subscriber A → List X) (passed : ℕ) (nothi
           lower : (i : ℕ) (y : Subscriber A) (xs : List (Subscriber A)) (x : Subscriber A) → Rise serial_of above last (y ∷ xs) → slice_get (y ∷ xs) i ≡ Some x → x.serial ≤ passed → y.serial ≤ passed
           lower i y xs x r e within = omega (arith, within, rise_places serial_of above last 0 i (y ∷ xs) y x r (omega arith) refl e)
       by_test false f = refl
+
+module _ {K A : Type 0} (rules : Rules K A) (commits : List (Write K)) (upto passed last : ℕ) (subscribers : List (Subscriber A)) where
+  pub missed_none : (n : ℕ) → length subscribers ≤ n → TellsThose (missed rules commits upto passed last subscribers) (drop n subscribers) []
+  missed_none n all serial = sym (ap (λ l. option_map_or (missed rules commits upto passed last subscribers) (member serial_of serial l) []) (drop_all n subscribers all))
+
+  -- down to the first of all
+  pub missed_all : (n : ℕ) (given : List (ℕ × Item K)) → n ≤ 0 → TellsThose (missed rules commits upto passed last subscribers) (drop n subscribers) given → Gives (due_upto rules commits upto) (feed_state upto passed last subscribers) given
+  missed_all n given none told =
+      let first : n ≡ 0 = omega (arith, none) in
+      missed_told rules commits upto passed last subscribers subscribers given (subst (λ m. TellsThose (missed rules commits upto passed last subscribers) (drop m subscribers) given) first told) (λ serial. refl)
+
+  module _ (rise : Rise serial_of 0 last subscribers) (n rest : ℕ) (next : rest ≡ suc n) (within : rest ≤ length subscribers) (x : Subscriber A) (read : x ≡ get_or subscribers n x) (given : List (ℕ × Item K))
+      (told : TellsThose (missed rules commits upto passed last subscribers) (drop rest subscribers) given) where
+    there : slice_get subscribers n ≡ Some x
+    there = slice_get-get_or subscribers n x (omega (arith, next, within)) ∙ ap Some (sym read)
+
+    -- down to one that has missed nothing
+    pub missed_rest : x.serial ≤ passed → Gives (due_upto rules commits upto) (feed_state upto passed last subscribers) given
+    missed_rest low = missed_told rules commits upto passed last subscribers (drop rest subscribers) given told
+        (subst (λ m. (serial : ℕ) → option_map_or (missed rules commits upto passed last subscribers) (member serial_of serial (drop m subscribers)) [] ≡ option_map_or (missed rules commits upto passed last subscribers) (member serial_of serial subscribers) []) (sym next)
+        (same_missed (missed rules commits upto passed last subscribers) passed (none_missed rules commits upto passed last subscribers) 0 last n subscribers x rise there low))
+
+    -- one further, which may have missed something
+    pub missed_more : passed < x.serial → TellsThose (missed rules commits upto passed last subscribers) (drop n subscribers) (given ++ under x.serial (changes (satisfies rules (query_of x.query)) x.from (max x.from upto) commits))
+    missed_more behind =
+        let from_there : drop n subscribers ≡ x ∷ drop (suc n) subscribers = drop-cons subscribers n x (omega (arith, next, within)) ∙ ap (λ y. y ∷ drop (suc n) subscribers) (sym read) in
+        subst (λ l. TellsThose (missed rules commits upto passed last subscribers) l (given ++ under x.serial (changes (satisfies rules (query_of x.query)) x.from (max x.from upto) commits))) (sym from_there)
+        (subst (λ items. TellsThose (missed rules commits upto passed last subscribers) (x ∷ drop (suc n) subscribers) (given ++ under x.serial items)) (all_missed rules commits upto passed last subscribers x behind)
+        (one_before (missed rules commits upto passed last subscribers) x (drop (suc n) subscribers) last given (rise_behind serial_of 0 last n subscribers x rise there)
+        (subst (λ m. TellsThose (missed rules commits upto passed last subscribers) (drop m subscribers) given) next told)))

@@ -5,7 +5,7 @@ use Rattle.std.specs.Option.{option_map_or}
 use Rattle.std.specs.List.Sorted.{IsStrictlyIncreasing}
 use Rattle.std.specs.List.{find, flat_map}
 use Rattle.std.proofs.lemmas.Bool.{eq-eqb, ne_eqb}
-use Rattle.std.proofs.lemmas.List.{append-nil, map-append}
+use Rattle.std.proofs.lemmas.List.{append-nil, map-append, take_all, take_more}
 use Rattle.std.proofs.lemmas.List.Elements.{All-head, All-tail, filter-append}
 use Rattle.std.proofs.lemmas.List.Kept.{AllPairs-from_increasing}
 use Rattle.key_class.specs.Rules.{Rules, satisfies}
@@ -190,3 +190,26 @@ module _ {K A : Type 0} (rules : Rules K A) (commits : List (Write K)) (feed : F
         | inl none ↦ inl (none_due (nat_le s.at place) (item_for rules commits s.query place) none)
         | inr c ↦ inr c
       ]
+
+-- the serials of a list were told what is due to each, one after the other
+module _ {K : Type 0} (due : ℕ → List (Item K)) where
+  told_push : (serials : List ℕ) (n : ℕ) → told_to due (serials ++ n ∷ []) ≡ told_to due serials ++ under n (due n)
+  told_push [] n = append-nil (under n (due n))
+  told_push (m ∷ serials) n = ap (λ l. under m (due m) ++ l) (told_push serials n) ∙ sym (append_assoc (under m (due m)) (told_to due serials) (under n (due n)))
+
+  module _ (serials : List ℕ) (i : ℕ) (within : i < length serials) (old before after : List (ℕ × Item K)) (told : before ≡ old ++ told_to due (take i serials)) where
+    told_more : (item : Option (Item K)) → option_to_list item ≡ due (get_or serials i 0) → after ≡ before ++ under (get_or serials i 0) (option_to_list item) → after ≡ old ++ told_to due (take (i + 1) serials)
+    told_more item is next =
+        let n = get_or serials i 0 in
+        next ∙ ap (λ l. l ++ under n (option_to_list item)) told ∙ append_assoc old (told_to due (take i serials)) (under n (option_to_list item))
+        ∙ ap (λ l. old ++ (told_to due (take i serials) ++ under n l)) is
+        ∙ ap (λ l. old ++ l) (sym (told_push (take i serials) n) ∙ ap (told_to due) (sym (take_more serials i 0 within)))
+
+    pub told_item : (item : Item K) (o : Option (Item K)) → o ≡ Some item → option_to_list o ≡ due (get_or serials i 0) → after ≡ before ++ (get_or serials i 0, item) ∷ [] → after ≡ old ++ told_to due (take (i + 1) serials)
+    told_item item o some is next = told_more (Some item) (ap option_to_list (sym some) ∙ is) next
+
+    pub told_nothing : (o : Option (Item K)) → o ≡ None → option_to_list o ≡ due (get_or serials i 0) → after ≡ before → after ≡ old ++ told_to due (take (i + 1) serials)
+    told_nothing o none is next = told_more None (ap option_to_list (sym none) ∙ is) (next ∙ sym (append-nil before))
+
+  pub told_all : (serials same : List ℕ) (i : ℕ) (old after : List (ℕ × Item K)) → same ≡ serials → length same ≤ i → after ≡ old ++ told_to due (take i same) → after ≡ old ++ told_to due serials
+  told_all serials same i old after e l is = is ∙ ap (λ s. old ++ told_to due s) (take_all i same l ∙ e)
