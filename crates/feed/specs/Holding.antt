@@ -31,6 +31,16 @@ module _ {K A : Type 0} (reach_of : A → Option K) (size_of : K → ℕ) where
     pub reaches : reaches_of reach_of size_of query ≡ Some keys
     pub rows : HasRows commits serial keys
 
+  -- the query was planted in the tree, and its rows, which have these numbers, bear the serial
+  pub record IsRooted (commits : List (Write K)) (query : Query A) (serial : ℕ) (rows : List ℕ) : Type 0 where
+    pub planted : IsPlantedIn commits query serial
+    pub tagged : AreTagged commits serial rows
+
+  -- it was, or it can't be
+  abbrev pub MayBeRooted : List (Write K) → Query A → ℕ → Option (List ℕ) → Type 0
+  MayBeRooted commits query serial (Some rows) = IsRooted commits query serial rows
+  MayBeRooted commits query serial None = Unit {0}
+
   -- the serial came to the list of those that each commit asks, or the query was planted in the tree; the rows bear the serial
   pub record IsEnrolled (commits : List (Write K)) (query : Query A) (serial : ℕ) (before after rows : List ℕ) : Type 0 where
     pub asked : (after ≡ before ++ serial ∷ []) ⊎ ((after ≡ before) × IsPlantedIn commits query serial)
