@@ -18,7 +18,7 @@ use Rattle.feed.specs.Asking.{Gives, due_at, due_upto, under}
 use Rattle.feed.specs.Feeds.{items_under, subscription_of}
 use Rattle.feed.specs.Holding.{feed_state, serial_of, shown, shown_at}
 use Rattle.feed.proofs.Advancing.{TellsThose, one_before, rise_behind}
-use Rattle.feed.proofs.Keeping.{found_shown}
+use Rattle.feed.proofs.Keeping.{found_shown, none_shown, one_shown}
 
 -- the member at a place that was read
 pub member_read : {A : Type 0} (serial at : ℕ) (xs ys : List (Subscriber A)) (x : Subscriber A) → ys ≡ xs → IsMember serial_of ys serial at → x ≡ get_or xs at x → member serial_of serial xs ≡ Some x
@@ -30,13 +30,6 @@ pub member_within_list : {A : Type 0} (serial at : ℕ) (xs ys : List (Subscribe
 member_within_list serial at xs ys same m = subst (λ l. at < length l) same (slice_get_within ys at m.value m.is)
 
 module _ {K A : Type 0} (rules : Rules K A) (commits : List (Write K)) (upto passed last : ℕ) (subscribers : List (Subscriber A)) where
-  -- where no subscriber has the serial
-  pub due_none : {Y : Type 0} (due : Y → List (Item K)) (serial : ℕ) → member serial_of serial subscribers ≡ None → subscription_of (feed_state upto passed last subscribers) serial ≡ None
-  due_none due serial none = found_shown upto passed last serial subscribers ∙ ap (option_map (shown upto passed)) none
-
-  pub due_found : (serial : ℕ) (x : Subscriber A) → member serial_of serial subscribers ≡ Some x → subscription_of (feed_state upto passed last subscribers) serial ≡ Some (shown upto passed x)
-  due_found serial x found = found_shown upto passed last serial subscribers ∙ ap (option_map (shown upto passed)) found
-
   module _ (place : ℕ) (further : upto ≤ place) where
     -- what a commit that the feed hasn't gone over gives to a subscriber
     due_shown : (x : Subscriber A) → due_at rules commits place (shown upto passed x) ≡ cond (nat_le x.from place) (option_to_list (item_at (satisfies rules (query_of x.query)) commits place)) []
@@ -52,10 +45,10 @@ module _ {K A : Type 0} (rules : Rules K A) (commits : List (Write K)) (upto pas
 
     -- a serial that no subscriber has is given nothing
     pub none_due : (serial : ℕ) → member serial_of serial subscribers ≡ None → option_map_or (due_at rules commits place) (subscription_of (feed_state upto passed last subscribers) serial) [] ≡ []
-    none_due serial none = ap (λ o. option_map_or (due_at rules commits place) o []) (found_shown upto passed last serial subscribers ∙ ap (option_map (shown upto passed)) none)
+    none_due serial none = ap (λ o. option_map_or (due_at rules commits place) o []) (none_shown upto passed last serial subscribers none)
 
     found_due : (serial : ℕ) (x : Subscriber A) → member serial_of serial subscribers ≡ Some x → option_map_or (due_at rules commits place) (subscription_of (feed_state upto passed last subscribers) serial) [] ≡ cond (nat_le x.from place) (option_to_list (item_at (satisfies rules (query_of x.query)) commits place)) []
-    found_due serial x found = ap (λ o. option_map_or (due_at rules commits place) o []) (due_found serial x found) ∙ due_shown x
+    found_due serial x found = ap (λ o. option_map_or (due_at rules commits place) o []) (one_shown upto passed last serial subscribers x found) ∙ due_shown x
 
     -- one that begins later is given nothing
     pub later_due : (serial : ℕ) (x : Subscriber A) → member serial_of serial subscribers ≡ Some x → place < x.from → option_map_or (due_at rules commits place) (subscription_of (feed_state upto passed last subscribers) serial) [] ≡ []

@@ -1,13 +1,15 @@
 -- How a feed holds its subscriptions while it changes.
-use Rattle.std.proofs.Common.{◌≡◌, ◌⊎◌, ◌+◌, ◌<◌, ◌≤◌, ℕ, max, Bool, true, false, not, cond, List, [], ◌∷◌, ◌++◌, length, map, filter, Option, Some, None, All, refl, sym, ap, ◌∙◌, arith, subst, inl, inr, ⊎_elim}
-use Rattle.std.specs.Prelude.{Contains, nat_eq, nat_le, option_map, vec_items}
+use Rattle.std.proofs.Common.{◌≡◌, ◌⊎◌, ◌+◌, ◌<◌, ◌≤◌, ℕ, max, Bool, true, false, not, cond, List, [], ◌∷◌, ◌++◌, length, map, filter, take, drop, Option, Some, None, All, refl, sym, ap, ◌∙◌, arith, subst, inl, inr, ⊎_elim}
+use Rattle.std.specs.Prelude.{Contains, nat_eq, nat_le, option_map, slice_get, vec_items}
 use Rattle.std.specs.List.{find}
+use Rattle.std.proofs.Math.Numerals.{add-one}
+use Rattle.std.proofs.lemmas.List.{map-append}
 use Rattle.std.proofs.lemmas.List.Elements.{Contains-append_left, Contains-push}
 use Rattle.key_class.specs.Queries.{Query, query_of}
 use Rattle.change_list.specs.declared.write.Write.{Write}
 use Rattle.change_list.specs.Changes.{IsLegal}
-use Rattle.world.specs.Serials.{Rise, member, without}
-use Rattle.world.proofs.Serials.{member_serial, member_within, push_other, push_same, rise_push, rise_within, rise_without, without_other, without_same}
+use Rattle.world.specs.Serials.{IsMember, Rise, member, without}
+use Rattle.world.proofs.Serials.{member_serial, member_within, push_other, push_same, rise_push, rise_within, rise_without, without_at, without_other, without_same}
 use Rattle.feed.specs.declared.subscriber.Subscriber.{Subscriber}
 use Rattle.feed.specs.Feeds.{FeedState, Subscription, given_upto, subscription_of, with_subscription, without_subscription}
 use Rattle.feed.specs.Holding.{IsEnrolled, IsHolding, IsPlantedIn, feed_state, serial_of, shown, shown_at}
@@ -25,6 +27,12 @@ module _ {A : Type 0} where
       by_test true rest = refl
       by_test false rest = rest
 
+  pub none_shown : (upto passed last serial : ℕ) (subscribers : List (Subscriber A)) → member serial_of serial subscribers ≡ None → subscription_of (feed_state upto passed last subscribers) serial ≡ None
+  none_shown upto passed last serial subscribers none = found_shown upto passed last serial subscribers ∙ ap (option_map (shown upto passed)) none
+
+  pub one_shown : (upto passed last serial : ℕ) (subscribers : List (Subscriber A)) (x : Subscriber A) → member serial_of serial subscribers ≡ Some x → subscription_of (feed_state upto passed last subscribers) serial ≡ Some (shown upto passed x)
+  one_shown upto passed last serial subscribers x found = found_shown upto passed last serial subscribers ∙ ap (option_map (shown upto passed)) found
+
   -- without the subscriber that has a serial
   pub shown_without : (upto passed serial : ℕ) (subscribers : List (Subscriber A)) → map (shown upto passed) (without serial_of serial subscribers) ≡ filter (λ s. not (nat_eq s.serial serial)) (map (shown upto passed) subscribers)
   shown_without upto passed serial [] = refl
@@ -34,6 +42,28 @@ module _ {A : Type 0} where
           ≡ cond b (shown upto passed s ∷ filter (λ s. not (nat_eq s.serial serial)) (map (shown upto passed) subscribers)) (filter (λ s. not (nat_eq s.serial serial)) (map (shown upto passed) subscribers))
       by_test true rest = ap (λ l. shown upto passed s ∷ l) rest
       by_test false rest = rest
+
+  pub state_without : (upto passed last serial : ℕ) (subscribers : List (Subscriber A)) → feed_state upto passed last (without serial_of serial subscribers) ≡ without_subscription (feed_state upto passed last subscribers) serial
+  state_without upto passed last serial subscribers = ap (λ l. record { upto = upto; subscriptions = l; last = last }) (shown_without upto passed serial subscribers)
+
+  -- without the subscriber at a place
+  pub taken_away : (serial last at : ℕ) (xs ys zs : List (Subscriber A)) → ys ≡ xs → Rise serial_of 0 last xs → IsMember serial_of ys serial at → zs ≡ take at xs ++ drop (at + 1) xs → zs ≡ without serial_of serial xs
+  taken_away serial last at xs ys zs same rise m is =
+      let there = subst (λ l. slice_get l at ≡ Some m.value) same m.is in
+      is ∙ ap (λ n. take at xs ++ drop n xs) (add-one at) ∙ sym (without_at serial_of serial 0 last at xs m.value rise there m.number)
+
+  -- with a subscriber more, whose serial is the next
+  pub state_with : (upto passed last : ℕ) (subscribers : List (Subscriber A)) (s : Subscriber A) → passed ≤ last → s.serial ≡ last + 1
+      → feed_state upto passed s.serial (subscribers ++ s ∷ []) ≡ with_subscription (feed_state upto passed last subscribers) (query_of s.query) s.from
+  state_with upto passed last subscribers s within is =
+      ap (λ n. record { upto = upto; subscriptions = map (shown upto passed) (subscribers ++ s ∷ []); last = n }) is
+      ∙ ap (λ l. record { upto = upto; subscriptions = l; last = last + 1 }) (map-append (shown upto passed) subscribers (s ∷ []) ∙ ap (λ x. map (shown upto passed) subscribers ++ x ∷ []) one)
+    where
+      at_from : shown_at upto passed s ≡ s.from
+      at_from = let e : nat_le s.serial passed ≡ false = search (arith, is, within) in ap (λ b. cond b (max s.from upto) s.from) e
+
+      one : shown upto passed s ≡ record { serial = last + 1; query = query_of s.query; at = s.from }
+      one = ap (λ n. record { serial = s.serial; query = query_of s.query; at = n }) at_from ∙ ap (λ n. record { serial = n; query = query_of s.query; at = s.from }) is
 
   one_given : (upto passed last later : ℕ) (s : Subscriber A) → s.serial ≤ last → upto ≤ later → shown later last s ≡ given_upto later (shown upto passed s)
   one_given upto passed last later s within further = ap (λ n. record { serial = s.serial; query = (shown upto passed s).query; at = n }) at
