@@ -1,10 +1,10 @@
 //! A feed beside its subscribers' own reading of each snapshot.
-use crate::source::{CONFIG, Drawn, Source, commit, query};
+use crate::source::{CONFIG, Drawn, Source, commit, deepened, query};
 use box_class::Boxes;
-use change_list::Item;
+use change_list::{Item, change_item};
 use feed::Feed;
 use interval_class::Intervals;
-use key_class::{Pred, Refusal};
+use key_class::{KeyClass, Pred, Refusal};
 use set_class::Sets;
 use snapshot::Snapshot;
 use std::alloc::Global;
@@ -37,6 +37,25 @@ fn under<K: Copy>(
     Ok(items)
 }
 
+impl<A: Copy + Eq> Reader<A> {
+    /// What it reads up to a commit, which it has read then.
+    fn read<C: KeyClass<Atom = A>>(
+        &mut self,
+        alloc: Global,
+        snapshot: &Snapshot<C>,
+        upto: u64,
+    ) -> Result<Vec<Item<C::Key>>, Refusal> {
+        let mut items = Vec::new(alloc);
+        for place in self.at..upto {
+            if let Some(item) = change_item::<C>(snapshot.list(), &self.query, place) {
+                items.push(item)?;
+            }
+        }
+        self.at = self.at.max(upto);
+        Ok(items)
+    }
+}
+
 /// How many entries the readers find right, where each is given what it reads itself up to a commit.
 fn agreeing<C: Drawn>(
     alloc: Global,
@@ -47,19 +66,7 @@ fn agreeing<C: Drawn>(
 ) -> Result<Option<usize>, Refusal> {
     let mut count: usize = 0;
     for reader in readers.iter_mut() {
-        let mut read = Vec::new(alloc);
-        if reader.at < upto {
-            for place in reader.at..upto {
-                if let Some(item) = change_list::change_item::<C>(
-                    snapshot.list(),
-                    &reader.query,
-                    place,
-                ) {
-                    read.push(item)?;
-                }
-            }
-            reader.at = upto;
-        }
+        let read = reader.read(alloc, snapshot, upto)?;
         if under(alloc, told, reader.serial)?.as_slice() != read.as_slice() {
             return Ok(None);
         }
@@ -68,42 +75,109 @@ fn agreeing<C: Drawn>(
     Ok(Some(count))
 }
 
-/// Whether all entries of all rounds are those that the readers read, and some are.
-fn goes_beside<C: Drawn>(alloc: Global, seed: u64) -> Result<bool, Refusal> {
-    let mut source = Source::new(seed);
-    let mut store = Store::<C>::new(alloc, CONFIG)?;
-    let mut feed = Feed::<C>::new(alloc)?;
-    let mut readers: Vec<Reader<C::Atom>> = Vec::new(alloc);
-    let mut whole: usize = 0;
-    for _ in 0..ROUNDS {
-        for _ in 0..source.below(5) {
-            commit(&mut store, &mut source)?;
+/// A store, a feed of its commits, and those who subscribe.
+#[derive(Drop)]
+struct Trial<C: Drawn> {
+    alloc: Global,
+    source: Source,
+    store: Store<C>,
+    feed: Feed<C>,
+    readers: Vec<Reader<C::Atom>>,
+    /// How many entries the feed has given.
+    whole: usize,
+}
+
+impl<C: Drawn> Trial<C> {
+    fn new(alloc: Global, seed: u64) -> Result<Trial<C>, Refusal> {
+        let store = Store::new(alloc, CONFIG)?;
+        let feed = Feed::new(alloc)?;
+        Ok(Trial {
+            alloc,
+            source: Source::new(seed),
+            store,
+            feed,
+            readers: Vec::new(alloc),
+            whole: 0,
+        })
+    }
+
+    /// At most four commits.
+    fn commit_some(&mut self) -> Result<(), Refusal> {
+        for _ in 0..self.source.below(5) {
+            commit(&mut self.store, &mut self.source)?;
         }
-        if source.below(3) > 0 {
-            let query = query::<C>(alloc, &mut source, 3)?;
-            let at = source.below(store.commits().saturating_add(3));
-            let serial = feed.subscribe(query.copy(alloc)?, at)?;
-            readers.push(Reader { serial, query, at })?;
+        Ok(())
+    }
+
+    /// A query whose depth is at most 3, or one with up to 28 more levels.
+    fn query(&mut self) -> Result<Pred<C::Atom>, Refusal> {
+        let query = query::<C>(self.alloc, &mut self.source, 3)?;
+        let pairs = self.source.below(60);
+        if pairs > 14 {
+            return Ok(query);
         }
-        if source.below(6) == 0 && !readers.is_empty() {
-            let place = usize::try_from(source.below(readers.len() as u64)).unwrap_or(0);
-            if place < readers.len() {
-                let gone = readers.remove(place);
-                feed.unsubscribe(gone.serial)?;
+        deepened(self.alloc, query, pairs)
+    }
+
+    /// Somebody subscribes, in two rounds of three.
+    fn maybe_subscribe(&mut self) -> Result<(), Refusal> {
+        if self.source.below(3) == 0 {
+            return Ok(());
+        }
+        let at = self.source.below(self.store.commits().saturating_add(3));
+        let query = self.query()?;
+        let copy = query.copy(self.alloc)?;
+        let serial = self.feed.subscribe(copy, at)?;
+        self.readers.push(Reader { serial, query, at })?;
+        Ok(())
+    }
+
+    /// Somebody's subscription ends, in one round of six.
+    fn maybe_unsubscribe(&mut self) -> Result<(), Refusal> {
+        if self.source.below(6) > 0 || self.readers.is_empty() {
+            return Ok(());
+        }
+        let place = usize::try_from(self.source.below(self.readers.len() as u64)).unwrap_or(0);
+        if place < self.readers.len() {
+            let gone = self.readers.remove(place);
+            self.feed.unsubscribe(gone.serial)?;
+        }
+        Ok(())
+    }
+
+    /// Whether the feed, as it goes on, gives what the readers read.
+    fn goes_on(&mut self) -> Result<bool, Refusal> {
+        let snapshot = self.store.snapshot()?;
+        let mut told = Vec::new(self.alloc);
+        let upto = self
+            .feed
+            .advance(&snapshot, self.source.below(7), &mut told)?;
+        let agreeing = agreeing(self.alloc, &mut self.readers, &snapshot, upto, &told)?;
+        self.whole = self.whole.saturating_add(told.len());
+        Ok(agreeing == Some(told.len()) && self.feed.upto() == upto)
+    }
+
+    fn round(&mut self) -> Result<bool, Refusal> {
+        self.commit_some()?;
+        self.maybe_subscribe()?;
+        self.maybe_unsubscribe()?;
+        Ok(self.goes_on()? && self.feed.len() == self.readers.len())
+    }
+
+    /// Whether all entries of all rounds are those that the readers read, and some are.
+    fn rounds(&mut self) -> Result<bool, Refusal> {
+        for _ in 0..ROUNDS {
+            if !self.round()? {
+                return Ok(false);
             }
         }
-        let snapshot = store.snapshot()?;
-        let mut told = Vec::new(alloc);
-        let upto = feed.advance(&snapshot, source.below(7), &mut told)?;
-        let Some(count) = agreeing(alloc, &mut readers, &snapshot, upto, &told)? else {
-            return Ok(false);
-        };
-        if count != told.len() || feed.len() != readers.len() || feed.upto() != upto {
-            return Ok(false);
-        }
-        whole = whole.saturating_add(count);
+        Ok(self.whole > 100)
     }
-    Ok(whole > 100)
+}
+
+fn goes_beside<C: Drawn>(alloc: Global, seed: u64) -> Result<bool, Refusal> {
+    let mut trial = Trial::<C>::new(alloc, seed)?;
+    trial.rounds()
 }
 
 #[test]

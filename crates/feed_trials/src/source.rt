@@ -136,6 +136,15 @@ pub fn query<C: Drawn>(
     }
 }
 
+/// The same query under pairs of `not`, which mean nothing.
+pub fn deepened<A>(alloc: Global, mut query: Pred<A>, pairs: u64) -> Result<Pred<A>, Refusal> {
+    for _ in 0..pairs {
+        let part = Pred::Not(Box::new(alloc, query)?);
+        query = Pred::Not(Box::new(alloc, part)?);
+    }
+    Ok(query)
+}
+
 /// Makes a random commit: of three, one is an insert, one a move and one a delete, where the row that is drawn lives.
 pub fn commit<C: Drawn>(store: &mut Store<C>, source: &mut Source) -> Result<(), Refusal> {
     let row = source.below(store.commits().saturating_add(1));
