@@ -17,9 +17,9 @@ use Rattle.change_list.proofs.Made.{row_append, row_found, row_of_new_insert, ro
 use Rattle.change_list.proofs.Tracking.{none_ends}
 use Rattle.scan.proofs.Commits.{ended_push}
 use Rattle.snapshot.specs.Snapshots.{found_in}
-use Rattle.store.specs.States.{Commits, Keeps, StoreState}
+use Rattle.store.specs.States.{Commits, Keeps, StoreState, SweepsStore, SweepsStorePart}
 use Rattle.key_class.specs.declared.refusal.Refusal.{Refusal}
-use Rattle.std.specs.Prelude.{OnErr, OnOk, Result, Ok, Err}
+use Rattle.std.specs.Prelude.{IfOk, OnErr, OnOk, Result, Ok, Err}
 use Rattle.feed.specs.Planting.{AreTagged, HasRow, HasRows, IsPlanted, IsTagged, LivesAs, Tends}
 use Rattle.feed.proofs.Members.{contains_filter, contains_found, contains_map}
 
@@ -164,3 +164,9 @@ module _ {K A : Type 0} (matching : A → K → Bool) (tag : ℕ) (old new : Sto
   pub tree_deleted : (row : ℕ) (result : Result ℕ Refusal) → IsTagged old.commits tag row → OnOk result (Commits matching old (Delete row) new) → OnErr result (Keeps matching old new) → Tends tag old.commits new.commits
   tree_deleted row (Ok n) tagged ok err = tends_delete old.commits new.commits tag row tagged ok.commits later
   tree_deleted row (Err why) tagged ok err = tends_same tag old.commits new.commits legal err.commits
+
+module _ {K A : Type 0} (matching : A → K → Bool) (old new : StoreState K A) where
+  -- a sweep, whether memory stops it or not, leaves the commits
+  pub tree_swept : (result : Result ℕ Refusal) → IfOk result (λ n. SweepsStore matching old n new) → OnErr result (SweepsStorePart matching old new) → new.commits ≡ old.commits
+  tree_swept (Ok n) ok err = ok.rest.commits
+  tree_swept (Err why) ok err = err.rest.commits

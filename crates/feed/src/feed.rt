@@ -10,7 +10,7 @@ ghost use Rattle.feed.specs.Feeds.{AdvancesInto, HasNoPlaceFor, RefusesSubscript
 use crate::enrolling::enrol;
 use crate::keys::keys_at;
 use crate::subscriber::{Subscriber, place_of, take_out, tell_since};
-use crate::tree::{find_tags, uproot};
+use crate::tree::{find_tags, sweep_after, uproot};
 use change_list::{Config, Item, change_item};
 use key_class::limits::{MAX_COMMITS, MAX_DEPTH, MAX_PAGES, MAX_SERIAL};
 use key_class::{Pred, Refusal};
@@ -31,6 +31,9 @@ const TREE: Config = Config {
     commits: MAX_COMMITS,
 };
 
+/// After how many commits of the tree, beside one for each subscription, its dead rows are removed.
+const FEW_COMMITS: u64 = 1_000;
+
 /// Subscriptions to the changes of queries, and how far each was told of a list of commits.
 ///
 /// The queries lie in a tree by the keys that can match them, so that a commit asks only those that its keys overlap, and those
@@ -47,6 +50,8 @@ pub struct Feed<C: Reach> {
     /// The serials of those that each commit asks.
     always: Vec<u64>,
     tree: Store<C>,
+    /// How many commits the tree had when its dead rows were last removed.
+    swept: u64,
 }
 
 impl<C: Reach> Model for Feed<C> {
@@ -83,6 +88,7 @@ impl<C: Reach> Feed<C> {
             subscribers: Vec::new(alloc),
             always: Vec::new(alloc),
             tree,
+            swept: 0,
         })
     }
 
@@ -152,6 +158,8 @@ impl<C: Reach> Feed<C> {
         let subscriber = self.subscribers.remove(place);
         uproot(&mut self.tree, &subscriber.rows, serial);
         take_out(&mut self.always, serial);
+        let most = (self.subscribers.len() as u64).saturating_add(FEW_COMMITS);
+        sweep_after(&mut self.tree, &mut self.swept, most);
         Ok(())
     }
 

@@ -57,6 +57,19 @@ pub(crate) fn uproot<C: KeyClass>(tree: &mut Store<C>, rows: &[u64], tag: u64)
     }
 }
 
+/// Removes the dead rows of the tree once more than `most` commits were made since the last time, when there were `swept`. Where
+/// memory is wanting some stay.
+pub(crate) fn sweep_after<C: KeyClass>(tree: &mut Store<C>, swept: &mut u64, most: u64)
+    ensures { tree.new.commits ≡ tree.old.commits }
+{
+    let count = tree.commits();
+    if count.saturating_sub(*swept) <= most {
+        return;
+    }
+    *swept = count;
+    let _freed = tree.sweep_all();
+}
+
 /// Puts the tags of the rows that a key overlaps, where there is one, behind those of a list.
 ///
 /// # Errors

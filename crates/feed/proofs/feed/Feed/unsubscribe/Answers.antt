@@ -38,8 +38,9 @@ invariant_of-self g c =
     let size_of = g.C.KeyClass.rules.size_of in
     let left : c.remove-subscriber.new.self.items ≡ without serial_of c.args.serial subscribers =
         taken_away c.args.serial feed.last c.in-Some.place subscribers c.deref.result.now c.remove-subscriber.new.self.items c.deref.ensures.value c.self.invariant.rise c.in-Some.ensures c.remove-subscriber.ensures.by_index.2 in
-    subst (λ l. IsHolding reach_of size_of tree feed.passed feed.last kept l) (sym left)
-    (holding_without reach_of size_of feed.tree.commits tree feed.passed feed.last feed.always.items subscribers c.self.invariant c.args.serial c.uproot.ensures kept c.take_out.ensures)
+    subst (λ cs. IsHolding reach_of size_of cs feed.passed feed.last kept c.remove-subscriber.new.self.items) (sym c.sweep_after.ensures)
+    (subst (λ l. IsHolding reach_of size_of tree feed.passed feed.last kept l) (sym left)
+    (holding_without reach_of size_of feed.tree.commits tree feed.passed feed.last feed.always.items subscribers c.self.invariant c.args.serial c.uproot.ensures kept c.take_out.ensures))
 
 pub returns-clause-ok : goal.returns-clause-ok
 returns-clause-ok g c =
