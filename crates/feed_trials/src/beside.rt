@@ -116,7 +116,7 @@ impl<C: Drawn> Trial<C> {
         if pairs > 14 {
             return Ok(query);
         }
-        deepened(self.alloc, query, pairs)
+        deepened::<C>(self.alloc, query, pairs)
     }
 
     /// Somebody subscribes, in two rounds of three.

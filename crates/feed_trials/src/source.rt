@@ -137,7 +137,11 @@ pub fn query<C: Drawn>(
 }
 
 /// The same query under pairs of `not`, which mean nothing.
-pub fn deepened<A>(alloc: Global, mut query: Pred<A>, pairs: u64) -> Result<Pred<A>, Refusal> {
+pub fn deepened<C: Drawn>(
+    alloc: Global,
+    mut query: Pred<C::Atom>,
+    pairs: u64,
+) -> Result<Pred<C::Atom>, Refusal> {
     for _ in 0..pairs {
         let part = Pred::Not(Box::new(alloc, query)?);
         query = Pred::Not(Box::new(alloc, part)?);
