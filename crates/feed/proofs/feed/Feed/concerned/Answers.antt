@@ -1,0 +1,28 @@
+use Rattle.std.proofs.Common.{◌≡◌, subst, sym}
+use Rattle.std.specs.Prelude.{nat_eq, Contains}
+use Rattle.std.specs.List.{dedup}
+use Rattle.std.specs.List.Sorted.{IsStrictlyIncreasing}
+use Rattle.std.proofs.Math.Dec.{eqb}
+use Rattle.std.proofs.lemmas.List.Filters.{dedup_is}
+use Rattle.std.proofs.lemmas.List.Kept.{Contains-dedup_nat}
+use Rattle.std.proofs.lemmas.List.Sorted.{Contains-permutation}
+use Rattle.std.proofs.lemmas.Map.Keys.{IsStrictlyIncreasing-dedup}
+use Rattle.feed.proofs.Asked.{concerned_among}
+use Rattle.feed.proofs.feed.Feed.concerned.Goals as goal
+
+pub returns-clause-all : goal.returns-clause-all
+returns-clause-all g c =
+    let found = c.in_ok-serials.serials.items in
+    let sorted = c.sort_unstable.new.self.items in
+    let serials = c.dedup.new.self.items in
+    let is : serials ≡ dedup eqb sorted = dedup_is eqb sorted serials c.dedup.ensures.filtered in
+    concerned_among g.C.KeyClass.rules c.args.snapshot.now c.args.self.now c.args.place found serials
+    (λ serial among. subst (λ l. Contains l serial) (sym is) (Contains-dedup_nat sorted serial (Contains-permutation found sorted serial c.sort_unstable.ensures.permutation among)))
+    c.in_ok-serials.ensures.all
+
+pub returns-clause-rising : goal.returns-clause-rising
+returns-clause-rising g c =
+    let sorted = c.sort_unstable.new.self.items in
+    let serials = c.dedup.new.self.items in
+    let is : serials ≡ dedup eqb sorted = dedup_is eqb sorted serials c.dedup.ensures.filtered in
+    subst IsStrictlyIncreasing (sym is) (IsStrictlyIncreasing-dedup sorted c.sort_unstable.ensures.sorted)

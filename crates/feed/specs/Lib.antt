@@ -1,0 +1,5 @@
+pub mod Asking
+pub mod Feeds
+pub mod GoingOn
+pub mod Holding
+pub mod Planting

@@ -1,0 +1,321 @@
+ghost use Rattle.std.specs.Prelude.{◌≡◌, ◌↔◌, ◌+◌, ◌<◌, ◌≤◌, [], length, None, Err, IfOk, IfErr, OnOk, OnErr, option_to_list};
+ghost use Rattle.std.specs.List.Sorted.{IsStrictlyIncreasing};
+ghost use Rattle.std.specs.Option.{option_map_or};
+ghost use Rattle.key_class.specs.Queries.{query_of, depth_of};
+ghost use Rattle.key_class.specs.Refusals.{IsEither};
+ghost use Rattle.key_class.specs.declared.refusal.Refusal.TheVariants.{BadConfig, CursorsFull, FromFuture, NoSuchCursor, OutOfMemory};
+ghost use Rattle.feed.specs.Asking.{AreAllConcerned, GivesInto, due_at, due_upto};
+ghost use Rattle.feed.specs.Feeds.{AdvancesInto, HasNoPlaceFor, RefusesSubscription, new_feed, subscription_of, with_subscription, without_subscription};
+
+use crate::enrolling::enrol;
+use crate::keys::keys_at;
+use crate::subscriber::{Subscriber, place_of, take_out, tell_since};
+use crate::tree::{find_tags, sweep_after, uproot};
+use change_list::{Config, Item, change_item};
+use key_class::limits::{MAX_COMMITS, MAX_DEPTH, MAX_PAGES, MAX_SERIAL};
+use key_class::{Pred, Refusal};
+use reach::Reach;
+use snapshot::Snapshot;
+use std::alloc::Global;
+use std::marker::Model;
+use store::Store;
+
+/// The most subscriptions that are open at once.
+pub const MAX_SUBSCRIPTIONS: usize = 1_000_000;
+
+/// The limits of the tree, which has a row for each key under which a query is looked for.
+const TREE: Config = Config {
+    fan: 32,
+    least: 12,
+    pages: MAX_PAGES,
+    commits: MAX_COMMITS,
+};
+
+/// After how many commits of the tree, beside one for each subscription, its dead rows are removed.
+const FEW_COMMITS: u64 = 1_000;
+
+/// Subscriptions to the changes of queries, and how far each was told of a list of commits.
+///
+/// The queries lie in a tree by the keys that can match them, so that a commit asks only those that its keys overlap, and those
+/// that any key may match.
+#[derive(Drop)]
+pub struct Feed<C: Reach> {
+    alloc: Global,
+    upto: u64,
+    /// Those up to this serial were given what they had missed before `upto`.
+    passed: u64,
+    last: u64,
+    /// By rising serial.
+    subscribers: Vec<Subscriber<C::Atom>>,
+    /// The serials of those that each commit asks.
+    always: Vec<u64>,
+    tree: Store<C>,
+    /// How many commits the tree had when its dead rows were last removed.
+    swept: u64,
+}
+
+impl<C: Reach> Model for Feed<C> {
+    ghost use Rattle.key_class.specs.QueryCodes.{query_code};
+    ghost use Rattle.std.specs.Coded.{codes};
+    ghost use Rattle.feed.specs.Feeds.{FeedState};
+    ghost use Rattle.feed.specs.Holding.{feed_state, IsHolding};
+
+    ghost Value = { FeedState C.Atom };
+
+    ghost coded = { Prim.hlevel (codes, query_code) };
+
+    ghost view = { λ f. feed_state f.upto f.passed f.last f.subscribers.items };
+
+    ghost invariant = { λ f. IsHolding C.reach_of C.rules.size_of f.tree.commits f.passed f.last
+        f.always.items f.subscribers.items };
+}
+
+impl<C: Reach> Feed<C> {
+    /// A feed without subscriptions, which has gone over no commit.
+    ///
+    /// # Errors
+    /// Want of memory.
+    pub fn new(alloc: Global) -> Result<Feed<C>, Refusal>
+        ensures ok { IfOk result (λ feed. feed ≡ new_feed) }
+        ensures refused { IfErr result (λ why. why ≡ OutOfMemory) }
+    {
+        let tree = Store::new(alloc, TREE)?;
+        Ok(Feed {
+            alloc,
+            upto: 0,
+            passed: 0,
+            last: 0,
+            subscribers: Vec::new(alloc),
+            always: Vec::new(alloc),
+            tree,
+            swept: 0,
+        })
+    }
+
+    /// Up to which commit it went.
+    pub fn upto(&self) -> u64
+        ensures { result ≡ self.now.upto }
+    {
+        self.upto
+    }
+
+    /// How many subscriptions are open.
+    pub fn len(&self) -> usize
+        ensures { result ≡ length self.now.subscriptions }
+    {
+        self.subscribers.len()
+    }
+
+    /// Subscribes to the changes of a query that come after commit `from`, and gives the subscription's serial. That commit may lie
+    /// before the one up to which the feed went: the next `advance` gives what was missed.
+    ///
+    /// # Errors
+    /// `BadConfig` where the query is deeper than 32, else `CursorsFull` where 1,000,000 subscriptions are open or the last serial,
+    /// 4,294,967,295, was given, else want of memory. Nothing is changed then.
+    pub fn subscribe(&mut self, query: Pred<C::Atom>, from: u64) -> Result<u64, Refusal>
+        ensures serial { IfOk result (λ serial. serial ≡ self.old.last + 1) }
+        ensures ok { OnOk result
+            (self.new ≡ with_subscription self.old (query_of query) from) }
+        ensures err { OnErr result (self.new ≡ self.old) }
+        ensures depth { (result ≡ Err BadConfig) ↔ (32 < depth_of (query_of query)) }
+        ensures full { (result ≡ Err CursorsFull) ↔ HasNoPlaceFor self.old (query_of query) }
+        ensures refusals { IfErr result RefusesSubscription }
+    {
+        if !query.is_within_depth(MAX_DEPTH) {
+            return Err(Refusal::BadConfig);
+        }
+        if self.subscribers.len() >= MAX_SUBSCRIPTIONS || self.last >= MAX_SERIAL {
+            return Err(Refusal::CursorsFull);
+        }
+        let Ok(()) = self.subscribers.try_reserve(1) else {
+            return Err(Refusal::OutOfMemory);
+        };
+        let serial = self.last + 1;
+        let rows = enrol(self.alloc, &mut self.tree, &mut self.always, &query, serial)?;
+        self.subscribers.push_reserved(Subscriber {
+            serial,
+            query,
+            from,
+            rows,
+        });
+        self.last = serial;
+        Ok(serial)
+    }
+
+    /// Ends a subscription.
+    ///
+    /// # Errors
+    /// `NoSuchCursor` where no subscription with the serial is open.
+    pub fn unsubscribe(&mut self, serial: u64) -> Result<(), Refusal>
+        ensures ok { OnOk result (self.new ≡ without_subscription self.old serial) }
+        ensures err { OnErr result (self.new ≡ self.old) }
+        ensures none { (result ≡ Err NoSuchCursor) ↔ (subscription_of self.old serial ≡ None) }
+        ensures refusal { IfErr result (λ why. why ≡ NoSuchCursor) }
+    {
+        let Some(place) = place_of(&self.subscribers, serial) else {
+            return Err(Refusal::NoSuchCursor);
+        };
+        let subscriber = self.subscribers.remove(place);
+        uproot(&mut self.tree, &subscriber.rows, serial);
+        take_out(&mut self.always, serial);
+        let most = (self.subscribers.len() as u64).saturating_add(FEW_COMMITS);
+        sweep_after(&mut self.tree, &mut self.swept, most);
+        Ok(())
+    }
+
+    /// Goes over at most `most` further commits of a snapshot. Puts what they give to each subscription behind the entries of a list,
+    /// under its serial, and tells up to which commit the feed has gone then. A subscription that missed earlier commits is given
+    /// those too.
+    ///
+    /// # Errors
+    /// `FromFuture` where the snapshot has fewer commits than the feed has gone over, else want of memory. Feed and list are as they
+    /// were then.
+    pub fn advance(
+        &mut self,
+        snapshot: &Snapshot<C>,
+        most: u64,
+        into: &mut Vec<(u64, Item<C::Key>)>,
+    ) -> Result<u64, Refusal>
+        ensures upto { IfOk result (λ upto. upto ≡ self.new.upto) }
+        ensures ok { OnOk result (AdvancesInto C.rules self.old snapshot.now most
+            into.old.items into.new.items self.new) }
+        ensures err { OnErr result (self.new ≡ self.old) }
+        ensures unchanged { OnErr result (into.new.items ≡ into.old.items) }
+        ensures future { (result ≡ Err FromFuture) ↔ (length snapshot.now < self.old.upto) }
+        ensures refusals { IfErr result (IsEither FromFuture OutOfMemory) }
+    {
+        let count = snapshot.commits();
+        if self.upto > count {
+            return Err(Refusal::FromFuture);
+        }
+        let upto = count.min(self.upto.saturating_add(most));
+        let mut told = Vec::new(self.alloc);
+        self.tell(snapshot, upto, &mut told)?;
+        into.extend_from_slice(&told)?;
+        self.upto = upto;
+        self.passed = self.last;
+        Ok(upto)
+    }
+
+    /// Puts what is due up to a commit behind the entries of a list.
+    ///
+    /// # Errors
+    /// Want of memory.
+    fn tell(
+        &self,
+        snapshot: &Snapshot<C>,
+        upto: u64,
+        told: &mut Vec<(u64, Item<C::Key>)>,
+    ) -> Result<(), Refusal>
+        requires further { self.now.upto ≤ upto }
+        requires within { upto ≤ length snapshot.now }
+        ensures ok { OnOk result (GivesInto (due_upto C.rules snapshot.now upto)
+            self.now told.old.items told.new.items) }
+        ensures refused { IfErr result (λ why. why ≡ OutOfMemory) }
+    {
+        self.tell_missed(snapshot, told)?;
+        for place in self.upto()..upto {
+            self.tell_commit(snapshot, place, told)?;
+        }
+        Ok(())
+    }
+
+    /// Puts what subscriptions have missed behind the entries of a list.
+    ///
+    /// # Errors
+    /// Want of memory.
+    fn tell_missed(
+        &self,
+        snapshot: &Snapshot<C>,
+        told: &mut Vec<(u64, Item<C::Key>)>,
+    ) -> Result<(), Refusal>
+        ensures ok { OnOk result (GivesInto (due_upto C.rules snapshot.now self.now.upto)
+            self.now told.old.items told.new.items) }
+        ensures refused { IfErr result (λ why. why ≡ OutOfMemory) }
+    {
+        let mut rest = self.subscribers.len();
+        while rest > 0 {
+            let subscriber = &self.subscribers[rest - 1];
+            if subscriber.serial <= self.passed {
+                return Ok(());
+            }
+            tell_since(subscriber, snapshot, self.upto, told)?;
+            rest -= 1;
+        }
+        Ok(())
+    }
+
+    /// Puts what commit `place + 1` gives behind the entries of a list.
+    ///
+    /// # Errors
+    /// Want of memory.
+    fn tell_commit(
+        &self,
+        snapshot: &Snapshot<C>,
+        place: u64,
+        told: &mut Vec<(u64, Item<C::Key>)>,
+    ) -> Result<(), Refusal>
+        requires further { self.now.upto ≤ place }
+        requires within { place < length snapshot.now }
+        ensures ok { OnOk result (GivesInto (due_at C.rules snapshot.now place)
+            self.now told.old.items told.new.items) }
+        ensures refused { IfErr result (λ why. why ≡ OutOfMemory) }
+    {
+        let serials = self.concerned(snapshot, place)?;
+        for serial in &serials {
+            if let Some(item) = self.item_for(*serial, snapshot, place) {
+                told.push((*serial, item))?;
+            }
+        }
+        Ok(())
+    }
+
+    /// What commit `place + 1` gives to the subscription with a serial.
+    fn item_for(&self, serial: u64, snapshot: &Snapshot<C>, place: u64) -> Option<Item<C::Key>>
+        requires { self.now.upto ≤ place }
+        ensures { option_to_list result ≡ option_map_or (due_at C.rules snapshot.now place)
+            (subscription_of self.now serial) [] }
+    {
+        let at = place_of(&self.subscribers, serial)?;
+        let subscriber = &self.subscribers[at];
+        if subscriber.from > place {
+            return None;
+        }
+        change_item::<C>(snapshot.list(), &subscriber.query, place)
+    }
+
+    /// The serials of the subscriptions that commit `place + 1` may concern, each once, by rising serial.
+    ///
+    /// # Errors
+    /// Want of memory.
+    fn concerned(&self, snapshot: &Snapshot<C>, place: u64) -> Result<Vec<u64>, Refusal>
+        requires { place < length snapshot.now }
+        ensures all { IfOk result (λ serials.
+            AreAllConcerned C.rules snapshot.now self.now place serials.items) }
+        ensures rising { IfOk result (λ serials. IsStrictlyIncreasing serials.items) }
+        ensures refused { IfErr result (λ why. why ≡ OutOfMemory) }
+    {
+        let mut serials = self.gathered(snapshot, place)?;
+        serials.sort_unstable();
+        serials.dedup();
+        Ok(serials)
+    }
+
+    /// The same serials as they are found, so that one may come twice.
+    ///
+    /// # Errors
+    /// Want of memory.
+    fn gathered(&self, snapshot: &Snapshot<C>, place: u64) -> Result<Vec<u64>, Refusal>
+        requires { place < length snapshot.now }
+        ensures all { IfOk result (λ serials.
+            AreAllConcerned C.rules snapshot.now self.now place serials.items) }
+        ensures refused { IfErr result (λ why. why ≡ OutOfMemory) }
+    {
+        let (ended, made) = keys_at(snapshot, place);
+        let mut serials = Vec::new(self.alloc);
+        serials.extend_from_slice(&self.always)?;
+        find_tags(&self.tree, ended, &mut serials)?;
+        find_tags(&self.tree, made, &mut serials)?;
+        Ok(serials)
+    }
+}

@@ -1,0 +1,12 @@
+//! A feed: many subscriptions to the changes of queries, of which a commit asks only those that its keys may match.
+#![tactic(auto)]
+
+mod enrolling;
+mod feed;
+mod keys;
+mod laws;
+mod subscriber;
+mod tree;
+
+pub use feed::{Feed, MAX_SUBSCRIPTIONS};
+pub use laws::changes_go_on;

@@ -1,0 +1,95 @@
+//! The tree of a feed.
+ghost use Rattle.std.specs.Prelude.{◌≡◌, ◌++◌, OnOk, IfOk, IfErr, option_map, vec_items};
+ghost use Rattle.key_class.specs.declared.refusal.Refusal.TheVariants.{OutOfMemory};
+ghost use Rattle.change_list.specs.Changes.{IsLegal};
+ghost use Rattle.feed.specs.Planting.{AreTagged, MayBePlanted, Tends, tags_at};
+
+use key_class::{KeyClass, Pred, Refusal};
+use reach::Reach;
+use std::alloc::Global;
+use store::Store;
+
+/// Puts a row with the tag into the tree for each key, and gives the numbers of the rows. None where the tree can have no more
+/// rows, which leaves none of them there.
+///
+/// # Errors
+/// Want of memory. Of the rows that were put some may stay.
+pub(crate) fn plant<C: KeyClass>(
+    alloc: Global,
+    tree: &mut Store<C>,
+    keys: &[C::Key],
+    tag: u64,
+) -> Result<Option<Vec<u64>>, Refusal>
+    requires legal { IsLegal tree.old.commits }
+    ensures tends { Tends tag tree.old.commits tree.new.commits }
+    ensures planted { IfOk result (λ rows.
+        MayBePlanted tree.new.commits tag keys.now (option_map vec_items rows)) }
+    ensures refused { IfErr result (λ why. why ≡ OutOfMemory) }
+{
+    let mut rows = Vec::new(alloc);
+    for key in keys {
+        let Ok(()) = rows.try_reserve(1) else {
+            uproot(tree, &rows, tag);
+            return Err(Refusal::OutOfMemory);
+        };
+        match tree.insert(*key, tag) {
+            Ok(row) => rows.push_reserved(row),
+            Err(refusal) => {
+                uproot(tree, &rows, tag);
+                return match refusal {
+                    Refusal::OutOfMemory => Err(Refusal::OutOfMemory),
+                    _ => Ok(None),
+                };
+            }
+        }
+    }
+    Ok(Some(rows))
+}
+
+/// Takes rows with the tag out of the tree. Where memory is wanting one may stay, which costs a look at it, and gives nothing.
+pub(crate) fn uproot<C: KeyClass>(tree: &mut Store<C>, rows: &[u64], tag: u64)
+    requires legal { IsLegal tree.old.commits }
+    requires tagged { AreTagged tree.old.commits tag rows.now }
+    ensures { Tends tag tree.old.commits tree.new.commits }
+{
+    for row in rows {
+        let _deleted = tree.delete(*row);
+    }
+}
+
+/// Removes the dead rows of the tree once more than `most` commits were made since the last time, when there were `swept`. Where
+/// memory is wanting some stay.
+pub(crate) fn sweep_after<C: KeyClass>(tree: &mut Store<C>, swept: &mut u64, most: u64)
+    ensures { tree.new.commits ≡ tree.old.commits }
+{
+    let count = tree.commits();
+    if count.saturating_sub(*swept) <= most {
+        return;
+    }
+    *swept = count;
+    let _freed = tree.sweep_all();
+}
+
+/// Puts the tags of the rows that a key overlaps, where there is one, behind those of a list.
+///
+/// # Errors
+/// Want of memory.
+pub(crate) fn find_tags<C: Reach>(
+    tree: &Store<C>,
+    key: Option<C::Key>,
+    tags: &mut Vec<u64>,
+) -> Result<(), Refusal>
+    ensures ok { OnOk result (tags.new.items ≡ tags.old.items
+        ++ tags_at C.rules C.overlap_with tree.now.commits key) }
+    ensures refused { IfErr result (λ why. why ≡ OutOfMemory) }
+{
+    let Some(key) = key else {
+        return Ok(());
+    };
+    let query = Pred::Atom(C::overlapping(key));
+    let rows = tree.find(&query)?;
+    for row in &rows {
+        tags.push(row.tag)?;
+    }
+    Ok(())
+}

@@ -1,0 +1,205 @@
+//! A feed beside its subscribers' own reading of each snapshot.
+use crate::source::{CONFIG, Drawn, Source, commit, deepened, query};
+use box_class::Boxes;
+use change_list::{Item, change_item};
+use feed::Feed;
+use interval_class::Intervals;
+use key_class::{KeyClass, Pred, Refusal};
+use set_class::Sets;
+use snapshot::Snapshot;
+use std::alloc::Global;
+use std::test::Fail;
+use store::Store;
+
+/// How many times the feed goes on.
+const ROUNDS: u64 = 120;
+
+/// A subscriber who also reads each commit by itself.
+#[derive(Drop)]
+struct Reader<A> {
+    serial: u64,
+    query: Pred<A>,
+    at: u64,
+}
+
+/// What stands under a serial.
+fn under<K: Copy>(
+    alloc: Global,
+    told: &[(u64, Item<K>)],
+    serial: u64,
+) -> Result<Vec<Item<K>>, Refusal> {
+    let mut items = Vec::new(alloc);
+    for (of, item) in told {
+        if *of == serial {
+            items.push(*item)?;
+        }
+    }
+    Ok(items)
+}
+
+impl<A: Copy + Eq> Reader<A> {
+    /// What it reads up to a commit, which it has read then.
+    fn read<C: KeyClass<Atom = A>>(
+        &mut self,
+        alloc: Global,
+        snapshot: &Snapshot<C>,
+        upto: u64,
+    ) -> Result<Vec<Item<C::Key>>, Refusal> {
+        let mut items = Vec::new(alloc);
+        for place in self.at..upto {
+            if let Some(item) = change_item::<C>(snapshot.list(), &self.query, place) {
+                items.push(item)?;
+            }
+        }
+        self.at = self.at.max(upto);
+        Ok(items)
+    }
+}
+
+/// How many entries the readers find right, where each is given what it reads itself up to a commit.
+fn agreeing<C: Drawn>(
+    alloc: Global,
+    readers: &mut [Reader<C::Atom>],
+    snapshot: &Snapshot<C>,
+    upto: u64,
+    told: &[(u64, Item<C::Key>)],
+) -> Result<Option<usize>, Refusal> {
+    let mut count: usize = 0;
+    for reader in readers.iter_mut() {
+        let read = reader.read(alloc, snapshot, upto)?;
+        if under(alloc, told, reader.serial)?.as_slice() != read.as_slice() {
+            return Ok(None);
+        }
+        count = count.saturating_add(read.len());
+    }
+    Ok(Some(count))
+}
+
+/// A store, a feed of its commits, and those who subscribe.
+#[derive(Drop)]
+struct Trial<C: Drawn> {
+    alloc: Global,
+    source: Source,
+    store: Store<C>,
+    feed: Feed<C>,
+    readers: Vec<Reader<C::Atom>>,
+    /// How many entries the feed has given.
+    whole: usize,
+}
+
+impl<C: Drawn> Trial<C> {
+    fn new(alloc: Global, seed: u64) -> Result<Trial<C>, Refusal> {
+        let store = Store::new(alloc, CONFIG)?;
+        let feed = Feed::new(alloc)?;
+        Ok(Trial {
+            alloc,
+            source: Source::new(seed),
+            store,
+            feed,
+            readers: Vec::new(alloc),
+            whole: 0,
+        })
+    }
+
+    /// At most four commits.
+    fn commit_some(&mut self) -> Result<(), Refusal> {
+        for _ in 0..self.source.below(5) {
+            commit(&mut self.store, &mut self.source)?;
+        }
+        Ok(())
+    }
+
+    /// A query whose depth is at most 3, or one with up to 28 more levels.
+    fn query(&mut self) -> Result<Pred<C::Atom>, Refusal> {
+        let query = query::<C>(self.alloc, &mut self.source, 3)?;
+        let pairs = self.source.below(60);
+        if pairs > 14 {
+            return Ok(query);
+        }
+        deepened::<C>(self.alloc, query, pairs)
+    }
+
+    /// Somebody subscribes, in two rounds of three.
+    fn maybe_subscribe(&mut self) -> Result<(), Refusal> {
+        if self.source.below(3) == 0 {
+            return Ok(());
+        }
+        let at = self.source.below(self.store.commits().saturating_add(3));
+        let query = self.query()?;
+        let copy = query.copy(self.alloc)?;
+        let serial = self.feed.subscribe(copy, at)?;
+        self.readers.push(Reader { serial, query, at })?;
+        Ok(())
+    }
+
+    /// Somebody's subscription ends, in one round of six.
+    fn maybe_unsubscribe(&mut self) -> Result<(), Refusal> {
+        if self.source.below(6) > 0 || self.readers.is_empty() {
+            return Ok(());
+        }
+        let place = usize::try_from(self.source.below(self.readers.len() as u64)).unwrap_or(0);
+        if place < self.readers.len() {
+            let gone = self.readers.remove(place);
+            self.feed.unsubscribe(gone.serial)?;
+        }
+        Ok(())
+    }
+
+    /// Whether the feed, as it goes on, gives what the readers read.
+    fn goes_on(&mut self) -> Result<bool, Refusal> {
+        let snapshot = self.store.snapshot()?;
+        let mut told = Vec::new(self.alloc);
+        let upto = self
+            .feed
+            .advance(&snapshot, self.source.below(7), &mut told)?;
+        let agreeing = agreeing(self.alloc, &mut self.readers, &snapshot, upto, &told)?;
+        self.whole = self.whole.saturating_add(told.len());
+        Ok(agreeing == Some(told.len()) && self.feed.upto() == upto)
+    }
+
+    fn round(&mut self) -> Result<bool, Refusal> {
+        self.commit_some()?;
+        self.maybe_subscribe()?;
+        self.maybe_unsubscribe()?;
+        Ok(self.goes_on()? && self.feed.len() == self.readers.len())
+    }
+
+    /// Whether all entries of all rounds are those that the readers read, and some are.
+    fn rounds(&mut self) -> Result<bool, Refusal> {
+        for _ in 0..ROUNDS {
+            if !self.round()? {
+                return Ok(false);
+            }
+        }
+        Ok(self.whole > 100)
+    }
+}
+
+fn goes_beside<C: Drawn>(alloc: Global, seed: u64) -> Result<bool, Refusal> {
+    let mut trial = Trial::<C>::new(alloc, seed)?;
+    trial.rounds()
+}
+
+#[test]
+fn intervals_are_fed_as_they_are_read(rt: HostRuntime) -> Result<(), Fail> {
+    for seed in 0..4 {
+        assert!(rt; goes_beside::<Intervals>(rt.alloc(), seed)?, "{seed}");
+    }
+    Ok(())
+}
+
+#[test]
+fn boxes_are_fed_as_they_are_read(rt: HostRuntime) -> Result<(), Fail> {
+    for seed in 0..4 {
+        assert!(rt; goes_beside::<Boxes>(rt.alloc(), seed)?, "{seed}");
+    }
+    Ok(())
+}
+
+#[test]
+fn sets_are_fed_as_they_are_read(rt: HostRuntime) -> Result<(), Fail> {
+    for seed in 0..4 {
+        assert!(rt; goes_beside::<Sets>(rt.alloc(), seed)?, "{seed}");
+    }
+    Ok(())
+}
