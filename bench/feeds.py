@@ -1,5 +1,6 @@
 #!/usr/bin/env python3
-"""Measures the crate `feed`: what telling subscribers costs beside a move of a box, and what a plain list of their queries costs.
+"""Measures the crate `feed`: what telling subscribers costs beside a move of a box, and what a plain list of their queries costs, and
+cursors.
 
 The program is built from bench/feeds, and stays in bench/out.
 """
@@ -11,13 +12,16 @@ from program import build
 
 FIELDS = ("wall", "commits", "items")
 
+# A store has no more.
+MOST_CURSORS = 256
+
 # Microseconds a commit with 10,000 subscriptions of which one in a thousand matches, and nanoseconds an item.
 COMMIT_AIM = 2.5
 ITEM_AIM = 150
 
 
 def parts(program, *numbers):
-    """What the program tells of the moves, the feed and the plain list."""
+    """What the program tells of the moves, the feed, the plain list and the cursors."""
     told = subprocess.run([program, *map(str, numbers)], stdout=subprocess.PIPE, check=True, text=True).stdout
     return [dict(zip(FIELDS, map(int, line.split()))) for line in told.splitlines()]
 
@@ -38,15 +42,18 @@ def main():
     if options.build:
         return
     print(f"{options.rows:,} boxes, {options.moves:,} moves, a snapshot each 100; aimed at {COMMIT_AIM} microseconds a commit, {ITEM_AIM} ns an item")
-    print("  subscriptions  move, us  feed, us a commit  items a commit  ns an item  plain list, us a commit")
+    print("  subscriptions  move, us  feed, us a commit  items a commit  ns an item  plain list, us a commit  as many cursors")
     for count in options.subscriptions:
         # As many tests by the plain list as take some seconds
         plain = min(options.moves, max(100, 300_000_000 // count // 100 * 100))
-        moves, fed, asked = parts(program, count, options.rows, options.moves, plain)
+        cursors = count if count <= MOST_CURSORS else 0
+        moves, fed, asked, _ = parts(program, count, options.rows, options.moves, plain, 0)
+        drained = parts(program, 0, options.rows, plain, 0, cursors)[3] if cursors else None
         item = fed["wall"] / fed["items"] if fed["items"] else 0
         print(
             f"  {count:>13,}  {each(moves, 'wall') / 1e3:>8.2f}  {each(fed, 'wall') / 1e3:>17.2f}"
-            f"  {each(fed, 'items'):>14.2f}  {item:>10.0f}  {each(asked, 'wall') / 1e3:>23.2f}",
+            f"  {each(fed, 'items'):>14.2f}  {item:>10.0f}  {each(asked, 'wall') / 1e3:>23.2f}"
+            + (f"  {each(drained, 'wall') / 1e3:>15.2f}" if drained else ""),
             flush=True,
         )
 
