@@ -1,12 +1,11 @@
 -- The subscriptions that a commit is to ask.
-use Rattle.std.proofs.Common.{◌≡◌, ◌⊎◌, ◌+◌, ℕ, Bool, true, List, ◌++◌, map, Option, Some, None, All, refl, sym, ap, ◌∙◌, subst, inl, inr}
+use Rattle.std.proofs.Common.{◌≡◌, ◌⊎◌, ◌+◌, ℕ, true, List, ◌++◌, Option, Some, None, refl, sym, ◌∙◌, subst, inl, inr}
 use Rattle.std.specs.Prelude.{Contains, option_map}
 use Rattle.std.proofs.lemmas.List.Elements.{All-contains, Contains-append_left, Contains-append_right}
 use Rattle.key_class.specs.Queries.{Query, query_of}
 use Rattle.key_class.specs.Rules.{Rules, satisfies}
 use Rattle.key_class.specs.declared.pred.Pred.TheVariants.{Atom}
 use Rattle.change_list.specs.declared.item.Item.{Item}
-use Rattle.change_list.specs.declared.item.Row.{Row}
 use Rattle.change_list.specs.declared.write.Write.{Write}
 use Rattle.change_list.specs.Changes.{IsLegal, commit_at, item_at}
 use Rattle.reach.specs.QueryLaws.{satisfied_overlap}
@@ -14,7 +13,7 @@ use Rattle.reach.specs.Reaches.{MatchesOverlap}
 use Rattle.world.specs.Serials.{member}
 use Rattle.feed.specs.declared.subscriber.Subscriber.{Subscriber}
 use Rattle.feed.specs.Asking.{AreAllConcerned, ended_key, item_for, made_key}
-use Rattle.feed.specs.Feeds.{FeedState, Subscription, subscription_of}
+use Rattle.feed.specs.Feeds.{FeedState, Subscription}
 use Rattle.feed.specs.Holding.{IsHolding, IsPlantedIn, feed_state, serial_of, shown}
 use Rattle.feed.specs.Planting.{HasRow, tags_at}
 use Rattle.feed.proofs.Concerning.{item_concerns}

@@ -4,10 +4,9 @@ use Rattle.std.specs.Option.{option_map_or}
 use Rattle.key_class.specs.Queries.{Query}
 use Rattle.key_class.specs.Rules.{Rules, satisfies}
 use Rattle.change_list.specs.declared.item.Item.{Item}
-use Rattle.change_list.specs.declared.item.Row.{Row}
 use Rattle.change_list.specs.declared.write.Write.{Write}
 use Rattle.change_list.specs.declared.write.Write.TheVariants.{Insert, Delete, Move}
-use Rattle.change_list.specs.Changes.{changes, commit_at, item_at, row_at}
+use Rattle.change_list.specs.Changes.{changes, item_at, row_at}
 use Rattle.feed.specs.Feeds.{FeedState, Subscription, items_under, subscription_of}
 
 module _ {K : Type 0} where

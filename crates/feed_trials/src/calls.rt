@@ -4,6 +4,7 @@ use change_list::Item;
 use feed::{Feed, changes_go_on};
 use interval_class::{Atom, Interval, Intervals};
 use key_class::{Pred, Refusal, Rel};
+use snapshot::Snapshot;
 use std::alloc::Global;
 use std::test::Fail;
 use store::Store;
@@ -25,74 +26,153 @@ fn deep(alloc: Global, depth: u32) -> Result<Pred<Atom>, Refusal> {
     Ok(query)
 }
 
-/// A store of rows at the points 1 to 5.
-fn points(alloc: Global) -> Result<Store<Intervals>, Refusal> {
-    let mut store = Store::new(alloc, CONFIG)?;
-    for at in 1..6 {
-        let _row = store.insert(Interval::new(at, at)?, 7)?;
+/// Puts rows at the points from 1 up to a number into a store.
+fn put_points(store: &mut Store<Intervals>, count: u32) -> Result<(), Refusal> {
+    for at in 0..count {
+        let point = i64::from(at) + 1;
+        let _row = store.insert(Interval::new(point, point)?, 7)?;
     }
-    Ok(store)
+    Ok(())
 }
 
-/// The serials and the rows that a feed gives.
-fn rows(alloc: Global, told: &[(u64, Item<Interval>)]) -> Result<Vec<(u64, u64)>, Refusal> {
-    let mut rows = Vec::new(alloc);
-    for (serial, item) in told {
-        if let Item::Inserted(row) = item {
-            rows.push((*serial, row.row))?;
+/// A snapshot of rows at the points from 1 up to a number.
+fn points(alloc: Global, count: u32) -> Result<Snapshot<Intervals>, Refusal> {
+    let mut store = Store::new(alloc, CONFIG)?;
+    put_points(&mut store, count)?;
+    store.snapshot()
+}
+
+/// A call of a feed, which it answers by a number.
+#[derive(Clone, Copy)]
+enum Call {
+    /// Subscribes to what a query of a depth asks for.
+    Deep(u32),
+    /// Subscribes to what overlaps an interval, after a commit.
+    Overlapping(i64, i64, u64),
+    /// Answered by 0.
+    Unsubscribe(u64),
+    /// Goes over so many commits of a snapshot that has none.
+    AdvanceInNone(u64),
+    /// Goes over so many commits of a snapshot that has five.
+    AdvanceInFive(u64),
+}
+
+/// A feed, two snapshots, and what it was given.
+#[derive(Drop)]
+struct Caller {
+    alloc: Global,
+    feed: Feed<Intervals>,
+    none: Snapshot<Intervals>,
+    five: Snapshot<Intervals>,
+    told: Vec<(u64, Item<Interval>)>,
+}
+
+impl Caller {
+    fn new(alloc: Global) -> Result<Caller, Refusal> {
+        let feed = Feed::new(alloc)?;
+        let none = points(alloc, 0)?;
+        let five = points(alloc, 5)?;
+        Ok(Caller {
+            alloc,
+            feed,
+            none,
+            five,
+            told: Vec::new(alloc),
+        })
+    }
+
+    fn answer(&mut self, call: Call) -> Result<u64, Refusal> {
+        match call {
+            Call::Deep(depth) => self.feed.subscribe(deep(self.alloc, depth)?, 0),
+            Call::Overlapping(lo, hi, from) => self.feed.subscribe(overlapping(lo, hi)?, from),
+            Call::Unsubscribe(serial) => {
+                self.feed.unsubscribe(serial)?;
+                Ok(0)
+            }
+            Call::AdvanceInNone(most) => self.feed.advance(&self.none, most, &mut self.told),
+            Call::AdvanceInFive(most) => self.feed.advance(&self.five, most, &mut self.told),
         }
     }
-    Ok(rows)
+
+    /// The place of the first call that isn't answered so.
+    fn first_wrong(&mut self, calls: &[(Call, Result<u64, Refusal>)]) -> Option<usize> {
+        for (place, (call, answer)) in calls.iter().enumerate() {
+            if self.answer(*call) != *answer {
+                return Some(place);
+            }
+        }
+        None
+    }
+
+    /// Whether it was given inserts of these rows under these serials, and no more.
+    fn was_given(&self, wanted: &[(u64, u64)]) -> bool {
+        if self.told.len() != wanted.len() {
+            return false;
+        }
+        for (place, (serial, item)) in self.told.iter().enumerate() {
+            let Item::Inserted(row) = item else {
+                return false;
+            };
+            if wanted.get(place) != Some(&(*serial, row.row)) {
+                return false;
+            }
+        }
+        true
+    }
 }
+
+/// Whether calls are answered so, and give inserts of these rows under these serials.
+fn is_answered(
+    alloc: Global,
+    calls: &[(Call, Result<u64, Refusal>)],
+    wanted: &[(u64, u64)],
+) -> Result<bool, Refusal> {
+    let mut caller = Caller::new(alloc)?;
+    Ok(caller.first_wrong(calls) == None && caller.was_given(wanted))
+}
+
+static REFUSED: [(Call, Result<u64, Refusal>); 5] = [
+    (Call::Deep(33), Err(Refusal::BadConfig)),
+    (Call::Deep(32), Ok(1)),
+    (Call::Unsubscribe(2), Err(Refusal::NoSuchCursor)),
+    (Call::Unsubscribe(1), Ok(0)),
+    (Call::Unsubscribe(1), Err(Refusal::NoSuchCursor)),
+];
 
 #[test]
 fn a_feed_refuses_what_it_cannot_do(rt: HostRuntime) -> Result<(), Fail> {
-    let alloc = rt.alloc();
     changes_go_on::<Interval>();
-    let mut feed = Feed::<Intervals>::new(alloc)?;
-    assert!(rt; feed.subscribe(deep(alloc, 33)?, 0) == Err(Refusal::BadConfig));
-    assert!(rt; feed.subscribe(deep(alloc, 32)?, 0) == Ok(1));
-    assert!(rt; feed.unsubscribe(2) == Err(Refusal::NoSuchCursor));
-    assert!(rt; feed.unsubscribe(1) == Ok(()));
-    assert!(rt; feed.unsubscribe(1) == Err(Refusal::NoSuchCursor));
+    assert!(rt; is_answered(rt.alloc(), &REFUSED, &[])?);
     Ok(())
 }
+
+static NO_WAY_BACK: [(Call, Result<u64, Refusal>); 4] = [
+    (Call::AdvanceInFive(4), Ok(4)),
+    (Call::AdvanceInNone(4), Err(Refusal::FromFuture)),
+    (Call::AdvanceInFive(0), Ok(4)),
+    (Call::AdvanceInFive(9), Ok(5)),
+];
 
 #[test]
 fn a_feed_goes_no_way_back(rt: HostRuntime) -> Result<(), Fail> {
-    let alloc = rt.alloc();
-    let mut feed = Feed::<Intervals>::new(alloc)?;
-    let mut told = Vec::new(alloc);
-    let none = Store::new(alloc, CONFIG)?.snapshot()?;
-    let five = points(alloc)?.snapshot()?;
-    assert!(rt; feed.advance(&five, 4, &mut told) == Ok(4));
-    assert!(rt; feed.advance(&none, 4, &mut told) == Err(Refusal::FromFuture));
-    assert!(rt; feed.advance(&five, 0, &mut told) == Ok(4));
-    assert!(rt; feed.advance(&five, 9, &mut told) == Ok(5));
-    assert!(rt; told.is_empty());
+    assert!(rt; is_answered(rt.alloc(), &NO_WAY_BACK, &[])?);
     Ok(())
 }
 
+static MISSED: [(Call, Result<u64, Refusal>); 6] = [
+    (Call::Overlapping(2, 4, 0), Ok(1)),
+    (Call::AdvanceInFive(3), Ok(3)),
+    (Call::Overlapping(2, 4, 1), Ok(2)),
+    (Call::Overlapping(0, 9, 4), Ok(3)),
+    (Call::Unsubscribe(1), Ok(0)),
+    (Call::AdvanceInFive(9), Ok(5)),
+];
+
+/// What those calls give: serials, and rows that were inserted.
+static GIVEN: [(u64, u64); 6] = [(1, 2), (1, 3), (2, 2), (2, 3), (2, 4), (3, 5)];
+
 #[test]
 fn what_was_missed_is_given(rt: HostRuntime) -> Result<(), Fail> {
-    let alloc = rt.alloc();
-    let mut feed = Feed::<Intervals>::new(alloc)?;
-    let mut told = Vec::new(alloc);
-    let five = points(alloc)?.snapshot()?;
-    let first = feed.subscribe(overlapping(2, 4)?, 0)?;
-    let _upto = feed.advance(&five, 3, &mut told)?;
-    let second = feed.subscribe(overlapping(2, 4)?, 1)?;
-    let third = feed.subscribe(overlapping(0, 9)?, 4)?;
-    feed.unsubscribe(first)?;
-    let _upto = feed.advance(&five, 9, &mut told)?;
-    let wanted = [
-        (first, 2),
-        (first, 3),
-        (second, 2),
-        (second, 3),
-        (second, 4),
-        (third, 5),
-    ];
-    assert!(rt; rows(alloc, &told)?.as_slice() == wanted.as_slice());
+    assert!(rt; is_answered(rt.alloc(), &MISSED, &GIVEN)?);
     Ok(())
 }

@@ -1,5 +1,5 @@
 use Rattle.std.proofs.Common.{◌≡◌, subst, sym}
-use Rattle.std.specs.Prelude.{nat_eq, Contains}
+use Rattle.std.specs.Prelude.{Contains}
 use Rattle.std.specs.List.{dedup}
 use Rattle.std.specs.List.Sorted.{IsStrictlyIncreasing}
 use Rattle.std.proofs.Math.Dec.{eqb}
