@@ -5,4 +5,5 @@ mod Dues
 mod Giving
 mod Keeping
 mod Members
+mod Places
 mod Tending
