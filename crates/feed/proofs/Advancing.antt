@@ -1,6 +1,6 @@
 -- What a feed gives as it goes on.
-use Rattle.std.proofs.Common.{◌≡◌, ◌⊎◌, ◌+◌, ◌-◌, ◌<◌, ◌≤◌, ℕ, zero, suc, max, min, Bool, true, false, cond, List, [], ◌∷◌, ◌++◌, length, map, drop, Option, Some, None, refl, sym, ap, ◌∙◌, arith, subst, inl, inr}
-use Rattle.std.specs.Prelude.{nat_eq, nat_le, option_map, slice_get}
+use Rattle.std.proofs.Common.{◌≡◌, ◌+◌, ◌≤◌, ℕ, zero, suc, max, min, Bool, true, false, cond, List, [], ◌∷◌, ◌++◌, length, drop, Some, refl, sym, ap, ◌∙◌, arith, subst}
+use Rattle.std.specs.Prelude.{nat_eq, slice_get}
 use Rattle.std.specs.Option.{option_map_or}
 use Rattle.std.proofs.lemmas.List.{append-nil}
 use Rattle.key_class.specs.Rules.{Rules, satisfies}
@@ -12,10 +12,10 @@ use Rattle.world.specs.Serials.{Rise, member}
 use Rattle.world.proofs.Serials.{member_none}
 use Rattle.feed.specs.declared.subscriber.Subscriber.{Subscriber}
 use Rattle.feed.specs.Asking.{Gives, due_upto, under}
-use Rattle.feed.specs.Feeds.{Advances, FeedState, IsGivenUpto, Subscription, given_upto, items_under, subscription_of}
-use Rattle.feed.specs.Holding.{feed_state, serial_of, shown, shown_at}
+use Rattle.feed.specs.Feeds.{Advances, IsGivenUpto, Subscription, items_under}
+use Rattle.feed.specs.Holding.{feed_state, serial_of}
 use Rattle.feed.proofs.Giving.{items_under-append, under_other, under_same}
-use Rattle.feed.proofs.Keeping.{all_given, found_shown}
+use Rattle.feed.proofs.Keeping.{all_given}
 
 module _ {K A : Type 0} (rules : Rules K A) (commits : List (Write K)) where
   -- what is due up to a commit is all changes, or nothing where a subscription begins later

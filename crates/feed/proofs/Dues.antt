@@ -1,5 +1,5 @@
 -- What is due to the subscription of a subscriber.
-use Rattle.std.proofs.Common.{◌≡◌, ◌+◌, ◌<◌, ◌≤◌, ℕ, zero, suc, max, Bool, true, false, cond, List, [], ◌∷◌, ◌++◌, length, drop, drop-cons, Option, Some, None, refl, sym, ap, ◌∙◌, arith, subst, get_or}
+use Rattle.std.proofs.Common.{◌≡◌, ◌<◌, ◌≤◌, ℕ, zero, suc, max, Bool, true, false, cond, List, [], ◌∷◌, ◌++◌, length, drop, drop-cons, Option, Some, None, refl, sym, ap, ◌∙◌, arith, subst, get_or}
 use Rattle.std.specs.Prelude.{nat_eq, nat_le, option_map, option_to_list, slice_get}
 use Rattle.std.specs.Option.{option_map_or}
 use Rattle.std.proofs.lemmas.List.{drop_all}
@@ -15,7 +15,7 @@ use Rattle.world.specs.Serials.{IsMember, Rise, member}
 use Rattle.world.proofs.Serials.{member_serial, rise_places}
 use Rattle.feed.specs.declared.subscriber.Subscriber.{Subscriber}
 use Rattle.feed.specs.Asking.{Gives, due_at, due_upto, under}
-use Rattle.feed.specs.Feeds.{items_under, subscription_of}
+use Rattle.feed.specs.Feeds.{subscription_of}
 use Rattle.feed.specs.Holding.{feed_state, serial_of, shown, shown_at}
 use Rattle.feed.proofs.Advancing.{TellsThose, one_before, rise_behind}
 use Rattle.feed.proofs.Keeping.{found_shown, none_shown, one_shown}

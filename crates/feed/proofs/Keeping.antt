@@ -1,19 +1,17 @@
 -- How a feed holds its subscriptions while it changes.
-use Rattle.std.proofs.Common.{◌≡◌, ◌⊎◌, ◌+◌, ◌<◌, ◌≤◌, ℕ, max, Bool, true, false, not, cond, List, [], ◌∷◌, ◌++◌, length, map, filter, take, drop, Option, Some, None, All, refl, sym, ap, ◌∙◌, arith, subst, inl, inr, ⊎_elim}
+use Rattle.std.proofs.Common.{◌≡◌, ◌⊎◌, ◌+◌, ◌<◌, ◌≤◌, ℕ, max, Bool, true, false, not, cond, List, [], ◌∷◌, ◌++◌, map, filter, take, drop, Option, Some, None, refl, sym, ap, ◌∙◌, arith, subst, inl, inr}
 use Rattle.std.specs.Prelude.{Contains, nat_eq, nat_le, option_map, slice_get, vec_items}
-use Rattle.std.specs.List.{find}
 use Rattle.std.proofs.Math.Numerals.{add-one}
 use Rattle.std.proofs.lemmas.List.{map-append}
 use Rattle.std.proofs.lemmas.List.Elements.{Contains-append_left, Contains-push}
 use Rattle.key_class.specs.Queries.{Query, query_of}
 use Rattle.change_list.specs.declared.write.Write.{Write}
-use Rattle.change_list.specs.Changes.{IsLegal}
 use Rattle.world.specs.Serials.{IsMember, Rise, member, without}
-use Rattle.world.proofs.Serials.{member_serial, member_within, push_other, push_same, rise_push, rise_within, rise_without, without_at, without_other, without_same}
+use Rattle.world.proofs.Serials.{member_within, push_other, push_same, rise_push, rise_within, rise_without, without_at, without_other, without_same}
 use Rattle.feed.specs.declared.subscriber.Subscriber.{Subscriber}
-use Rattle.feed.specs.Feeds.{FeedState, Subscription, given_upto, subscription_of, with_subscription, without_subscription}
+use Rattle.feed.specs.Feeds.{given_upto, subscription_of, with_subscription, without_subscription}
 use Rattle.feed.specs.Holding.{IsEnrolled, IsHolding, IsPlantedIn, feed_state, serial_of, shown, shown_at}
-use Rattle.feed.specs.Planting.{AreTagged, IsPlanted, Tends}
+use Rattle.feed.specs.Planting.{AreTagged, Tends}
 use Rattle.feed.proofs.Members.{contains_filter}
 use Rattle.feed.proofs.Tending.{are_tagged_stay, rows_stay}
 

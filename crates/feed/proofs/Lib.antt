@@ -1,5 +1,6 @@
 mod Advancing
 mod Asked
+mod Changing
 mod Concerning
 mod Dues
 mod Giving

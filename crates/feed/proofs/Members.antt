@@ -1,8 +1,7 @@
 -- Members of lists.
-use Rattle.std.proofs.Common.{◌≡◌, ◌+◌, ◌<◌, ◌≤◌, ℕ, zero, suc, Bool, true, false, cond, List, [], ◌∷◌, ◌++◌, length, map, filter, Some, None, Option, All, refl, sym, ap, ◌∙◌, arith, subst, get_or}
-use Rattle.std.specs.Prelude.{Contains, nat_eq}
+use Rattle.std.proofs.Common.{◌≡◌, ◌<◌, ℕ, zero, suc, Bool, true, false, cond, List, [], ◌∷◌, length, map, filter, Some, refl, ap, ◌∙◌, arith, get_or}
+use Rattle.std.specs.Prelude.{Contains}
 use Rattle.std.specs.List.{find, list_any}
-use Rattle.std.proofs.lemmas.List.Elements.{Contains-append_right}
 
 module _ {X : Type 0} where
   pub contains_head : (x y : X) (xs : List X) → x ≡ y → Contains (x ∷ xs) y

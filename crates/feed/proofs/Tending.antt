@@ -1,18 +1,17 @@
 -- What becomes of the rows of a feed's tree.
-use Rattle.std.proofs.Common.{◌≡◌, ◌+◌, ◌<◌, ◌≤◌, ℕ, Bool, true, false, not, ◌||◌, List, [], ◌∷◌, ◌++◌, length, take, map, filter, Some, Option, All, refl, sym, ap, ◌∙◌, arith, subst, append_assoc}
+use Rattle.std.proofs.Common.{◌≡◌, ◌+◌, ℕ, Bool, true, false, not, ◌||◌, List, [], ◌∷◌, ◌++◌, length, take, map, filter, Some, refl, sym, ap, ◌∙◌, arith, subst, append_assoc}
 use Rattle.std.specs.Prelude.{Contains, nat_eq}
 use Rattle.std.proofs.lemmas.Bool.{eqb-true}
 use Rattle.std.proofs.lemmas.List.{append-nil}
-use Rattle.std.proofs.lemmas.List.Elements.{All-contains, All-weaker, All-push}
+use Rattle.std.proofs.lemmas.List.Elements.{All-weaker, All-push}
 use Rattle.std.proofs.Math.Seq.{take-length}
 use Rattle.key_class.specs.Queries.{query_of}
 use Rattle.key_class.specs.Rules.{Rules, satisfies}
 use Rattle.key_class.specs.declared.pred.Pred.{Pred}
-use Rattle.key_class.specs.declared.pred.Pred.TheVariants.{Atom}
 use Rattle.change_list.specs.declared.item.Row.{Row}
 use Rattle.change_list.specs.declared.write.Write.{Write}
 use Rattle.change_list.specs.declared.write.Write.TheVariants.{Insert, Delete}
-use Rattle.change_list.specs.Changes.{IsLegal, ends, is_ended, made_rows, row_at, rows, snapshot}
+use Rattle.change_list.specs.Changes.{IsLegal, is_ended, made_rows, row_at, rows}
 use Rattle.change_list.proofs.Made.{row_append, row_found, row_of_new_insert, row_push}
 use Rattle.change_list.proofs.Tracking.{none_ends}
 use Rattle.scan.proofs.Commits.{ended_push}

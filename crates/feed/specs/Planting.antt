@@ -1,5 +1,5 @@
 -- The tree of a feed: rows whose keys are where queries are looked for, and whose tags are the serials of their subscriptions.
-use Rattle.std.specs.Prelude.{◌≡◌, ℕ, Bool, false, List, [], ◌++◌, All, Option, Some, None, option_map, map}
+use Rattle.std.specs.Prelude.{◌≡◌, ℕ, false, List, [], ◌++◌, All, Option, Some, None, map}
 use Rattle.key_class.specs.Rules.{Rules}
 use Rattle.key_class.specs.declared.pred.Pred.TheVariants.{Atom}
 use Rattle.change_list.specs.declared.item.Row.{Row}
@@ -53,7 +53,7 @@ module _ {K : Type 0} where
   MayBePlanted commits tag keys None = Unit {0}
 
 module _ {K A : Type 0} (rules : Rules K A) (overlap_with : K → A) (commits : List (Write K)) where
-  -- the tags of the live rows that a key overlaps, where there is one
-  abbrev pub tags_at : Option K → List ℕ
-  tags_at (Some key) = map (λ r. r.tag) (found_in rules (Atom (overlap_with key)) commits)
+  -- the tags of the live rows whose keys overlap that of a row, where there is one
+  abbrev pub tags_at : Option (Row K) → List ℕ
+  tags_at (Some touched) = map (λ r. r.tag) (found_in rules (Atom (overlap_with touched.key)) commits)
   tags_at None = []

@@ -4,6 +4,7 @@ ghost use Rattle.key_class.specs.declared.refusal.Refusal.TheVariants.{OutOfMemo
 ghost use Rattle.change_list.specs.Changes.{IsLegal};
 ghost use Rattle.feed.specs.Planting.{AreTagged, MayBePlanted, Tends, tags_at};
 
+use change_list::Row;
 use key_class::{KeyClass, Pred, Refusal};
 use reach::Reach;
 use std::alloc::Global;
@@ -70,23 +71,23 @@ pub(crate) fn sweep_after<C: KeyClass>(tree: &mut Store<C>, swept: &mut u64, mos
     let _freed = tree.sweep_all();
 }
 
-/// Puts the tags of the rows that a key overlaps, where there is one, behind those of a list.
+/// Puts the tags of the rows whose keys overlap that of another row, where there is one, behind those of a list.
 ///
 /// # Errors
 /// Want of memory.
 pub(crate) fn find_tags<C: Reach>(
     tree: &Store<C>,
-    key: Option<C::Key>,
+    touched: Option<Row<C::Key>>,
     tags: &mut Vec<u64>,
 ) -> Result<(), Refusal>
     ensures ok { OnOk result (tags.new.items ≡ tags.old.items
-        ++ tags_at C.rules C.overlap_with tree.now.commits key) }
+        ++ tags_at C.rules C.overlap_with tree.now.commits touched) }
     ensures refused { IfErr result (λ why. why ≡ OutOfMemory) }
 {
-    let Some(key) = key else {
+    let Some(touched) = touched else {
         return Ok(());
     };
-    let query = Pred::Atom(C::overlapping(key));
+    let query = Pred::Atom(C::overlapping(touched.key));
     let rows = tree.find(&query)?;
     for row in &rows {
         tags.push(row.tag)?;

@@ -26,10 +26,10 @@ loop-key-preserved g c =
     let new = c.insert.new.self.commits in
     let keys = c.args.keys.now in
     let planted = planted_more mid new c.key-item.result c.args.tag (take c.loop-key.key-index keys) c.loop-key.rows.items c.loop-key.invariant.tends.legal c.in-Ok-insert.ensures.ok.commits c.loop-key.invariant.planted c.in-Ok-insert.row
-        c.in-Ok-insert.ensures.number in
+    c.in-Ok-insert.ensures.number in
     let rows : c.push_reserved.new.self.items ≡ c.loop-key.rows.items ++ c.in-Ok-insert.row ∷ [] = cc (c.push_reserved.ensures.items, c.try_reserve.ensures.items) in
     let more : take (c.loop-key.key-index + 1) keys ≡ take c.loop-key.key-index keys ++ c.key-item.result ∷ [] =
-        take_more keys c.loop-key.key-index c.key-item.result c.loop-key-test.true ∙ ap (λ k. take c.loop-key.key-index keys ++ k ∷ []) (sym c.key-item.is) in
+    take_more keys c.loop-key.key-index c.key-item.result c.loop-key-test.true ∙ ap (λ k. take c.loop-key.key-index keys ++ k ∷ []) (sym c.key-item.is) in
     record {
       tends = tends_join c.args.tag c.args.tree.now.commits mid new c.loop-key.invariant.tends (tends_insert mid new c.key-item.result c.args.tag c.in-Ok-insert.ensures.ok.commits c.insert.ensures.legal);
       planted = subst (λ l. IsPlanted new c.args.tag (take (c.loop-key.key-index + 1) keys) l) (sym rows) (subst (λ l. IsPlanted new c.args.tag l (c.loop-key.rows.items ++ c.in-Ok-insert.row ∷ [])) (sym more) planted);
