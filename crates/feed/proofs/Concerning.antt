@@ -1,59 +1,36 @@
 -- Which subscriptions a commit concerns.
-use Rattle.std.proofs.Common.{◌≡◌, ◌⊎◌, ◌+◌, ◌-◌, ℕ, Bool, true, false, List, take, Option, Some, None, refl, sym, ap, ◌∙◌, arith, inl, inr}
-use Rattle.std.specs.Prelude.{nat_eq, slice_get, option_and_then, option_map}
+use Rattle.std.proofs.Common.{◌≡◌, ◌⊎◌, ℕ, Bool, true, false, List, Option, Some, None, refl, sym, ◌∙◌, inl, inr}
+use Rattle.std.specs.Prelude.{if◌then◌else◌}
 use Rattle.change_list.specs.declared.item.Item.{Item}
 use Rattle.change_list.specs.declared.item.Row.{Row}
 use Rattle.change_list.specs.declared.write.Write.{Write}
-use Rattle.change_list.specs.declared.write.Write.TheVariants.{Insert, Delete, Move}
-use Rattle.change_list.specs.Changes.{IsLegal, commit_at, deleted_item, if_wanted, item_at, item_of, moved, moved_from, moved_item, row_at}
-use Rattle.change_list.proofs.Items.{item_of_delete, item_of_move}
-use Rattle.feed.specs.Asking.{ended_key, made_key}
+use Rattle.change_list.specs.Changes.{item_at}
+use Rattle.feed.specs.declared.change.Change.{Change}
+use Rattle.feed.specs.Changing.{IsChangeOf, asked_row}
+use Rattle.feed.proofs.Changing.{item_seen}
 
-module _ {K : Type 0} where
-  at_next : (commits : List (Write K)) (place : ℕ) → commit_at commits (place + 1) ≡ slice_get commits place
-  at_next commits place =
-      let e : nat_eq (place + 1) 0 ≡ false = search arith in
-      let f : place + 1 - 1 ≡ place = omega arith in
-      rw (e, f) refl
+module _ {K : Type 0} (wanted : K → Bool) where
+  -- the key of a row that ends or begins is wanted
+  pub record Concerns (ended made : Option (Row K)) : Type 0 where
+    pub row : Row K
+    pub touched : (ended ≡ Some row) ⊎ (made ≡ Some row)
+    pub is_wanted : wanted row.key ≡ true
 
-  -- a key that a commit takes away or brings is wanted
-  pub record Concerns (wanted : K → Bool) (ended made : Option K) : Type 0 where
-    pub key : K
-    pub touched : (ended ≡ Some key) ⊎ (made ≡ Some key)
-    pub is_wanted : wanted key ≡ true
+  is_asked : (o : Option (Row K)) → (asked_row wanted o ≡ None) ⊎ ((r : Row K) × (o ≡ Some r) × (wanted r.key ≡ true))
+  is_asked None = inl refl
+  is_asked (Some r) = by_test (wanted r.key) refl
+    where
+      by_test : (b : Bool) → wanted r.key ≡ b → ((if b then Some r else None) ≡ None) ⊎ ((s : Row K) × (Some r ≡ Some s) × (wanted s.key ≡ true))
+      by_test true e = inr (r, refl, e)
+      by_test false e = inl refl
 
-  if_is_wanted : (b : Bool) (item other : Item K) → if_wanted b item ≡ Some other → b ≡ true
-  if_is_wanted true item other h = refl
-  if_is_wanted false item other h = absurd (cc)
-
-  one_is_wanted : (was is : Bool) (new : Row K) (row : ℕ) (item : Item K) → moved_from was is new row ≡ Some item → (was ≡ true) ⊎ (is ≡ true)
-  one_is_wanted true is new row item h = inl refl
-  one_is_wanted false true new row item h = inr refl
-  one_is_wanted false false new row item h = absurd (cc)
-
-  module _ (wanted : K → Bool) (commits : List (Write K)) (place : ℕ) (legal : IsLegal commits) (item : Item K) (is : item_at wanted commits place ≡ Some item) where
-    -- a commit that has an item for a query takes away or brings a key that the query wants
-    pub item_concerns : Concerns wanted (ended_key commits (commit_at commits (place + 1))) (made_key (commit_at commits (place + 1)))
-    item_concerns = by_commit (commit_at commits (place + 1)) refl
-      where
-        deleted : (o : Option (Row K)) → option_and_then (deleted_item wanted (place + 1)) o ≡ Some item → Concerns wanted (option_map (λ (r : Row K). r.key) o) None
-        deleted None h = absurd (cc)
-        deleted (Some r) h = record { key = r.key; touched = inl refl; is_wanted = if_is_wanted (wanted r.key) _ item h }
-
-        moves : (key : K) (o : Option (Row K)) → option_and_then (moved_item wanted (place + 1) key) o ≡ Some item → Concerns wanted (option_map (λ (r : Row K). r.key) o) (Some key)
-        moves key None h = absurd (cc)
-        moves key (Some r) h = elim (one_is_wanted (wanted r.key) (wanted key) (moved (place + 1) key r) r.row item h) [
-          | inl w ↦ record { key = r.key; touched = inl refl; is_wanted = w }
-          | inr w ↦ record { key = key; touched = inr refl; is_wanted = w }
-        ]
-
-        by_commit : (o : Option (Write K)) → commit_at commits (place + 1) ≡ o → Concerns wanted (ended_key commits o) (made_key o)
-        by_commit None e =
-            let none : item_at wanted commits place ≡ None = ap (option_and_then (item_of wanted (take place commits) (place + 1))) (sym (at_next commits place) ∙ e) in
-            let t : None ≡ Some item = sym none ∙ is in
-            absurd (cc)
-        by_commit (Some (Insert key tag)) e =
-            let some : item_at wanted commits place ≡ if_wanted (wanted key) _ = ap (option_and_then (item_of wanted (take place commits) (place + 1))) (sym (at_next commits place) ∙ e) in
-            record { key = key; touched = inr refl; is_wanted = if_is_wanted (wanted key) _ item (sym some ∙ is) }
-        by_commit (Some (Delete row)) e = deleted (row_at commits row) (sym (item_of_delete wanted commits place row legal e) ∙ is)
-        by_commit (Some (Move row key)) e = moves key (row_at commits row) (sym (item_of_move wanted commits place row key legal e) ∙ is)
+  -- a commit that has an item for a query ends or makes a row whose key the query wants
+  pub item_concerns : (commits : List (Write K)) (place : ℕ) (change : Change K) → IsChangeOf commits place change → (item : Item K) → item_at wanted commits place ≡ Some item → Concerns change.ended change.made
+  item_concerns commits place change of item is = by_rows (is_asked change.ended) (is_asked change.made)
+    where
+      by_rows : (asked_row wanted change.ended ≡ None) ⊎ ((r : Row K) × (change.ended ≡ Some r) × (wanted r.key ≡ true)) → (asked_row wanted change.made ≡ None) ⊎ ((r : Row K) × (change.made ≡ Some r) × (wanted r.key ≡ true)) → Concerns change.ended change.made
+      by_rows (inr old) made = record { row = old.0; touched = inl old.1; is_wanted = old.2 }
+      by_rows (inl none) (inr new) = record { row = new.0; touched = inr new.1; is_wanted = new.2 }
+      by_rows (inl none) (inl nor) =
+          let told : None ≡ Some item = sym (rw (none, nor) at (item_seen wanted commits place change of)) ∙ is in
+          absurd (cc)

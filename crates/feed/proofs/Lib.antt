@@ -1,8 +1,10 @@
 mod Advancing
 mod Asked
+mod Changing
 mod Concerning
 mod Dues
 mod Giving
 mod Keeping
 mod Members
+mod Places
 mod Tending

@@ -1,29 +1,16 @@
 -- What a commit gives to the subscriptions of a feed, and which of them it is to ask.
-use Rattle.std.specs.Prelude.{◌≡◌, ◌⊎◌, ℕ, max, nat_le, List, [], ◌++◌, map, Contains, Option, Some, None, option_map, option_to_list, if◌then◌else◌}
+use Rattle.std.specs.Prelude.{◌≡◌, ◌⊎◌, ℕ, max, nat_le, List, [], ◌++◌, map, Contains, Option, Some, None, option_to_list, if◌then◌else◌}
 use Rattle.std.specs.Option.{option_map_or}
 use Rattle.key_class.specs.Queries.{Query}
 use Rattle.key_class.specs.Rules.{Rules, satisfies}
 use Rattle.change_list.specs.declared.item.Item.{Item}
 use Rattle.change_list.specs.declared.write.Write.{Write}
-use Rattle.change_list.specs.declared.write.Write.TheVariants.{Insert, Delete, Move}
-use Rattle.change_list.specs.Changes.{changes, item_at, row_at}
+use Rattle.change_list.specs.Changes.{changes, item_at}
+use Rattle.feed.specs.Changing.{IsChangeOf}
+use Rattle.feed.specs.declared.change.Change.{Change}
 use Rattle.feed.specs.Feeds.{FeedState, Subscription, items_under, subscription_of}
 
 module _ {K : Type 0} where
-  -- the key of the row that a commit ends
-  abbrev pub ended_key : List (Write K) → Option (Write K) → Option K
-  ended_key commits (Some (Delete row)) = option_map (λ r. r.key) (row_at commits row)
-  ended_key commits (Some (Move row key)) = option_map (λ r. r.key) (row_at commits row)
-  ended_key commits (Some (Insert key tag)) = None
-  ended_key commits None = None
-
-  -- the key of the row that a commit makes
-  abbrev pub made_key : Option (Write K) → Option K
-  made_key (Some (Insert key tag)) = Some key
-  made_key (Some (Move row key)) = Some key
-  made_key (Some (Delete row)) = None
-  made_key None = None
-
   -- items, each under a serial
   abbrev pub under : ℕ → List (Item K) → List (ℕ × Item K)
   under serial items = map (λ item. (serial, item)) items
@@ -55,3 +42,12 @@ module _ {K A : Type 0} (rules : Rules K A) (commits : List (Write K)) where
   -- a subscription whose serial isn't among these has no item of commit `place + 1`
   abbrev pub AreAllConcerned : FeedState A → ℕ → List ℕ → Type 0
   AreAllConcerned feed place serials = (serial : ℕ) (s : Subscription A) → subscription_of feed serial ≡ Some s → (item_for s.query place ≡ None) ⊎ Contains serials serial
+
+module _ {K A : Type 0} (rules : Rules K A) (feed : FeedState A) where
+  -- a subscription whose serial isn't among these has no item of a commit whose change it is
+  abbrev pub AreConcerned : Change K → List ℕ → Type 0
+  AreConcerned change serials = (commits : List (Write K)) (place : ℕ) → IsChangeOf commits place change → AreAllConcerned rules commits feed place serials
+
+  -- this is what each commit whose change it is gives to the subscription with a serial
+  abbrev pub GivesDue : ℕ → Change K → Option (Item K) → Type 0
+  GivesDue serial change item = (commits : List (Write K)) (place : ℕ) → IsChangeOf commits place change → option_to_list item ≡ option_map_or (due_at rules commits place) (subscription_of feed serial) []

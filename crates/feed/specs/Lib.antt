@@ -1,4 +1,5 @@
 pub mod Asking
+pub mod Changing
 pub mod Feeds
 pub mod GoingOn
 pub mod Holding

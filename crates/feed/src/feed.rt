@@ -1,17 +1,16 @@
-ghost use Rattle.std.specs.Prelude.{◌≡◌, ◌↔◌, ◌+◌, ◌<◌, ◌≤◌, [], length, None, Err, IfOk, IfErr, OnOk, OnErr, option_to_list};
+ghost use Rattle.std.specs.Prelude.{◌≡◌, ◌↔◌, ◌+◌, ◌<◌, ◌≤◌, length, None, Err, IfOk, IfErr, OnOk, OnErr};
 ghost use Rattle.std.specs.List.Sorted.{IsStrictlyIncreasing};
-ghost use Rattle.std.specs.Option.{option_map_or};
 ghost use Rattle.key_class.specs.Queries.{query_of, depth_of};
 ghost use Rattle.key_class.specs.Refusals.{IsEither};
 ghost use Rattle.key_class.specs.declared.refusal.Refusal.TheVariants.{BadConfig, CursorsFull, FromFuture, NoSuchCursor, OutOfMemory};
-ghost use Rattle.feed.specs.Asking.{AreAllConcerned, GivesInto, due_at, due_upto};
+ghost use Rattle.feed.specs.Asking.{AreConcerned, GivesDue, GivesInto, due_at, due_upto};
 ghost use Rattle.feed.specs.Feeds.{AdvancesInto, HasNoPlaceFor, RefusesSubscription, new_feed, subscription_of, with_subscription, without_subscription};
 
+use crate::change::Change;
 use crate::enrolling::enrol;
-use crate::keys::keys_at;
 use crate::subscriber::{Subscriber, place_of, take_out, tell_since};
 use crate::tree::{find_tags, sweep_after, uproot};
-use change_list::{Config, Item, change_item};
+use change_list::{Config, Item};
 use key_class::limits::{MAX_COMMITS, MAX_DEPTH, MAX_PAGES, MAX_SERIAL};
 use key_class::{Pred, Refusal};
 use reach::Reach;
@@ -261,41 +260,40 @@ impl<C: Reach> Feed<C> {
             self.now told.old.items told.new.items) }
         ensures refused { IfErr result (λ why. why ≡ OutOfMemory) }
     {
-        let serials = self.concerned(snapshot, place)?;
+        let change = Change::at(snapshot, place);
+        let serials = self.concerned(&change)?;
         for serial in &serials {
-            if let Some(item) = self.item_for(*serial, snapshot, place) {
+            if let Some(item) = self.item_for(*serial, &change) {
                 told.push((*serial, item))?;
             }
         }
         Ok(())
     }
 
-    /// What commit `place + 1` gives to the subscription with a serial.
-    fn item_for(&self, serial: u64, snapshot: &Snapshot<C>, place: u64) -> Option<Item<C::Key>>
-        requires { self.now.upto ≤ place }
-        ensures { option_to_list result ≡ option_map_or (due_at C.rules snapshot.now place)
-            (subscription_of self.now serial) [] }
+    /// The item that a change is to the subscription with a serial.
+    fn item_for(&self, serial: u64, change: &Change<C::Key>) -> Option<Item<C::Key>>
+        requires { self.now.upto < change.now.number }
+        ensures { GivesDue C.rules self.now serial change.now result }
     {
         let at = place_of(&self.subscribers, serial)?;
         let subscriber = &self.subscribers[at];
-        if subscriber.from > place {
+        if subscriber.from >= change.number {
             return None;
         }
-        change_item::<C>(snapshot.list(), &subscriber.query, place)
+        change.item::<C>(&subscriber.query)
     }
 
-    /// The serials of the subscriptions that commit `place + 1` may concern, each once, by rising serial.
+    /// The serials of the subscriptions that a change may concern, each once, by rising serial.
     ///
     /// # Errors
     /// Want of memory.
-    fn concerned(&self, snapshot: &Snapshot<C>, place: u64) -> Result<Vec<u64>, Refusal>
-        requires { place < length snapshot.now }
+    fn concerned(&self, change: &Change<C::Key>) -> Result<Vec<u64>, Refusal>
         ensures all { IfOk result (λ serials.
-            AreAllConcerned C.rules snapshot.now self.now place serials.items) }
+            AreConcerned C.rules self.now change.now serials.items) }
         ensures rising { IfOk result (λ serials. IsStrictlyIncreasing serials.items) }
         ensures refused { IfErr result (λ why. why ≡ OutOfMemory) }
     {
-        let mut serials = self.gathered(snapshot, place)?;
+        let mut serials = self.gathered(change)?;
         serials.sort_unstable();
         serials.dedup();
         Ok(serials)
@@ -305,17 +303,14 @@ impl<C: Reach> Feed<C> {
     ///
     /// # Errors
     /// Want of memory.
-    fn gathered(&self, snapshot: &Snapshot<C>, place: u64) -> Result<Vec<u64>, Refusal>
-        requires { place < length snapshot.now }
+    fn gathered(&self, change: &Change<C::Key>) -> Result<Vec<u64>, Refusal>
         ensures all { IfOk result (λ serials.
-            AreAllConcerned C.rules snapshot.now self.now place serials.items) }
+            AreConcerned C.rules self.now change.now serials.items) }
         ensures refused { IfErr result (λ why. why ≡ OutOfMemory) }
     {
-        let (ended, made) = keys_at(snapshot, place);
         let mut serials = Vec::new(self.alloc);
         serials.extend_from_slice(&self.always)?;
-        find_tags(&self.tree, ended, &mut serials)?;
-        find_tags(&self.tree, made, &mut serials)?;
+        find_tags(self.alloc, &self.tree, change, &mut serials)?;
         Ok(serials)
     }
 }

@@ -1,9 +1,9 @@
 //! A feed: many subscriptions to the changes of queries, of which a commit asks only those that its keys may match.
 #![tactic(auto)]
 
+mod change;
 mod enrolling;
 mod feed;
-mod keys;
 mod laws;
 mod subscriber;
 mod tree;

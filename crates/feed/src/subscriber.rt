@@ -22,13 +22,17 @@ pub(crate) struct Subscriber<A> {
     pub(crate) rows: Vec<u64>,
 }
 
-/// The place of the subscriber with a serial, by halving.
+/// The place of the subscriber with a serial. Serials rise from 1, so that it stands at `serial - 1` while none before it has
+/// ended. It is looked for there first, else below, by halving.
 pub(crate) fn place_of<A>(subscribers: &[Subscriber<A>], serial: u64) -> Option<usize>
     requires { (last : ℕ) × Rise serial_of 0 last subscribers.now }
     ensures { IsPlaceOf serial_of subscribers.now serial result }
 {
     let mut low = 0;
-    let mut high = subscribers.len();
+    let mut high = serial.min(subscribers.len() as u64) as usize;
+    if high > 0 && subscribers[high - 1].serial == serial {
+        return Some(high - 1);
+    }
     while low < high {
         let middle = low + (high - low) / 2;
         let found = subscribers[middle].serial;

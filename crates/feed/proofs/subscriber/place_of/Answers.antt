@@ -2,8 +2,21 @@ use Rattle.std.proofs.Common.{◌≡◌, ◌+◌, ◌-◌, ◌/◌, ◌<◌, Som
 use Rattle.feed.specs.Holding.{serial_of}
 use Rattle.std.specs.Prelude.{slice_get}
 use Rattle.std.proofs.lemmas.Option.{slice_get-get_or}
-use Rattle.world.proofs.Searching.{between_upper, between_lower, found_at, none_between}
+use Rattle.world.proofs.Searching.{IsBetween, between_upper, between_lower, found_at, none_between}
+use Rattle.feed.proofs.Places.{between_first}
 use Rattle.feed.proofs.subscriber.place_of.Goals as goal
+
+pub returns-then-subscribers-high : goal.returns-then-subscribers-high
+returns-then-subscribers-high g c =
+    let place = c.min-high.result - 1 in
+    let within : place < length c.args.subscribers.now = omega (arith, c.min-high.ensures, c.if-high-gt0.true) in
+    let is : slice_get c.args.subscribers.now place ≡ Some c.index-subscribers-high.result = slice_get-get_or c.args.subscribers.now place _ within ∙ ap Some (sym c.index-subscribers-high.is) in
+    found_at serial_of c.args.subscribers.now c.args.serial c.requires.0 c.requires.1 place c.index-subscribers-high.result is (ap serial_of c.index-subscribers-high.is ∙ c.if-subscribers-high.true)
+
+pub loop-low-init : goal.loop-low-init
+loop-low-init g c =
+    subst (λ high. IsBetween serial_of c.args.subscribers.now c.args.serial 0 high) (sym c.min-high.ensures)
+    (between_first serial_of c.args.subscribers.now c.args.serial c.requires.0 c.requires.1)
 
 pub returns-then-found-serial : goal.returns-then-found-serial
 returns-then-found-serial g c =

@@ -11,14 +11,14 @@ use Rattle.feed.proofs.Asked.{concerned_among}
 use Rattle.feed.proofs.feed.Feed.concerned.Goals as goal
 
 pub returns-clause-all : goal.returns-clause-all
-returns-clause-all g c =
+returns-clause-all g c commits place of =
     let found = c.in_ok-serials.serials.items in
     let sorted = c.sort_unstable.new.self.items in
     let serials = c.dedup.new.self.items in
     let is : serials ≡ dedup eqb sorted = dedup_is eqb sorted serials c.dedup.ensures.filtered in
-    concerned_among g.C.KeyClass.rules c.args.snapshot.now c.args.self.now c.args.place found serials
+    concerned_among g.C.KeyClass.rules commits c.args.self.now place found serials
     (λ serial among. subst (λ l. Contains l serial) (sym is) (Contains-dedup_nat sorted serial (Contains-permutation found sorted serial c.sort_unstable.ensures.permutation among)))
-    c.in_ok-serials.ensures.all
+    (c.in_ok-serials.ensures.all commits place of)
 
 pub returns-clause-rising : goal.returns-clause-rising
 returns-clause-rising g c =

@@ -16,9 +16,9 @@ loop-serial-preserved g c =
     let before = c.loop-serial.told.items in
     elim c.match-item_for.branch [
       | in-Some+in_ok-push w ↦
-          rw (w.told-is) (told_item due serials i c.loop-serial-test.true old before _ c.loop-serial.invariant w.in-Some.item c.item_for.result w.in-Some.is c.item_for.ensures (search rules))
+          rw (w.told-is) (told_item due serials i c.loop-serial-test.true old before _ c.loop-serial.invariant w.in-Some.item c.item_for.result w.in-Some.is (c.item_for.ensures c.args.snapshot.now c.args.place c.at-change.ensures) (search rules))
       | in_default w ↦
-          rw (w.told-is) (told_nothing due serials i c.loop-serial-test.true old before _ c.loop-serial.invariant c.item_for.result w.in_default.is c.item_for.ensures refl)
+          rw (w.told-is) (told_nothing due serials i c.loop-serial-test.true old before _ c.loop-serial.invariant c.item_for.result w.in_default.is (c.item_for.ensures c.args.snapshot.now c.args.place c.at-change.ensures) refl)
     ]
 
 pub returns-clause-ok : goal.returns-clause-ok
@@ -30,5 +30,5 @@ returns-clause-ok g c =
     record {
       given = told_to due serials;
       is = told_all due serials c.deref-serial-items.result.now c.loop-serial.serial-index c.args.told.now.items c.loop-serial.told.items c.deref-serial-items.ensures.value c.loop-serial-test.false c.loop-serial.invariant;
-      gives = commit_gives rules c.args.snapshot.now feed c.args.place serials c.in_ok-serials.ensures.all c.in_ok-serials.ensures.rising;
+      gives = commit_gives rules c.args.snapshot.now feed c.args.place serials (c.in_ok-serials.ensures.all c.args.snapshot.now c.args.place c.at-change.ensures) c.in_ok-serials.ensures.rising;
     }
