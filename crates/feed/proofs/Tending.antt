@@ -1,23 +1,25 @@
 -- What becomes of the rows of a feed's tree.
-use Rattle.std.proofs.Common.{◌≡◌, ◌+◌, ℕ, Bool, true, false, not, ◌||◌, List, [], ◌∷◌, ◌++◌, length, take, filter, Some, refl, sym, ap, ◌∙◌, arith, subst, append_assoc}
+use Rattle.std.proofs.Common.{◌≡◌, ◌+◌, ℕ, Bool, true, false, not, ◌||◌, List, [], ◌∷◌, ◌++◌, length, take, map, filter, Some, refl, sym, ap, ◌∙◌, arith, subst, append_assoc}
 use Rattle.std.specs.Prelude.{Contains, nat_eq}
 use Rattle.std.proofs.lemmas.Bool.{eqb-true}
 use Rattle.std.proofs.lemmas.List.{append-nil}
 use Rattle.std.proofs.lemmas.List.Elements.{All-weaker, All-push}
 use Rattle.std.proofs.Math.Seq.{take-length}
-use Rattle.key_class.specs.Queries.{Query}
+use Rattle.key_class.specs.Queries.{query_of}
 use Rattle.key_class.specs.Rules.{Rules, satisfies}
+use Rattle.key_class.specs.declared.pred.Pred.{Pred}
 use Rattle.change_list.specs.declared.item.Row.{Row}
 use Rattle.change_list.specs.declared.write.Write.{Write}
 use Rattle.change_list.specs.declared.write.Write.TheVariants.{Insert, Delete}
-use Rattle.change_list.specs.Changes.{IsLegal, is_ended, made_rows, row_at, rows, snapshot}
+use Rattle.change_list.specs.Changes.{IsLegal, is_ended, made_rows, row_at, rows}
 use Rattle.change_list.proofs.Made.{row_append, row_found, row_of_new_insert, row_push}
 use Rattle.change_list.proofs.Tracking.{none_ends}
 use Rattle.scan.proofs.Commits.{ended_push}
+use Rattle.snapshot.specs.Snapshots.{found_in}
 use Rattle.store.specs.States.{Commits, Keeps, StoreState, SweepsStore, SweepsStorePart}
 use Rattle.key_class.specs.declared.refusal.Refusal.{Refusal}
 use Rattle.std.specs.Prelude.{IfOk, OnErr, OnOk, Result, Ok, Err}
-use Rattle.feed.specs.Planting.{AreTagged, HasRow, HasRows, IsPlanted, IsTagged, LivesAs, Tends, tags_of}
+use Rattle.feed.specs.Planting.{AreTagged, HasRow, HasRows, IsPlanted, IsTagged, LivesAs, Tends}
 use Rattle.feed.proofs.Members.{contains_filter, contains_found, contains_map}
 
 or_false : (b : Bool) → (b || false) ≡ b
@@ -144,17 +146,17 @@ module _ {K : Type 0} where
   row_among commits number row is = contains_found (λ r. nat_eq r.row number) (made_rows commits) row is
 
   -- a live row whose key a query asks for is found
-  pub tag_found : {A : Type 0} (rules : Rules K A) (query : Query A) (commits : List (Write K)) (tag : ℕ) (key : K) → satisfies rules query key ≡ true → HasRow commits tag key
-      → Contains (tags_of rules commits (Some query)) tag
+  pub tag_found : {A : Type 0} (rules : Rules K A) (query : Pred A) (commits : List (Write K)) (tag : ℕ) (key : K) → satisfies rules (query_of query) key ≡ true → HasRow commits tag key
+      → Contains (map (λ (r : Row K). r.tag) (found_in rules query commits)) tag
   tag_found rules query commits tag key wanted h =
-      let asked = satisfies rules query in
+      let asked = satisfies rules (query_of query) in
       let number : h.row.row ≡ h.number = (row_found commits h.number h.row h.is.is).0 in
       let alive : not (is_ended commits h.row.row) ≡ true = ap (λ n. not (is_ended commits n)) number ∙ ap not h.is.lives in
       let here = contains_filter (λ (r : Row K). not (is_ended commits r.row)) (made_rows commits) h.row alive (row_among commits h.number h.row h.is.is) in
       let matching = contains_filter (λ (r : Row K). asked r.key) (rows commits) h.row (ap asked h.has_key ∙ wanted) here in
       let all : take (length commits) commits ≡ commits = take-length commits in
-      let found : Contains (snapshot asked (length commits) commits) h.row = subst (λ cs. Contains (filter (λ (r : Row K). asked r.key) (rows cs)) h.row) (sym all) matching in
-      subst (λ t. Contains (tags_of rules commits (Some query)) t) h.has_tag (contains_map (λ (r : Row K). r.tag) (snapshot asked (length commits) commits) h.row found)
+      let found : Contains (found_in rules query commits) h.row = subst (λ cs. Contains (filter (λ (r : Row K). asked r.key) (rows cs)) h.row) (sym all) matching in
+      subst (λ t. Contains (map (λ (r : Row K). r.tag) (found_in rules query commits)) t) h.has_tag (contains_map (λ (r : Row K). r.tag) (found_in rules query commits) h.row found)
 
 module _ {K A : Type 0} (matching : A → K → Bool) (tag : ℕ) (old new : StoreState K A) (legal : IsLegal old.commits) (later : IsLegal new.commits) where
   -- what a delete leaves, whether it is refused or not

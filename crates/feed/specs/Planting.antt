@@ -1,10 +1,11 @@
 -- The tree of a feed: rows whose keys are where queries are looked for, and whose tags are the serials of their subscriptions.
-use Rattle.std.specs.Prelude.{◌≡◌, ℕ, false, List, [], ◌++◌, length, All, Option, Some, None, map}
-use Rattle.key_class.specs.Queries.{Query, atom, either}
-use Rattle.key_class.specs.Rules.{Rules, satisfies}
+use Rattle.std.specs.Prelude.{◌≡◌, ℕ, false, List, [], ◌++◌, All, Option, Some, None, map}
+use Rattle.key_class.specs.Rules.{Rules}
+use Rattle.key_class.specs.declared.pred.Pred.TheVariants.{Atom}
 use Rattle.change_list.specs.declared.item.Row.{Row}
 use Rattle.change_list.specs.declared.write.Write.{Write}
-use Rattle.change_list.specs.Changes.{IsLegal, is_ended, row_at, snapshot}
+use Rattle.change_list.specs.Changes.{IsLegal, is_ended, row_at}
+use Rattle.snapshot.specs.Snapshots.{found_in}
 
 module _ {K : Type 0} where
   -- the row with a number lives, and is this one
@@ -51,16 +52,8 @@ module _ {K : Type 0} where
   MayBePlanted commits tag keys (Some numbers) = IsPlanted commits tag keys numbers
   MayBePlanted commits tag keys None = Unit {0}
 
-module _ {K A : Type 0} (overlap_with : K → A) where
-  -- the query for keys that overlap that of a row which ends or that of one which begins; none where there is neither
-  abbrev pub overlap_query : Option (Row K) → Option (Row K) → Option (Query A)
-  overlap_query (Some old) (Some new) = Some (either (atom (overlap_with old.key)) (atom (overlap_with new.key)))
-  overlap_query (Some old) None = Some (atom (overlap_with old.key))
-  overlap_query None (Some new) = Some (atom (overlap_with new.key))
-  overlap_query None None = None
-
-module _ {K A : Type 0} (rules : Rules K A) (commits : List (Write K)) where
-  -- the tags of the live rows whose keys satisfy a query, where there is one
-  abbrev pub tags_of : Option (Query A) → List ℕ
-  tags_of (Some query) = map (λ r. r.tag) (snapshot (satisfies rules query) (length commits) commits)
-  tags_of None = []
+module _ {K A : Type 0} (rules : Rules K A) (overlap_with : K → A) (commits : List (Write K)) where
+  -- the tags of the live rows whose keys overlap that of a row, where there is one
+  abbrev pub tags_at : Option (Row K) → List ℕ
+  tags_at (Some touched) = map (λ r. r.tag) (found_in rules (Atom (overlap_with touched.key)) commits)
+  tags_at None = []

@@ -310,7 +310,8 @@ impl<C: Reach> Feed<C> {
     {
         let mut serials = Vec::new(self.alloc);
         serials.extend_from_slice(&self.always)?;
-        find_tags(self.alloc, &self.tree, change, &mut serials)?;
+        find_tags(&self.tree, change.ended, &mut serials)?;
+        find_tags(&self.tree, change.made, &mut serials)?;
         Ok(serials)
     }
 }

@@ -1,11 +1,10 @@
 //! The tree of a feed.
 ghost use Rattle.std.specs.Prelude.{◌≡◌, ◌++◌, OnOk, IfOk, IfErr, option_map, vec_items};
-ghost use Rattle.key_class.specs.Queries.{query_of};
 ghost use Rattle.key_class.specs.declared.refusal.Refusal.TheVariants.{OutOfMemory};
 ghost use Rattle.change_list.specs.Changes.{IsLegal};
-ghost use Rattle.feed.specs.Planting.{AreTagged, MayBePlanted, Tends, overlap_query, tags_of};
+ghost use Rattle.feed.specs.Planting.{AreTagged, MayBePlanted, Tends, tags_at};
 
-use crate::change::Change;
+use change_list::Row;
 use key_class::{KeyClass, Pred, Refusal};
 use reach::Reach;
 use std::alloc::Global;
@@ -72,50 +71,26 @@ pub(crate) fn sweep_after<C: KeyClass>(tree: &mut Store<C>, swept: &mut u64, mos
     let _freed = tree.sweep_all();
 }
 
-/// Puts the tags of the rows whose keys overlap that of a row which a change ends or makes behind those of a list, in one search.
+/// Puts the tags of the rows whose keys overlap that of another row, where there is one, behind those of a list.
 ///
 /// # Errors
 /// Want of memory.
 pub(crate) fn find_tags<C: Reach>(
-    alloc: Global,
     tree: &Store<C>,
-    change: &Change<C::Key>,
+    touched: Option<Row<C::Key>>,
     tags: &mut Vec<u64>,
 ) -> Result<(), Refusal>
     ensures ok { OnOk result (tags.new.items ≡ tags.old.items
-        ++ tags_of C.rules tree.now.commits
-        (overlap_query C.overlap_with change.now.ended change.now.made)) }
+        ++ tags_at C.rules C.overlap_with tree.now.commits touched) }
     ensures refused { IfErr result (λ why. why ≡ OutOfMemory) }
 {
-    let Some(query) = overlap_query::<C>(alloc, change)? else {
+    let Some(touched) = touched else {
         return Ok(());
     };
+    let query = Pred::Atom(C::overlapping(touched.key));
     let rows = tree.find(&query)?;
     for row in &rows {
         tags.push(row.tag)?;
     }
     Ok(())
-}
-
-/// The query for keys that overlap that of a row which a change ends or makes. None where there is no such row.
-///
-/// # Errors
-/// Want of memory.
-fn overlap_query<C: Reach>(
-    alloc: Global,
-    change: &Change<C::Key>,
-) -> Result<Option<Pred<C::Atom>>, Refusal>
-    ensures ok { IfOk result (λ query. option_map query_of query
-        ≡ overlap_query C.overlap_with change.now.ended change.now.made) }
-    ensures refused { IfErr result (λ why. why ≡ OutOfMemory) }
-{
-    match (change.ended, change.made) {
-        (Some(old), Some(new)) => {
-            let left = Box::new(alloc, Pred::Atom(C::overlapping(old.key)))?;
-            let right = Box::new(alloc, Pred::Atom(C::overlapping(new.key)))?;
-            Ok(Some(Pred::Or(left, right)))
-        }
-        (Some(row), None) | (None, Some(row)) => Ok(Some(Pred::Atom(C::overlapping(row.key)))),
-        (None, None) => Ok(None),
-    }
 }
