@@ -151,26 +151,6 @@ module _ {K : Type 0} (wanted : K → Bool) (serial from : ℕ) (commits : List 
       → told ≡ old ++ under serial (changes wanted from (max from upto) commits)
   passed_all place upto told l h e is = is ∙ ap (λ n. old ++ under serial (changes wanted from n commits)) (let same : place ≡ max from upto = omega (arith, l, h, e) in same)
 
-module _ {K A : Type 0} (rules : Rules K A) (commits : List (Write K)) (feed : FeedState A) (place : ℕ) (serials : List ℕ) (rising : IsStrictlyIncreasing serials) (all : AreAllConcerned rules commits feed place serials) where
-  nothing_due : (s : Subscription A) → item_for rules commits s.query place ≡ None → due_at rules commits place s ≡ []
-  nothing_due s none = by_test (nat_le s.at place)
-    where
-      by_test : (b : Bool) → cond b (option_to_list (item_for rules commits s.query place)) [] ≡ []
-      by_test true = ap option_to_list none
-      by_test false = refl
-
-  -- where all that a commit concerns are asked, each is given what is due to it
-  pub concerned_told : Gives (due_at rules commits place) feed (told_to (λ n. option_map_or (due_at rules commits place) (subscription_of feed n) []) serials)
-  concerned_told serial =
-      told_each (λ n. option_map_or (due_at rules commits place) (subscription_of feed n) []) serial serials rising (by_subscription (subscription_of feed serial) refl)
-    where
-      by_subscription : (o : Option (Subscription A)) → subscription_of feed serial ≡ o → (option_map_or (due_at rules commits place) (subscription_of feed serial) [] ≡ []) ⊎ Contains serials serial
-      by_subscription None e = inl (ap (λ o. option_map_or (due_at rules commits place) o []) e)
-      by_subscription (Some s) e = elim (all serial s e) [
-        | inl none ↦ inl (ap (λ o. option_map_or (due_at rules commits place) o []) e ∙ nothing_due s none)
-        | inr c ↦ inr c
-      ]
-
 module _ {K A : Type 0} (rules : Rules K A) (commits : List (Write K)) (feed : FeedState A) (place : ℕ) where
   -- what commit `place + 1` gives to a serial
   abbrev pub due_to : ℕ → List (Item K)

@@ -2,14 +2,13 @@
 use Rattle.std.proofs.Common.{◌≡◌, ◌⊎◌, ◌+◌, ◌<◌, ◌≤◌, ℕ, max, Bool, true, false, not, cond, List, [], ◌∷◌, ◌++◌, map, filter, take, drop, Option, Some, None, refl, sym, ap, ◌∙◌, arith, subst, inl, inr}
 use Rattle.std.specs.Prelude.{Contains, nat_eq, nat_le, option_map, slice_get, vec_items}
 use Rattle.std.proofs.Math.Numerals.{add-one}
-use Rattle.std.proofs.lemmas.List.{map-append}
 use Rattle.std.proofs.lemmas.List.Elements.{Contains-append_left, Contains-push}
 use Rattle.key_class.specs.Queries.{Query, query_of}
 use Rattle.change_list.specs.declared.write.Write.{Write}
 use Rattle.world.specs.Serials.{IsMember, Rise, member, without}
 use Rattle.world.proofs.Serials.{member_within, push_other, push_same, rise_push, rise_within, rise_without, without_at, without_other, without_same}
 use Rattle.feed.specs.declared.subscriber.Subscriber.{Subscriber}
-use Rattle.feed.specs.Feeds.{given_upto, subscription_of, with_subscription, without_subscription}
+use Rattle.feed.specs.Feeds.{given_upto, subscription_of, without_subscription}
 use Rattle.feed.specs.Holding.{IsEnrolled, IsHolding, IsPlantedIn, feed_state, serial_of, shown, shown_at}
 use Rattle.feed.specs.Planting.{AreTagged, Tends}
 use Rattle.feed.proofs.Members.{contains_filter}
@@ -49,19 +48,6 @@ module _ {A : Type 0} where
   taken_away serial last at xs ys zs same rise m is =
       let there = subst (λ l. slice_get l at ≡ Some m.value) same m.is in
       is ∙ ap (λ n. take at xs ++ drop n xs) (add-one at) ∙ sym (without_at serial_of serial 0 last at xs m.value rise there m.number)
-
-  -- with a subscriber more, whose serial is the next
-  pub state_with : (upto passed last : ℕ) (subscribers : List (Subscriber A)) (s : Subscriber A) → passed ≤ last → s.serial ≡ last + 1
-      → feed_state upto passed s.serial (subscribers ++ s ∷ []) ≡ with_subscription (feed_state upto passed last subscribers) (query_of s.query) s.from
-  state_with upto passed last subscribers s within is =
-      ap (λ n. record { upto = upto; subscriptions = map (shown upto passed) (subscribers ++ s ∷ []); last = n }) is
-      ∙ ap (λ l. record { upto = upto; subscriptions = l; last = last + 1 }) (map-append (shown upto passed) subscribers (s ∷ []) ∙ ap (λ x. map (shown upto passed) subscribers ++ x ∷ []) one)
-    where
-      at_from : shown_at upto passed s ≡ s.from
-      at_from = let e : nat_le s.serial passed ≡ false = search (arith, is, within) in ap (λ b. cond b (max s.from upto) s.from) e
-
-      one : shown upto passed s ≡ record { serial = last + 1; query = query_of s.query; at = s.from }
-      one = ap (λ n. record { serial = s.serial; query = query_of s.query; at = n }) at_from ∙ ap (λ n. record { serial = n; query = query_of s.query; at = s.from }) is
 
   one_given : (upto passed last later : ℕ) (s : Subscriber A) → s.serial ≤ last → upto ≤ later → shown later last s ≡ given_upto later (shown upto passed s)
   one_given upto passed last later s within further = ap (λ n. record { serial = s.serial; query = (shown upto passed s).query; at = n }) at
