@@ -148,7 +148,8 @@ impl<C: Reach> Feed<C> {
     pub fn unsubscribe(&mut self, serial: u64) -> Result<(), Refusal>
         ensures ok { OnOk result (self.new ≡ without_subscription self.old serial) }
         ensures err { OnErr result (self.new ≡ self.old) }
-        ensures none { (result ≡ Err NoSuchCursor) ↔ (subscription_of self.old serial ≡ None) }
+        ensures none { (result ≡ Err NoSuchCursor)
+            ↔ (subscription_of self.old serial ≡ None) }
         ensures refusal { IfErr result (λ why. why ≡ NoSuchCursor) }
     {
         let Some(place) = place_of(&self.subscribers, serial) else {
