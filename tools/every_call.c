@@ -57,7 +57,7 @@ static void names(void)
         CHECK(gist_refusal_name(known[i].refusal, name, sizeof name) == strlen(known[i].name));
         CHECK(strcmp(name, known[i].name) == 0);
     }
-    for (uint32_t refusal = 1; refusal <= 23; refusal++) {
+    for (uint32_t refusal = 1; refusal <= 25; refusal++) {
         size_t length = gist_refusal_name(refusal, name, sizeof name);
 
         CHECK(length > 0 && length == strlen(name));
@@ -65,7 +65,7 @@ static void names(void)
     }
     CHECK(longest == 14);
     CHECK(gist_refusal_name(0, name, sizeof name) == 0 && name[0] == 0);
-    CHECK(gist_refusal_name(24, name, sizeof name) == 0 && name[0] == 0);
+    CHECK(gist_refusal_name(26, name, sizeof name) == 0 && name[0] == 0);
     memset(name, '?', sizeof name);
     CHECK(gist_refusal_name(GIST_BAD_CONFIG, name, 3) == 9 && memcmp(name, "Bad?", 4) == 0);
     CHECK(gist_refusal_name(GIST_BAD_CONFIG, name, 0) == 9 && name[0] == 'B');

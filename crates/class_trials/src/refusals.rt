@@ -3,7 +3,7 @@ use std::alloc::{AllocError, AllocFailed, Global};
 use std::test::Fail;
 
 /// A refusal, its number, its name and its text.
-static REFUSALS: [(Refusal, u8, &str, &str); 23] = [
+static REFUSALS: [(Refusal, u8, &str, &str); 25] = [
     (Refusal::OutOfMemory, 1, "OutOfMemory", "1 OutOfMemory"),
     (Refusal::BadConfig, 2, "BadConfig", "2 BadConfig"),
     (Refusal::PagesFull, 3, "PagesFull", "3 PagesFull"),
@@ -32,6 +32,13 @@ static REFUSALS: [(Refusal, u8, &str, &str); 23] = [
     (Refusal::QueryText(13), 21, "QueryText", "21 QueryText 13"),
     (Refusal::Line(4096), 22, "Line", "22 Line 4096"),
     (Refusal::FromFuture, 23, "FromFuture", "23 FromFuture"),
+    (Refusal::FeedFull, 24, "FeedFull", "24 FeedFull"),
+    (
+        Refusal::NotSubscribed,
+        25,
+        "NotSubscribed",
+        "25 NotSubscribed",
+    ),
 ];
 
 /// Whether a refusal has this number, name and text.

@@ -1,6 +1,6 @@
 -- What contracts see of a feed, and what its calls do to it.
 use Rattle.std.specs.Prelude.{◌≡◌, ◌⊎◌, ℕ, ◌+◌, ◌<◌, ◌≤◌, max, min, not, nat_eq, List, [], ◌∷◌, ◌++◌, length, map, filter, find, Option, Some, None}
-use Rattle.key_class.specs.Limits.{greatest_serial, most_depth}
+use Rattle.key_class.specs.Limits.{greatest_serial, most_depth, most_subscriptions}
 use Rattle.key_class.specs.Queries.{Query, depth_of}
 use Rattle.key_class.specs.Rules.{Rules, satisfies}
 use Rattle.key_class.specs.declared.refusal.Refusal.{Refusal}
@@ -23,10 +23,6 @@ pub record FeedState (A : Type 0) : Type 0 where
   pub subscriptions : List (Subscription A)
   -- the last serial that was given
   pub last : ℕ
-
--- subscriptions that are open at once
-abbrev pub most_subscriptions : ℕ
-most_subscriptions = 1000000
 
 module _ {A : Type 0} where
   -- a feed that went over no commit, with no subscription
@@ -62,7 +58,7 @@ module _ {A : Type 0} where
 
 -- why no subscription is opened
 abbrev pub RefusesSubscription : Refusal → Type 0
-RefusesSubscription why = (why ≡ refusal.BadConfig) ⊎ (why ≡ refusal.CursorsFull) ⊎ (why ≡ refusal.OutOfMemory)
+RefusesSubscription why = (why ≡ refusal.BadConfig) ⊎ (why ≡ refusal.FeedFull) ⊎ (why ≡ refusal.OutOfMemory)
 
 module _ {K : Type 0} where
   -- the items that stand under a serial, in their order

@@ -2,7 +2,7 @@ ghost use Rattle.std.specs.Prelude.{◌≡◌, ◌↔◌, ◌+◌, ◌<◌, ◌�
 ghost use Rattle.std.specs.List.Sorted.{IsStrictlyIncreasing};
 ghost use Rattle.key_class.specs.Queries.{query_of, depth_of};
 ghost use Rattle.key_class.specs.Refusals.{IsEither};
-ghost use Rattle.key_class.specs.declared.refusal.Refusal.TheVariants.{BadConfig, CursorsFull, FromFuture, NoSuchCursor, OutOfMemory};
+ghost use Rattle.key_class.specs.declared.refusal.Refusal.TheVariants.{BadConfig, FeedFull, FromFuture, NotSubscribed, OutOfMemory};
 ghost use Rattle.feed.specs.Asking.{AreConcerned, GivesDue, GivesInto, due_at, due_upto};
 ghost use Rattle.feed.specs.Feeds.{AdvancesInto, HasNoPlaceFor, RefusesSubscription, new_feed, subscription_of, with_subscription, without_subscription};
 
@@ -11,16 +11,13 @@ use crate::enrolling::enrol;
 use crate::subscriber::{Subscriber, place_of, take_out, tell_since};
 use crate::tree::{find_tags, sweep_after, uproot};
 use change_list::{Config, Item};
-use key_class::limits::{MAX_COMMITS, MAX_DEPTH, MAX_PAGES, MAX_SERIAL};
+use key_class::limits::{MAX_COMMITS, MAX_DEPTH, MAX_PAGES, MAX_SERIAL, MAX_SUBSCRIPTIONS};
 use key_class::{Pred, Refusal};
 use reach::Reach;
 use snapshot::Snapshot;
 use std::alloc::Global;
 use std::marker::Model;
 use store::Store;
-
-/// The most subscriptions that are open at once.
-pub const MAX_SUBSCRIPTIONS: usize = 1_000_000;
 
 /// The limits of the tree, which has a row for each key under which a query is looked for.
 const TREE: Config = Config {
@@ -109,7 +106,7 @@ impl<C: Reach> Feed<C> {
     /// before the one up to which the feed went: the next `advance` gives what was missed.
     ///
     /// # Errors
-    /// `BadConfig` where the query is deeper than 32, else `CursorsFull` where 1,000,000 subscriptions are open or the last serial,
+    /// `BadConfig` where the query is deeper than 32, else `FeedFull` where 1,000,000 subscriptions are open or the last serial,
     /// 4,294,967,295, was given, else want of memory. Nothing is changed then.
     pub fn subscribe(&mut self, query: Pred<C::Atom>, from: u64) -> Result<u64, Refusal>
         ensures serial { IfOk result (λ serial. serial ≡ self.old.last + 1) }
@@ -117,14 +114,14 @@ impl<C: Reach> Feed<C> {
             (self.new ≡ with_subscription self.old (query_of query) from) }
         ensures err { OnErr result (self.new ≡ self.old) }
         ensures depth { (result ≡ Err BadConfig) ↔ (32 < depth_of (query_of query)) }
-        ensures full { (result ≡ Err CursorsFull) ↔ HasNoPlaceFor self.old (query_of query) }
+        ensures full { (result ≡ Err FeedFull) ↔ HasNoPlaceFor self.old (query_of query) }
         ensures refusals { IfErr result RefusesSubscription }
     {
         if !query.is_within_depth(MAX_DEPTH) {
             return Err(Refusal::BadConfig);
         }
         if self.subscribers.len() >= MAX_SUBSCRIPTIONS || self.last >= MAX_SERIAL {
-            return Err(Refusal::CursorsFull);
+            return Err(Refusal::FeedFull);
         }
         let Ok(()) = self.subscribers.try_reserve(1) else {
             return Err(Refusal::OutOfMemory);
@@ -144,16 +141,16 @@ impl<C: Reach> Feed<C> {
     /// Ends a subscription.
     ///
     /// # Errors
-    /// `NoSuchCursor` where no subscription with the serial is open.
+    /// `NotSubscribed` where no subscription with the serial is open.
     pub fn unsubscribe(&mut self, serial: u64) -> Result<(), Refusal>
         ensures ok { OnOk result (self.new ≡ without_subscription self.old serial) }
         ensures err { OnErr result (self.new ≡ self.old) }
-        ensures none { (result ≡ Err NoSuchCursor)
+        ensures none { (result ≡ Err NotSubscribed)
             ↔ (subscription_of self.old serial ≡ None) }
-        ensures refusal { IfErr result (λ why. why ≡ NoSuchCursor) }
+        ensures refusal { IfErr result (λ why. why ≡ NotSubscribed) }
     {
         let Some(place) = place_of(&self.subscribers, serial) else {
-            return Err(Refusal::NoSuchCursor);
+            return Err(Refusal::NotSubscribed);
         };
         let subscriber = self.subscribers.remove(place);
         uproot(&mut self.tree, &subscriber.rows, serial);

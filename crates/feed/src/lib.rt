@@ -8,5 +8,5 @@ mod laws;
 mod subscriber;
 mod tree;
 
-pub use feed::{Feed, MAX_SUBSCRIPTIONS};
+pub use feed::Feed;
 pub use laws::changes_go_on;

@@ -134,9 +134,9 @@ fn is_answered(
 static REFUSED: [(Call, Result<u64, Refusal>); 5] = [
     (Call::Deep(33), Err(Refusal::BadConfig)),
     (Call::Deep(32), Ok(1)),
-    (Call::Unsubscribe(2), Err(Refusal::NoSuchCursor)),
+    (Call::Unsubscribe(2), Err(Refusal::NotSubscribed)),
     (Call::Unsubscribe(1), Ok(0)),
-    (Call::Unsubscribe(1), Err(Refusal::NoSuchCursor)),
+    (Call::Unsubscribe(1), Err(Refusal::NotSubscribed)),
 ];
 
 #[test]

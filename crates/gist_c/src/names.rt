@@ -9,7 +9,7 @@ use key_class::Refusal;
 /// A refusal with a number; those of texts at byte 0.
 fn numbered(number: u32) -> Option<Refusal>
     ensures some { IfSome result (λ why. number_of why ≡ number) }
-    ensures none { IfNone result ((number ≡ 0) ⊎ (23 < number)) }
+    ensures none { IfNone result ((number ≡ 0) ⊎ (25 < number)) }
 {
     match number {
         1 => Some(Refusal::OutOfMemory),
@@ -35,6 +35,8 @@ fn numbered(number: u32) -> Option<Refusal>
         21 => Some(Refusal::QueryText(0)),
         22 => Some(Refusal::Line(0)),
         23 => Some(Refusal::FromFuture),
+        24 => Some(Refusal::FeedFull),
+        25 => Some(Refusal::NotSubscribed),
         _ => None,
     }
 }

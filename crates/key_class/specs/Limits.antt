@@ -25,7 +25,7 @@ most_cursors = 256
 abbrev pub most_finders : ℕ
 most_finders = 64
 
--- of cursors and of finders
+-- of cursors, of finders and of subscriptions
 abbrev pub greatest_serial : ℕ
 greatest_serial = 4294967295
 
@@ -40,6 +40,10 @@ most_depth = 32
 -- of a line, and of a query's text
 abbrev pub most_bytes : ℕ
 most_bytes = 4096
+
+-- subscriptions that are open at once at a feed
+abbrev pub most_subscriptions : ℕ
+most_subscriptions = 1000000
 
 abbrev pub most_seats : ℕ
 most_seats = 64

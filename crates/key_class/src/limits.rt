@@ -21,7 +21,7 @@ pub const MAX_CURSORS: usize = 256;
 /// The most finders that are open at once.
 pub const MAX_FINDERS: usize = 64;
 
-/// The last serial that a cursor or a finder is given. The first is 1.
+/// The last serial that a cursor, a finder or a subscription is given. The first is 1.
 pub const MAX_SERIAL: u64 = 4_294_967_295;
 
 /// The most items for which a mailbox has room.
@@ -32,6 +32,9 @@ pub const MAX_DEPTH: u32 = 32;
 
 /// The most bytes of a line, its line feed not counted, and of a query's text.
 pub const MAX_LINE: usize = 4_096;
+
+/// The most subscriptions that are open at once at a feed.
+pub const MAX_SUBSCRIPTIONS: usize = 1_000_000;
 
 /// The most seats of a desk.
 pub const MAX_SEATS: usize = 64;

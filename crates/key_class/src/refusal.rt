@@ -55,6 +55,10 @@ pub enum Refusal {
     Line(u64),
     /// The number to be followed from is greater than the number of commits.
     FromFuture,
+    /// As many subscriptions are open at a feed as may be, or the last serial was given.
+    FeedFull,
+    /// No subscription with the serial is open at a feed.
+    NotSubscribed,
 }
 
 impl<T: Drop> From<AllocFailed<T>> for Refusal {
@@ -102,6 +106,8 @@ impl Refusal {
             Refusal::QueryText(_) => 21,
             Refusal::Line(_) => 22,
             Refusal::FromFuture => 23,
+            Refusal::FeedFull => 24,
+            Refusal::NotSubscribed => 25,
         }
     }
 
@@ -133,6 +139,8 @@ impl Refusal {
             Refusal::QueryText(_) => "QueryText",
             Refusal::Line(_) => "Line",
             Refusal::FromFuture => "FromFuture",
+            Refusal::FeedFull => "FeedFull",
+            Refusal::NotSubscribed => "NotSubscribed",
         }
     }
 }
