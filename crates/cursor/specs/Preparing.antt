@@ -1,9 +1,9 @@
 -- A visit that is worked out beside the table, for a cursor.
-use Rattle.std.specs.Prelude.{◌≡◌, ◌≢◌, ◌⊎◌, false, []}
+use Rattle.std.specs.Prelude.{◌≡◌, ◌≢◌, ◌⊎◌, ℕ, false, []}
 use Rattle.key_class.specs.declared.refusal.Refusal.{Refusal}
 use Rattle.key_class.specs.declared.refusal.Refusal.TheVariants as refusal
 use Rattle.page_table.specs.Trees.{Tree, page_at}
-use Rattle.scan.specs.Scanning.{IsNext}
+use Rattle.scan.specs.Scanning.{IsNext, IsNextPage}
 use Rattle.scan.specs.Prepared.{PreparedVisit}
 use Rattle.cursor.specs.OpenCursors.{OpenCursor}
 
@@ -25,6 +25,11 @@ pub record IsPrepared {K A : Type 0} (t : Tree K) (k : OpenCursor K A) (visit : 
 pub record VisitsNext {K A : Type 0} (k : OpenCursor K A) : Type 0 where
   pub none_pending : k.pending ≡ []
   pub left : k.stack ≢ []
+
+-- the cursor's next turn visits the page: no row is pending, and the page is next
+pub record IsPageToVisit {K A : Type 0} (k : OpenCursor K A) (page : ℕ) : Type 0 where
+  pub none_pending : k.pending ≡ []
+  pub next : IsNextPage k.stack page
 
 -- why no visit is prepared: the cursor's next turn is none, or memory is wanting
 abbrev pub RefusesVisit : {K A : Type 0} → OpenCursor K A → Refusal → Type 0

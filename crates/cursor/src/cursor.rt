@@ -1,5 +1,5 @@
-ghost use Rattle.std.specs.Prelude.{◌≡◌, ◌↔◌, true, false, [], IfOk, IfErr, IsTrue, ◌+◌, Some, None};
-ghost use Rattle.cursor.specs.Preparing.{IsPrepared, IsDue, RefusesVisit};
+ghost use Rattle.std.specs.Prelude.{◌≡◌, ◌↔◌, true, false, [], IfOk, IfErr, IfSome, IfNone, IsTrue, ◌+◌, Some, None};
+ghost use Rattle.cursor.specs.Preparing.{IsPrepared, IsDue, IsPageToVisit, RefusesVisit, VisitsNext};
 ghost use Rattle.std.specs.Arc.{arc_value};
 ghost use Rattle.key_class.specs.Queries.{query_of};
 ghost use Rattle.change_list.specs.declared.item.Item.{Item};
@@ -147,6 +147,13 @@ impl<C: KeyClass, O: Outlet<C::Key>> Cursor<C, O> {
         self.opened
     }
 
+    /// The commit up to which the changes went to the outlet, or were passed.
+    pub fn position(&self) -> u64
+        ensures { result ≡ self.now.position }
+    {
+        self.position
+    }
+
     /// Whether pages are left to be visited.
     pub fn is_scanning(&self) -> bool
         ensures scanning { result ≡ is_scanning self.now.stack }
@@ -206,6 +213,17 @@ impl<C: KeyClass, O: Outlet<C::Key>> Cursor<C, O> {
             Ok(None) => unreachable!(),
             Err(_) => Err(Refusal::OutOfMemory),
         }
+    }
+
+    /// The number of the page that the cursor's next turn visits. None where its next turn is no visit.
+    pub fn page_to_visit(&self) -> Option<u32>
+        ensures page { IfSome result (IsPageToVisit self.now) }
+        ensures none { IfNone result (¬ VisitsNext self.now) }
+    {
+        if self.pending.len() > 0 {
+            return None;
+        }
+        self.stack.next_page()
     }
 
     /// The visit that the cursor's next turn makes, where its next turn is one.

@@ -13,6 +13,12 @@ pub record IsNext (stack : List StackItem) (item : StackItem) : Type 0 where
   pub rest : List StackItem
   pub is : stack ≡ rest ++ item ∷ []
 
+-- the page to be visited next
+pub record IsNextPage (stack : List StackItem) (page : ℕ) : Type 0 where
+  pub item : StackItem
+  pub next : IsNext stack item
+  pub is : page ≡ item.page
+
 -- nothing was left to be visited, and nothing changes
 abbrev pub NothingLeft : List StackItem → List StackItem → Type 0
 NothingLeft old new = (old ≡ []) × (new ≡ old)

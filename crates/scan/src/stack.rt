@@ -4,7 +4,7 @@ ghost use Rattle.smallvec.specs.SmallVec.{HasRoomFor};
 ghost use Rattle.page_table.specs.Stacks.{IsStack, root_stack};
 ghost use Rattle.page_table.specs.Trees.{page_at};
 ghost use Rattle.scan.specs.Finding.{stack_at, LacksNext, KeepsFinding, SeekLowersWork, PushesCovering, SeeksNext};
-ghost use Rattle.scan.specs.Scanning.{IsNext, GoesOn, PushesSome, with_memo, children_on, HasWanted, KeepsWanted};
+ghost use Rattle.scan.specs.Scanning.{IsNext, IsNextPage, GoesOn, PushesSome, with_memo, children_on, HasWanted, KeepsWanted};
 ghost use Rattle.scan.specs.QueryVisits.{GoesOnBy, AddsUp, Prepares, GrowsBy, Tallies, IsStillNext, Notes, VisitPushes, VisitsOn, VisitsBy, PushesBy, MakesVisit, VisitLowersWork};
 
 use crate::branch_test::{BranchTest, Covering};
@@ -107,6 +107,16 @@ impl Stack {
         ensures { IsTrue result ↔ (self.now ≡ []) }
     {
         self.items.len() == 0
+    }
+
+    /// The number of the page to be visited next. None where nothing is left to be visited.
+    pub fn next_page(&self) -> Option<u32>
+        ensures { MatchOption result (self.now ≡ []) (IsNextPage self.now) }
+    {
+        match self.last() {
+            Some(item) => Some(item.page),
+            None => None,
+        }
     }
 
     /// Visits the page of the last item, where there is one: notes its rows that match and were there after the first

@@ -64,6 +64,16 @@ module _ {K A : Type 0} where
     pub is_open : cursor_at s c ≡ Some cursor
     pub due : IsDue s.search.tree cursor visit
 
+  -- the cursor is open, and its next turn visits the page
+  pub record VisitsPageNext (s : State K A) (c page : ℕ) : Type 0 where
+    pub visit : PreparedVisit K A
+    pub has : HasVisit s c visit
+    pub is : page ≡ visit.item.page
+
+  -- the cursor isn't open, or its next turn is no visit
+  abbrev pub HasNoVisit : State K A → ℕ → Type 0
+  HasNoVisit s c = (visit : PreparedVisit K A) → ¬ HasVisit s c visit
+
   -- the task is the cursor's next visit, to be worked on
   abbrev pub PreparesVisit : State K A → ℕ → VisitTask K A → Type 0
   PreparesVisit s c task = (task.cursor ≡ c) × HasVisit s c task.visit × (task.visit.worked ≡ false)

@@ -7,7 +7,7 @@ ghost use Rattle.world.specs.States.{IsAt, IsSoundWorld};
 ghost use Rattle.world.specs.Steps.{Acts};
 ghost use Rattle.world.specs.Tasks as model;
 ghost use Rattle.world.specs.Promises.{KeepsMailboxes};
-ghost use Rattle.world.specs.Tasks.{HasPage, HasVisit, IsLate, IsSplitOf, IsStaleSplit, IsStaleVisit, PreparesSplit, PreparesVisit, PublishesSplit, PublishesVisit, RefusesPreparing, RefusesSides, TurnsOrIsLate, WorksOutSides, prepare_split_tests, worked_on};
+ghost use Rattle.world.specs.Tasks.{HasNoVisit, HasPage, HasVisit, IsLate, IsSplitOf, IsStaleSplit, IsStaleVisit, PreparesSplit, PreparesVisit, PublishesSplit, PublishesVisit, RefusesPreparing, RefusesSides, TurnsOrIsLate, VisitsPageNext, WorksOutSides, prepare_split_tests, worked_on};
 
 use crate::event::Event;
 use crate::reply::Reply;
@@ -101,6 +101,19 @@ impl<C: KeyClass> VisitTask<C> {
 }
 
 impl<C: KeyClass, O: Outlet<C::Key>> World<C, O> {
+    /// The number of the page that a cursor's next turn visits: that of the visit which `prepare_visit` gives. None where the
+    /// cursor isn't open or its next turn is no visit. Nothing is prepared, and no memory is taken.
+    pub fn page_to_visit(&self, c: u64) -> Option<u32>
+        ensures page { IfSome result (VisitsPageNext self.now c) }
+        ensures none { IfNone result (HasNoVisit self.now c) }
+    {
+        self.recall_soundness();
+        match self.place_of(c) {
+            Ok(at) => return self.cursors[at].page_to_visit(),
+            Err(_) => return None,
+        }
+    }
+
     /// The next visit of a cursor, to be worked out beside the world.
     ///
     /// # Errors

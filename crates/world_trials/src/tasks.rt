@@ -80,6 +80,8 @@ enum Deed {
     /// The visit that was prepared last is published, and visits that page, or is stale.
     PublishVisit(Option<u32>),
     RefuseVisit(u64),
+    /// A cursor's next turn visits that page, or none.
+    TellPage(u64, Option<u32>),
     /// There are so many pages.
     Count(u64),
     /// A cursor is closed.
@@ -134,6 +136,7 @@ fn is_done(alloc: Global, scene: &mut Scene, deed: Deed) -> Result<bool, Fail> {
         Deed::PrepareVisit(cursor, is_worked) => prepare_visit(scene, cursor, is_worked)?,
         Deed::PublishVisit(wanted) => return Ok(publishes_visit(scene, wanted)),
         Deed::RefuseVisit(cursor) => return Ok(prepare_visit(scene, cursor, false).is_err()),
+        Deed::TellPage(cursor, page) => return Ok(scene.world.page_to_visit(cursor) == page),
         Deed::Count(pages) => return Ok(scene.world.pages() == pages),
         Deed::IsClosed(cursor) => {
             return Ok(scene.world.check_cursor(cursor) == Err(Refusal::CursorClosed));
@@ -205,15 +208,18 @@ static LISTS: [(&str, &[Deed]); 4] = [
         &[
             OPEN,
             OPEN,
+            Deed::TellPage(1, Some(0)),
             Deed::PrepareVisit(1, true),
             // Another cursor's turn falls between.
             Deed::Give(Ask::Turn(2)),
             Deed::PublishVisit(Some(0)),
+            Deed::TellPage(1, Some(1)),
             Deed::PrepareVisit(1, true),
             Deed::Give(Ask::Turn(1)),
             Deed::PublishVisit(None),
             // Rows are pending.
             Deed::RefuseVisit(1),
+            Deed::TellPage(1, None),
         ],
     ),
     (
@@ -227,7 +233,10 @@ static LISTS: [(&str, &[Deed]); 4] = [
             Deed::PublishVisit(None),
             Deed::IsClosed(1),
             Deed::RefuseVisit(1),
+            Deed::TellPage(1, None),
+            // No cursor has this serial.
             Deed::RefuseVisit(2),
+            Deed::TellPage(2, None),
         ],
     ),
 ];
