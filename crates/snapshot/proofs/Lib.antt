@@ -1,4 +1,4 @@
-mod Counting
+mod Ending
 mod Going
 mod Living
 mod Passing

@@ -14,10 +14,8 @@ use Rattle.change_list.specs.Asked.{snapshot_for}
 use Rattle.change_list.specs.Changes.{IsLegal, snapshot}
 use Rattle.change_list.specs.Listings.{AreChanges, IsListing}
 use Rattle.page_table.specs.Soundness.{IsSound}
-use Rattle.page_table.specs.Stacks.{root_stack}
 use Rattle.page_table.specs.Trees.{Tree}
 use Rattle.scan.specs.Agreement.{Agrees}
-use Rattle.scan.specs.Scanning.{to_find}
 
 -- a sound tree, whose entries agree with a legal list of commits, no more of them than a world may have
 pub record IsSnapshot {K : Type 0} (is_cover : K → K → Bool) (tree : Tree K) (commits : List (Write K)) : Type 0 where
@@ -31,10 +29,6 @@ module _ {K A : Type 0} (rules : Rules K A) (query : Pred A) where
   -- the rows that live after all commits and whose keys satisfy the query, by rising number
   abbrev pub found_in : List (Write K) → List (Row K)
   found_in commits = snapshot_for rules query (length commits) commits
-
-  -- how many rows a traversal from the root finds whose keys satisfy the query, of those there after the first n commits
-  abbrev pub number_found : ℕ → Tree K → ℕ
-  number_found n tree = length (to_find (satisfies rules (query_of query)) n tree (root_stack tree.counter))
 
   -- What was put behind the items of a list: the items of the commits after `from` up to `upto`, at most `most`. Either
   -- `upto` is the last commit, or there are as many.

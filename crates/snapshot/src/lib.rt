@@ -1,7 +1,7 @@
 //! A world's commits as they stood, with the tree that agrees with them: any number of threads search it, without a lock.
 #![tactic(auto)]
 
-mod count;
+mod all_rows;
 mod crossing;
 mod laws;
 mod life;

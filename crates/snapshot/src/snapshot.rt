@@ -2,10 +2,10 @@ ghost use Rattle.std.specs.Prelude.{◌≡◌, ◌↔◌, ◌<◌, length, Err, 
 ghost use Rattle.key_class.specs.declared.refusal.Refusal.TheVariants.{BadConfig, OutOfMemory, FromFuture};
 ghost use Rattle.key_class.specs.Refusals.{IsEither};
 ghost use Rattle.key_class.specs.Queries.{query_of, depth_of};
-ghost use Rattle.change_list.specs.Changes.{IsLegal, commit_at, row_at, status_of};
+ghost use Rattle.change_list.specs.Changes.{IsLegal, commit_at, row_at, rows, status_of};
 ghost use Rattle.snapshot.specs.Snapshots.{IsSnapshot, Appends, IsAfterAll, RefusesChanges, found_in};
 
-use crate::count::counted;
+use crate::all_rows::all_rows;
 use crate::life::lives;
 use change_list::{Item, Row, Status, View, Write, change_item, next_asked};
 use key_class::limits::MAX_DEPTH;
@@ -93,6 +93,18 @@ impl<C: KeyClass> Snapshot<C> {
         &self.list
     }
 
+    /// The rows that lived after its last commit, by rising number. It reads each commit twice, and no page.
+    ///
+    /// # Errors
+    /// Memory was wanting.
+    pub fn all_rows(&self) -> Result<Vec<Row<C::Key>>, Refusal>
+        ensures ok { IfOk result (λ found. found.items ≡ rows self.now) }
+        ensures refused { IfErr result (λ why. why ≡ OutOfMemory) }
+    {
+        let found = all_rows(self.alloc, &self.list)?;
+        Ok(found)
+    }
+
     /// The rows that lived after its last commit and match, by rising number.
     ///
     /// # Errors
@@ -123,7 +135,7 @@ impl<C: KeyClass> Snapshot<C> {
             return Err(Refusal::BadConfig);
         }
         let commits = self.list.len() as u32;
-        let count = counted::<C>(self.alloc, &self.pages, commits, query)?;
+        let count = survey::live_count::<C>(self.alloc, &self.pages, commits, query)?;
         Ok(count)
     }
 

@@ -20,3 +20,7 @@ module _ {K A : Type 0} (rules : Rules K A) (query : Pred A) where
   -- all that a scan finds which begins at the root, in some order
   abbrev pub FindsAll : ℕ → Tree K → List (Row K) → Type 0
   FindsAll n t rows = Same rows (to_find (satisfies rules (query_of query)) n t (root_stack t.counter))
+
+  -- how many rows a traversal from the root finds whose keys satisfy the query, of those there after the first n commits
+  abbrev pub number_found : ℕ → Tree K → ℕ
+  number_found n tree = length (to_find (satisfies rules (query_of query)) n tree (root_stack tree.counter))

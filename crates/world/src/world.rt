@@ -1,7 +1,7 @@
 ghost use Rattle.std.specs.Prelude.{◌≡◌, ◌↔◌, ◌+◌, ◌≤◌, None, length, IfOk, OnOk, IfErr, IfSome, IfNone, is_some, nat_lt};
 ghost use Rattle.key_class.specs.Refusals.{IsEither};
 ghost use Rattle.change_list.specs.Configs.{IsWithinLimits};
-ghost use Rattle.change_list.specs.Changes.{commit_at, status_of, IsLegal};
+ghost use Rattle.change_list.specs.Changes.{commit_at, row_at, status_of, IsLegal};
 ghost use Rattle.page_table.specs.Trees.{page_at};
 ghost use Rattle.split.specs.Tests.{first_failing};
 ghost use Rattle.world.specs.States.{new_state, IsSoundWorld, IsAt, IsFinderOf, finder_at};
@@ -11,7 +11,7 @@ ghost use Rattle.world.specs.Promises.{ServesAll, FitsAtOpening, LowersCursorWor
 use crate::event::Event;
 use crate::places::place_of;
 use crate::reply::Reply;
-use change_list::{ChangeList, Config, Status, View, Write};
+use change_list::{ChangeList, Config, Row, Status, View, Write};
 use cursor::Cursor;
 use descent::Finder;
 use key_class::{KeyClass, Refusal};
@@ -126,6 +126,20 @@ impl<C: KeyClass, O: Outlet<C::Key>> World<C, O> {
         let pages = self.search.pages().copy()?;
         let list = self.changes.view()?;
         Ok(Snapshot::new(self.allocator(), pages, list))
+    }
+
+    /// The row with a number, as its commit made it, whether it lives or not. That takes two reads at most.
+    pub fn row(&self, number: u64) -> Option<Row<C::Key>>
+        ensures { result ≡ row_at self.now.commits number }
+    {
+        self.changes.row(number)
+    }
+
+    /// The open cursors, by rising serial.
+    pub fn open_cursors(&self) -> &[Cursor<C, O>]
+        ensures { result.now ≡ self.now.cursors }
+    {
+        self.cursors.as_slice()
     }
 
     /// What is known of a row number.

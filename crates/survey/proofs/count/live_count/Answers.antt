@@ -3,8 +3,8 @@ use Rattle.key_class.specs.Queries.{query_of}
 use Rattle.key_class.specs.Rules.{satisfies, may_satisfy}
 use Rattle.scan.proofs.Visiting.{visit_stack}
 use Rattle.survey.proofs.Surveying.{some_visited}
-use Rattle.snapshot.proofs.Counting.{counted_on}
-use Rattle.snapshot.proofs.count.counted.Goals as goal
+use Rattle.survey.proofs.Counting.{counted_on}
+use Rattle.survey.proofs.count.live_count.Goals as goal
 
 pub overflow_add-count : goal.overflow_add-count
 overflow_add-count g c =

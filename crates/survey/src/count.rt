@@ -1,6 +1,6 @@
 ghost use Rattle.std.specs.Prelude.{◌≡◌, ◌<◌, ◌^◌, ℕ, IfOk};
 ghost use Rattle.page_table.specs.Soundness.{IsSound};
-ghost use Rattle.snapshot.specs.Snapshots.{number_found};
+ghost use Rattle.survey.specs.Surveys.{number_found};
 
 use key_class::{KeyClass, Pred};
 use page_table::PageTable;
@@ -10,12 +10,12 @@ use std::alloc::{AllocError, Global};
 /// For how many rows a count asks memory before it has found any: more than one page may have.
 const AT_FIRST: usize = 64;
 
-/// How many rows that match a traversal from the root finds, of those that were there after the first `commits` commits.
-/// It keeps the rows of one page at a time.
+/// How many rows live after the first `commits` commits and match: as many as a traversal from the root finds. It keeps the
+/// rows of one page at a time.
 ///
 /// # Errors
 /// Memory was wanting.
-pub(crate) fn counted<C: KeyClass>(
+pub fn live_count<C: KeyClass>(
     alloc: Global,
     table: &PageTable<C::Key>,
     commits: u32,

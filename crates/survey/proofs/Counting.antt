@@ -14,7 +14,8 @@ use Rattle.page_table.specs.Trees.{Tree}
 use Rattle.page_table.specs.Weights.{Same, weigh}
 use Rattle.scan.proofs.Opening.{open_find}
 use Rattle.scan.specs.Scanning.{LosesNothing, to_find}
-use Rattle.snapshot.specs.Snapshots.{IsSnapshot}
+use Rattle.scan.specs.Agreement.{Agrees}
+use Rattle.key_class.specs.Limits.{most_commits}
 
 ones : {X : Type 0} (xs : List X) → weigh (λ x. 1) xs ≡ length xs
 ones [] = refl
@@ -57,14 +58,14 @@ module _ {K : Type 0} where
         ap length (take-length commits),
       )
 
-  module _ (is_cover : K → K → Bool) (tree : Tree K) (commits : List (Write K)) (s : IsSnapshot is_cover tree commits) (wanted : K → Bool) where
+  module _ (is_cover : K → K → Bool) (tree : Tree K) (fan : ℕ) (sound : IsSound is_cover fan tree) (commits : List (Write K)) (agrees : Agrees tree commits) (wanted : K → Bool) where
     pub number_is : (n : ℕ) → n ≡ length commits → length (to_find wanted n tree (root_stack tree.counter)) ≡ length (snapshot wanted (length commits) commits)
     number_is n e =
         ap (λ m. length (to_find wanted m tree (root_stack tree.counter))) e
-        ∙ same_length (to_find wanted (length commits) tree (root_stack tree.counter)) (snapshot wanted (length commits) commits) (open_find is_cover tree s.fan s.sound commits s.agrees wanted)
+        ∙ same_length (to_find wanted (length commits) tree (root_stack tree.counter)) (snapshot wanted (length commits) commits) (open_find is_cover tree fan sound commits agrees wanted)
 
-    pub number_few : (n : ℕ) → n ≡ length commits → length (to_find wanted n tree (root_stack tree.counter)) < 2 ^ 64
-    number_few n e = omega (arith, number_is n e, snapshot_few wanted commits, s.few)
+    pub number_few : length commits ≤ most_commits → (n : ℕ) → n ≡ length commits → length (to_find wanted n tree (root_stack tree.counter)) < 2 ^ 64
+    number_few few n e = omega (arith, number_is n e, snapshot_few wanted commits, few)
 
   -- what was counted, with what is still to be found, stays the same through a visit
   pub counted_on : (is_cover : K → K → Bool) (t : Tree K) (fan : ℕ) → IsSound is_cover fan t → (wanted : K → Bool) (s count total : ℕ) (old new : List StackItem) (noted kept kept' : List (Row K))

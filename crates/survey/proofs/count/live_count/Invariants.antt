@@ -3,7 +3,7 @@ use Rattle.key_class.specs.Queries.{query_of}
 use Rattle.key_class.specs.Rules.{satisfies}
 use Rattle.page_table.specs.Stacks.{IsStack, pages_left, root_stack}
 use Rattle.scan.specs.Scanning.{to_find}
-use Rattle.snapshot.proofs.count.counted.Given as goal
+use Rattle.survey.proofs.count.live_count.Given as goal
 
 abbrev pub invariant-visits : goal.invariant-visits
 invariant-visits g l =
