@@ -1,2 +1,4 @@
+pub mod Renewing
 pub mod States
+pub mod Stats
 pub mod Worlds

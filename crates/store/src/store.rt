@@ -4,7 +4,7 @@ ghost use Rattle.key_class.specs.Refusals.{IsEither};
 ghost use Rattle.key_class.specs.Queries.{query_of, depth_of};
 ghost use Rattle.change_list.specs.Configs.{IsWithinLimits};
 ghost use Rattle.change_list.specs.declared.write.Write.TheVariants.{Insert, Delete, Move};
-ghost use Rattle.change_list.specs.Changes.{IsLegal, NamesNoRow, NamesDead, commit_at};
+ghost use Rattle.change_list.specs.Changes.{IsLegal, NamesNoRow, NamesDead, commit_at, row_at, status_of};
 ghost use Rattle.relocation.specs.Moves.{IsToldFirst};
 ghost use Rattle.store.specs.Worlds.{HasCursor};
 ghost use Rattle.store.specs.States.{new_store, Commits, Keeps, cursor_of, IsOpenedFor, IsFollowerFor, IsBadOpening, IsFromFuture, HasNoFollowerFor, HasFewPages, HasNoCommitLeft, HasNoCommitFor, HasNoFinderFor, HasNoCursorFor, RefusesRow, RefusesCursor, RefusesFollower, AddsDead, MayRefuseDelete, MayRefuseMove, LacksCursor, Closes, DrainsInto, SweepsStore, SweepsStorePart, Nexts, RefusesNext, ChangesCursor, with_asking, matching_rows};
@@ -23,7 +23,7 @@ use world::World;
 #[derive(Drop)]
 pub struct Store<C: KeyClass> {
     alloc: Global,
-    world: World<C, Tray<C::Key>>,
+    pub(crate) world: World<C, Tray<C::Key>>,
 }
 
 impl<C: KeyClass> Model for Store<C> {
@@ -81,6 +81,20 @@ impl<C: KeyClass> Store<C> {
         ensures { result ≡ commit_at self.now.commits number }
     {
         self.world.commit(number)
+    }
+
+    /// The row with a number, as its commit made it, whether it lives or not. That takes two reads at most.
+    pub fn row(&self, number: u64) -> Option<Row<C::Key>>
+        ensures { result ≡ row_at self.now.commits number }
+    {
+        self.world.row(number)
+    }
+
+    /// What became of the row with a number.
+    pub fn status(&self, number: u64) -> Status
+        ensures { result ≡ status_of self.now.commits number }
+    {
+        self.world.status(number)
     }
 
     /// The commits as they are now, whatever follows, to be searched beside the store by any number of threads.
@@ -314,5 +328,25 @@ impl<C: KeyClass> Store<C> {
         let commits = self.world.commits() as u32;
         let rows = survey::live_rows::<C>(self.alloc, table, commits, query)?;
         Ok(rows)
+    }
+
+    /// How many live rows match. It keeps the rows of one page at a time.
+    ///
+    /// # Errors
+    /// `BadConfig` where the query is deeper than 32, else want of memory.
+    pub fn count(&self, query: &Pred<C::Atom>) -> Result<u64, Refusal>
+        ensures ok { IfOk result (λ n. n
+            ≡ length (matching_rows C.rules self.now query.now)) }
+        ensures depth { (result ≡ Err BadConfig) ↔ (32 < depth_of (query_of query.now)) }
+        ensures refusals { IfErr result (IsEither BadConfig OutOfMemory) }
+    {
+        if !query.is_within_depth(MAX_DEPTH) {
+            return Err(Refusal::BadConfig);
+        }
+        self.world.recall_soundness();
+        let table = self.world.search().pages();
+        let commits = self.world.commits() as u32;
+        let count = survey::live_count::<C>(self.alloc, table, commits, query)?;
+        Ok(count)
     }
 }

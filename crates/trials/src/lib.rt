@@ -10,6 +10,10 @@ mod deletions;
 #[cfg(test)]
 mod faults;
 #[cfg(test)]
+mod renewed;
+#[cfg(test)]
 mod runs;
 #[cfg(test)]
 mod snapshots;
+#[cfg(test)]
+mod stats;

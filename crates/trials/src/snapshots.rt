@@ -17,11 +17,11 @@ const CONFIG: Config = Config {
 /// How many rows there are before one is deleted and one moved.
 const ROWS: i64 = 40;
 
-fn point(at: i64) -> Result<Interval, Refusal> {
+pub(crate) fn point(at: i64) -> Result<Interval, Refusal> {
     Interval::new(at, at)
 }
 
-fn overlapping(lo: i64, hi: i64) -> Result<Pred<Atom>, Refusal> {
+pub(crate) fn overlapping(lo: i64, hi: i64) -> Result<Pred<Atom>, Refusal> {
     Ok(Pred::Atom(Intervals::atom(Rel::Overlaps, Interval::new(lo, hi)?)))
 }
 
@@ -34,7 +34,7 @@ fn insert_all(store: &mut Store<Intervals>, first: i64) -> Result<(), Refusal> {
 }
 
 /// A store of 42 commits: row n stands at point n, row 1 is deleted, and row 2 was moved to point 50.
-fn first_part(alloc: Global) -> Result<Store<Intervals>, Refusal> {
+pub(crate) fn first_part(alloc: Global) -> Result<Store<Intervals>, Refusal> {
     let mut store = Store::new(alloc, CONFIG)?;
     insert_all(&mut store, 1)?;
     let _deleted = store.delete(1)?;

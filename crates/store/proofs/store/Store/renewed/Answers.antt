@@ -1,0 +1,41 @@
+use Rattle.std.proofs.Common.{◌≡◌, Err, length, sym, ap, ◌∙◌, arith}
+use Rattle.std.proofs.lemmas.Result.{err_from_is_err_and}
+use Rattle.key_class.specs.declared.refusal.Refusal.TheVariants as refusal
+use Rattle.change_list.specs.Changes.{rows}
+use Rattle.store.specs.Renewing.{numbered}
+use Rattle.store.proofs.Filling.{not_bad, renewing_live, renewing_more, renewing_refused}
+use Rattle.store.proofs.store.Store.renewed.Goals as goal
+
+pub returns-in_err-insert-clause-bad : goal.returns-in_err-insert-clause-bad
+returns-in_err-insert-clause-bad g c =
+    let p = err_from_is_err_and c.from_residual-in_err-insert.result c.from_residual-in_err-insert.ensures.1 in
+    rw (p.1, p.2) (
+      λ e within. let bad : c.in_err-insert.field-0.0 ≡ refusal.BadConfig = cc in not_bad c.insert.new.self c.in_err-insert.field-0.0 c.in_err-insert.ensures.refusals bad,
+      λ none. let e = c.in_ok-store.ensures.bad.1 none in absurd (cc),
+    )
+
+pub returns-in_err-insert-clause-refusals : goal.returns-in_err-insert-clause-refusals
+returns-in_err-insert-clause-refusals g c =
+    let p = err_from_is_err_and c.from_residual-in_err-insert.result c.from_residual-in_err-insert.ensures.1 in
+    let items = c.deref-row-items.result.now in
+    let is : rows c.args.snapshot.now ≡ items = sym (c.deref-row-items.ensures.value ∙ c.in_ok-living.ensures.ok) in
+    let refused = c.in_err-insert.ensures in
+    rw (p.1, p.2)
+    (renewing_refused c.args.config g.C.KeyClass.rules.is_match items c.loop-row.row-index c.loop-row-test.true c.row-item.result c.row-item.is c.loop-row.store c.insert.new.self c.loop-row.old_numbers.items c.loop-row.invariant.0
+    c.args.snapshot.now is c.insert.new.self refused.err.commits refused.err.page_limit refused.few_pages c.in_err-insert.field-0.0 refused.refusals (λ e. refused.full.0 (ap Err e)))
+
+pub loop-row-preserved : goal.loop-row-preserved
+loop-row-preserved g c =
+    let items = c.deref-row-items.result.now in
+    let made = c.in_ok-insert.ensures in (
+      renewing_more c.args.config g.C.KeyClass.rules.is_match items c.loop-row.row-index c.loop-row-test.true c.row-item.result c.row-item.is c.loop-row.store c.insert.new.self c.loop-row.old_numbers.items c.loop-row.invariant.0
+          c.push_reserved.new.self.items made.ok made.dead made.finders made.few_pages c.push_reserved.ensures.items,
+      omega (arith, c.loop-row.invariant.1, c.push_reserved.ensures.capacity),
+    )
+
+pub returns-clause-live : goal.returns-clause-live
+returns-clause-live g c =
+    let items = c.deref-row-items.result.now in
+    let all : c.loop-row.row-index ≡ length items = omega (arith, c.loop-row-test.false, c.loop-row.auto.row-index-end) in
+    renewing_live c.args.config items c.loop-row.store c.loop-row.old_numbers.items c.loop-row.row-index c.loop-row.invariant.0 all
+    ∙ ap (numbered 1) (c.deref-row-items.ensures.value ∙ c.in_ok-living.ensures.ok)
