@@ -16,9 +16,10 @@ use Rattle.box_class.specs.Boxes as boxes
 use Rattle.box_class.specs.BoxLaws as box_laws
 use Rattle.set_class.specs.declared.elements.Elements.{Elements}
 use Rattle.set_class.specs.declared.atom.Atom as set
+use Rattle.set_class.specs.SetLaws as set_laws
 use Rattle.set_class.specs.Sets as sets
-use Rattle.reach.specs.Atoms.{interval_reach, overlapping_interval, box_reach, overlapping_box, reach_by, if_some, set_reach, overlapping_set}
-use Rattle.reach.specs.Reaches.{MatchesOverlap}
+use Rattle.reach.specs.Atoms.{interval_reach, overlapping_interval, same_interval, box_reach, overlapping_box, same_box, reach_by, if_some, set_reach, overlapping_set, same_set}
+use Rattle.reach.specs.Reaches.{MatchesItself, MatchesOverlap}
 
 -- an interval meets one that it covers, and one that covers it
 interval_covers : (outer inner : Interval) → intervals.is_cover outer inner ≡ true → intervals.is_meeting outer inner ≡ true
@@ -96,3 +97,13 @@ set_related Same operand key reach is h = let some = some_given operand reach is
 
 pub set_overlaps : MatchesOverlap sets.matches_atom set_reach overlapping_set
 set_overlaps a key reach is h = set_related a.rel a.operand key reach is h
+
+-- each key matches the atom that asks for it
+pub interval_itself : MatchesItself intervals.matches_atom same_interval
+interval_itself key = rw (interval_laws.covers_itself key) refl
+
+pub box_itself : MatchesItself boxes.matches_atom same_box
+box_itself key = rw (box_laws.covers_itself key) refl
+
+pub set_itself : MatchesItself sets.matches_atom same_set
+set_itself key = rw (set_laws.covers_itself key) refl

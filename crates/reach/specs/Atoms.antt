@@ -16,12 +16,18 @@ interval_reach a = Some a.operand
 abbrev pub overlapping_interval : Interval → interval.Atom
 overlapping_interval key = record { rel = Overlaps; operand = key }
 
+abbrev pub same_interval : Interval → interval.Atom
+same_interval key = record { rel = Same; operand = key }
+
 -- the same of boxes
 abbrev pub box_reach : box.Atom → Option BoxKey
 box_reach a = Some a.operand
 
 abbrev pub overlapping_box : BoxKey → box.Atom
 overlapping_box key = record { rel = Overlaps; operand = key }
+
+abbrev pub same_box : BoxKey → box.Atom
+same_box key = record { rel = Same; operand = key }
 
 -- the set where it has an element
 abbrev pub if_some : Elements → Option Elements
@@ -39,3 +45,6 @@ set_reach a = reach_by a.rel a.operand
 
 abbrev pub overlapping_set : Elements → set.Atom
 overlapping_set key = record { rel = Overlaps; operand = key }
+
+abbrev pub same_set : Elements → set.Atom
+same_set key = record { rel = Same; operand = key }

@@ -8,6 +8,11 @@ module _ {K A : Type 0} (is_match : A → K → Bool) (reach_of : A → Option K
   abbrev pub MatchesOverlap : Type 0
   MatchesOverlap = (a : A) (key reach : K) → reach_of a ≡ Some reach → is_match a key ≡ true → is_match (overlap_with key) reach ≡ true
 
+module _ {K A : Type 0} (is_match : A → K → Bool) (same_with : K → A) where
+  -- a key matches the atom that asks for it
+  abbrev pub MatchesItself : Type 0
+  MatchesItself = (key : K) → is_match (same_with key) key ≡ true
+
 -- the greatest sum of sizes that is told apart from larger ones
 abbrev pub greatest_size : ℕ
 greatest_size = 2 ^ 128 - 1

@@ -1,5 +1,5 @@
-ghost use Rattle.reach.specs.Atoms.{box_reach, overlapping_box};
-ghost use Rattle.reach.specs.AtomLaws.{box_overlaps};
+ghost use Rattle.reach.specs.Atoms.{box_reach, overlapping_box, same_box};
+ghost use Rattle.reach.specs.AtomLaws.{box_itself, box_overlaps};
 
 use crate::reach::Reach;
 use box_class::{Atom, BoxKey, Boxes};
@@ -9,6 +9,8 @@ impl Reach for Boxes {
     ghost reach_of = { box_reach };
 
     ghost overlap_with = { overlapping_box };
+
+    ghost same_with = { same_box };
 
     fn reach(atom: &Atom) -> Option<BoxKey> {
         Some(atom.operand)
@@ -21,5 +23,14 @@ impl Reach for Boxes {
         }
     }
 
+    fn same(key: BoxKey) -> Atom {
+        Atom {
+            rel: Rel::Same,
+            operand: key,
+        }
+    }
+
     ghost reaches = { box_overlaps };
+
+    ghost sames = { box_itself };
 }

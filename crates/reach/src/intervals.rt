@@ -1,5 +1,5 @@
-ghost use Rattle.reach.specs.Atoms.{interval_reach, overlapping_interval};
-ghost use Rattle.reach.specs.AtomLaws.{interval_overlaps};
+ghost use Rattle.reach.specs.Atoms.{interval_reach, overlapping_interval, same_interval};
+ghost use Rattle.reach.specs.AtomLaws.{interval_itself, interval_overlaps};
 
 use crate::reach::Reach;
 use interval_class::{Atom, Interval, Intervals};
@@ -9,6 +9,8 @@ impl Reach for Intervals {
     ghost reach_of = { interval_reach };
 
     ghost overlap_with = { overlapping_interval };
+
+    ghost same_with = { same_interval };
 
     fn reach(atom: &Atom) -> Option<Interval> {
         Some(atom.operand)
@@ -21,5 +23,14 @@ impl Reach for Intervals {
         }
     }
 
+    fn same(key: Interval) -> Atom {
+        Atom {
+            rel: Rel::Same,
+            operand: key,
+        }
+    }
+
     ghost reaches = { interval_overlaps };
+
+    ghost sames = { interval_itself };
 }

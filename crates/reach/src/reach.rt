@@ -1,5 +1,5 @@
 ghost use Rattle.std.specs.Prelude.{◌≡◌, Option};
-ghost use Rattle.reach.specs.Reaches.{MatchesOverlap};
+ghost use Rattle.reach.specs.Reaches.{MatchesItself, MatchesOverlap};
 
 use key_class::KeyClass;
 
@@ -11,12 +11,21 @@ pub trait Reach: KeyClass {
     /// The atom that a key matches where it overlaps this one.
     ghost overlap_with: { Self.Key → Self.Atom };
 
+    /// The atom that asks for this key.
+    ghost same_with: { Self.Key → Self.Atom };
+
     fn reach(atom: &Self::Atom) -> Option<Self::Key>
         ensures { result ≡ reach_of atom.now };
 
     fn overlapping(key: Self::Key) -> Self::Atom
         ensures { result ≡ overlap_with key };
 
+    fn same(key: Self::Key) -> Self::Atom
+        ensures { result ≡ same_with key };
+
     /// A key that matches an atom overlaps its reach.
     ghost reaches: { MatchesOverlap Self.rules.is_match reach_of overlap_with };
+
+    /// A key matches the atom that asks for it.
+    ghost sames: { MatchesItself Self.rules.is_match same_with };
 }

@@ -1,5 +1,5 @@
-ghost use Rattle.reach.specs.Atoms.{set_reach, overlapping_set};
-ghost use Rattle.reach.specs.AtomLaws.{set_overlaps};
+ghost use Rattle.reach.specs.Atoms.{set_reach, overlapping_set, same_set};
+ghost use Rattle.reach.specs.AtomLaws.{set_itself, set_overlaps};
 
 use crate::reach::Reach;
 use key_class::Rel;
@@ -9,6 +9,8 @@ impl Reach for Sets {
     ghost reach_of = { set_reach };
 
     ghost overlap_with = { overlapping_set };
+
+    ghost same_with = { same_set };
 
     /// The empty set overlaps nothing. It is within any set, and any set holds it.
     fn reach(atom: &Atom) -> Option<Elements> {
@@ -32,5 +34,14 @@ impl Reach for Sets {
         }
     }
 
+    fn same(key: Elements) -> Atom {
+        Atom {
+            rel: Rel::Same,
+            operand: key,
+        }
+    }
+
     ghost reaches = { set_overlaps };
+
+    ghost sames = { set_itself };
 }

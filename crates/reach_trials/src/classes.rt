@@ -8,10 +8,14 @@ use std::test::Fail;
 
 const RELATIONS: [Rel; 4] = [Rel::Overlaps, Rel::Within, Rel::Holds, Rel::Same];
 
-/// Whether each of some keys that matches an atom overlaps its reach, where it has one, and how many match.
+/// How many of some keys match an atom, where each that does overlaps its reach, if there is one, and each matches the atom that asks
+/// for it.
 fn matching<C: Reach>(atom: &C::Atom, keys: &[C::Key]) -> Option<usize> {
     let mut count: usize = 0;
     for key in keys {
+        if !C::matches(&C::same(*key), *key) {
+            return None;
+        }
         if C::matches(atom, *key) {
             if let Some(reach) = C::reach(atom)
                 && !C::matches(&C::overlapping(*key), reach)
