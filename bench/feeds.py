@@ -36,18 +36,19 @@ def main():
     parser.add_argument("--subscriptions", type=int, nargs="+", default=[1, 256, 10_000, 100_000])
     parser.add_argument("--rows", type=int, default=100_000)
     parser.add_argument("--moves", type=int, default=1_000_000)
+    parser.add_argument("--viewers", type=int, default=1, help="how many subscribe to each query")
     parser.add_argument("--build", action="store_true", help="build the program, and measure nothing")
     options = parser.parse_args()
     program = build("feeds", "feed_bench")
     if options.build:
         return
-    print(f"{options.rows:,} boxes, {options.moves:,} moves, a snapshot each 100; aimed at {COMMIT_AIM} microseconds a commit, {ITEM_AIM} ns an item")
+    print(f"{options.rows:,} boxes, {options.moves:,} moves, a snapshot each 100, {options.viewers:,} to a query; aimed at {COMMIT_AIM} microseconds a commit, {ITEM_AIM} ns an item")
     print("  subscriptions  move, us  feed, us a commit  items a commit  ns an item  plain list, us a commit  as many cursors")
     for count in options.subscriptions:
         # As many tests by the plain list as take some seconds
         plain = min(options.moves, max(100, 300_000_000 // count // 100 * 100))
         cursors = count if count <= MOST_CURSORS else 0
-        moves, fed, asked, _ = parts(program, count, options.rows, options.moves, plain, 0)
+        moves, fed, asked, _ = parts(program, count, options.rows, options.moves, plain, 0, options.viewers)
         drained = parts(program, 0, options.rows, plain, 0, cursors)[3] if cursors else None
         item = fed["wall"] / fed["items"] if fed["items"] else 0
         print(

@@ -1,6 +1,6 @@
 -- What a feed gives as it goes on.
-use Rattle.std.proofs.Common.{◌≡◌, ◌+◌, ◌≤◌, ℕ, zero, suc, max, min, Bool, true, false, cond, List, [], ◌∷◌, ◌++◌, length, drop, Some, refl, sym, ap, ◌∙◌, arith, subst}
-use Rattle.std.specs.Prelude.{nat_eq, slice_get}
+use Rattle.std.proofs.Common.{◌≡◌, ◌+◌, ◌<◌, ◌≤◌, ℕ, max, min, Bool, true, false, cond, List, [], ◌++◌, length, Option, Some, None, refl, sym, ap, ◌∙◌, arith}
+use Rattle.std.specs.Prelude.{nat_eq, nat_le}
 use Rattle.std.specs.Option.{option_map_or}
 use Rattle.std.proofs.lemmas.List.{append-nil}
 use Rattle.key_class.specs.Rules.{Rules, satisfies}
@@ -9,7 +9,7 @@ use Rattle.change_list.specs.declared.write.Write.{Write}
 use Rattle.change_list.specs.Changes.{changes}
 use Rattle.change_list.proofs.Pushing.{changes_none}
 use Rattle.world.specs.Serials.{Rise, member}
-use Rattle.world.proofs.Serials.{member_none}
+use Rattle.world.proofs.Serials.{member_within}
 use Rattle.feed.specs.declared.subscriber.Subscriber.{Subscriber}
 use Rattle.feed.specs.Asking.{Gives, due_upto, under}
 use Rattle.feed.specs.Feeds.{Advances, IsGivenUpto, Subscription, items_under}
@@ -30,7 +30,7 @@ module _ {K A : Type 0} (rules : Rules K A) (commits : List (Write K)) where
   }
 
   -- a feed that gave what is due went on
-  pub advances : (upto passed last most later : ℕ) (subscribers : List (Subscriber A)) (given : List (ℕ × Item K)) → Rise serial_of 0 last subscribers → upto ≤ later → later ≡ min (upto + most) (length commits)
+  pub advances : (upto passed last most later : ℕ) (subscribers : List (ℕ × Subscriber A)) (given : List (ℕ × Item K)) → Rise serial_of 0 last subscribers → upto ≤ later → later ≡ min (upto + most) (length commits)
       → Gives (due_upto rules commits later) (feed_state upto passed last subscribers) given
       → Advances rules (feed_state upto passed last subscribers) commits most given (feed_state later last last subscribers)
   advances upto passed last most later subscribers given rise further is gives = record {
@@ -41,26 +41,74 @@ module _ {K A : Type 0} (rules : Rules K A) (commits : List (Write K)) where
     no_others = λ serial none. gives serial ∙ ap (λ o. option_map_or (due_upto rules commits later) o []) none;
   }
 
--- the rise behind a member
-pub rise_behind : {X : Type 0} (serial : X → ℕ) (above last i : ℕ) (xs : List X) (x : X) → Rise serial above last xs → slice_get xs i ≡ Some x → Rise serial (serial x) last (drop (suc i) xs)
-rise_behind serial above last i [] x r e = absurd (cc)
-rise_behind serial above last zero (y ∷ xs) x r e = let same : y ≡ x = cc in subst (λ z. Rise serial (serial z) last xs) same r.1
-rise_behind serial above last (suc i) (y ∷ xs) x r e = rise_behind serial (serial y) last i xs x r.1 e
+-- what was missed, told to one serial after the other
+module _ {A X : Type 0} (missed : ℕ × Subscriber A → List X) (subscribers : List (ℕ × Subscriber A)) where
+  -- what a serial has missed
+  abbrev pub missed_by : ℕ → List X
+  missed_by serial = option_map_or missed (member serial_of serial subscribers) []
 
--- what was missed: the subscribers from a place on were told
-module _ {K A : Type 0} (due : Subscriber A → List (Item K)) where
-  abbrev pub TellsThose : List (Subscriber A) → List (ℕ × Item K) → Type 0
-  TellsThose those given = (serial : ℕ) → items_under serial given ≡ option_map_or due (member serial_of serial those) []
+module _ {K A : Type 0} (missed : ℕ × Subscriber A → List (Item K)) (subscribers : List (ℕ × Subscriber A)) where
+  -- each serial up to n was told what it has missed
+  abbrev pub TellsUpto : ℕ → List (ℕ × Item K) → Type 0
+  TellsUpto n given = (serial : ℕ) → items_under serial given ≡ cond (nat_le serial n) (missed_by missed subscribers serial) []
 
-  -- one more, which comes before them
-  pub one_before : (x : Subscriber A) (those : List (Subscriber A)) (last : ℕ) (given : List (ℕ × Item K)) → Rise serial_of x.serial last those → TellsThose those given → TellsThose (x ∷ those) (given ++ under x.serial (due x))
-  one_before x those last given rise told serial = items_under-append serial given (under x.serial (due x)) ∙ by_test (nat_eq x.serial serial) refl
+  pub tells_none : (n : ℕ) → ((serial : ℕ) → serial ≤ n → missed_by missed subscribers serial ≡ []) → TellsUpto n []
+  tells_none n nothing serial = by_test (nat_le serial n) refl
     where
-      by_test : (b : Bool) → nat_eq x.serial serial ≡ b → items_under serial given ++ items_under serial (under x.serial (due x)) ≡ option_map_or due (cond b (Some x) (member serial_of serial those)) []
+      by_test : (b : Bool) → nat_le serial n ≡ b → [] ≡ cond b (missed_by missed subscribers serial) []
+      by_test true e = let within : serial ≤ n = search (arith, e) in sym (nothing serial within)
+      by_test false e = refl
+
+  -- the next serial is nobody's
+  pub tells_nobody : (n : ℕ) (given : List (ℕ × Item K)) → TellsUpto n given → member serial_of (n + 1) subscribers ≡ None → TellsUpto (n + 1) given
+  tells_nobody n given told none serial = told serial ∙ by_test (nat_le serial n) refl (nat_le serial (n + 1)) refl
+    where
+      by_test : (b : Bool) → nat_le serial n ≡ b → (c : Bool) → nat_le serial (n + 1) ≡ c → cond b (missed_by missed subscribers serial) [] ≡ cond c (missed_by missed subscribers serial) []
+      by_test true e true f = refl
+      by_test true e false f = let l : serial ≤ n = search (arith, e) in let m : n + 1 < serial = search (arith, f) in absurd (omega (arith, l, m))
+      by_test false e true f =
+          let l : n < serial = search (arith, e) in
+          let m : serial ≤ n + 1 = search (arith, f) in
+          let one : serial ≡ n + 1 = omega (arith, l, m) in
+          sym (ap (missed_by missed subscribers) one ∙ ap (λ o. option_map_or missed o []) none)
+      by_test false e false f = refl
+
+  -- the next serial is told
+  pub tells_next : (n : ℕ) (given : List (ℕ × Item K)) (x : ℕ × Subscriber A) → TellsUpto n given → member serial_of (n + 1) subscribers ≡ Some x → TellsUpto (n + 1) (given ++ under (n + 1) (missed x))
+  tells_next n given x told is serial = items_under-append serial given (under (n + 1) (missed x)) ∙ ap (λ l. l ++ items_under serial (under (n + 1) (missed x))) (told serial) ∙ by_test (nat_eq serial (n + 1)) refl
+    where
+      by_test : (b : Bool) → nat_eq serial (n + 1) ≡ b → cond (nat_le serial n) (missed_by missed subscribers serial) [] ++ items_under serial (under (n + 1) (missed x)) ≡ cond (nat_le serial (n + 1)) (missed_by missed subscribers serial) []
       by_test true e =
-          let same : x.serial ≡ serial = search (arith, e) in
-          let none : items_under serial given ≡ [] = told serial ∙ ap (λ o. option_map_or due o []) (member_none serial_of serial x.serial last those (omega (arith, same)) rise) in
-          ap (λ l. l ++ items_under serial (under x.serial (due x))) none ∙ ap (λ n. items_under n (under x.serial (due x))) (sym same) ∙ under_same x.serial (due x)
+          let one : serial ≡ n + 1 = search (arith, e) in
+          let before : nat_le serial n ≡ false = search (arith, one) in
+          let now : nat_le serial (n + 1) ≡ true = search (arith, one) in
+          rw (before, now) (ap (λ m. items_under m (under (n + 1) (missed x))) one ∙ under_same (n + 1) (missed x) ∙ sym (ap (missed_by missed subscribers) one ∙ ap (λ o. option_map_or missed o []) is))
       by_test false e =
-          ap (λ l. items_under serial given ++ l) (under_other serial x.serial (due x) (λ same. let t : nat_eq x.serial serial ≡ true = search (arith, same) in let f : true ≡ false = sym t ∙ e in absurd (cc)))
-          ∙ append-nil (items_under serial given) ∙ told serial
+          let apart : n + 1 ≡ serial → ⊥ = λ same. let t : nat_eq serial (n + 1) ≡ true = search (arith, same) in let f : true ≡ false = sym t ∙ e in absurd (cc) in
+          ap (λ l. cond (nat_le serial n) (missed_by missed subscribers serial) [] ++ l) (under_other serial (n + 1) (missed x) apart)
+          ∙ append-nil (cond (nat_le serial n) (missed_by missed subscribers serial) [])
+          ∙ ap (λ b. cond b (missed_by missed subscribers serial) []) (same_test (nat_le serial n) refl (nat_le serial (n + 1)) refl)
+        where
+          same_test : (b : Bool) → nat_le serial n ≡ b → (c : Bool) → nat_le serial (n + 1) ≡ c → b ≡ c
+          same_test true f true g = refl
+          same_test true f false g = let l : serial ≤ n = search (arith, f) in let m : n + 1 < serial = search (arith, g) in absurd (omega (arith, l, m))
+          same_test false f true g =
+              let l : n < serial = search (arith, f) in
+              let m : serial ≤ n + 1 = search (arith, g) in
+              let one : serial ≡ n + 1 = omega (arith, l, m) in
+              let t : nat_eq serial (n + 1) ≡ true = search (arith, one) in
+              let c : true ≡ false = sym t ∙ e in
+              absurd (cc)
+          same_test false f false g = refl
+
+  -- all serials that were given were told
+  pub tells_all : (n last : ℕ) (given : List (ℕ × Item K)) → Rise serial_of 0 last subscribers → last ≤ n → TellsUpto n given → (serial : ℕ) → items_under serial given ≡ missed_by missed subscribers serial
+  tells_all n last given rise all told serial = told serial ∙ by_test (nat_le serial n) refl
+    where
+      by_test : (b : Bool) → nat_le serial n ≡ b → cond b (missed_by missed subscribers serial) [] ≡ missed_by missed subscribers serial
+      by_test true e = refl
+      by_test false e = let beyond : n < serial = search (arith, e) in sym (by_member (member serial_of serial subscribers) refl (omega (arith, beyond, all)))
+        where
+          by_member : (o : Option (ℕ × Subscriber A)) → member serial_of serial subscribers ≡ o → last < serial → missed_by missed subscribers serial ≡ []
+          by_member None f l = ap (λ o. option_map_or missed o []) f
+          by_member (Some x) f l = absurd (omega (arith, l, (member_within serial_of serial 0 last subscribers x rise f).1))

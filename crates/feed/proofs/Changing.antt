@@ -9,7 +9,7 @@ use Rattle.change_list.specs.declared.write.Write.TheVariants.{Insert, Delete, M
 use Rattle.change_list.specs.Changes.{IsLegal, commit_at, deleted_item, if_wanted, item_at, item_of, moved, moved_from, moved_item, row_at}
 use Rattle.change_list.proofs.Items.{item_of_delete, item_of_move}
 use Rattle.feed.specs.declared.change.Change.{Change}
-use Rattle.feed.specs.Changing.{IsChangeOf, TellsItem, asked_row, ended_row, made_row}
+use Rattle.feed.specs.Changing.{IsChangeOf, TellsItem, asked_row, ended_row, begun_row}
 
 module _ {K : Type 0} where
   at_next : (commits : List (Write K)) (place : ℕ) → commit_at commits (place + 1) ≡ slice_get commits place
@@ -53,7 +53,7 @@ module _ {K : Type 0} where
 
     module _ (commits : List (Write K)) (place : ℕ) (legal : IsLegal commits) where
       by_rows : (o : Option (Write K)) → commit_at commits (place + 1) ≡ o
-          → item_at wanted commits place ≡ item_between (place + 1) (asked_row wanted (ended_row commits o)) (asked_row wanted (made_row commits (place + 1) o))
+          → item_at wanted commits place ≡ item_between (place + 1) (asked_row wanted (ended_row commits o)) (asked_row wanted (begun_row commits (place + 1) o))
       by_rows None e = ap (option_and_then (item_of wanted (take place commits) (place + 1))) (sym (at_next commits place) ∙ e)
       by_rows (Some (Insert key tag)) e =
           ap (option_and_then (item_of wanted (take place commits) (place + 1))) (sym (at_next commits place) ∙ e)

@@ -1,20 +1,25 @@
 -- What stands under the serials of a list.
-use Rattle.std.proofs.Common.{◌≡◌, ◌⊎◌, ◌+◌, ◌<◌, ◌≤◌, ℕ, suc, max, Bool, true, false, cond, List, [], ◌∷◌, ◌++◌, length, map, filter, take, Option, Some, None, All, refl, sym, ap, ◌∙◌, arith, subst, inl, inr, append_assoc, get_or}
-use Rattle.std.specs.Prelude.{AllPairs, Contains, nat_eq, nat_le, option_to_list}
+use Rattle.std.proofs.Common.{◌≡◌, ◌≢◌, ◌⊎◌, ◌+◌, ◌<◌, ◌≤◌, ℕ, suc, max, Bool, true, false, cond, List, [], ◌∷◌, ◌++◌, length, map, filter, take, Option, Some, None, All, refl, sym, ap, ◌∙◌, arith, subst, inl, inr, append_assoc, get_or}
+use Rattle.std.specs.Prelude.{AllPairs, Contains, nat_eq, nat_le, nat_lt, option_and_then, option_map, option_to_list}
 use Rattle.std.specs.Option.{option_map_or}
 use Rattle.std.specs.List.Sorted.{IsStrictlyIncreasing}
 use Rattle.std.specs.List.{flat_map}
 use Rattle.std.proofs.lemmas.Bool.{eq-eqb, ne_eqb}
-use Rattle.std.proofs.lemmas.List.{append-nil, map-append, take_all, take_more}
+use Rattle.std.proofs.lemmas.List.{append-nil, map-append, take_more}
 use Rattle.std.proofs.lemmas.List.Elements.{All-head, All-tail, filter-append}
 use Rattle.std.proofs.lemmas.List.Kept.{AllPairs-from_increasing}
+use Rattle.key_class.specs.Queries.{Query}
 use Rattle.key_class.specs.Rules.{Rules, satisfies}
 use Rattle.change_list.specs.declared.item.Item.{Item}
 use Rattle.change_list.specs.declared.write.Write.{Write}
 use Rattle.change_list.specs.Changes.{changes, item_at}
 use Rattle.change_list.proofs.Pushing.{changes_more, changes_none}
-use Rattle.feed.specs.Asking.{AreAllConcerned, Gives, GivesInto, due_at, due_upto, item_for, under}
+use Rattle.feed.specs.declared.change.Change.{Change}
+use Rattle.feed.specs.Changing.{IsChangeOf}
+use Rattle.feed.specs.Asking.{AreAllConcerned, Gives, GivesInto, TellsCommit, TellsTopic, due_at, due_to, due_upto, item_for, under}
 use Rattle.feed.specs.Feeds.{FeedState, Subscription, items_under, subscription_of}
+use Rattle.feed.specs.Hearing.{TopicState, heard, heard_of, topic_at}
+use Rattle.feed.specs.Listening.{begin_of, told_after}
 use Rattle.feed.proofs.Members.{contains_cases}
 
 module _ {K : Type 0} where
@@ -29,62 +34,6 @@ module _ {K : Type 0} where
   pub under_other : (serial other : ℕ) (items : List (Item K)) → (other ≡ serial → ⊥) → items_under serial (under other items) ≡ []
   under_other serial other [] apart = refl
   under_other serial other (i ∷ items) apart = rw (ne_eqb other serial apart) (under_other serial other items apart)
-
-  -- the entries that serials are given, one serial after the other
-  abbrev pub told_to : (ℕ → List (Item K)) → List ℕ → List (ℕ × Item K)
-  told_to due serials = flat_map (λ n. under n (due n)) serials
-
-  module _ (due : ℕ → List (Item K)) where
-    -- a serial to which nothing is due
-    told_none : (serial : ℕ) (serials : List ℕ) → due serial ≡ [] → items_under serial (told_to due serials) ≡ []
-    told_none serial [] none = refl
-    told_none serial (n ∷ serials) none =
-        items_under-append serial (under n (due n)) (told_to due serials)
-        ∙ ap (λ l. l ++ items_under serial (told_to due serials)) (by_test (nat_eq n serial) refl)
-        ∙ told_none serial serials none
-      where
-        by_test : (b : Bool) → nat_eq n serial ≡ b → items_under serial (under n (due n)) ≡ []
-        by_test true e =
-            let same : n ≡ serial = search (arith, e) in
-            ap (λ m. items_under serial (under m (due m))) same ∙ ap (λ l. items_under serial (under serial l)) none
-        by_test false e = under_other serial n (due n) (λ s. let t : nat_eq n serial ≡ true = search (arith, s) in let f : true ≡ false = sym t ∙ e in absurd (cc))
-
-    -- a serial below all others
-    told_later : (serial : ℕ) (serials : List ℕ) → All (λ n. serial < n) serials → items_under serial (told_to due serials) ≡ []
-    told_later serial [] all = refl
-    told_later serial (n ∷ serials) all =
-        let less : serial < n = All-head (λ m. serial < m) n serials all in
-        items_under-append serial (under n (due n)) (told_to due serials)
-        ∙ ap (λ l. l ++ items_under serial (told_to due serials)) (under_other serial n (due n) (λ e. omega (arith, e, less)))
-        ∙ told_later serial serials (All-tail (λ m. serial < m) n serials all)
-
-    pairs_head : (n : ℕ) (serials : List ℕ) → AllPairs (λ x y. x < y) (n ∷ serials) → All (λ m. n < m) serials
-    pairs_head n serials pairs k d l = pairs 0 (suc k) d (omega arith) (omega (arith, l))
-
-    pairs_tail : (n : ℕ) (serials : List ℕ) → AllPairs (λ x y. x < y) (n ∷ serials) → AllPairs (λ x y. x < y) serials
-    pairs_tail n serials pairs i j d l h = pairs (suc i) (suc j) d (omega (arith, l)) (omega (arith, h))
-
-    told_once : (serial : ℕ) (serials : List ℕ) → AllPairs (λ x y. x < y) serials → Contains serials serial → items_under serial (told_to due serials) ≡ due serial
-    told_once serial [] pairs c = absurd (omega (arith, c.1))
-    told_once serial (n ∷ serials) pairs c =
-        items_under-append serial (under n (due n)) (told_to due serials)
-        ∙ contains_cases n serial serials c
-        (λ (e : n ≡ serial).
-        ap (λ l. items_under serial (under n (due n)) ++ l) (told_later serial serials (subst (λ m. All (λ k. m < k) serials) e (pairs_head n serials pairs)))
-        ∙ append-nil (items_under serial (under n (due n)))
-        ∙ ap (λ m. items_under serial (under m (due m))) e
-        ∙ under_same serial (due serial))
-        (λ (t : Contains serials serial).
-        let less : n < serial = subst (λ m. n < m) t.2 (pairs_head n serials pairs t.0 serial t.1) in
-        ap (λ l. l ++ items_under serial (told_to due serials)) (under_other serial n (due n) (λ e. omega (arith, e, less)))
-        ∙ told_once serial serials (pairs_tail n serials pairs) t)
-
-    -- each serial is given what is due to it, where that is nothing or the serial is among those that rise
-    pub told_each : (serial : ℕ) (serials : List ℕ) → IsStrictlyIncreasing serials → (due serial ≡ []) ⊎ Contains serials serial → items_under serial (told_to due serials) ≡ due serial
-    told_each serial serials rising c = elim c [
-      | inl none ↦ told_none serial serials none ∙ sym none
-      | inr among ↦ told_once serial serials (AllPairs-from_increasing serials rising) among
-    ]
 
   module _ {A : Type 0} (feed : FeedState A) where
     pub gives_join : (first second both : Subscription A → List (Item K)) (a b : List (ℕ × Item K)) → Gives first feed a → Gives second feed b
@@ -151,45 +100,122 @@ module _ {K : Type 0} (wanted : K → Bool) (serial from : ℕ) (commits : List 
       → told ≡ old ++ under serial (changes wanted from (max from upto) commits)
   passed_all place upto told l h e is = is ∙ ap (λ n. old ++ under serial (changes wanted from n commits)) (let same : place ≡ max from upto = omega (arith, l, h, e) in same)
 
-module _ {K A : Type 0} (rules : Rules K A) (commits : List (Write K)) (feed : FeedState A) (place : ℕ) where
-  -- what commit `place + 1` gives to a serial
-  abbrev pub due_to : ℕ → List (Item K)
-  due_to serial = option_map_or (due_at rules commits place) (subscription_of feed serial) []
-
-  -- all who are concerned were given what is due
-  pub commit_gives : (serials : List ℕ) → AreAllConcerned rules commits feed place serials → IsStrictlyIncreasing serials → Gives (due_at rules commits place) feed (told_to due_to serials)
-  commit_gives serials all rising serial = told_each due_to serial serials rising (by_subscription (subscription_of feed serial) (λ s found. all serial s found))
+-- lists for numbers that rise, of which one at most has elements
+module _ {X : Type 0} (part : ℕ → List X) (number : ℕ) (elsewhere : (other : ℕ) → other ≢ number → part other ≡ []) where
+  -- where the one isn't among them, or has none
+  flat_none : (numbers : List ℕ) → part number ≡ [] → flat_map part numbers ≡ []
+  flat_none [] none = refl
+  flat_none (n ∷ numbers) none = ap (λ l. l ++ flat_map part numbers) (by_test (nat_eq n number) refl) ∙ flat_none numbers none
     where
-      none_due : (b : Bool) (o : Option (Item K)) → o ≡ None → cond b (option_to_list o) [] ≡ []
-      none_due true o e = ap option_to_list e
-      none_due false o e = refl
+      by_test : (b : Bool) → nat_eq n number ≡ b → part n ≡ []
+      by_test true e = let same : n ≡ number = search (arith, e) in ap part same ∙ none
+      by_test false e = elsewhere n (λ s. let t : nat_eq n number ≡ true = search (arith, s) in let f : true ≡ false = sym t ∙ e in absurd (cc))
 
-      by_subscription : (o : Option (Subscription A)) → ((s : Subscription A) → o ≡ Some s → (item_for rules commits s.query place ≡ None) ⊎ Contains serials serial) → (option_map_or (due_at rules commits place) o [] ≡ []) ⊎ Contains serials serial
-      by_subscription None h = inl refl
-      by_subscription (Some s) h = elim (h s refl) [
-        | inl none ↦ inl (none_due (nat_le s.at place) (item_for rules commits s.query place) none)
+  flat_above : (numbers : List ℕ) → All (λ n. number < n) numbers → flat_map part numbers ≡ []
+  flat_above [] all = refl
+  flat_above (n ∷ numbers) all =
+      let less : number < n = All-head (λ m. number < m) n numbers all in
+      ap (λ l. l ++ flat_map part numbers) (elsewhere n (λ e. omega (arith, e, less))) ∙ flat_above numbers (All-tail (λ m. number < m) n numbers all)
+
+  pairs_head : (n : ℕ) (numbers : List ℕ) → AllPairs (λ x y. x < y) (n ∷ numbers) → All (λ m. n < m) numbers
+  pairs_head n numbers pairs k d l = pairs 0 (suc k) d (omega arith) (omega (arith, l))
+
+  pairs_tail : (n : ℕ) (numbers : List ℕ) → AllPairs (λ x y. x < y) (n ∷ numbers) → AllPairs (λ x y. x < y) numbers
+  pairs_tail n numbers pairs i j d l h = pairs (suc i) (suc j) d (omega (arith, l)) (omega (arith, h))
+
+  flat_once : (numbers : List ℕ) → AllPairs (λ x y. x < y) numbers → Contains numbers number → flat_map part numbers ≡ part number
+  flat_once [] pairs c = absurd (omega (arith, c.1))
+  flat_once (n ∷ numbers) pairs c =
+      contains_cases n number numbers c
+      (λ (e : n ≡ number).
+      ap (λ l. part n ++ l) (flat_above numbers (subst (λ m. All (λ k. m < k) numbers) e (pairs_head n numbers pairs)))
+      ∙ append-nil (part n)
+      ∙ ap part e)
+      (λ (t : Contains numbers number).
+      let less : n < number = subst (λ m. n < m) t.2 (pairs_head n numbers pairs t.0 number t.1) in
+      ap (λ l. l ++ flat_map part numbers) (elsewhere n (λ e. omega (arith, e, less)))
+      ∙ flat_once numbers (pairs_tail n numbers pairs) t)
+
+  pub flat_single : (numbers : List ℕ) → IsStrictlyIncreasing numbers → (part number ≡ []) ⊎ Contains numbers number → flat_map part numbers ≡ part number
+  flat_single numbers rising c = elim c [
+    | inl none ↦ flat_none numbers none ∙ sym none
+    | inr among ↦ flat_once numbers (AllPairs-from_increasing numbers rising) among
+  ]
+
+-- what one who listens to a query is given by a commit
+module _ {K A : Type 0} (rules : Rules K A) (commits : List (Write K)) (place : ℕ) (query : Query A) where
+  none_due : (b : Bool) (o : Option (Item K)) → o ≡ None → cond b (option_to_list o) [] ≡ []
+  none_due true o e = ap option_to_list e
+  none_due false o e = refl
+
+  -- nothing, where the commit has no item for it
+  pub nothing_due : (begin : Option ℕ) → item_for rules commits query place ≡ None → due_to rules commits place (option_map (λ from. (query, from)) begin) ≡ []
+  nothing_due None none = refl
+  nothing_due (Some from) none = none_due (nat_le from place) (item_for rules commits query place) none
+
+  -- the item, where it has one and comes later
+  pub listener_due : (number : ℕ) → number ≡ place + 1 → (item : Item K) (begin : Option ℕ) → item_for rules commits query place ≡ Some item → told_after number item begin ≡ due_to rules commits place (option_map (λ from. (query, from)) begin)
+  listener_due number next item None is = refl
+  listener_due number next item (Some from) is = by_test (nat_le from place) refl
+    where
+      by_test : (b : Bool) → nat_le from place ≡ b → told_after number item (Some from) ≡ cond b (option_to_list (item_for rules commits query place)) []
+      by_test true e =
+          let before : from ≤ place = search (arith, e) in
+          let t : nat_lt from number ≡ true = search (arith, before, next) in
+          rw t (sym (ap option_to_list is))
+      by_test false e =
+          let later : place < from = search (arith, e) in
+          let t : nat_lt from number ≡ false = search (arith, later, next) in
+          rw t refl
+
+-- what the topics of a commit were told, one after the other
+module _ {K A : Type 0} (rules : Rules K A) (commits : List (Write K)) (topics : List (Option (TopicState A))) (place : ℕ) where
+  -- what one is given by the topic with a number
+  abbrev pub given_by : ℕ → ℕ → List (Item K)
+  given_by serial number = due_to rules commits place (heard topics number serial)
+
+  -- what was put behind the entries of a list tells each what these topics give
+  pub record TellsThose (numbers : List ℕ) (before after : List (ℕ × Item K)) : Type 0 where
+    pub given : List (ℕ × Item K)
+    pub is : after ≡ before ++ given
+    pub gives : (serial : ℕ) → items_under serial given ≡ flat_map (given_by serial) numbers
+
+  pub those_none : (before : List (ℕ × Item K)) → TellsThose [] before before
+  those_none before = record { given = []; is = sym (append-nil before); gives = λ serial. refl }
+
+  flat_push : (f : ℕ → List (Item K)) (numbers : List ℕ) (n : ℕ) → flat_map f (numbers ++ n ∷ []) ≡ flat_map f numbers ++ f n
+  flat_push f [] n = append-nil (f n)
+  flat_push f (m ∷ numbers) n = ap (λ l. f m ++ l) (flat_push f numbers n) ∙ sym (append_assoc (f m) (flat_map f numbers) (f n))
+
+  pub those_more : (numbers : List ℕ) (change : Change K) → IsChangeOf commits place change → (i : ℕ) → i < length numbers → (before mid after : List (ℕ × Item K)) → TellsThose (take i numbers) before mid
+      → TellsTopic rules topics (get_or numbers i 0) change mid after → TellsThose (take (i + 1) numbers) before after
+  those_more numbers change of i within before mid after told next = record {
+    given = told.given ++ next.given;
+    is = next.is ∙ ap (λ l. l ++ next.given) told.is ∙ append_assoc before told.given next.given;
+    gives = λ serial.
+        items_under-append serial told.given next.given
+        ∙ ap (λ l. l ++ items_under serial next.given) (told.gives serial)
+        ∙ ap (λ l. flat_map (given_by serial) (take i numbers) ++ l) (next.gives commits place of serial)
+        ∙ sym (ap (flat_map (given_by serial)) (take_more numbers i 0 within) ∙ flat_push (given_by serial) (take i numbers) (get_or numbers i 0));
+  }
+
+  -- a topic that isn't concerned gives nothing
+  not_concerned : (number serial : ℕ) (numbers : List ℕ) → AreAllConcerned rules commits topics place numbers → (given_by serial number ≡ []) ⊎ Contains numbers number
+  not_concerned number serial numbers all = by_topic (topic_at topics number) refl
+    where
+      by_topic : (o : Option (TopicState A)) → topic_at topics number ≡ o → (given_by serial number ≡ []) ⊎ Contains numbers number
+      by_topic None e = inl (ap (λ t. due_to rules commits place (option_and_then (heard_of serial) t)) e)
+      by_topic (Some t) e = elim (all number t.query (ap (option_map (λ (s : TopicState A). s.query)) e)) [
+        | inl none ↦ inl (ap (λ o. due_to rules commits place (option_and_then (heard_of serial) o)) e ∙ nothing_due rules commits place t.query (begin_of t.listeners serial) none)
         | inr c ↦ inr c
       ]
 
--- the serials of a list were told what is due to each, one after the other
-module _ {K : Type 0} (due : ℕ → List (Item K)) where
-  told_push : (serials : List ℕ) (n : ℕ) → told_to due (serials ++ n ∷ []) ≡ told_to due serials ++ under n (due n)
-  told_push [] n = append-nil (under n (due n))
-  told_push (m ∷ serials) n = ap (λ l. under m (due m) ++ l) (told_push serials n) ∙ sym (append_assoc (under m (due m)) (told_to due serials) (under n (due n)))
-
-  module _ (serials : List ℕ) (i : ℕ) (within : i < length serials) (old before after : List (ℕ × Item K)) (told : before ≡ old ++ told_to due (take i serials)) where
-    told_more : (item : Option (Item K)) → option_to_list item ≡ due (get_or serials i 0) → after ≡ before ++ under (get_or serials i 0) (option_to_list item) → after ≡ old ++ told_to due (take (i + 1) serials)
-    told_more item is next =
-        let n = get_or serials i 0 in
-        next ∙ ap (λ l. l ++ under n (option_to_list item)) told ∙ append_assoc old (told_to due (take i serials)) (under n (option_to_list item))
-        ∙ ap (λ l. old ++ (told_to due (take i serials) ++ under n l)) is
-        ∙ ap (λ l. old ++ l) (sym (told_push (take i serials) n) ∙ ap (told_to due) (sym (take_more serials i 0 within)))
-
-    pub told_item : (item : Item K) (o : Option (Item K)) → o ≡ Some item → option_to_list o ≡ due (get_or serials i 0) → after ≡ before ++ (get_or serials i 0, item) ∷ [] → after ≡ old ++ told_to due (take (i + 1) serials)
-    told_item item o some is next = told_more (Some item) (ap option_to_list (sym some) ∙ is) next
-
-    pub told_nothing : (o : Option (Item K)) → o ≡ None → option_to_list o ≡ due (get_or serials i 0) → after ≡ before → after ≡ old ++ told_to due (take (i + 1) serials)
-    told_nothing o none is next = told_more None (ap option_to_list (sym none) ∙ is) (next ∙ sym (append-nil before))
-
-  pub told_all : (serials same : List ℕ) (i : ℕ) (old after : List (ℕ × Item K)) → same ≡ serials → length same ≤ i → after ≡ old ++ told_to due (take i same) → after ≡ old ++ told_to due serials
-  told_all serials same i old after e l is = is ∙ ap (λ s. old ++ told_to due s) (take_all i same l ∙ e)
+  -- all topics that a commit concerns were told
+  pub those_all : (numbers : List ℕ) (before after : List (ℕ × Item K)) → AreAllConcerned rules commits topics place numbers → IsStrictlyIncreasing numbers → TellsThose numbers before after → TellsCommit rules commits topics place before after
+  those_all numbers before after all rising told = record {
+    given = told.given;
+    is = told.is;
+    gives = λ number serial alone.
+        told.gives serial
+        ∙ flat_single (given_by serial) number (λ other apart. ap (due_to rules commits place) (alone other apart)) numbers rising (not_concerned number serial numbers all);
+  }

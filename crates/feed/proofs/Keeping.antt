@@ -1,171 +1,231 @@
 -- How a feed holds its subscriptions while it changes.
-use Rattle.std.proofs.Common.{◌≡◌, ◌⊎◌, ◌+◌, ◌<◌, ◌≤◌, ℕ, max, Bool, true, false, not, cond, List, [], ◌∷◌, ◌++◌, map, filter, take, drop, Option, Some, None, refl, sym, ap, ◌∙◌, arith, subst, inl, inr}
-use Rattle.std.specs.Prelude.{Contains, nat_eq, nat_le, option_map, slice_get, vec_items}
-use Rattle.std.proofs.Math.Numerals.{add-one}
-use Rattle.std.proofs.lemmas.List.Elements.{Contains-append_left, Contains-push}
+use Rattle.std.proofs.Common.{◌≡◌, ◌≢◌, ◌⊎◌, ◌+◌, ◌<◌, ◌≤◌, ℕ, max, Bool, true, false, not, cond, List, [], ◌∷◌, ◌++◌, map, filter, Option, Some, None, refl, sym, ap, ◌∙◌, arith, subst, inl, inr}
+use Rattle.std.specs.Prelude.{nat_eq, nat_le, option_map}
+use Rattle.std.proofs.lemmas.List.{map-append}
 use Rattle.key_class.specs.Queries.{Query, query_of}
-use Rattle.change_list.specs.declared.write.Write.{Write}
-use Rattle.world.specs.Serials.{IsMember, Rise, member, without}
-use Rattle.world.proofs.Serials.{member_within, push_other, push_same, rise_push, rise_within, rise_without, without_at, without_other, without_same}
+use Rattle.world.specs.Serials.{Rise, member, without}
+use Rattle.world.proofs.Serials.{member_within, push_other, push_same, rise_push, rise_within, rise_without, without_other, without_same}
 use Rattle.feed.specs.declared.subscriber.Subscriber.{Subscriber}
-use Rattle.feed.specs.Feeds.{given_upto, subscription_of, without_subscription}
-use Rattle.feed.specs.Holding.{IsEnrolled, IsHolding, IsPlantedIn, feed_state, serial_of, shown, shown_at}
-use Rattle.feed.specs.Planting.{AreTagged, Tends}
-use Rattle.feed.proofs.Members.{contains_filter}
-use Rattle.feed.proofs.Tending.{are_tagged_stay, rows_stay}
+use Rattle.feed.specs.Feeds.{given_upto, subscription_of, with_subscription, without_subscription}
+use Rattle.feed.specs.Hearing.{ChangesHearing, TopicState, heard}
+use Rattle.feed.specs.Holding.{IsHolding, IsListener, feed_state, serial_of, shown, shown_at}
+
+not_same : (a b : ℕ) → nat_eq a b ≡ false → a ≢ b
+not_same a b f e = let t : nat_eq a b ≡ true = search (arith, e) in let c : true ≡ false = sym t ∙ f in absurd (cc)
 
 module _ {A : Type 0} where
   -- a subscription is that of the subscriber with the serial
-  pub found_shown : (upto passed last serial : ℕ) (subscribers : List (Subscriber A)) → subscription_of (feed_state upto passed last subscribers) serial ≡ option_map (shown upto passed) (member serial_of serial subscribers)
+  pub found_shown : (upto passed last serial : ℕ) (subscribers : List (ℕ × Subscriber A)) → subscription_of (feed_state upto passed last subscribers) serial ≡ option_map (shown upto passed) (member serial_of serial subscribers)
   found_shown upto passed last serial [] = refl
-  found_shown upto passed last serial (s ∷ subscribers) = by_test (nat_eq s.serial serial) (found_shown upto passed last serial subscribers)
+  found_shown upto passed last serial (s ∷ subscribers) = by_test (nat_eq s.0 serial) (found_shown upto passed last serial subscribers)
     where
       by_test : (b : Bool) → subscription_of (feed_state upto passed last subscribers) serial ≡ option_map (shown upto passed) (member serial_of serial subscribers) → cond b (Some (shown upto passed s)) (subscription_of (feed_state upto passed last subscribers) serial) ≡ option_map (shown upto passed) (cond b (Some s) (member serial_of serial subscribers))
       by_test true rest = refl
       by_test false rest = rest
 
-  pub none_shown : (upto passed last serial : ℕ) (subscribers : List (Subscriber A)) → member serial_of serial subscribers ≡ None → subscription_of (feed_state upto passed last subscribers) serial ≡ None
+  pub none_shown : (upto passed last serial : ℕ) (subscribers : List (ℕ × Subscriber A)) → member serial_of serial subscribers ≡ None → subscription_of (feed_state upto passed last subscribers) serial ≡ None
   none_shown upto passed last serial subscribers none = found_shown upto passed last serial subscribers ∙ ap (option_map (shown upto passed)) none
 
-  pub one_shown : (upto passed last serial : ℕ) (subscribers : List (Subscriber A)) (x : Subscriber A) → member serial_of serial subscribers ≡ Some x → subscription_of (feed_state upto passed last subscribers) serial ≡ Some (shown upto passed x)
+  pub one_shown : (upto passed last serial : ℕ) (subscribers : List (ℕ × Subscriber A)) (x : ℕ × Subscriber A) → member serial_of serial subscribers ≡ Some x → subscription_of (feed_state upto passed last subscribers) serial ≡ Some (shown upto passed x)
   one_shown upto passed last serial subscribers x found = found_shown upto passed last serial subscribers ∙ ap (option_map (shown upto passed)) found
 
   -- without the subscriber that has a serial
-  pub shown_without : (upto passed serial : ℕ) (subscribers : List (Subscriber A)) → map (shown upto passed) (without serial_of serial subscribers) ≡ filter (λ s. not (nat_eq s.serial serial)) (map (shown upto passed) subscribers)
+  pub shown_without : (upto passed serial : ℕ) (subscribers : List (ℕ × Subscriber A)) → map (shown upto passed) (without serial_of serial subscribers) ≡ filter (λ s. not (nat_eq s.serial serial)) (map (shown upto passed) subscribers)
   shown_without upto passed serial [] = refl
-  shown_without upto passed serial (s ∷ subscribers) = by_test (not (nat_eq s.serial serial)) (shown_without upto passed serial subscribers)
+  shown_without upto passed serial (s ∷ subscribers) = by_test (not (nat_eq s.0 serial)) (shown_without upto passed serial subscribers)
     where
       by_test : (b : Bool) → map (shown upto passed) (without serial_of serial subscribers) ≡ filter (λ s. not (nat_eq s.serial serial)) (map (shown upto passed) subscribers) → map (shown upto passed) (cond b (s ∷ without serial_of serial subscribers) (without serial_of serial subscribers))
           ≡ cond b (shown upto passed s ∷ filter (λ s. not (nat_eq s.serial serial)) (map (shown upto passed) subscribers)) (filter (λ s. not (nat_eq s.serial serial)) (map (shown upto passed) subscribers))
       by_test true rest = ap (λ l. shown upto passed s ∷ l) rest
       by_test false rest = rest
 
-  pub state_without : (upto passed last serial : ℕ) (subscribers : List (Subscriber A)) → feed_state upto passed last (without serial_of serial subscribers) ≡ without_subscription (feed_state upto passed last subscribers) serial
+  pub state_without : (upto passed last serial : ℕ) (subscribers : List (ℕ × Subscriber A)) → feed_state upto passed last (without serial_of serial subscribers) ≡ without_subscription (feed_state upto passed last subscribers) serial
   state_without upto passed last serial subscribers = ap (λ l. record { upto = upto; subscriptions = l; last = last }) (shown_without upto passed serial subscribers)
 
-  -- without the subscriber at a place
-  pub taken_away : (serial last at : ℕ) (xs ys zs : List (Subscriber A)) → ys ≡ xs → Rise serial_of 0 last xs → IsMember serial_of ys serial at → zs ≡ take at xs ++ drop (at + 1) xs → zs ≡ without serial_of serial xs
-  taken_away serial last at xs ys zs same rise m is =
-      let there = subst (λ l. slice_get l at ≡ Some m.value) same m.is in
-      is ∙ ap (λ n. take at xs ++ drop n xs) (add-one at) ∙ sym (without_at serial_of serial 0 last at xs m.value rise there m.number)
-
-  one_given : (upto passed last later : ℕ) (s : Subscriber A) → s.serial ≤ last → upto ≤ later → shown later last s ≡ given_upto later (shown upto passed s)
-  one_given upto passed last later s within further = ap (λ n. record { serial = s.serial; query = (shown upto passed s).query; at = n }) at
+  one_given : (upto passed last later : ℕ) (s : ℕ × Subscriber A) → s.0 ≤ last → upto ≤ later → shown later last s ≡ given_upto later (shown upto passed s)
+  one_given upto passed last later s within further = ap (λ n. record { serial = s.0; query = (shown upto passed s).query; at = n }) at
     where
-      by_test : (b : Bool) → max s.from later ≡ max (cond b (max s.from upto) s.from) later
+      by_test : (b : Bool) → max s.1.from later ≡ max (cond b (max s.1.from upto) s.1.from) later
       by_test true = omega (arith, further)
       by_test false = refl
 
       at : shown_at later last s ≡ max (shown_at upto passed s) later
       at =
-          let t : nat_le s.serial last ≡ true = search (arith, within) in
-          rw t (by_test (nat_le s.serial passed))
+          let t : nat_le s.0 last ≡ true = search (arith, within) in
+          rw t (by_test (nat_le s.0 passed))
 
   -- once all are given what is due up to a later commit
-  pub all_given : (upto passed above last later : ℕ) (subscribers : List (Subscriber A)) → Rise serial_of above last subscribers → upto ≤ later
+  pub all_given : (upto passed above last later : ℕ) (subscribers : List (ℕ × Subscriber A)) → Rise serial_of above last subscribers → upto ≤ later
       → map (shown later last) subscribers ≡ map (given_upto later) (map (shown upto passed) subscribers)
   all_given upto passed above last later [] rise further = refl
   all_given upto passed above last later (s ∷ subscribers) rise further =
-      ap (λ x. x ∷ map (shown later last) subscribers) (one_given upto passed last later s (rise_within serial_of s.serial last subscribers rise.1) further)
-      ∙ ap (λ l. given_upto later (shown upto passed s) ∷ l) (all_given upto passed s.serial last later subscribers rise.1 further)
+      ap (λ x. x ∷ map (shown later last) subscribers) (one_given upto passed last later s (rise_within serial_of s.0 last subscribers rise.1) further)
+      ∙ ap (λ l. given_upto later (shown upto passed s) ∷ l) (all_given upto passed s.0 last later subscribers rise.1 further)
 
-module _ {K A : Type 0} (reach_of : A → Option K) (size_of : K → ℕ) where
-  planted_stays : (tag : ℕ) (commits later : List (Write K)) (query : Query A) (serial : ℕ) → Tends tag commits later → (serial ≡ tag → ⊥) → IsPlantedIn reach_of size_of commits query serial → IsPlantedIn reach_of size_of later query serial
-  planted_stays tag commits later query serial t apart p = record { keys = p.keys; reaches = p.reaches; rows = rows_stay tag serial p.keys commits later t apart p.rows }
+  -- with one more, which has missed what there was
+  pub state_more : (upto passed last : ℕ) (subscribers : List (ℕ × Subscriber A)) (s : Subscriber A) → passed ≤ last
+      → feed_state upto passed (last + 1) (subscribers ++ (last + 1, s) ∷ []) ≡ with_subscription (feed_state upto passed last subscribers) (query_of s.query) s.from
+  state_more upto passed last subscribers s within =
+      let later : nat_le (last + 1) passed ≡ false = search (arith, within) in
+      let new : shown upto passed (last + 1, s) ≡ record { serial = last + 1; query = query_of s.query; at = s.from } = rw later refl in
+      ap (λ l. record { upto = upto; subscriptions = l; last = last + 1 }) (map-append (shown upto passed) subscribers ((last + 1, s) ∷ []) ∙ ap (λ x. map (shown upto passed) subscribers ++ x ∷ []) new)
 
-  module _ (commits later : List (Write K)) (passed last : ℕ) (always : List ℕ) (subscribers : List (Subscriber A)) (h : IsHolding reach_of size_of commits passed last always subscribers) where
-    -- while rows are tended that bear a serial which was never given
-    pub holding_stays : (tag : ℕ) → last < tag → Tends tag commits later → IsHolding reach_of size_of later passed last always subscribers
-    holding_stays tag new t = record {
-      rise = h.rise;
-      passed_given = h.passed_given;
-      legal = t.legal;
-      asked = λ serial s is. elim (h.asked serial s is) [
-        | inl c ↦ inl c
-        | inr p ↦ inr (planted_stays tag commits later (query_of s.query) serial t (λ e. omega (arith, e, new, (member_within serial_of serial 0 last subscribers s h.rise is).1)) p)
-      ];
-      tagged = λ serial s is. are_tagged_stay tag serial (vec_items s.rows) commits later t (h.tagged serial s is);
-    }
+module _ {A : Type 0} where
+  -- with no topics and no subscriptions
+  pub holding_none : IsHolding {A = A} [] 0 0 []
+  holding_none = record {
+    rise = omega arith;
+    passed_given = omega arith;
+    listens = λ serial s is. absurd (cc);
+    nobody_else = λ number serial. inl (by_place number serial);
+  }
+    where
+      by_place : (number serial : ℕ) → heard {A = A} [] number serial ≡ None
+      by_place number serial = refl
 
-    -- once the rows of a subscriber were tended and it is gone
-    pub holding_without : (gone : ℕ) → Tends gone commits later → (kept : List ℕ) → kept ≡ filter (λ n. not (nat_eq n gone)) always → IsHolding reach_of size_of later passed last kept (without serial_of gone subscribers)
-    holding_without gone t kept e = record {
-      rise = rise_without serial_of gone 0 last subscribers h.rise;
-      passed_given = h.passed_given;
-      legal = t.legal;
-      asked = λ serial s is. by_serial serial s is (nat_eq serial gone) refl;
-      tagged = λ serial s is. are_tagged_stay gone serial (vec_items s.rows) commits later t (before serial s is (nat_eq serial gone) refl);
-    }
-      where
-        not_gone : (serial : ℕ) → nat_eq serial gone ≡ false → serial ≡ gone → ⊥
-        not_gone serial f e = let t : nat_eq serial gone ≡ true = search (arith, e) in let c : true ≡ false = sym t ∙ f in absurd (cc)
+module _ {A : Type 0} (topics : List (Option (TopicState A))) (passed last : ℕ) (subscribers : List (ℕ × Subscriber A)) (h : IsHolding topics passed last subscribers) where
+  -- who never subscribed hears nothing
+  pub unheard : (number serial : ℕ) → last < serial → heard topics number serial ≡ None
+  unheard number serial new = elim (h.nobody_else number serial) [
+    | inl none ↦ none
+    | inr l ↦ absurd (omega (arith, new, (member_within serial_of serial 0 last subscribers l.subscriber h.rise l.is).1))
+  ]
 
-        none_gone : (serial : ℕ) (s : Subscriber A) → member serial_of serial (without serial_of gone subscribers) ≡ Some s → nat_eq serial gone ≡ true → ⊥
-        none_gone serial s is f =
-            let same : serial ≡ gone = search (arith, f) in
-            let none : None ≡ Some s = sym (without_same serial_of gone subscribers) ∙ ap (λ n. member serial_of n (without serial_of gone subscribers)) (sym same) ∙ is in
-            absurd (cc)
+  -- who isn't subscribed hears nothing
+  pub missing_unheard : (number serial : ℕ) → member serial_of serial subscribers ≡ None → heard topics number serial ≡ None
+  missing_unheard number serial none = elim (h.nobody_else number serial) [
+    | inl n ↦ n
+    | inr l ↦ let both : None ≡ Some l.subscriber = sym none ∙ l.is in absurd (cc)
+  ]
 
-        member_before : (serial : ℕ) (s : Subscriber A) → member serial_of serial (without serial_of gone subscribers) ≡ Some s → nat_eq serial gone ≡ false → member serial_of serial subscribers ≡ Some s
-        member_before serial s is f = sym (without_other serial_of gone serial subscribers (not_gone serial f)) ∙ is
+  -- who is hears nothing elsewhere
+  pub unheard_elsewhere : (serial : ℕ) (s : ℕ × Subscriber A) → member serial_of serial subscribers ≡ Some s → (number : ℕ) → number ≢ s.1.topic → heard topics number serial ≡ None
+  unheard_elsewhere serial s is number apart = elim (h.nobody_else number serial) [
+    | inl none ↦ none
+    | inr l ↦
+        let one : Some s ≡ Some l.subscriber = sym is ∙ l.is in
+        let same : s ≡ l.subscriber = cc in
+        absurd (apart (sym l.topic ∙ ap (λ (x : ℕ × Subscriber A). x.1.topic) (sym same)))
+  ]
 
-        before : (serial : ℕ) (s : Subscriber A) → member serial_of serial (without serial_of gone subscribers) ≡ Some s → (b : Bool) → nat_eq serial gone ≡ b → AreTagged commits serial (vec_items s.rows)
-        before serial s is true f = absurd (none_gone serial s is f)
-        before serial s is false f = h.tagged serial s (member_before serial s is f)
+  -- while each hears what it heard
+  pub holding_same : (later : List (Option (TopicState A))) → ((number serial : ℕ) → heard later number serial ≡ heard topics number serial) → IsHolding later passed last subscribers
+  holding_same later same = record {
+    rise = h.rise;
+    passed_given = h.passed_given;
+    listens = λ serial s is. same s.1.topic serial ∙ h.listens serial s is;
+    nobody_else = λ number serial. elim (h.nobody_else number serial) [ inl none ↦ inl (same number serial ∙ none) | inr l ↦ inr l ];
+  }
 
-        by_serial : (serial : ℕ) (s : Subscriber A) → member serial_of serial (without serial_of gone subscribers) ≡ Some s → (b : Bool) → nat_eq serial gone ≡ b → Contains kept serial ⊎ IsPlantedIn reach_of size_of later (query_of s.query) serial
-        by_serial serial s is true f = absurd (none_gone serial s is f)
-        by_serial serial s is false f = elim (h.asked serial s (member_before serial s is f)) [
-          | inl c ↦ inl (subst (λ l. Contains l serial) (sym e) (contains_filter (λ n. not (nat_eq n gone)) always serial (ap not f) c))
-          | inr p ↦ inr (planted_stays gone commits later (query_of s.query) serial t (not_gone serial f) p)
-        ]
+  -- once one that never subscribed came and went
+  pub holding_restored : (mid later : List (Option (TopicState A))) (number serial : ℕ) (what : Option (Query A × ℕ)) → last < serial → ChangesHearing topics number serial what mid → ChangesHearing mid number serial None later
+      → IsHolding later passed last subscribers
+  holding_restored mid later number serial what new came went = holding_same later (λ n s. by_number n s (nat_eq n number) refl (nat_eq s serial) refl)
+    where
+      by_number : (n s : ℕ) → (b : Bool) → nat_eq n number ≡ b → (c : Bool) → nat_eq s serial ≡ c → heard later n s ≡ heard topics n s
+      by_number n s true e true f =
+          let here : n ≡ number = search (arith, e) in
+          let one : s ≡ serial = search (arith, f) in
+          ap (λ m. heard later m s) here ∙ ap (heard later number) one ∙ went.changed ∙ sym (unheard n s (omega (arith, new, one)))
+      by_number n s true e false f =
+          let here : n ≡ number = search (arith, e) in
+          let other : s ≢ serial = not_same s serial f in
+          ap (λ m. heard later m s) here ∙ went.others s other ∙ came.others s other ∙ sym (ap (λ m. heard topics m s) here)
+      by_number n s false e c f = let other : n ≢ number = not_same n number e in went.elsewhere n s other ∙ came.elsewhere n s other
 
-    -- with one subscriber more, which was enrolled
-    pub holding_more : (s : Subscriber A) (more : List ℕ) → s.serial ≡ last + 1 → Tends (last + 1) commits later
-        → IsEnrolled reach_of size_of later (query_of s.query) s.serial always more (vec_items s.rows) → IsHolding reach_of size_of later passed s.serial more (subscribers ++ s ∷ [])
-    holding_more s more is t enrolled = record {
-      rise = rise_push serial_of 0 last subscribers s (omega (arith, is)) h.rise;
-      passed_given = omega (arith, is, h.passed_given);
-      legal = t.legal;
-      asked = λ serial x found. by_serial serial x found (nat_eq serial s.serial) refl;
-      tagged = λ serial x found. by_tag serial x found (nat_eq serial s.serial) refl;
-    }
-      where
-        old : IsHolding reach_of size_of later passed last always subscribers
-        old = holding_stays (last + 1) (omega arith) t
+  -- once a subscriber is gone, and listens no longer
+  pub holding_without : (later : List (Option (TopicState A))) (serial : ℕ) (gone : ℕ × Subscriber A) → member serial_of serial subscribers ≡ Some gone → ChangesHearing topics gone.1.topic serial None later
+      → IsHolding later passed last (without serial_of serial subscribers)
+  holding_without later serial gone was changes = record {
+    rise = rise_without serial_of serial 0 last subscribers h.rise;
+    passed_given = h.passed_given;
+    listens = λ other s is. stays other s is (nat_eq other serial) refl;
+    nobody_else = λ number other. by_serial number other (nat_eq other serial) refl;
+  }
+    where
+      -- others hear what they heard
+      kept : (number other : ℕ) → other ≢ serial → heard later number other ≡ heard topics number other
+      kept number other apart = by_test (nat_eq number gone.1.topic) refl
+        where
+          by_test : (b : Bool) → nat_eq number gone.1.topic ≡ b → heard later number other ≡ heard topics number other
+          by_test true e =
+              let here : number ≡ gone.1.topic = search (arith, e) in
+              ap (λ m. heard later m other) here ∙ changes.others other apart ∙ sym (ap (λ m. heard topics m other) here)
+          by_test false e = changes.elsewhere number other (not_same number gone.1.topic e)
 
-        asked : Contains more s.serial ⊎ IsPlantedIn reach_of size_of later (query_of s.query) s.serial
-        asked = elim enrolled.asked [
-          | inl e ↦ inl (subst (λ l. Contains l s.serial) (sym e) (Contains-push always s.serial))
-          | inr p ↦ inr p.1
-        ]
+      stays : (other : ℕ) (s : ℕ × Subscriber A) → member serial_of other (without serial_of serial subscribers) ≡ Some s → (b : Bool) → nat_eq other serial ≡ b → heard later s.1.topic other ≡ Some (query_of s.1.query, s.1.from)
+      stays other s is true e =
+          let same : other ≡ serial = search (arith, e) in
+          let none : None ≡ Some s = sym (without_same serial_of serial subscribers) ∙ ap (λ n. member serial_of n (without serial_of serial subscribers)) (sym same) ∙ is in
+          absurd (cc)
+      stays other s is false e =
+          let apart : other ≢ serial = not_same other serial e in
+          kept s.1.topic other apart ∙ h.listens other s (sym (without_other serial_of serial other subscribers apart) ∙ is)
 
-        keeps : (serial : ℕ) → Contains always serial → Contains more serial
-        keeps serial c = elim enrolled.asked [
-          | inl e ↦ subst (λ l. Contains l serial) (sym e) (Contains-append_left always (s.serial ∷ []) serial c)
-          | inr p ↦ subst (λ l. Contains l serial) (sym p.0) c
-        ]
+      -- the one that is gone hears nothing
+      silent : (number : ℕ) → heard later number serial ≡ None
+      silent number = by_test (nat_eq number gone.1.topic) refl
+        where
+          by_test : (b : Bool) → nat_eq number gone.1.topic ≡ b → heard later number serial ≡ None
+          by_test true e = let here : number ≡ gone.1.topic = search (arith, e) in ap (λ m. heard later m serial) here ∙ changes.changed
+          by_test false e = let apart : number ≢ gone.1.topic = not_same number gone.1.topic e in changes.elsewhere number serial apart ∙ unheard_elsewhere serial gone was number apart
 
-        apart : (serial : ℕ) → nat_eq serial s.serial ≡ false → serial ≡ s.serial → ⊥
-        apart serial f e = let t : nat_eq serial s.serial ≡ true = search (arith, e) in let c : true ≡ false = sym t ∙ f in absurd (cc)
+      by_serial : (number other : ℕ) (b : Bool) → nat_eq other serial ≡ b → (heard later number other ≡ None) ⊎ IsListener (without serial_of serial subscribers) number other
+      by_serial number other true e = let same : other ≡ serial = search (arith, e) in inl (ap (heard later number) same ∙ silent number)
+      by_serial number other false e =
+          let apart : other ≢ serial = not_same other serial e in
+          elim (h.nobody_else number other) [
+            | inl none ↦ inl (kept number other apart ∙ none)
+            | inr l ↦ inr (record { subscriber = l.subscriber; is = without_other serial_of serial other subscribers apart ∙ l.is; topic = l.topic })
+          ]
 
-        the_new : (serial : ℕ) (x : Subscriber A) → member serial_of serial (subscribers ++ s ∷ []) ≡ Some x → nat_eq serial s.serial ≡ true → (s ≡ x) × (s.serial ≡ serial)
-        the_new serial x found f =
-            let same : s.serial ≡ serial = search (arith, f) in
-            let one : Some s ≡ Some x = sym (push_same serial_of serial 0 last s subscribers same (omega (arith, is, same)) h.rise) ∙ found in
-            ((cc), same)
+  -- with one subscriber more, who listens
+  pub holding_more : (later : List (Option (TopicState A))) (s : ℕ × Subscriber A) → s.0 ≡ last + 1 → ChangesHearing topics s.1.topic s.0 (Some (query_of s.1.query, s.1.from)) later → IsHolding later passed s.0 (subscribers ++ s ∷ [])
+  holding_more later s is changes = record {
+    rise = rise_push serial_of 0 last subscribers s (omega (arith, is)) h.rise;
+    passed_given = omega (arith, is, h.passed_given);
+    listens = λ serial x found. by_new serial x found (nat_eq serial s.0) refl;
+    nobody_else = λ number serial. by_serial number serial (nat_eq serial s.0) refl;
+  }
+    where
+      kept : (number other : ℕ) → other ≢ s.0 → heard later number other ≡ heard topics number other
+      kept number other apart = by_test (nat_eq number s.1.topic) refl
+        where
+          by_test : (b : Bool) → nat_eq number s.1.topic ≡ b → heard later number other ≡ heard topics number other
+          by_test true e =
+              let here : number ≡ s.1.topic = search (arith, e) in
+              ap (λ m. heard later m other) here ∙ changes.others other apart ∙ sym (ap (λ m. heard topics m other) here)
+          by_test false e = changes.elsewhere number other (not_same number s.1.topic e)
 
-        an_old : (serial : ℕ) (x : Subscriber A) → member serial_of serial (subscribers ++ s ∷ []) ≡ Some x → nat_eq serial s.serial ≡ false → member serial_of serial subscribers ≡ Some x
-        an_old serial x found f = sym (push_other serial_of serial s subscribers (apart serial f)) ∙ found
+      the_new : (serial : ℕ) → serial ≡ s.0 → member serial_of serial (subscribers ++ s ∷ []) ≡ Some s
+      the_new serial same = push_same serial_of serial 0 last s subscribers (sym same) (omega (arith, is, same)) h.rise
 
-        by_serial : (serial : ℕ) (x : Subscriber A) → member serial_of serial (subscribers ++ s ∷ []) ≡ Some x → (b : Bool) → nat_eq serial s.serial ≡ b → Contains more serial ⊎ IsPlantedIn reach_of size_of later (query_of x.query) serial
-        by_serial serial x found true f =
-            let n = the_new serial x found f in
-            subst (λ (y : Subscriber A). Contains more serial ⊎ IsPlantedIn reach_of size_of later (query_of y.query) serial) n.0 (subst (λ m. Contains more m ⊎ IsPlantedIn reach_of size_of later (query_of s.query) m) n.1 asked)
-        by_serial serial x found false f = elim (old.asked serial x (an_old serial x found f)) [ inl c ↦ inl (keeps serial c) | inr p ↦ inr p ]
+      by_new : (serial : ℕ) (x : ℕ × Subscriber A) → member serial_of serial (subscribers ++ s ∷ []) ≡ Some x → (b : Bool) → nat_eq serial s.0 ≡ b → heard later x.1.topic serial ≡ Some (query_of x.1.query, x.1.from)
+      by_new serial x found true e =
+          let same : serial ≡ s.0 = search (arith, e) in
+          let one : Some s ≡ Some x = sym (the_new serial same) ∙ found in
+          let it : s ≡ x = cc in
+          subst (λ (y : ℕ × Subscriber A). heard later y.1.topic serial ≡ Some (query_of y.1.query, y.1.from)) it (ap (heard later s.1.topic) same ∙ changes.changed)
+      by_new serial x found false e =
+          let apart : serial ≢ s.0 = not_same serial s.0 e in
+          kept x.1.topic serial apart ∙ h.listens serial x (sym (push_other serial_of serial s subscribers apart) ∙ found)
 
-        by_tag : (serial : ℕ) (x : Subscriber A) → member serial_of serial (subscribers ++ s ∷ []) ≡ Some x → (b : Bool) → nat_eq serial s.serial ≡ b → AreTagged later serial (vec_items x.rows)
-        by_tag serial x found true f =
-            let n = the_new serial x found f in
-            subst (λ (y : Subscriber A). AreTagged later serial (vec_items y.rows)) n.0 (subst (λ m. AreTagged later m (vec_items s.rows)) n.1 enrolled.tagged)
-        by_tag serial x found false f = old.tagged serial x (an_old serial x found f)
+      by_serial : (number serial : ℕ) (b : Bool) → nat_eq serial s.0 ≡ b → (heard later number serial ≡ None) ⊎ IsListener (subscribers ++ s ∷ []) number serial
+      by_serial number serial true e = by_topic (nat_eq number s.1.topic) refl
+        where
+          same : serial ≡ s.0
+          same = search (arith, e)
+
+          by_topic : (b : Bool) → nat_eq number s.1.topic ≡ b → (heard later number serial ≡ None) ⊎ IsListener (subscribers ++ s ∷ []) number serial
+          by_topic true f = let here : number ≡ s.1.topic = search (arith, f) in inr (record { subscriber = s; is = the_new serial same; topic = sym here })
+          by_topic false f = inl (changes.elsewhere number serial (not_same number s.1.topic f) ∙ unheard number serial (omega (arith, same, is)))
+      by_serial number serial false e =
+          let apart : serial ≢ s.0 = not_same serial s.0 e in
+          elim (h.nobody_else number serial) [
+            | inl none ↦ inl (kept number serial apart ∙ none)
+            | inr l ↦ inr (record { subscriber = l.subscriber; is = push_other serial_of serial s subscribers apart ∙ l.is; topic = l.topic })
+          ]
+
+  -- once all were given what they had missed
+  pub holding_passed : IsHolding topics last last subscribers
+  holding_passed = record { rise = h.rise; passed_given = omega arith; listens = h.listens; nobody_else = h.nobody_else }

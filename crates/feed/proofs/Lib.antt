@@ -1,10 +1,14 @@
 mod Advancing
 mod Asked
+mod AskedStill
 mod Changing
 mod Concerning
 mod Dues
+mod Entries
 mod Giving
+mod Hearing
 mod Keeping
+mod Listening
 mod Members
-mod Places
+mod Slots
 mod Tending

@@ -1,9 +1,9 @@
 -- What becomes of the rows of a feed's tree.
 use Rattle.std.proofs.Common.{◌≡◌, ◌+◌, ℕ, Bool, true, false, not, ◌||◌, List, [], ◌∷◌, ◌++◌, length, take, map, filter, Some, refl, sym, ap, ◌∙◌, arith, subst, append_assoc}
-use Rattle.std.specs.Prelude.{Contains, nat_eq}
+use Rattle.std.specs.Prelude.{All, Contains, nat_eq}
 use Rattle.std.proofs.lemmas.Bool.{eqb-true}
 use Rattle.std.proofs.lemmas.List.{append-nil}
-use Rattle.std.proofs.lemmas.List.Elements.{All-weaker, All-push}
+use Rattle.std.proofs.lemmas.List.Elements.{All-filter, All-weaker, All-push}
 use Rattle.std.proofs.Math.Seq.{take-length}
 use Rattle.key_class.specs.Queries.{query_of}
 use Rattle.key_class.specs.Rules.{Rules, satisfies}
@@ -12,7 +12,7 @@ use Rattle.change_list.specs.declared.item.Row.{Row}
 use Rattle.change_list.specs.declared.write.Write.{Write}
 use Rattle.change_list.specs.declared.write.Write.TheVariants.{Insert, Delete}
 use Rattle.change_list.specs.Changes.{IsLegal, is_ended, made_rows, row_at, rows}
-use Rattle.change_list.proofs.Made.{row_append, row_found, row_of_new_insert, row_push}
+use Rattle.change_list.proofs.Made.{row_append, row_found, rows_found, row_of_new_insert, row_push}
 use Rattle.change_list.proofs.Tracking.{none_ends}
 use Rattle.scan.proofs.Commits.{ended_push}
 use Rattle.snapshot.specs.Snapshots.{found_in}
@@ -157,6 +157,15 @@ module _ {K : Type 0} where
       let all : take (length commits) commits ≡ commits = take-length commits in
       let found : Contains (found_in rules query commits) h.row = subst (λ cs. Contains (filter (λ (r : Row K). asked r.key) (rows cs)) h.row) (sym all) matching in
       subst (λ t. Contains (map (λ (r : Row K). r.tag) (found_in rules query commits)) t) h.has_tag (contains_map (λ (r : Row K). r.tag) (found_in rules query commits) h.row found)
+
+  -- the rows that are found were made
+  pub found_made : {A : Type 0} (rules : Rules K A) (query : Pred A) (commits : List (Write K)) → All (λ r. row_at commits r.row ≡ Some r) (found_in rules query commits)
+  found_made rules query commits =
+      let asked = satisfies rules (query_of query) in
+      let made : Row K → Type 0 = λ r. row_at commits r.row ≡ Some r in
+      let all : take (length commits) commits ≡ commits = take-length commits in
+      subst (λ cs. All made (filter (λ (r : Row K). asked r.key) (rows cs))) (sym all)
+      (All-filter (λ (r : Row K). asked r.key) made (rows commits) (All-filter (λ (r : Row K). not (is_ended commits r.row)) made (made_rows commits) (rows_found commits)))
 
 module _ {K A : Type 0} (matching : A → K → Bool) (tag : ℕ) (old new : StoreState K A) (legal : IsLegal old.commits) (later : IsLegal new.commits) where
   -- what a delete leaves, whether it is refused or not

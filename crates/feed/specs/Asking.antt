@@ -1,4 +1,4 @@
--- What a commit gives to the subscriptions of a feed, and which of them it is to ask.
+-- What a commit gives to the subscriptions of a feed, and which topics it is to ask.
 use Rattle.std.specs.Prelude.{◌≡◌, ◌⊎◌, ℕ, max, nat_le, List, [], ◌++◌, map, Contains, Option, Some, None, option_to_list, if◌then◌else◌}
 use Rattle.std.specs.Option.{option_map_or}
 use Rattle.key_class.specs.Queries.{Query}
@@ -9,6 +9,7 @@ use Rattle.change_list.specs.Changes.{changes, item_at}
 use Rattle.feed.specs.Changing.{IsChangeOf}
 use Rattle.feed.specs.declared.change.Change.{Change}
 use Rattle.feed.specs.Feeds.{FeedState, Subscription, items_under, subscription_of}
+use Rattle.feed.specs.Hearing.{HearsAtMost, TopicState, heard, query_at}
 
 module _ {K : Type 0} where
   -- items, each under a serial
@@ -31,23 +32,40 @@ module _ {K A : Type 0} (rules : Rules K A) (commits : List (Write K)) where
   abbrev pub item_for : Query A → ℕ → Option (Item K)
   item_for query place = item_at (satisfies rules query) commits place
 
-  -- what commit `place + 1` gives to a subscription
+  -- what commit `place + 1` gives to one who asks for the items of a query after commit n
+  abbrev pub due_after : ℕ → Query A → ℕ → List (Item K)
+  due_after place query n = if nat_le n place then option_to_list (item_for query place) else []
+
+  -- what it gives to a subscription
   abbrev pub due_at : ℕ → Subscription A → List (Item K)
-  due_at place s = if nat_le s.at place then option_to_list (item_for s.query place) else []
+  due_at place s = due_after place s.query s.at
+
+  -- what it gives to one who hears of a query, or of none
+  abbrev pub due_to : ℕ → Option (Query A × ℕ) → List (Item K)
+  due_to place hears = option_map_or (λ h. due_after place h.0 h.1) hears []
 
   -- what the commits up to n give to a subscription
   abbrev pub due_upto : ℕ → Subscription A → List (Item K)
   due_upto n s = changes (satisfies rules s.query) s.at (max s.at n) commits
 
-  -- a subscription whose serial isn't among these has no item of commit `place + 1`
-  abbrev pub AreAllConcerned : FeedState A → ℕ → List ℕ → Type 0
-  AreAllConcerned feed place serials = (serial : ℕ) (s : Subscription A) → subscription_of feed serial ≡ Some s → (item_for s.query place ≡ None) ⊎ Contains serials serial
+  -- a query whose number isn't among these has no item of commit `place + 1`
+  abbrev pub AreAllConcerned : List (Option (TopicState A)) → ℕ → List ℕ → Type 0
+  AreAllConcerned topics place numbers = (number : ℕ) (query : Query A) → query_at topics number ≡ Some query → (item_for query place ≡ None) ⊎ Contains numbers number
 
-module _ {K A : Type 0} (rules : Rules K A) (feed : FeedState A) where
-  -- a subscription whose serial isn't among these has no item of a commit whose change it is
+  -- What was put behind the entries of a list: to one who listens to no query but that with a number, what commit `place + 1` gives
+  -- to it by that.
+  pub record TellsCommit (topics : List (Option (TopicState A))) (place : ℕ) (before after : List (ℕ × Item K)) : Type 0 where
+    pub given : List (ℕ × Item K)
+    pub is : after ≡ before ++ given
+    pub gives : (number serial : ℕ) → HearsAtMost topics number serial → items_under serial given ≡ due_to place (heard topics number serial)
+
+module _ {K A : Type 0} (rules : Rules K A) (topics : List (Option (TopicState A))) where
+  -- a query whose number isn't among these has no item of a commit whose change it is
   abbrev pub AreConcerned : Change K → List ℕ → Type 0
-  AreConcerned change serials = (commits : List (Write K)) (place : ℕ) → IsChangeOf commits place change → AreAllConcerned rules commits feed place serials
+  AreConcerned change numbers = (commits : List (Write K)) (place : ℕ) → IsChangeOf commits place change → AreAllConcerned rules commits topics place numbers
 
-  -- this is what each commit whose change it is gives to the subscription with a serial
-  abbrev pub GivesDue : ℕ → Change K → Option (Item K) → Type 0
-  GivesDue serial change item = (commits : List (Write K)) (place : ℕ) → IsChangeOf commits place change → option_to_list item ≡ option_map_or (due_at rules commits place) (subscription_of feed serial) []
+  -- what was put behind the entries of a list: to each who listens to the query with a number, what a commit whose change it is gives
+  pub record TellsTopic (number : ℕ) (change : Change K) (before after : List (ℕ × Item K)) : Type 0 where
+    pub given : List (ℕ × Item K)
+    pub is : after ≡ before ++ given
+    pub gives : (commits : List (Write K)) (place : ℕ) → IsChangeOf commits place change → (serial : ℕ) → items_under serial given ≡ due_to rules commits place (heard topics number serial)

@@ -15,19 +15,19 @@ module _ {K : Type 0} where
   ended_row commits (Some (Insert key tag)) = None
   ended_row commits None = None
 
-  -- the row that a commit makes, by its number
-  abbrev pub made_row : List (Write K) → ℕ → Option (Write K) → Option (Row K)
-  made_row commits number (Some (Insert key tag)) = Some (record { row = number; key = key; tag = tag })
-  made_row commits number (Some (Move row key)) = option_map (moved number key) (row_at commits row)
-  made_row commits number (Some (Delete row)) = None
-  made_row commits number None = None
+  -- the row that a commit begins, by its number
+  abbrev pub begun_row : List (Write K) → ℕ → Option (Write K) → Option (Row K)
+  begun_row commits number (Some (Insert key tag)) = Some (record { row = number; key = key; tag = tag })
+  begun_row commits number (Some (Move row key)) = option_map (moved number key) (row_at commits row)
+  begun_row commits number (Some (Delete row)) = None
+  begun_row commits number None = None
 
   -- this is what commit `place + 1` of a legal list changes
   pub record IsChangeOf (commits : List (Write K)) (place : ℕ) (change : Change K) : Type 0 where
     pub legal : IsLegal commits
     pub number : change.number ≡ place + 1
     pub ended : change.ended ≡ ended_row commits (commit_at commits (place + 1))
-    pub made : change.made ≡ made_row commits (place + 1) (commit_at commits (place + 1))
+    pub made : change.made ≡ begun_row commits (place + 1) (commit_at commits (place + 1))
 
 module _ {K : Type 0} (wanted : K → Bool) where
   -- a row, where its key is wanted

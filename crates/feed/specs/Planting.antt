@@ -1,4 +1,4 @@
--- The tree of a feed: rows whose keys are where queries are looked for, and whose tags are the serials of their subscriptions.
+-- The tree of a feed: rows whose keys are where queries are looked for, and whose tags are the numbers of their topics.
 use Rattle.std.specs.Prelude.{◌≡◌, ℕ, false, List, [], ◌++◌, All, Option, Some, None, map}
 use Rattle.key_class.specs.Rules.{Rules}
 use Rattle.key_class.specs.declared.pred.Pred.TheVariants.{Atom}

@@ -1,45 +1,44 @@
-ghost use Rattle.std.specs.Prelude.{◌≡◌, IfOk, IfErr, OnErr, option_map, vec_items};
+ghost use Rattle.std.specs.Prelude.{◌≡◌, IfOk, IfErr, OnErr, OnOk, option_map, vec_items};
 ghost use Rattle.key_class.specs.Queries.{query_of};
 ghost use Rattle.key_class.specs.declared.refusal.Refusal.TheVariants.{OutOfMemory};
 ghost use Rattle.change_list.specs.Changes.{IsLegal};
 ghost use Rattle.feed.specs.Holding.{IsEnrolled, MayBeRooted};
 ghost use Rattle.feed.specs.Planting.{Tends};
 
-use crate::tree::plant;
+use crate::tree::{plant, tagged_rows, uproot};
 use key_class::{Pred, Refusal};
 use reach::{Reach, reaches};
 use std::alloc::Global;
+use std::collections::BTreeSet;
 use store::Store;
 
-/// Has a subscription asked by each commit that may concern its query: by rows of the tree, which bear its serial and whose
-/// numbers are given, or, where any key may satisfy the query or the tree can have no more rows, by the list of those that every
-/// commit asks.
+/// Has a topic asked by each commit that may concern its query: by rows of the tree, which bear its number, or, where any key may
+/// satisfy the query or the tree can have no more rows, by being one of those that every commit asks.
 ///
 /// # Errors
-/// Want of memory. The list is as it was then; of the rows some may stay.
+/// Want of memory. Those that every commit asks are as they were then; of the rows some may stay.
 pub(crate) fn enrol<C: Reach>(
     alloc: Global,
     tree: &mut Store<C>,
-    always: &mut Vec<u64>,
+    always: &mut BTreeSet<u64>,
     query: &Pred<C::Atom>,
-    serial: u64,
-) -> Result<Vec<u64>, Refusal>
+    number: u64,
+) -> Result<(), Refusal>
     requires legal { IsLegal tree.old.commits }
-    ensures tends { Tends serial tree.old.commits tree.new.commits }
-    ensures ok { IfOk result (λ rows. IsEnrolled C.reach_of C.rules.size_of tree.new.commits
-        (query_of query.now) serial always.old.items always.new.items rows.items) }
-    ensures err { OnErr result (always.new.items ≡ always.old.items) }
+    ensures tends { Tends number tree.old.commits tree.new.commits }
+    ensures ok { OnOk result (IsEnrolled C.reach_of C.rules.size_of tree.new.commits
+        (query_of query.now) number always.old.keys always.new.keys) }
+    ensures err { OnErr result (always.new.keys ≡ always.old.keys) }
     ensures refused { IfErr result (λ why. why ≡ OutOfMemory) }
 {
-    let Some(rows) = plant_query(alloc, tree, query, serial)? else {
-        always.push(serial)?;
-        return Ok(Vec::new(alloc));
-    };
-    Ok(rows)
+    if plant_query(alloc, tree, query, number)?.is_none() {
+        always.insert(number)?;
+    }
+    Ok(())
 }
 
-/// Plants a query in the tree under each key under which it is looked for, and gives the numbers of its rows, which bear the serial.
-/// None where any key may satisfy the query or the tree can have no more rows.
+/// Plants a query in the tree under each key under which it is looked for, and gives the numbers of its rows, which bear the topic's
+/// number. None where any key may satisfy the query or the tree can have no more rows.
 ///
 /// # Errors
 /// Want of memory. Of the rows some may stay.
@@ -47,16 +46,46 @@ fn plant_query<C: Reach>(
     alloc: Global,
     tree: &mut Store<C>,
     query: &Pred<C::Atom>,
-    serial: u64,
+    number: u64,
 ) -> Result<Option<Vec<u64>>, Refusal>
     requires legal { IsLegal tree.old.commits }
-    ensures tends { Tends serial tree.old.commits tree.new.commits }
+    ensures tends { Tends number tree.old.commits tree.new.commits }
     ensures ok { IfOk result (λ rows. MayBeRooted C.reach_of C.rules.size_of tree.new.commits
-        (query_of query.now) serial (option_map vec_items rows)) }
+        (query_of query.now) number (option_map vec_items rows)) }
     ensures refused { IfErr result (λ why. why ≡ OutOfMemory) }
 {
     let Some(keys) = reaches::<C>(alloc, query)? else {
         return Ok(None);
     };
-    plant(alloc, tree, &keys, serial)
+    plant(alloc, tree, &keys, number)
+}
+
+/// Takes the rows of a topic's query out of the tree. Where memory is wanting some may stay, which costs a look at them, and gives
+/// nothing.
+pub(crate) fn uproot_query<C: Reach>(
+    alloc: Global,
+    tree: &mut Store<C>,
+    query: &Pred<C::Atom>,
+    number: u64,
+)
+    requires legal { IsLegal tree.old.commits }
+    ensures { Tends number tree.old.commits tree.new.commits }
+{
+    let Ok(Some(keys)) = reaches::<C>(alloc, query) else {
+        return;
+    };
+    for key in &keys {
+        uproot_key(alloc, tree, *key, number);
+    }
+}
+
+/// Takes the rows of a topic that have a key out of the tree. Where memory is wanting some may stay.
+fn uproot_key<C: Reach>(alloc: Global, tree: &mut Store<C>, key: C::Key, number: u64)
+    requires legal { IsLegal tree.old.commits }
+    ensures { Tends number tree.old.commits tree.new.commits }
+{
+    let Ok(rows) = tagged_rows(alloc, tree, key, number) else {
+        return;
+    };
+    uproot(tree, &rows, number);
 }

@@ -1,39 +1,24 @@
 ghost use Rattle.std.specs.Prelude.{◌≡◌, ◌↔◌, ◌+◌, ◌<◌, ◌≤◌, length, None, Err, IfOk, IfErr, OnOk, OnErr};
-ghost use Rattle.std.specs.List.Sorted.{IsStrictlyIncreasing};
 ghost use Rattle.key_class.specs.Queries.{query_of, depth_of};
 ghost use Rattle.key_class.specs.Refusals.{IsEither};
 ghost use Rattle.key_class.specs.declared.refusal.Refusal.TheVariants.{BadConfig, FeedFull, FromFuture, NotSubscribed, OutOfMemory};
-ghost use Rattle.feed.specs.Asking.{AreConcerned, GivesDue, GivesInto, due_at, due_upto};
+ghost use Rattle.feed.specs.Asking.{GivesInto, due_at, due_upto};
 ghost use Rattle.feed.specs.Feeds.{AdvancesInto, HasNoPlaceFor, RefusesSubscription, new_feed, subscription_of, with_subscription, without_subscription};
 
-use crate::change::Change;
-use crate::enrolling::enrol;
-use crate::subscriber::{Subscriber, place_of, take_out, tell_since};
-use crate::tree::{find_tags, sweep_after, uproot};
-use change_list::{Config, Item};
-use key_class::limits::{MAX_COMMITS, MAX_DEPTH, MAX_PAGES, MAX_SERIAL, MAX_SUBSCRIPTIONS};
+use crate::subscriber::{Subscriber, tell_since};
+use crate::topics::Topics;
+use change_list::Item;
+use key_class::limits::{MAX_DEPTH, MAX_SERIAL, MAX_SUBSCRIPTIONS};
 use key_class::{Pred, Refusal};
 use reach::Reach;
 use snapshot::Snapshot;
 use std::alloc::Global;
+use std::collections::BTreeMap;
 use std::marker::Model;
-use store::Store;
-
-/// The limits of the tree, which has a row for each key under which a query is looked for.
-const TREE: Config = Config {
-    fan: 32,
-    least: 12,
-    pages: MAX_PAGES,
-    commits: MAX_COMMITS,
-};
-
-/// After how many commits of the tree, beside one for each subscription, its dead rows are removed.
-const FEW_COMMITS: u64 = 1_000;
 
 /// Subscriptions to the changes of queries, and how far each was told of a list of commits.
 ///
-/// The queries lie in a tree by the keys that can match them, so that a commit asks only those that its keys overlap, and those
-/// that any key may match.
+/// A commit asks only the queries that its keys may match, and each once, whoever has subscribed to it.
 #[derive(Drop)]
 pub struct Feed<C: Reach> {
     alloc: Global,
@@ -41,13 +26,9 @@ pub struct Feed<C: Reach> {
     /// Those up to this serial were given what they had missed before `upto`.
     passed: u64,
     last: u64,
-    /// By rising serial.
-    subscribers: Vec<Subscriber<C::Atom>>,
-    /// The serials of those that each commit asks.
-    always: Vec<u64>,
-    tree: Store<C>,
-    /// How many commits the tree had when its dead rows were last removed.
-    swept: u64,
+    /// By their serials.
+    subscribers: BTreeMap<u64, Subscriber<C::Atom>>,
+    topics: Topics<C>,
 }
 
 impl<C: Reach> Model for Feed<C> {
@@ -60,10 +41,9 @@ impl<C: Reach> Model for Feed<C> {
 
     ghost coded = { Prim.hlevel (codes, query_code) };
 
-    ghost view = { λ f. feed_state f.upto f.passed f.last f.subscribers.items };
+    ghost view = { λ f. feed_state f.upto f.passed f.last f.subscribers.entries };
 
-    ghost invariant = { λ f. IsHolding C.reach_of C.rules.size_of f.tree.commits f.passed f.last
-        f.always.items f.subscribers.items };
+    ghost invariant = { λ f. IsHolding f.topics f.passed f.last f.subscribers.entries };
 }
 
 impl<C: Reach> Feed<C> {
@@ -75,16 +55,14 @@ impl<C: Reach> Feed<C> {
         ensures ok { IfOk result (λ feed. feed ≡ new_feed) }
         ensures refused { IfErr result (λ why. why ≡ OutOfMemory) }
     {
-        let tree = Store::new(alloc, TREE)?;
+        let topics = Topics::new(alloc)?;
         Ok(Feed {
             alloc,
             upto: 0,
             passed: 0,
             last: 0,
-            subscribers: Vec::new(alloc),
-            always: Vec::new(alloc),
-            tree,
-            swept: 0,
+            subscribers: BTreeMap::new(alloc),
+            topics,
         })
     }
 
@@ -123,17 +101,13 @@ impl<C: Reach> Feed<C> {
         if self.subscribers.len() >= MAX_SUBSCRIPTIONS || self.last >= MAX_SERIAL {
             return Err(Refusal::FeedFull);
         }
-        let Ok(()) = self.subscribers.try_reserve(1) else {
+        let serial = self.last + 1;
+        let topic = self.topics.enter(&query, serial, from)?;
+        let subscriber = Subscriber { query, from, topic };
+        let Ok(_) = self.subscribers.insert(serial, subscriber) else {
+            self.topics.leave(topic, serial);
             return Err(Refusal::OutOfMemory);
         };
-        let serial = self.last + 1;
-        let rows = enrol(self.alloc, &mut self.tree, &mut self.always, &query, serial)?;
-        self.subscribers.push_reserved(Subscriber {
-            serial,
-            query,
-            from,
-            rows,
-        });
         self.last = serial;
         Ok(serial)
     }
@@ -149,14 +123,10 @@ impl<C: Reach> Feed<C> {
             ↔ (subscription_of self.old serial ≡ None) }
         ensures refusal { IfErr result (λ why. why ≡ NotSubscribed) }
     {
-        let Some(place) = place_of(&self.subscribers, serial) else {
+        let Some(gone) = self.subscribers.remove(&serial) else {
             return Err(Refusal::NotSubscribed);
         };
-        let subscriber = self.subscribers.remove(place);
-        uproot(&mut self.tree, &subscriber.rows, serial);
-        take_out(&mut self.always, serial);
-        let most = (self.subscribers.len() as u64).saturating_add(FEW_COMMITS);
-        sweep_after(&mut self.tree, &mut self.swept, most);
+        self.topics.leave(gone.topic, serial);
         Ok(())
     }
 
@@ -230,14 +200,11 @@ impl<C: Reach> Feed<C> {
             self.now told.old.items told.new.items) }
         ensures refused { IfErr result (λ why. why ≡ OutOfMemory) }
     {
-        let mut rest = self.subscribers.len();
-        while rest > 0 {
-            let subscriber = &self.subscribers[rest - 1];
-            if subscriber.serial <= self.passed {
-                return Ok(());
+        for passed in self.passed..self.last {
+            let serial = passed + 1;
+            if let Some(subscriber) = self.subscribers.get(&serial) {
+                tell_since(serial, subscriber, snapshot, self.upto, told)?;
             }
-            tell_since(subscriber, snapshot, self.upto, told)?;
-            rest -= 1;
         }
         Ok(())
     }
@@ -258,58 +225,6 @@ impl<C: Reach> Feed<C> {
             self.now told.old.items told.new.items) }
         ensures refused { IfErr result (λ why. why ≡ OutOfMemory) }
     {
-        let change = Change::at(snapshot, place);
-        let serials = self.concerned(&change)?;
-        for serial in &serials {
-            if let Some(item) = self.item_for(*serial, &change) {
-                told.push((*serial, item))?;
-            }
-        }
-        Ok(())
-    }
-
-    /// The item that a change is to the subscription with a serial.
-    fn item_for(&self, serial: u64, change: &Change<C::Key>) -> Option<Item<C::Key>>
-        requires { self.now.upto < change.now.number }
-        ensures { GivesDue C.rules self.now serial change.now result }
-    {
-        let at = place_of(&self.subscribers, serial)?;
-        let subscriber = &self.subscribers[at];
-        if subscriber.from >= change.number {
-            return None;
-        }
-        change.item::<C>(&subscriber.query)
-    }
-
-    /// The serials of the subscriptions that a change may concern, each once, by rising serial.
-    ///
-    /// # Errors
-    /// Want of memory.
-    fn concerned(&self, change: &Change<C::Key>) -> Result<Vec<u64>, Refusal>
-        ensures all { IfOk result (λ serials.
-            AreConcerned C.rules self.now change.now serials.items) }
-        ensures rising { IfOk result (λ serials. IsStrictlyIncreasing serials.items) }
-        ensures refused { IfErr result (λ why. why ≡ OutOfMemory) }
-    {
-        let mut serials = self.gathered(change)?;
-        serials.sort_unstable();
-        serials.dedup();
-        Ok(serials)
-    }
-
-    /// The same serials as they are found, so that one may come twice.
-    ///
-    /// # Errors
-    /// Want of memory.
-    fn gathered(&self, change: &Change<C::Key>) -> Result<Vec<u64>, Refusal>
-        ensures all { IfOk result (λ serials.
-            AreConcerned C.rules self.now change.now serials.items) }
-        ensures refused { IfErr result (λ why. why ≡ OutOfMemory) }
-    {
-        let mut serials = Vec::new(self.alloc);
-        serials.extend_from_slice(&self.always)?;
-        find_tags(&self.tree, change.ended, &mut serials)?;
-        find_tags(&self.tree, change.made, &mut serials)?;
-        Ok(serials)
+        self.topics.tell_commit(snapshot, place, told)
     }
 }

@@ -5,7 +5,9 @@ mod change;
 mod enrolling;
 mod feed;
 mod laws;
+mod listeners;
 mod subscriber;
+mod topics;
 mod tree;
 
 pub use feed::Feed;

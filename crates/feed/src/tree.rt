@@ -58,17 +58,33 @@ pub(crate) fn uproot<C: KeyClass>(tree: &mut Store<C>, rows: &[u64], tag: u64)
     }
 }
 
-/// Removes the dead rows of the tree once more than `most` commits were made since the last time, when there were `swept`. Where
-/// memory is wanting some stay.
-pub(crate) fn sweep_after<C: KeyClass>(tree: &mut Store<C>, swept: &mut u64, most: u64)
+/// Removes the dead rows of the tree. Where memory is wanting some stay.
+pub(crate) fn sweep<C: KeyClass>(tree: &mut Store<C>)
     ensures { tree.new.commits ≡ tree.old.commits }
 {
-    let count = tree.commits();
-    if count.saturating_sub(*swept) <= most {
-        return;
-    }
-    *swept = count;
     let _freed = tree.sweep_all();
+}
+
+/// The numbers of the live rows that have a key and a tag.
+///
+/// # Errors
+/// Want of memory.
+pub(crate) fn tagged_rows<C: Reach>(
+    alloc: Global,
+    tree: &Store<C>,
+    key: C::Key,
+    tag: u64,
+) -> Result<Vec<u64>, Refusal>
+    ensures ok { IfOk result (λ rows. AreTagged tree.now.commits tag rows.items) }
+{
+    let found = tree.find(&Pred::Atom(C::same(key)))?;
+    let mut rows = Vec::new(alloc);
+    for row in &found {
+        if row.tag == tag {
+            rows.push(row.row)?;
+        }
+    }
+    Ok(rows)
 }
 
 /// Puts the tags of the rows whose keys overlap that of another row, where there is one, behind those of a list.

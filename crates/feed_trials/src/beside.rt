@@ -119,13 +119,32 @@ impl<C: Drawn> Trial<C> {
         deepened::<C>(self.alloc, query, pairs)
     }
 
+    /// The query that some reader has, or none where there is no reader.
+    fn query_again(&mut self) -> Result<Option<Pred<C::Atom>>, Refusal> {
+        let place = usize::try_from(self.source.below(self.readers.len() as u64)).unwrap_or(0);
+        match self.readers.get(place) {
+            Some(reader) => Ok(Some(reader.query.copy(self.alloc)?)),
+            None => Ok(None),
+        }
+    }
+
+    /// One time of two the query of a reader, else a further one.
+    fn query_or_again(&mut self) -> Result<Pred<C::Atom>, Refusal> {
+        if self.source.below(2) == 0
+            && let Some(query) = self.query_again()?
+        {
+            return Ok(query);
+        }
+        self.query()
+    }
+
     /// Somebody subscribes, in two rounds of three.
     fn maybe_subscribe(&mut self) -> Result<(), Refusal> {
         if self.source.below(3) == 0 {
             return Ok(());
         }
         let at = self.source.below(self.store.commits().saturating_add(3));
-        let query = self.query()?;
+        let query = self.query_or_again()?;
         let copy = query.copy(self.alloc)?;
         let serial = self.feed.subscribe(copy, at)?;
         self.readers.push(Reader { serial, query, at })?;
@@ -141,6 +160,16 @@ impl<C: Drawn> Trial<C> {
         if place < self.readers.len() {
             let gone = self.readers.remove(place);
             self.feed.unsubscribe(gone.serial)?;
+        }
+        Ok(())
+    }
+
+    /// So many subscriptions begin, of which each ends before the next one begins.
+    fn come_and_go(&mut self, count: u64) -> Result<(), Refusal> {
+        for _ in 0..count {
+            let query = Pred::Atom(C::atom(&mut self.source)?);
+            let serial = self.feed.subscribe(query, 0)?;
+            self.feed.unsubscribe(serial)?;
         }
         Ok(())
     }
@@ -180,6 +209,22 @@ fn goes_beside<C: Drawn>(alloc: Global, seed: u64) -> Result<bool, Refusal> {
     trial.rounds()
 }
 
+/// How many subscriptions come and go between two rounds, so that the tree of queries has more than nine thousand commits after all
+/// rounds, and was planted anew.
+const PASSING: u64 = 60;
+
+/// The same, while many others come and go.
+fn goes_beside_others<C: Drawn>(alloc: Global, seed: u64) -> Result<bool, Refusal> {
+    let mut trial = Trial::<C>::new(alloc, seed)?;
+    for _ in 0..ROUNDS {
+        trial.come_and_go(PASSING)?;
+        if !trial.round()? {
+            return Ok(false);
+        }
+    }
+    Ok(trial.whole > 100)
+}
+
 #[test]
 fn intervals_are_fed_as_they_are_read(rt: HostRuntime) -> Result<(), Fail> {
     for seed in 0..4 {
@@ -201,5 +246,23 @@ fn sets_are_fed_as_they_are_read(rt: HostRuntime) -> Result<(), Fail> {
     for seed in 0..4 {
         assert!(rt; goes_beside::<Sets>(rt.alloc(), seed)?, "{seed}");
     }
+    Ok(())
+}
+
+#[test]
+fn many_intervals_come_and_go_beside_the_others(rt: HostRuntime) -> Result<(), Fail> {
+    assert!(rt; goes_beside_others::<Intervals>(rt.alloc(), 5)?);
+    Ok(())
+}
+
+#[test]
+fn many_boxes_come_and_go_beside_the_others(rt: HostRuntime) -> Result<(), Fail> {
+    assert!(rt; goes_beside_others::<Boxes>(rt.alloc(), 6)?);
+    Ok(())
+}
+
+#[test]
+fn many_sets_come_and_go_beside_the_others(rt: HostRuntime) -> Result<(), Fail> {
+    assert!(rt; goes_beside_others::<Sets>(rt.alloc(), 7)?);
     Ok(())
 }

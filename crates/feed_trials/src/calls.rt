@@ -176,3 +176,23 @@ fn what_was_missed_is_given(rt: HostRuntime) -> Result<(), Fail> {
     assert!(rt; is_answered(rt.alloc(), &MISSED, &GIVEN)?);
     Ok(())
 }
+
+static EQUAL: [(Call, Result<u64, Refusal>); 8] = [
+    (Call::Overlapping(2, 4, 0), Ok(1)),
+    (Call::Overlapping(2, 4, 2), Ok(2)),
+    (Call::Overlapping(2, 4, 3), Ok(3)),
+    (Call::AdvanceInFive(3), Ok(3)),
+    (Call::Unsubscribe(1), Ok(0)),
+    (Call::AdvanceInFive(9), Ok(5)),
+    (Call::Unsubscribe(2), Ok(0)),
+    (Call::Unsubscribe(3), Ok(0)),
+];
+
+/// What those calls give: serials, and rows that were inserted.
+static GIVEN_EACH: [(u64, u64); 5] = [(1, 2), (1, 3), (2, 3), (2, 4), (3, 4)];
+
+#[test]
+fn equal_queries_end_one_by_one(rt: HostRuntime) -> Result<(), Fail> {
+    assert!(rt; is_answered(rt.alloc(), &EQUAL, &GIVEN_EACH)?);
+    Ok(())
+}

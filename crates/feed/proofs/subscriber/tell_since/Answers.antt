@@ -9,7 +9,7 @@ pub loop-place-init : goal.loop-place-init
 loop-place-init g c =
     let s = c.args.subscriber.now in record {
       within = omega arith;
-      told = passed_none (satisfies g.C.KeyClass.rules (query_of s.query)) s.serial s.from c.args.snapshot.now c.args.told.now.items;
+      told = passed_none (satisfies g.C.KeyClass.rules (query_of s.query)) c.args.serial s.from c.args.snapshot.now c.args.told.now.items;
     }
 
 pub loop-place-preserved : goal.loop-place-preserved
@@ -24,17 +24,17 @@ loop-place-preserved g c =
       | in-Some+in_ok-push w ↦
           record {
             within = further;
-            told = rw (w.told-is) (passed_one wanted s.serial s.from commits old c.loop-place.place c.loop-place.told.items _ w.in-Some.item c.loop-place.auto.place c.loop-place.invariant.told (search rules) (sym item ∙ w.in-Some.is));
+            told = rw (w.told-is) (passed_one wanted c.args.serial s.from commits old c.loop-place.place c.loop-place.told.items _ w.in-Some.item c.loop-place.auto.place c.loop-place.invariant.told (search rules) (sym item ∙ w.in-Some.is));
           }
       | in_default w ↦
           record {
             within = further;
-            told = rw (w.told-is) (passed_other wanted s.serial s.from commits old c.loop-place.place c.loop-place.told.items _ c.loop-place.auto.place c.loop-place.invariant.told refl (sym item ∙ w.in_default.is));
+            told = rw (w.told-is) (passed_other wanted c.args.serial s.from commits old c.loop-place.place c.loop-place.told.items _ c.loop-place.auto.place c.loop-place.invariant.told refl (sym item ∙ w.in_default.is));
           }
     ]
 
 pub returns-clause-ok : goal.returns-clause-ok
 returns-clause-ok g c =
     let s = c.args.subscriber.now in
-    passed_all (satisfies g.C.KeyClass.rules (query_of s.query)) s.serial s.from c.args.snapshot.now c.args.told.now.items c.loop-place.place c.args.upto c.loop-place.told.items (omega arith) c.loop-place.invariant.within (omega arith)
+    passed_all (satisfies g.C.KeyClass.rules (query_of s.query)) c.args.serial s.from c.args.snapshot.now c.args.told.now.items c.loop-place.place c.args.upto c.loop-place.told.items (omega arith) c.loop-place.invariant.within (omega arith)
     c.loop-place.invariant.told

@@ -8,5 +8,5 @@ use Rattle.feed.proofs.subscriber.tell_since.Given as goal
 abbrev pub invariant-loop-place : goal.invariant-loop-place
 invariant-loop-place g l = record {
   within : l.place ≤ max l.subscriber.from l.upto;
-  told : l.told.items ≡ l.initial.told.items ++ under l.subscriber.serial (changes (satisfies g.C.KeyClass.rules (query_of l.subscriber.query)) l.subscriber.from l.place l.snapshot);
+  told : l.told.items ≡ l.initial.told.items ++ under l.serial (changes (satisfies g.C.KeyClass.rules (query_of l.subscriber.query)) l.subscriber.from l.place l.snapshot);
 }

@@ -1,56 +1,68 @@
-use Rattle.std.proofs.Common.{◌-◌, ◌++◌, [], max, arith, sym, ap, ◌∙◌, subst, append_assoc}
+use Rattle.std.proofs.Common.{◌≡◌, ◌+◌, ◌<◌, ◌++◌, ℕ, List, [], None, Some, max, arith, sym, ap, ◌∙◌, subst, append_assoc}
+use Rattle.std.specs.Option.{option_copied}
 use Rattle.std.proofs.lemmas.List.{append-nil}
 use Rattle.key_class.specs.Queries.{query_of}
 use Rattle.key_class.specs.Rules.{satisfies}
 use Rattle.change_list.specs.Changes.{changes}
+use Rattle.change_list.specs.declared.item.Item.{Item}
+use Rattle.world.specs.Serials.{member}
+use Rattle.feed.specs.declared.subscriber.Subscriber.{Subscriber}
 use Rattle.feed.specs.Asking.{GivesInto, due_upto, under}
-use Rattle.feed.proofs.Dues.{missed_all, missed_more, missed_none, missed_rest}
+use Rattle.feed.specs.Holding.{serial_of, shown}
+use Rattle.feed.proofs.Advancing.{TellsUpto, tells_all, tells_next, tells_nobody, tells_none}
+use Rattle.feed.proofs.Dues.{all_missed, missed_gives, nothing_missed}
+use Rattle.feed.proofs.Entries.{member_found, member_missing}
 use Rattle.feed.proofs.feed.Feed.tell_missed.Goals as goal
+use Rattle.feed.proofs.feed.Feed.tell_missed.Goals.{in-Some+in_ok-tell_since, in_default}
 
-pub loop-rest-init : goal.loop-rest-init
-loop-rest-init g c =
+pub loop-passed-init : goal.loop-passed-init
+loop-passed-init g c =
     let feed = c.self.inside in
+    let rules = g.C.KeyClass.rules in
+    let commits = c.args.snapshot.now in
     record {
-      within = omega (arith, c.len-rest.ensures, feed.subscribers.ok.0);
       given = [];
       is = sym (append-nil c.args.told.now.items);
-      tells = missed_none g.C.KeyClass.rules c.args.snapshot.now feed.upto feed.passed feed.last feed.subscribers.items c.len-rest.result (omega (arith, c.len-rest.ensures, feed.subscribers.ok.0));
+      tells = tells_none (λ s. due_upto rules commits feed.upto (shown feed.upto feed.passed s)) feed.subscribers.entries feed.passed (λ serial within. nothing_missed rules commits feed.upto feed.passed feed.last feed.subscribers.entries serial within);
     }
 
-pub returns-then-subscriber-self-clause-ok : goal.returns-then-subscriber-self-clause-ok
-returns-then-subscriber-self-clause-ok g c =
+pub loop-passed-preserved : goal.loop-passed-preserved
+loop-passed-preserved g c =
     let feed = c.self.inside in
     let rules = g.C.KeyClass.rules in
-    subst (λ f. GivesInto (due_upto rules c.args.snapshot.now f.upto) f c.args.told.now.items c.loop-rest.told.items) c.self.view_is
-    (record {
-      given = c.loop-rest.invariant.given;
-      is = c.loop-rest.invariant.is;
-      gives = missed_rest rules c.args.snapshot.now feed.upto feed.passed feed.last feed.subscribers.items c.self.invariant.rise (c.loop-rest.rest - 1) c.loop-rest.rest (omega (arith, c.loop-rest-test.true)) c.loop-rest.invariant.within
-          c.index-subscriber.result.now c.index-subscriber.ensures c.loop-rest.invariant.given c.loop-rest.invariant.tells c.if-subscriber-self.true;
-    })
-
-pub loop-rest-preserved : goal.loop-rest-preserved
-loop-rest-preserved g c =
-    let feed = c.self.inside in
-    let rules = g.C.KeyClass.rules in
-    let x = c.index-subscriber.result.now in
-    let given = c.loop-rest.invariant.given in
-    let more = under x.serial (changes (satisfies rules (query_of x.query)) x.from (max x.from feed.upto) c.args.snapshot.now) in
-    record {
-      within = omega (arith, c.loop-rest.invariant.within);
-      given = given ++ more;
-      is = c.in_ok-tell_since.ensures.ok ∙ ap (λ l. l ++ more) c.loop-rest.invariant.is ∙ append_assoc c.args.told.now.items given more;
-      tells = missed_more rules c.args.snapshot.now feed.upto feed.passed feed.last feed.subscribers.items c.self.invariant.rise (c.loop-rest.rest - 1) c.loop-rest.rest (omega (arith, c.loop-rest-test.true)) c.loop-rest.invariant.within x
-          c.index-subscriber.ensures given c.loop-rest.invariant.tells c.if-subscriber-self.false;
-    }
+    let commits = c.args.snapshot.now in
+    let entries = feed.subscribers.entries in
+    let n = c.loop-passed.passed in
+    let given = c.loop-passed.invariant.given in
+    let missed : ℕ × Subscriber g.row.C-Atom.Denot → List (Item g.row.C-Key.Denot) = λ s. due_upto rules commits feed.upto (shown feed.upto feed.passed s) in
+    elim c.match-get.branch [
+      | in-Some+in_ok-tell_since w ↦
+          let x = w.in-Some.subscriber.now in
+          let found : member serial_of (n + 1) entries ≡ Some (n + 1, x) = member_found (n + 1) entries x (sym c.get.ensures.value ∙ ap option_copied w.in-Some.is) in
+          let more = under (n + 1) (changes (satisfies rules (query_of x.query)) x.from (max x.from feed.upto) commits) in
+          let behind : feed.passed < n + 1 = omega (arith, c.loop-passed.auto.passed) in
+          rw (w.told-is) (record {
+            given = given ++ more;
+            is = w.in_ok-tell_since.ensures.ok ∙ ap (λ l. l ++ more) c.loop-passed.invariant.is ∙ append_assoc c.args.told.now.items given more;
+            tells = subst (λ items. TellsUpto missed entries (n + 1) (given ++ under (n + 1) items)) (all_missed rules commits feed.upto feed.passed feed.last entries (n + 1, x) behind)
+                (tells_next missed entries n given (n + 1, x) c.loop-passed.invariant.tells found);
+          })
+      | in_default w ↦
+          let none : member serial_of (n + 1) entries ≡ None = member_missing (n + 1) entries (sym c.get.ensures.value ∙ ap option_copied w.in_default.is) in
+          rw (w.told-is) (record { given = given; is = c.loop-passed.invariant.is; tells = tells_nobody missed entries n given c.loop-passed.invariant.tells none })
+    ]
 
 pub returns-clause-ok : goal.returns-clause-ok
 returns-clause-ok g c =
     let feed = c.self.inside in
     let rules = g.C.KeyClass.rules in
-    subst (λ f. GivesInto (due_upto rules c.args.snapshot.now f.upto) f c.args.told.now.items c.loop-rest.told.items) c.self.view_is
+    let commits = c.args.snapshot.now in
+    let entries = feed.subscribers.entries in
+    let missed : ℕ × Subscriber g.row.C-Atom.Denot → List (Item g.row.C-Key.Denot) = λ s. due_upto rules commits feed.upto (shown feed.upto feed.passed s) in
+    subst (λ f. GivesInto (due_upto rules commits f.upto) f c.args.told.now.items c.loop-passed.told.items) c.self.view_is
     (record {
-      given = c.loop-rest.invariant.given;
-      is = c.loop-rest.invariant.is;
-      gives = missed_all rules c.args.snapshot.now feed.upto feed.passed feed.last feed.subscribers.items c.loop-rest.rest c.loop-rest.invariant.given c.loop-rest-test.false c.loop-rest.invariant.tells;
+      given = c.loop-passed.invariant.given;
+      is = c.loop-passed.invariant.is;
+      gives = missed_gives rules commits feed.upto feed.passed feed.last entries c.loop-passed.invariant.given
+          (tells_all missed entries c.loop-passed.passed feed.last c.loop-passed.invariant.given c.self.invariant.rise c.loop-passed-test.false c.loop-passed.invariant.tells);
     })

@@ -1,0 +1,408 @@
+ghost use Rattle.std.specs.Prelude.{◌≡◌, ◌≢◌, ◌↔◌, ◌++◌, ◌<◌, ℕ, [], length, IfOk, IfErr, IfSome, IsTrue, None, OnErr, OnOk, Some};
+ghost use Rattle.std.specs.Bool.{OnFalse, OnTrue};
+ghost use Rattle.std.specs.List.Sorted.{IsStrictlyIncreasing};
+ghost use Rattle.key_class.specs.Queries.{query_of};
+ghost use Rattle.key_class.specs.declared.refusal.Refusal.TheVariants.{OutOfMemory};
+ghost use Rattle.feed.specs.Asking.{AreConcerned, TellsCommit, TellsTopic};
+ghost use Rattle.feed.specs.Hearing.{ChangesHearing, IsHeardBy, query_at, topic_at};
+ghost use Rattle.feed.specs.Holding.{AreEnrolled};
+
+use crate::change::Change;
+use crate::enrolling::{enrol, uproot_query};
+use crate::listeners::Listeners;
+use crate::tree::{find_tags, sweep};
+use change_list::{Config, Item};
+use key_class::limits::{MAX_COMMITS, MAX_PAGES};
+use key_class::{Pred, Refusal};
+use reach::{Reach, reaches};
+use slab::Slab;
+use snapshot::Snapshot;
+use std::alloc::Global;
+use std::collections::BTreeSet;
+use std::marker::Model;
+use store::Store;
+
+/// The limits of the tree, which has a row for each key under which a query is looked for.
+const TREE: Config = Config {
+    fan: 32,
+    least: 12,
+    pages: MAX_PAGES,
+    commits: MAX_COMMITS,
+};
+
+/// After how many commits of the tree, beside one for each topic, it is tended.
+const FEW_COMMITS: u64 = 1_000;
+
+/// After how many times as many commits it is planted anew.
+const TENDINGS: u64 = 8;
+
+/// A query, and those to whom its items are told.
+#[derive(Drop)]
+pub(crate) struct Topic<A> {
+    pub(crate) query: Pred<A>,
+    pub(crate) listeners: Listeners,
+}
+
+/// The queries that somebody listens to, each under a number, and those who do.
+///
+/// They lie in a tree by the keys that can match them, so that a commit asks only those that its keys overlap, and those that any key
+/// may match.
+#[derive(Drop)]
+pub(crate) struct Topics<C: Reach> {
+    alloc: Global,
+    topics: Slab<Topic<C::Atom>>,
+    /// The numbers of those that each commit asks.
+    always: BTreeSet<u64>,
+    /// Its rows bear the numbers of topics.
+    tree: Store<C>,
+    /// How many commits the tree had when it was last tended.
+    tended: u64,
+}
+
+impl<C: Reach> Model for Topics<C> {
+    ghost use Rattle.std.specs.Prelude.{List, Option, map, option_map};
+    ghost use Rattle.key_class.specs.QueryCodes.{query_code};
+    ghost use Rattle.std.specs.Coded.{codes};
+    ghost use Rattle.feed.specs.Hearing.{TopicState};
+    ghost use Rattle.feed.specs.Holding.{AreEnrolled, topic_state};
+
+    ghost Value = { List (Option (TopicState C.Atom)) };
+
+    ghost coded = { Prim.hlevel (codes, query_code) };
+
+    ghost view = { λ t. map (option_map topic_state) t.topics.slots };
+
+    ghost invariant = { λ t. AreEnrolled C.reach_of C.rules.size_of t.tree.commits t.always.keys
+        t.topics.slots };
+}
+
+impl<C: Reach> Topics<C> {
+    /// None.
+    ///
+    /// # Errors
+    /// Want of memory.
+    pub(crate) fn new(alloc: Global) -> Result<Topics<C>, Refusal>
+        ensures ok { IfOk result (λ topics. topics ≡ []) }
+        ensures refused { IfErr result (λ why. why ≡ OutOfMemory) }
+    {
+        let tree = Store::new(alloc, TREE)?;
+        Ok(Topics {
+            alloc,
+            topics: Slab::new(alloc),
+            always: BTreeSet::new(alloc),
+            tree,
+            tended: 0,
+        })
+    }
+
+    /// Has somebody listen to a query after a commit, and gives the query's number.
+    ///
+    /// # Errors
+    /// Want of memory.
+    pub(crate) fn enter(
+        &mut self,
+        query: &Pred<C::Atom>,
+        serial: u64,
+        from: u64,
+    ) -> Result<usize, Refusal>
+        ensures ok { IfOk result (λ number. ChangesHearing self.old number serial
+            (Some (query_of query.now, from)) self.new) }
+        ensures err { OnErr result (self.new ≡ self.old) }
+        ensures refused { IfErr result (λ why. why ≡ OutOfMemory) }
+    {
+        if let Some(number) = self.find(query)? {
+            self.join(number, query, serial, from)?;
+            return Ok(number);
+        }
+        self.begin(query, serial, from)
+    }
+
+    /// Has somebody listen to the query with a number.
+    ///
+    /// # Errors
+    /// Want of memory.
+    fn join(
+        &mut self,
+        number: usize,
+        query: &Pred<C::Atom>,
+        serial: u64,
+        from: u64,
+    ) -> Result<(), Refusal>
+        requires { query_at self.old number ≡ Some (query_of query.now) }
+        ensures ok { OnOk result (ChangesHearing self.old number serial
+            (Some (query_of query.now, from)) self.new) }
+        ensures err { OnErr result (self.new ≡ self.old) }
+        ensures refused { IfErr result (λ why. why ≡ OutOfMemory) }
+    {
+        let Some(topic) = self.topics.get_mut(number) else {
+            return Ok(());
+        };
+        topic.listeners.insert(serial, from)
+    }
+
+    /// Begins a topic, to which somebody listens, and gives its number.
+    ///
+    /// # Errors
+    /// Want of memory.
+    fn begin(&mut self, query: &Pred<C::Atom>, serial: u64, from: u64) -> Result<usize, Refusal>
+        ensures ok { IfOk result (λ number. ChangesHearing self.old number serial
+            (Some (query_of query.now, from)) self.new) }
+        ensures err { OnErr result (self.new ≡ self.old) }
+        ensures refused { IfErr result (λ why. why ≡ OutOfMemory) }
+    {
+        let copy = query.copy(self.alloc)?;
+        self.topics.reserve(1)?;
+        let number = self.topics.vacant_key();
+        enrol(
+            self.alloc,
+            &mut self.tree,
+            &mut self.always,
+            query,
+            number as u64,
+        )?;
+        Ok(
+            self.topics.insert_reserved(Topic {
+                query: copy,
+                listeners: Listeners::alone(self.alloc, serial, from),
+            }),
+        )
+    }
+
+    /// The number of a query, or none where nobody is found who listens to it.
+    ///
+    /// # Errors
+    /// Want of memory.
+    fn find(&self, query: &Pred<C::Atom>) -> Result<Option<usize>, Refusal>
+        ensures ok { IfOk result (λ found. IfSome found (λ number.
+            query_at self.now number ≡ Some (query_of query.now))) }
+        ensures refused { IfErr result (λ why. why ≡ OutOfMemory) }
+    {
+        let Some(keys) = reaches::<C>(self.alloc, query)? else {
+            return Ok(self.find_always(query));
+        };
+        let Some(key) = keys.first() else {
+            return Ok(None);
+        };
+        self.find_below(*key, query)
+    }
+
+    /// The number of a query of those that lie in the tree under a key.
+    ///
+    /// # Errors
+    /// Want of memory.
+    fn find_below(&self, key: C::Key, query: &Pred<C::Atom>) -> Result<Option<usize>, Refusal>
+        ensures ok { IfOk result (λ found. IfSome found (λ number.
+            query_at self.now number ≡ Some (query_of query.now))) }
+        ensures refused { IfErr result (λ why. why ≡ OutOfMemory) }
+    {
+        let rows = self.tree.find(&Pred::Atom(C::same(key)))?;
+        for row in &rows {
+            if self.is_about(row.tag as usize, query) {
+                return Ok(Some(row.tag as usize));
+            }
+        }
+        Ok(None)
+    }
+
+    /// The number of a query of those that each commit asks.
+    fn find_always(&self, query: &Pred<C::Atom>) -> Option<usize>
+        ensures { IfSome result (λ number.
+            query_at self.now number ≡ Some (query_of query.now)) }
+    {
+        for number in &self.always {
+            if self.is_about(*number as usize, query) {
+                return Some(*number as usize);
+            }
+        }
+        None
+    }
+
+    /// Whether a topic has the query.
+    fn is_about(&self, number: usize, query: &Pred<C::Atom>) -> bool
+        ensures { IsTrue result ↔ (query_at self.now number ≡ Some (query_of query.now)) }
+    {
+        match self.topics.get(number) {
+            Some(topic) => topic.query.same_as::<C>(query),
+            None => false,
+        }
+    }
+
+    /// Has somebody no longer listen to the query with a number.
+    pub(crate) fn leave(&mut self, number: usize, serial: u64)
+        ensures { ChangesHearing self.old number serial None self.new }
+    {
+        if !self.leaves_others(number, serial) {
+            self.end(number);
+        }
+    }
+
+    /// Has somebody no longer listen to a query that others listen to. Tells whether there are others, or nobody at all.
+    fn leaves_others(&mut self, number: usize, serial: u64) -> bool
+        ensures left { OnTrue result (ChangesHearing self.old number serial None self.new) }
+        ensures only { OnFalse result (IsHeardBy self.old number serial) }
+        ensures unchanged { OnFalse result ((other : ℕ) → other ≢ number
+            → topic_at self.new other ≡ topic_at self.old other) }
+    {
+        let Some(topic) = self.topics.get_mut(number) else {
+            return true;
+        };
+        topic.listeners.remove(serial)
+    }
+
+    /// Ends a topic.
+    fn end(&mut self, number: usize)
+        ensures gone { topic_at self.new number ≡ None }
+        ensures others { (other : ℕ) → other ≢ number
+            → topic_at self.new other ≡ topic_at self.old other }
+    {
+        let Some(topic) = self.topics.try_remove(number) else {
+            return;
+        };
+        let _asked = self.always.remove(&(number as u64));
+        uproot_query(self.alloc, &mut self.tree, &topic.query, number as u64);
+        self.tend();
+    }
+
+    /// Removes the dead rows of the tree, or plants it anew, where enough commits were made since the last time. Where memory is wanting
+    /// some stay.
+    fn tend(&mut self)
+        ensures { self.new ≡ self.old }
+    {
+        let few = (self.topics.len() as u64).saturating_add(FEW_COMMITS);
+        let commits = self.tree.commits();
+        if commits.saturating_sub(self.tended) <= few {
+            return;
+        }
+        self.tended = commits;
+        if commits <= few.saturating_mul(TENDINGS) || self.plant_anew().is_err() {
+            sweep(&mut self.tree);
+        }
+    }
+
+    /// Plants the queries in a tree without commits, which takes the place of the one there was.
+    ///
+    /// # Errors
+    /// Want of memory.
+    fn plant_anew(&mut self) -> Result<(), Refusal>
+        ensures { self.new ≡ self.old }
+    {
+        let (tree, always) = planted(self.alloc, &self.topics)?;
+        self.tended = tree.commits();
+        self.tree = tree;
+        self.always = always;
+        Ok(())
+    }
+
+    /// Puts what commit `place + 1` gives behind the entries of a list.
+    ///
+    /// # Errors
+    /// Want of memory.
+    pub(crate) fn tell_commit(
+        &self,
+        snapshot: &Snapshot<C>,
+        place: u64,
+        told: &mut Vec<(u64, Item<C::Key>)>,
+    ) -> Result<(), Refusal>
+        requires { place < length snapshot.now }
+        ensures ok { OnOk result (TellsCommit C.rules snapshot.now self.now place
+            told.old.items told.new.items) }
+        ensures refused { IfErr result (λ why. why ≡ OutOfMemory) }
+    {
+        let change = Change::at(snapshot, place);
+        let numbers = self.concerned(&change)?;
+        for number in &numbers {
+            self.tell_topic(*number as usize, &change, told)?;
+        }
+        Ok(())
+    }
+
+    /// Puts what a change gives to those who listen to the query with a number behind the entries of a list.
+    ///
+    /// # Errors
+    /// Want of memory.
+    fn tell_topic(
+        &self,
+        number: usize,
+        change: &Change<C::Key>,
+        told: &mut Vec<(u64, Item<C::Key>)>,
+    ) -> Result<(), Refusal>
+        ensures ok { OnOk result (TellsTopic C.rules self.now number change.now
+            told.old.items told.new.items) }
+        ensures refused { IfErr result (λ why. why ≡ OutOfMemory) }
+    {
+        let Some(topic) = self.topics.get(number) else {
+            return Ok(());
+        };
+        let Some(item) = change.item::<C>(&topic.query) else {
+            return Ok(());
+        };
+        topic.listeners.tell(change.number, item, told)
+    }
+
+    /// The numbers of the topics that a change may concern, each once, by rising number.
+    ///
+    /// # Errors
+    /// Want of memory.
+    fn concerned(&self, change: &Change<C::Key>) -> Result<Vec<u64>, Refusal>
+        ensures all { IfOk result (λ numbers.
+            AreConcerned C.rules self.now change.now numbers.items) }
+        ensures rising { IfOk result (λ numbers. IsStrictlyIncreasing numbers.items) }
+        ensures refused { IfErr result (λ why. why ≡ OutOfMemory) }
+    {
+        let mut numbers = self.gathered(change)?;
+        numbers.sort_unstable();
+        numbers.dedup();
+        Ok(numbers)
+    }
+
+    /// The same numbers as they are found, so that one may come twice.
+    ///
+    /// # Errors
+    /// Want of memory.
+    fn gathered(&self, change: &Change<C::Key>) -> Result<Vec<u64>, Refusal>
+        ensures all { IfOk result (λ numbers.
+            AreConcerned C.rules self.now change.now numbers.items) }
+        ensures refused { IfErr result (λ why. why ≡ OutOfMemory) }
+    {
+        let mut numbers = Vec::new(self.alloc);
+        push_all(&self.always, &mut numbers)?;
+        find_tags(&self.tree, change.ended, &mut numbers)?;
+        find_tags(&self.tree, change.made, &mut numbers)?;
+        Ok(numbers)
+    }
+}
+
+/// Puts the members of a set behind those of a list.
+///
+/// # Errors
+/// Want of memory.
+fn push_all(members: &BTreeSet<u64>, into: &mut Vec<u64>) -> Result<(), Refusal>
+    ensures ok { OnOk result (into.new.items ≡ into.old.items ++ members.now.keys) }
+    ensures refused { IfErr result (λ why. why ≡ OutOfMemory) }
+{
+    for member in members {
+        into.push(*member)?;
+    }
+    Ok(())
+}
+
+/// A tree in which the queries of all topics were planted, and the numbers of those that each commit asks.
+///
+/// # Errors
+/// Want of memory.
+fn planted<C: Reach>(
+    alloc: Global,
+    topics: &Slab<Topic<C::Atom>>,
+) -> Result<(Store<C>, BTreeSet<u64>), Refusal>
+    ensures { IfOk result (λ p. AreEnrolled C.reach_of C.rules.size_of p.0.commits p.1.keys
+        topics.now.slots) }
+{
+    let mut tree = Store::new(alloc, TREE)?;
+    let mut always = BTreeSet::new(alloc);
+    for number in 0..topics.capacity() {
+        if let Some(topic) = topics.get(number) {
+            enrol(alloc, &mut tree, &mut always, &topic.query, number as u64)?;
+        }
+    }
+    Ok((tree, always))
+}
