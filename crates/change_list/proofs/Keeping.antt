@@ -10,7 +10,7 @@ use Rattle.change_list.specs.declared.write.Status.TheVariants.{Live}
 use Rattle.change_list.specs.declared.recorded.Recorded.{Recorded}
 use Rattle.change_list.specs.declared.recorded.Recorded.TheVariants as recorded
 use Rattle.change_list.specs.Changes.{commit_at, makes, moved, row_at, status_of, MayFollow, IsLegal, IsTracked}
-use Rattle.change_list.specs.Roomy.{letters_with}
+use Rattle.change_list.specs.Roomy.{flags_with}
 use Rattle.change_list.specs.Records.{FindsKept, HasOrigin, HasTagOf, IsKept, IsKeptAt, KeepsWrite, inserted_tag, origin_of, write_of, writes_of}
 use Rattle.change_list.proofs.Lists.{slice_get_before, slice_get_push, slice_get_within}
 use Rattle.change_list.proofs.Made.{number_of_commit, row_of_insert, row_of_move, row_of_delete}
@@ -113,8 +113,8 @@ module _ {K : Type 0} where
   pub writes_push : (kept : List (Recorded K)) (write : Write K) (r : Recorded K) → write_of r ≡ write → writes_of (kept ++ r ∷ []) ≡ writes_of kept ++ write ∷ []
   writes_push kept write r is = map-append write_of kept (r ∷ []) ∙ ap (λ w. writes_of kept ++ w ∷ []) is
 
-  pub tracked_kept : (kept longer : List (Recorded K)) (write : Write K) (r : Recorded K) (ended letters : List Bool) → KeepsWrite (writes_of kept) write r → IsTracked (writes_of kept) ended → MayFollow (writes_of kept) write
-      → longer ≡ kept ++ r ∷ [] → letters ≡ letters_with ended write → IsTracked (writes_of longer) letters
-  tracked_kept kept longer write r ended letters keeps t follows e l =
+  pub tracked_kept : (kept longer : List (Recorded K)) (write : Write K) (r : Recorded K) (ended flags : List Bool) → KeepsWrite (writes_of kept) write r → IsTracked (writes_of kept) ended → MayFollow (writes_of kept) write
+      → longer ≡ kept ++ r ∷ [] → flags ≡ flags_with ended write → IsTracked (writes_of longer) flags
+  tracked_kept kept longer write r ended flags keeps t follows e l =
       subst (λ ls. IsTracked (writes_of longer) ls) (sym l)
-      (subst (λ cs. IsTracked cs (letters_with ended write)) (sym (ap writes_of e ∙ writes_push kept write r keeps.is)) (tracked_push (writes_of kept) ended write t follows))
+      (subst (λ cs. IsTracked cs (flags_with ended write)) (sym (ap writes_of e ∙ writes_push kept write r keeps.is)) (tracked_push (writes_of kept) ended write t follows))

@@ -67,7 +67,7 @@ module _ {K : Type 0} where
   abbrev pub IsLegal : List (Write K) → Type 0
   IsLegal commits = (place : ℕ) (write : Write K) → slice_get commits place ≡ Some write → MayFollow (take place commits) write
 
-  -- a legal list, with a letter for each commit: whether a commit ends the row of its number
+  -- a legal list, with a flag for each commit: whether a commit ends the row of its number
   pub record IsTracked (commits : List (Write K)) (ended : List Bool) : Type 0 where
     pub legal : IsLegal commits
     pub one_each : length ended ≡ length commits

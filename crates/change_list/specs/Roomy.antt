@@ -19,8 +19,8 @@ module _ {K : Type 0} where
   NamesEarlier n (Delete row) = (0 < row) × (row ≤ n)
   NamesEarlier n (Move row key) = (0 < row) × (row ≤ n)
 
-  -- with the letter of a further commit, which no commit ends; a delete or a move changes the letter of its row
-  abbrev pub letters_with : List Bool → Write K → List Bool
-  letters_with letters (Insert key tag) = letters ++ false ∷ []
-  letters_with letters (Delete row) = slice_set (letters ++ false ∷ []) (row - 1) true
-  letters_with letters (Move row key) = slice_set (letters ++ false ∷ []) (row - 1) true
+  -- with the flag of a further commit, which no commit ends; a delete or a move sets the flag of its row
+  abbrev pub flags_with : List Bool → Write K → List Bool
+  flags_with flags (Insert key tag) = flags ++ false ∷ []
+  flags_with flags (Delete row) = slice_set (flags ++ false ∷ []) (row - 1) true
+  flags_with flags (Move row key) = slice_set (flags ++ false ∷ []) (row - 1) true

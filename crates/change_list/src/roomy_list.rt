@@ -1,6 +1,6 @@
 ghost use Rattle.std.specs.Prelude.{◌≡◌, ◌<◌, length};
 ghost use Rattle.std.specs.Vec.{vec_capacity};
-ghost use Rattle.change_list.specs.Roomy.{with_write, NamesEarlier, letters_with};
+ghost use Rattle.change_list.specs.Roomy.{with_write, NamesEarlier, flags_with};
 
 use crate::change_list::ChangeList;
 use crate::recorded::Recorded;
@@ -54,11 +54,11 @@ impl<K: Copy> RoomyList<K> {
     }
 }
 
-/// The letters of a list's commits with one for a further commit.
+/// For each number given, whether its row was ended, with a further commit.
 fn with_letter<K: Copy>(ended: Vec<bool>, write: Write<K>) -> Vec<bool>
     requires room { length ended.items < vec_capacity ended }
     requires names { NamesEarlier (length ended.items) write }
-    ensures { result.items ≡ letters_with ended.items write }
+    ensures { result.items ≡ flags_with ended.items write }
 {
     let mut ended = ended;
     ended.push_reserved(false);

@@ -1,6 +1,6 @@
 use Rattle.std.proofs.Common.{◌≡◌, ◌<◌, length, sym, ap, ◌∙◌, arith}
 use Rattle.change_list.specs.Changes.{is_ended}
-use Rattle.snapshot.proofs.Ending.{letter_at, living_ended, living_more, living_none, living_unmade}
+use Rattle.snapshot.proofs.Ending.{flag_at, living_ended, living_more, living_none, living_unmade}
 use Rattle.snapshot.proofs.all_rows.all_rows.Goals as goal
 use Rattle.snapshot.proofs.all_rows.all_rows.Goals.{in-Some+in_ok-push, in_default}
 
@@ -13,7 +13,7 @@ loop-place-preserved-then-index g c =
     let place = c.loop-place.place in
     let tells = c.in_ok-ended.ensures in
     let within : place < length list = omega (arith, c.loop-place-test.true, c.len-place-end.ensures, tells.one_each) in
-    let told = letter_at list (length list) c.in_ok-ended.ended.items tells place within c.index.result.now c.index.result.now c.index.ensures in
+    let told = flag_at list (length list) c.in_ok-ended.ended.items tells place within c.index.result.now c.index.result.now c.index.ensures in
     c.loop-place.invariant ∙ sym (living_ended list place within (sym told ∙ c.if-index.true))
 
 pub loop-place-preserved : goal.loop-place-preserved
@@ -22,7 +22,7 @@ loop-place-preserved g c =
     let place = c.loop-place.place in
     let tells = c.in_ok-ended.ensures in
     let within : place < length list = omega (arith, c.loop-place-test.true, c.len-place-end.ensures, tells.one_each) in
-    let told = letter_at list (length list) c.in_ok-ended.ended.items tells place within c.index.result.now c.index.result.now c.index.ensures in
+    let told = flag_at list (length list) c.in_ok-ended.ended.items tells place within c.index.result.now c.index.result.now c.index.ensures in
     elim c.match-row.branch [
       | in-Some+in_ok-push w ↦
           rw (w.found-is, w.in_ok-push.ensures.items, c.loop-place.invariant)
