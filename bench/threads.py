@@ -27,7 +27,7 @@ FOLLOWER_AIM = 15
 # The most items that stand in a ring.
 ROOM = 4_096
 
-FIELDS = ("wall", "threads_wall", "threads_cpu", "calls", "visits", "items")
+FIELDS = ("wall", "threads_wall", "threads_cpu", "calls", "visits", "items", "shortest", "longest")
 
 
 def build_peer():
@@ -70,10 +70,15 @@ def waiting(part):
     return 100 * (1 - part["threads_cpu"] / part["threads_wall"])
 
 
+def evenness(part):
+    """What the slowest thread of a part did a second, beside what the fastest did, where each had as much to do."""
+    return part["shortest"] / part["longest"]
+
+
 def print_threads(options):
     """Inserts and finds a second, by number of threads."""
     print(f"{options.rows:,} rows and {options.finds:,} finds in all")
-    print("  threads  inserts a second  waiting    finds a second  waiting  items a find  visits a find      finish")
+    print("  threads  inserts a second  waiting  evenness    finds a second  waiting  evenness  items a find  visits a find      finish")
     for count in options.threads:
         runs = [parts(["threads", count, options.rows, options.finds]) for _ in range(options.turns)]
         inserts = min((run[0] for run in runs), key=lambda part: part["wall"])
@@ -82,8 +87,8 @@ def print_threads(options):
         if inserts["calls"] != options.rows // count * count or finish["calls"] != inserts["calls"]:
             raise SystemExit("bench: an insert was refused, or the seats don't fit the commits")
         print(
-            f"  {count:>7}  {inserts['calls'] / inserts['wall'] * 1e9:>16,.0f}  {waiting(inserts):>5.1f} %"
-            f"  {finds['calls'] / finds['wall'] * 1e9:>16,.0f}  {waiting(finds):>5.1f} %"
+            f"  {count:>7}  {inserts['calls'] / inserts['wall'] * 1e9:>16,.0f}  {waiting(inserts):>5.1f} %  {evenness(inserts):>8.2f}"
+            f"  {finds['calls'] / finds['wall'] * 1e9:>16,.0f}  {waiting(finds):>5.1f} %  {evenness(finds):>8.2f}"
             f"  {finds['items'] / finds['calls']:>12.1f}  {finds['visits'] / finds['calls']:>13.1f}"
             f"  {finish['wall'] / 1e9:>8.3f} s",
             flush=True,

@@ -1,10 +1,12 @@
 -- A visit that closes a cursor, and what it tells of a receipt.
-use Rattle.std.proofs.Common.{◌≡◌, ◌∙◌, ◌≤◌, List, length, ℕ}
+use Rattle.std.proofs.Common.{◌≡◌, ◌∙◌, ◌≤◌, List, length, ℕ, subst, sym}
 use Rattle.key_class.specs.Rules.{Rules}
 use Rattle.change_list.specs.declared.write.Write.{Write}
 use Rattle.world.specs.States.{State}
 use Rattle.desk.specs.Receipts.{IfReceipt}
+use Rattle.desk.specs.Seats.{Seated}
 use Rattle.desk.specs.Visits.{IsVisit}
+use Rattle.desk.specs.Weaving.{SeatStands}
 use Rattle.desk.specs.declared.ending.Ended.{Ended}
 use Rattle.desk.specs.declared.ending.Ended.TheVariants as ended
 
@@ -22,3 +24,8 @@ of_view ended.NoReceipt commits list is same = tt
 pub no_fewer : {K : Type 0} (e : Ended K) (commits : List (Write K)) (n : ℕ) → IfReceipt e (λ r. r.commits ≡ commits) → n ≤ length commits → IfReceipt e (λ r. n ≤ length r.commits)
 no_fewer (ended.Receipt r) commits n is less = rw is less
 no_fewer ended.NoReceipt commits n is less = tt
+
+-- the stamps that stand in a view stand in a receipt of it
+pub kept_stand : {K : Type 0} (e : Ended K) (commits : List (Write K)) (s : Seated K) → IfReceipt e (λ r. r.commits ≡ commits) → SeatStands commits s → IfReceipt e (λ r. SeatStands r.commits s)
+kept_stand (ended.Receipt r) commits s is stand = subst (λ l. SeatStands l s) (sym is) stand
+kept_stand ended.NoReceipt commits s is stand = tt

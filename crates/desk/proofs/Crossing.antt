@@ -9,6 +9,7 @@ use Rattle.std.specs.declared.clone.Clone as clone
 use Rattle.std.specs.declared.cmp.Eq as eq
 use Rattle.std.specs.declared.cmp.PartialEq as partial_eq
 use Rattle.std.specs.declared.sync.ledger.Ledger as ledger
+use Rattle.history.specs.declared.rule.Naming as naming
 use Rattle.rtrb.proofs.consumer.Consumer.TheSendSync as consumer
 use Rattle.key_class.specs.declared.class.KeyClass as class
 use Rattle.key_class.proofs.pred.Pred.TheLaws.TheKnot as pred
@@ -22,12 +23,13 @@ use Rattle.desk.specs.contracts.taker.Taker.TheInside as taker
 
 module _ (ℓ : NamedLft) (C L K A : RattleType) (c : class.Ghosts C.Denot K.Denot A.Denot)
     (kc : clone.Ghosts K.Denot) (ke : eq.Ghosts K.Denot) (kp : partial_eq.Ghosts K.Denot)
-    (ac : clone.Ghosts A.Denot) (ae : eq.Ghosts A.Denot) (ap : partial_eq.Ghosts A.Denot) (l : ledger.Ghosts L.Denot) where
-  pub taker_send : IsSend K → IsSync K → IsSend A → IsSync A → IsSend L → IsSync L → IsSend (Taker.the_row ℓ C L K A c kc ke kp ac ae ap l)
+    (ac : clone.Ghosts A.Denot) (ae : eq.Ghosts A.Denot) (ap : partial_eq.Ghosts A.Denot) (l : ledger.Ghosts L.Denot)
+    (n : naming.Ghosts L.Denot) where
+  pub taker_send : IsSend K → IsSync K → IsSend A → IsSync A → IsSend L → IsSync L → IsSend (Taker.the_row ℓ C L K A c kc ke kp ac ae ap l n)
   taker_send sk yk sa ya sl yl =
-      view_send (taker.the_row ℓ C L K A c kc ke kp ac ae ap l) _ _ _ _
-      (recorded_send (taker.the_field ℓ C L K A c kc ke kp ac ae ap l).row _ _ (taker.the_type ℓ C L K A c kc ke kp ac ae ap l).to_one
-      (struct_send (shape (taker.the_type ℓ C L K A c kc ke kp ac ae ap l)) (
+      view_send (taker.the_row ℓ C L K A c kc ke kp ac ae ap l n) _ _ _ _
+      (recorded_send (taker.the_field ℓ C L K A c kc ke kp ac ae ap l n).row _ _ (taker.the_type ℓ C L K A c kc ke kp ac ae ap l n).to_one
+      (struct_send (shape (taker.the_type ℓ C L K A c kc ke kp ac ae ap l n)) (
         search (desk.the_sync, ring.the_send, world_send, sendable) depth 20,
         (
           search sendable depth 20,

@@ -1,5 +1,5 @@
 -- What keeps a world held under its lock.
-use Rattle.std.proofs.Common.{◌≡◌, ℕ, List, [], Option, Some, None, Result, Ok, Err, OnOk, OnErr, ap, subst}
+use Rattle.std.proofs.Common.{◌≡◌, ℕ, List, [], Some, None, Result, Ok, Err, OnOk, OnErr, ap, subst}
 use Rattle.key_class.specs.Rules.{Rules}
 use Rattle.key_class.specs.declared.refusal.Refusal.{Refusal}
 use Rattle.mailbox.specs.Outlets.{Rule}

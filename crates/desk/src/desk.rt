@@ -1,23 +1,24 @@
 //! The desk: a world under a lock, and the calls of its clients. Each call visits the lock once or more; a visit makes one
 //! event or none.
+ghost use mathlib.Core.List.{IsPrefix};
 ghost use Rattle.key_class.specs.Limits.{most_seats};
-ghost use Rattle.std.specs.Prelude.{◌≡◌, ◌↔◌, ◌<◌, ◌≤◌, ◌+◌, ℕ, [], ◌∷◌, ◌++◌, length, Some, Err, true, false, IfSome, IfOk, IfErr, OnErr};
+ghost use Rattle.std.specs.Prelude.{◌≡◌, ◌↔◌, ◌<◌, ◌≤◌, ◌+◌, ℕ, [], ◌∷◌, ◌++◌, length, Some, Err, true, false, IfSome, IfOk, IfErr, OnOk, OnErr};
 ghost use Rattle.key_class.specs.Queries.{query_of};
 ghost use Rattle.change_list.specs.declared.write.Write.TheVariants.{Insert, Delete, Move};
 ghost use Rattle.world.specs.declared.event.Event.TheVariants as event;
-ghost use Rattle.desk.specs.Seats.{AreFresh, IsStampOf};
-ghost use Rattle.desk.specs.Visits.{CountsMoving, CountsSearch, IsDelete, IsMove, IsVisit, IsCommitted, IsMovingCommitted, IsSearchCommitted, CountsOne, IsBadDesk, OutOfMemoryOr, OpensFor, IsReplied, FollowsFor, ClosesWithView, IsInsertRefused, IsDeleteRefused, IsMoveRefused, IsOpeningRefused, IsFollowingRefused, ShowsCommits, CountsCommits};
+ghost use Rattle.desk.specs.Seats.{AreFresh, IsLastOf, IsStampOf};
+ghost use Rattle.desk.specs.Visits.{CountsMoving, CountsSearch, IsDelete, IsMove, IsVisit, IsCommitted, IsMovingCommitted, IsSearchCommitted, CountsOne, IsBadDesk, IsFinderEnded, SplitsFull, WasFull, OutOfMemoryOr, OpensFor, IsReplied, FollowsFor, ClosesWithView, IsInsertRefused, IsDeleteRefused, IsMoveRefused, IsOpeningRefused, IsFollowingRefused, ShowsCommits, CountsCommits};
 ghost use Rattle.desk.specs.Weaving.{SeatStands};
 ghost use Rattle.key_class.specs.Refusals.{IsEither};
 ghost use Rattle.std.specs.Vec.{vec_capacity};
 
-use crate::checks::seat_stands;
 use crate::latches::Latches;
 use crate::locked::{Guarded, Locked};
 use crate::priority_lock::PriorityLock;
-use crate::seat::Seat;
+use crate::seat::{CommitsTold, Seat};
 use crate::taker::Taker;
-use change_list::{Config, View};
+use change_list::{Config, View, Write};
+use history::{BlankHistory, Naming};
 use insertion::Way;
 use key_class::limits::MAX_SEATS;
 use key_class::{KeyClass, Pred, Refusal};
@@ -34,7 +35,7 @@ use world::{Reply, SplitTask, Stamped, VisitTask, World};
 
 /// A world under a lock, which as many seats as the ledger has parts share.
 #[derive(Drop)]
-pub struct DeskOver<W: Guarded, L: Ledger> {
+pub struct DeskOver<W: Guarded, L: Ledger + Naming> {
     pub(crate) alloc: Global,
     pub(crate) locked: PriorityLock<Locked<W, L>>,
     /// What who waits for a commit sleeps on, under the lock.
@@ -46,7 +47,7 @@ pub struct DeskOver<W: Guarded, L: Ledger> {
 /// A desk over a world of a class.
 pub type Desk<C, L> = DeskOver<World<C, Ring<<C as KeyClass>::Key>>, L>;
 
-impl<W: Guarded, L: Ledger> Model for DeskOver<W, L> {
+impl<W: Guarded, L: Ledger + Naming> Model for DeskOver<W, L> {
     ghost use Rattle.std.specs.Prelude.{◌≡◌, ◌<◌, ℕ};
 
     ghost Value = { ℕ };
@@ -82,13 +83,15 @@ fn worked_visit<C: KeyClass>(task: VisitTask<C>) -> Option<VisitTask<C>>
     }
 }
 
-/// Seats that share all parts of a ledger.
-fn seats_of<C: KeyClass, L: Ledger>(
+/// Seats that share all parts of a ledger, and were told nothing.
+fn seats_of<C: KeyClass, L: Ledger + Naming>(
     alloc: Global,
     all: Share<L>,
+    told: &CommitsTold<C, L>,
     seats: usize,
 ) -> Result<Vec<Seat<C, L>>, AllocError>
-    requires { (all.parts ≡ seats) × (all.amount ≡ 0) × (seats ≤ most_seats) }
+    requires share { (all.parts ≡ seats) × (all.amount ≡ 0) × (seats ≤ most_seats) }
+    requires told { told.now ≡ [] }
     ensures seats { IfOk result (λ made. length made.items ≡ seats) }
     ensures fresh { IfOk result (λ made. AreFresh seats made.items) }
 {
@@ -96,13 +99,14 @@ fn seats_of<C: KeyClass, L: Ledger>(
     let mut made = Vec::with_capacity(alloc, seats)?;
     for i in 0..seats {
         let share = all.split_off(1, 0);
-        made.push_reserved(Seat::new(alloc, i as u32 + 1, share));
+        made.push_reserved(Seat::new(alloc, i as u32 + 1, share, told.again()));
     }
     Ok(made)
 }
 
-impl<C: KeyClass, L: Ledger> DeskOver<World<C, Ring<C::Key>>, L> {
-    /// A desk with one empty leaf, and its seats, numbered from 1.
+impl<C: KeyClass, L: Ledger + Naming> DeskOver<World<C, Ring<C::Key>>, L> {
+    /// A desk with one empty leaf, and its seats, numbered from 1. The seats are told the history that is handed in, to which
+    /// each commit is added.
     ///
     /// # Errors
     /// `BadConfig` where a limit of the configuration or the number of seats (1 to 64) is out of its range, else want of
@@ -110,12 +114,14 @@ impl<C: KeyClass, L: Ledger> DeskOver<World<C, Ring<C::Key>>, L> {
     pub fn new(
         alloc: Global,
         blank: Blank,
+        history: BlankHistory<Write<C::Key>>,
         config: Config,
         seats: usize,
     ) -> Result<(Desk<C, L>, Vec<Seat<C, L>>), Refusal>
         requires name { blank.name ≡ L.name }
         requires parts { blank.parts ≡ L.parts }
         requires one_each { blank.parts ≡ seats }
+        requires history { history ≡ L.history }
         ensures desk { IfOk result (λ made. made.0 ≡ seats) }
         ensures seats { IfOk result (λ made. length made.1.items ≡ seats) }
         ensures fresh { IfOk result (λ made. AreFresh seats made.1.items) }
@@ -127,10 +133,11 @@ impl<C: KeyClass, L: Ledger> DeskOver<World<C, Ring<C::Key>>, L> {
         }
         let world = World::<C, Ring<C::Key>>::new(alloc, config)?;
         let (book, all) = blank.open::<L>();
-        let Ok(made) = seats_of(alloc, all, seats) else {
+        let history = history.open::<L>();
+        let Ok(made) = seats_of(alloc, all, history.all(), seats) else {
             return Err(Refusal::OutOfMemory);
         };
-        let locked = PriorityLock::new(Locked::new(world, book));
+        let locked = PriorityLock::new(Locked::new(world, history, book));
         Ok((
             DeskOver {
                 alloc,
@@ -147,6 +154,7 @@ impl<C: KeyClass, L: Ledger> DeskOver<World<C, Ring<C::Key>>, L> {
     ///
     /// # Errors
     /// `CommitsFull`, `PagesFull`, or want of memory. No commit is made then.
+    #[tactic(auto, using(crate::proofs::Answering::answers_on, crate::proofs::Answering::last_of))]
     pub fn insert<R: Wait>(
         &self,
         rt: &R,
@@ -158,15 +166,17 @@ impl<C: KeyClass, L: Ledger> DeskOver<World<C, Ring<C::Key>>, L> {
         ensures stamps { IfOk result (λ s. seat.new.stamps ≡ seat.old.stamps ++ s ∷ []) }
         ensures number { IfOk result (λ s. length seat.new.stamps ≤ s.number) }
         ensures seat { seat.new.number ≡ seat.old.number }
-        ensures refused { OnErr result (seat.new ≡ seat.old) }
-        ensures committed { IfOk result (IsCommitted C.rules) }
-        ensures refusals { IfErr result (OutOfMemoryOr (IsInsertRefused C.rules)) }
+        ensures seen { IsPrefix seat.old.told seat.new.told }
+        ensures last { IfOk result (IsLastOf seat.new.told) }
+        ensures refused { OnErr result (seat.new ≡ record seat.old { told = seat.new.told }) }
+        ensures committed { IfOk result (IsCommitted C.rules seat.old.told seat.new.told) }
+        ensures refusals { IfErr result (OutOfMemoryOr (IsInsertRefused C.rules seat.new.told)) }
     {
         if seat.stamps.try_reserve(1).is_err() {
             return Err(Refusal::OutOfMemory);
         }
         let number = seat.number;
-        let stamped = self.insert_for(rt, number, &mut seat.share, key, tag)?;
+        let stamped = self.insert_for(rt, number, &mut seat.share, &mut seat.told, key, tag)?;
         self.keep(&mut seat.stamps, stamped);
         Ok(stamped)
     }
@@ -181,11 +191,13 @@ impl<C: KeyClass, L: Ledger> DeskOver<World<C, Ring<C::Key>>, L> {
     }
 
     /// Visits the lock until the row is placed or a visit is refused.
+    #[tactic(auto, using(crate::proofs::Answering::same_told, crate::proofs::Answering::told_on, crate::proofs::Answering::committed_on))]
     fn insert_for<R: Wait>(
         &self,
         rt: &R,
         number: u32,
         share: &mut Share<L>,
+        told: &mut CommitsTold<C, L>,
         key: C::Key,
         tag: u64,
     ) -> Result<Stamped<C::Key>, Refusal>
@@ -194,8 +206,9 @@ impl<C: KeyClass, L: Ledger> DeskOver<World<C, Ring<C::Key>>, L> {
         ensures share { IfOk result (CountsOne share.old.amount share.new.amount) }
         ensures parts { share.new.parts ≡ share.old.parts }
         ensures refused { OnErr result (share.new.amount ≡ share.old.amount) }
-        ensures committed { IfOk result (IsCommitted C.rules) }
-        ensures refusals { IfErr result (OutOfMemoryOr (IsInsertRefused C.rules)) }
+        ensures seen { IsPrefix told.old told.new }
+        ensures committed { IfOk result (IsCommitted C.rules told.old told.new) }
+        ensures refusals { IfErr result (OutOfMemoryOr (IsInsertRefused C.rules told.new)) }
     {
         let alloc = self.alloc;
         let mut page = 0;
@@ -203,10 +216,10 @@ impl<C: KeyClass, L: Ledger> DeskOver<World<C, Ring<C::Key>>, L> {
             let way = self
                 .locked
                 .lock(rt)
-                .insert_on(alloc, number, share, page, key, tag)?;
+                .insert_on(rt, alloc, number, share, told, page, key, tag)?;
             match way {
                 Way::On(next) => page = next,
-                Way::Split(full) => self.split_for(rt, number, full)?,
+                Way::Split(full) => self.split_for(rt, number, told, full)?,
                 Way::Placed(stamped) => return Ok(stamped),
             }
         }
@@ -215,8 +228,18 @@ impl<C: KeyClass, L: Ledger> DeskOver<World<C, Ring<C::Key>>, L> {
 
     /// Splits a page on an insertion's way. The sides are worked out without the lock, while nobody else works on the page;
     /// where it was changed meanwhile, again and again, it is split in one visit.
-    fn split_for<R: Wait>(&self, rt: &R, number: u32, page: u32) -> Result<(), Refusal>
-        ensures refusals { IfErr result (OutOfMemoryOr (IsInsertRefused C.rules)) }
+    #[tactic(auto, using(crate::proofs::Answering::same_told, crate::proofs::Answering::told_on, crate::proofs::Answering::committed_on))]
+    fn split_for<R: Wait>(
+        &self,
+        rt: &R,
+        number: u32,
+        told: &mut CommitsTold<C, L>,
+        page: u32,
+    ) -> Result<(), Refusal>
+        requires full { WasFull C.rules page }
+        ensures seen { IsPrefix told.old told.new }
+        ensures untold { OnOk result (told.new ≡ told.old) }
+        ensures refusals { IfErr result (OutOfMemoryOr (IsInsertRefused C.rules told.new)) }
     {
         let _latch = self.latches.of(page).lock(rt);
         for _ in 0..PUBLICATIONS {
@@ -226,11 +249,11 @@ impl<C: KeyClass, L: Ledger> DeskOver<World<C, Ring<C::Key>>, L> {
             let Some(task) = worked_split(task)? else {
                 return Ok(());
             };
-            if self.locked.lock(rt).split_prepared(number, task)? {
+            if self.locked.lock(rt).split_prepared(rt, number, told, task)? {
                 return Ok(());
             }
         }
-        self.locked.lock(rt).split_at_once(number, page)
+        self.locked.lock(rt).split_at_once(rt, number, told, page)
     }
 
     /// Deletes a row for a seat.
@@ -238,6 +261,7 @@ impl<C: KeyClass, L: Ledger> DeskOver<World<C, Ring<C::Key>>, L> {
     /// # Errors
     /// `NoSuchRow`, `AlreadyDeleted`, `CommitsFull`, `FindersFull` once the serials of finders are used up, or want of
     /// memory. No commit is made then.
+    #[tactic(auto, using(crate::proofs::Answering::answers_on, crate::proofs::Answering::last_of))]
     pub fn delete<R: Wait>(
         &self,
         rt: &R,
@@ -248,25 +272,30 @@ impl<C: KeyClass, L: Ledger> DeskOver<World<C, Ring<C::Key>>, L> {
         ensures stamps { IfOk result (λ s. seat.new.stamps ≡ seat.old.stamps ++ s ∷ []) }
         ensures number { IfOk result (λ s. length seat.new.stamps ≤ s.number) }
         ensures seat { seat.new.number ≡ seat.old.number }
-        ensures refused { OnErr result (seat.new ≡ seat.old) }
-        ensures committed { IfOk result (IsCommitted C.rules) }
-        ensures refusals { IfErr result (OutOfMemoryOr (IsDeleteRefused C.rules row)) }
+        ensures seen { IsPrefix seat.old.told seat.new.told }
+        ensures last { IfOk result (IsLastOf seat.new.told) }
+        ensures refused { OnErr result (seat.new ≡ record seat.old { told = seat.new.told }) }
+        ensures committed { IfOk result (IsCommitted C.rules seat.old.told seat.new.told) }
+        ensures refusals { IfErr result
+            (OutOfMemoryOr (IsDeleteRefused C.rules seat.new.told row)) }
     {
         if seat.stamps.try_reserve(1).is_err() {
             return Err(Refusal::OutOfMemory);
         }
         let number = seat.number;
-        let stamped = self.delete_for(rt, number, &mut seat.share, row)?;
+        let stamped = self.delete_for(rt, number, &mut seat.share, &mut seat.told, row)?;
         self.keep(&mut seat.stamps, stamped);
         Ok(stamped)
     }
 
     /// Visits the lock until the row is deleted or a visit is refused.
+    #[tactic(auto, using(crate::proofs::Answering::same_told, crate::proofs::Answering::told_on, crate::proofs::Answering::committed_on))]
     fn delete_for<R: Wait>(
         &self,
         rt: &R,
         number: u32,
         share: &mut Share<L>,
+        told: &mut CommitsTold<C, L>,
         row: u64,
     ) -> Result<Stamped<C::Key>, Refusal>
         requires { 0 < share.old.parts }
@@ -274,15 +303,16 @@ impl<C: KeyClass, L: Ledger> DeskOver<World<C, Ring<C::Key>>, L> {
         ensures share { IfOk result (CountsOne share.old.amount share.new.amount) }
         ensures parts { share.new.parts ≡ share.old.parts }
         ensures refused { OnErr result (share.new.amount ≡ share.old.amount) }
-        ensures committed { IfOk result (IsCommitted C.rules) }
-        ensures refusals { IfErr result (OutOfMemoryOr (IsDeleteRefused C.rules row)) }
+        ensures seen { IsPrefix told.old told.new }
+        ensures committed { IfOk result (IsCommitted C.rules told.old told.new) }
+        ensures refusals { IfErr result (OutOfMemoryOr (IsDeleteRefused C.rules told.new row)) }
     {
-        let mut finder = self.find_for(rt, row)?;
+        let mut finder = self.find_for(rt, told, row)?;
         for _ in rt.forever() {
-            let search = self.seek_for(rt, number, share, finder, row)?;
+            let search = self.seek_for(rt, number, share, told, finder, row)?;
             match search {
                 Search::On => {}
-                Search::Lost => finder = self.find_for(rt, row)?,
+                Search::Lost => finder = self.find_for(rt, told, row)?,
                 Search::Ended(stamped) => return Ok(stamped),
             }
         }
@@ -290,10 +320,24 @@ impl<C: KeyClass, L: Ledger> DeskOver<World<C, Ring<C::Key>>, L> {
     }
 
     /// A finder of a row; its serial.
-    fn find_for<R: Wait>(&self, rt: &R, row: u64) -> Result<u64, Refusal>
-        ensures refusals { IfErr result (IsDeleteRefused C.rules row) }
+    fn find_for<R: Wait>(
+        &self,
+        rt: &R,
+        told: &mut CommitsTold<C, L>,
+        row: u64,
+    ) -> Result<u64, Refusal>
+        ensures seen { IsPrefix told.old told.new }
+        ensures untold { OnOk result (told.new ≡ told.old) }
+        ensures refusals { IfErr result (IsDeleteRefused C.rules told.new row) }
     {
-        self.locked.lock(rt).find(row)
+        self.locked.lock(rt).find(rt, told, row)
+    }
+
+    /// Ends a finder.
+    fn end_finder<R: Wait>(&self, rt: &R, finder: u64)
+        ensures { IsFinderEnded C.rules C finder }
+    {
+        let _reply = self.locked.lock(rt).unfind(finder);
     }
 
     /// A step of a finder, which ends where it is refused.
@@ -302,20 +346,26 @@ impl<C: KeyClass, L: Ledger> DeskOver<World<C, Ring<C::Key>>, L> {
         rt: &R,
         number: u32,
         share: &mut Share<L>,
+        told: &mut CommitsTold<C, L>,
         finder: u64,
         row: u64,
     ) -> Result<Search<C::Key>, Refusal>
         requires { 0 < share.old.parts }
+        ensures ended { OnErr result (IsFinderEnded C.rules C finder) }
         ensures stamp { IfOk result (IsDelete number row) }
         ensures share { IfOk result (CountsSearch share.old.amount share.new.amount) }
         ensures parts { share.new.parts ≡ share.old.parts }
         ensures refused { OnErr result (share.new.amount ≡ share.old.amount) }
-        ensures committed { IfOk result (IsSearchCommitted C.rules) }
-        ensures refusals { IfErr result (IsDeleteRefused C.rules row) }
+        ensures seen { IsPrefix told.old told.new }
+        ensures committed { IfOk result (IsSearchCommitted C.rules told.old told.new) }
+        ensures refusals { IfErr result (IsDeleteRefused C.rules told.new row) }
     {
-        let search = self.locked.lock(rt).seek(number, share, finder, row);
+        let search = self
+            .locked
+            .lock(rt)
+            .seek(rt, number, share, told, finder, row);
         if search.is_err() {
-            let _unfound = self.locked.lock(rt).unfind(finder);
+            self.end_finder(rt, finder);
         }
         search
     }
@@ -325,6 +375,7 @@ impl<C: KeyClass, L: Ledger> DeskOver<World<C, Ring<C::Key>>, L> {
     /// # Errors
     /// `NoSuchRow`, `AlreadyDeleted`, `CommitsFull`, `PagesFull`, `FindersFull` once the serials of finders are used up, or
     /// want of memory. No commit is made then.
+    #[tactic(auto, using(crate::proofs::Answering::answers_on, crate::proofs::Answering::last_of))]
     pub fn move_row<R: Wait>(
         &self,
         rt: &R,
@@ -336,25 +387,30 @@ impl<C: KeyClass, L: Ledger> DeskOver<World<C, Ring<C::Key>>, L> {
         ensures stamps { IfOk result (λ s. seat.new.stamps ≡ seat.old.stamps ++ s ∷ []) }
         ensures number { IfOk result (λ s. length seat.new.stamps ≤ s.number) }
         ensures seat { seat.new.number ≡ seat.old.number }
-        ensures refused { OnErr result (seat.new ≡ seat.old) }
-        ensures committed { IfOk result (IsCommitted C.rules) }
-        ensures refusals { IfErr result (OutOfMemoryOr (IsMoveRefused C.rules row)) }
+        ensures seen { IsPrefix seat.old.told seat.new.told }
+        ensures last { IfOk result (IsLastOf seat.new.told) }
+        ensures refused { OnErr result (seat.new ≡ record seat.old { told = seat.new.told }) }
+        ensures committed { IfOk result (IsCommitted C.rules seat.old.told seat.new.told) }
+        ensures refusals { IfErr result
+            (OutOfMemoryOr (IsMoveRefused C.rules seat.new.told row)) }
     {
         if seat.stamps.try_reserve(1).is_err() {
             return Err(Refusal::OutOfMemory);
         }
         let number = seat.number;
-        let stamped = self.move_for(rt, number, &mut seat.share, row, key)?;
+        let stamped = self.move_for(rt, number, &mut seat.share, &mut seat.told, row, key)?;
         self.keep(&mut seat.stamps, stamped);
         Ok(stamped)
     }
 
     /// Visits the lock until the row is moved or a visit is refused.
+    #[tactic(auto, using(crate::proofs::Answering::same_told, crate::proofs::Answering::told_on, crate::proofs::Answering::committed_on))]
     fn move_for<R: Wait>(
         &self,
         rt: &R,
         number: u32,
         share: &mut Share<L>,
+        told: &mut CommitsTold<C, L>,
         row: u64,
         key: C::Key,
     ) -> Result<Stamped<C::Key>, Refusal>
@@ -363,18 +419,19 @@ impl<C: KeyClass, L: Ledger> DeskOver<World<C, Ring<C::Key>>, L> {
         ensures share { IfOk result (CountsOne share.old.amount share.new.amount) }
         ensures parts { share.new.parts ≡ share.old.parts }
         ensures refused { OnErr result (share.new.amount ≡ share.old.amount) }
-        ensures committed { IfOk result (IsCommitted C.rules) }
-        ensures refusals { IfErr result (OutOfMemoryOr (IsMoveRefused C.rules row)) }
+        ensures seen { IsPrefix told.old told.new }
+        ensures committed { IfOk result (IsCommitted C.rules told.old told.new) }
+        ensures refusals { IfErr result (OutOfMemoryOr (IsMoveRefused C.rules told.new row)) }
     {
         let mut page = 0;
         // no finder has this serial
         let mut finder = 0;
         for _ in rt.forever() {
-            let moving = self.move_on(rt, number, share, page, finder, row, key)?;
+            let moving = self.move_on(rt, number, share, told, page, finder, row, key)?;
             match moving {
                 Moving::On(next) => page = next,
-                Moving::Split(full) => self.split_moving(rt, number, full, finder)?,
-                Moving::Lost => finder = self.find_for(rt, row)?,
+                Moving::Split(full) => self.split_moving(rt, number, told, full, finder)?,
+                Moving::Lost => finder = self.find_for(rt, told, row)?,
                 Moving::Moved(stamped) => return Ok(stamped),
             }
         }
@@ -387,26 +444,30 @@ impl<C: KeyClass, L: Ledger> DeskOver<World<C, Ring<C::Key>>, L> {
         rt: &R,
         number: u32,
         share: &mut Share<L>,
+        told: &mut CommitsTold<C, L>,
         page: u32,
         finder: u64,
         row: u64,
         key: C::Key,
     ) -> Result<Moving<C::Key>, Refusal>
         requires { 0 < share.old.parts }
+        ensures ended { OnErr result (IsFinderEnded C.rules C finder) }
+        ensures full { IfOk result (λ moving. SplitsFull C.rules moving) }
         ensures stamp { IfOk result (IsMove number row key) }
         ensures share { IfOk result (CountsMoving share.old.amount share.new.amount) }
         ensures parts { share.new.parts ≡ share.old.parts }
         ensures refused { OnErr result (share.new.amount ≡ share.old.amount) }
-        ensures committed { IfOk result (IsMovingCommitted C.rules) }
-        ensures refusals { IfErr result (IsMoveRefused C.rules row) }
+        ensures seen { IsPrefix told.old told.new }
+        ensures committed { IfOk result (IsMovingCommitted C.rules told.old told.new) }
+        ensures refusals { IfErr result (IsMoveRefused C.rules told.new row) }
     {
         let alloc = self.alloc;
         let moving = self
             .locked
             .lock(rt)
-            .move_step(alloc, number, share, page, finder, row, key);
+            .move_step(rt, alloc, number, share, told, page, finder, row, key);
         if moving.is_err() {
-            let _unfound = self.locked.lock(rt).unfind(finder);
+            self.end_finder(rt, finder);
         }
         moving
     }
@@ -416,14 +477,19 @@ impl<C: KeyClass, L: Ledger> DeskOver<World<C, Ring<C::Key>>, L> {
         &self,
         rt: &R,
         number: u32,
+        told: &mut CommitsTold<C, L>,
         page: u32,
         finder: u64,
     ) -> Result<(), Refusal>
-        ensures refusals { IfErr result (OutOfMemoryOr (IsInsertRefused C.rules)) }
+        requires full { WasFull C.rules page }
+        ensures seen { IsPrefix told.old told.new }
+        ensures untold { OnOk result (told.new ≡ told.old) }
+        ensures refusals { IfErr result (OutOfMemoryOr (IsInsertRefused C.rules told.new)) }
+        ensures ended { OnErr result (IsFinderEnded C.rules C finder) }
     {
-        let split = self.split_for(rt, number, page);
+        let split = self.split_for(rt, number, told, page);
         if split.is_err() {
-            let _unfound = self.locked.lock(rt).unfind(finder);
+            self.end_finder(rt, finder);
         }
         split
     }
@@ -440,18 +506,25 @@ impl<C: KeyClass, L: Ledger> DeskOver<World<C, Ring<C::Key>>, L> {
         query: Pred<C::Atom>,
         room: u64,
     ) -> Result<Taker<'d, C, L>, Refusal>
-        ensures seat { seat.new ≡ seat.old }
+        ensures seat { seat.new ≡ record seat.old { told = seat.new.told } }
+        ensures seen { IsPrefix seat.old.told seat.new.told }
         ensures query { IfOk result (λ t. t.query ≡ query_of query) }
         ensures follows { IfOk result (λ t. t.follows ≡ false) }
-        ensures opened { IfOk result (λ t. length seat.old.stamps ≤ t.opened) }
+        ensures opened { IfOk result (λ t. t.opened ≡ length seat.new.told) }
+        ensures share { IfOk result (λ t. length seat.old.stamps ≤ t.opened) }
         ensures taken { IfOk result (λ t. t.end.taken ≡ []) }
-        ensures opens { IfOk result (λ t. IsVisit C.rules (OpensFor query room t)) }
-        ensures refusals { IfErr result (OutOfMemoryOr (IsOpeningRefused C.rules query room)) }
+        ensures opens { IfOk result (λ t. IsVisit C.rules (OpensFor seat.new.told query room t)) }
+        ensures refusals { IfErr result
+            (OutOfMemoryOr (IsOpeningRefused C.rules seat.new.told query room)) }
     {
         let Ok(copy) = query.copy(self.alloc) else {
             return Err(Refusal::OutOfMemory);
         };
-        match self.locked.lock(rt).open(&mut seat.share, copy, room) {
+        match self
+            .locked
+            .lock(rt)
+            .open(rt, &mut seat.share, &mut seat.told, copy, room)
+        {
             Ok((cursor, opened, items)) => {
                 return Ok(Taker::new(self, cursor, query, false, opened, items));
             }
@@ -473,15 +546,18 @@ impl<C: KeyClass, L: Ledger> DeskOver<World<C, Ring<C::Key>>, L> {
         room: u64,
         commit: u64,
     ) -> Result<Taker<'d, C, L>, Refusal>
-        ensures seat { seat.new ≡ seat.old }
+        ensures seat { seat.new ≡ record seat.old { told = seat.new.told } }
+        ensures seen { IsPrefix seat.old.told seat.new.told }
         ensures query { IfOk result (λ t. t.query ≡ query_of query) }
         ensures follows { IfOk result (λ t. t.follows ≡ true) }
         ensures opened { IfOk result (λ t. t.opened ≡ commit) }
+        ensures there { OnOk result (commit ≤ length seat.new.told) }
         ensures taken { IfOk result (λ t. t.end.taken ≡ []) }
-        ensures opens { IfOk result (λ t. IsVisit C.rules (FollowsFor query room commit t)) }
-        ensures future { (result ≡ Err Refusal.FromFuture) → length seat.old.stamps < commit }
+        ensures opens { IfOk result (λ t.
+            IsVisit C.rules (FollowsFor seat.new.told query room commit t)) }
+        ensures future { (result ≡ Err Refusal.FromFuture) → length seat.new.told < commit }
         ensures refusals { IfErr result
-            (OutOfMemoryOr (IsFollowingRefused C.rules query room commit)) }
+            (OutOfMemoryOr (IsFollowingRefused C.rules seat.new.told query room commit)) }
     {
         let Ok(copy) = query.copy(self.alloc) else {
             return Err(Refusal::OutOfMemory);
@@ -489,7 +565,7 @@ impl<C: KeyClass, L: Ledger> DeskOver<World<C, Ring<C::Key>>, L> {
         match self
             .locked
             .lock(rt)
-            .follow(&mut seat.share, copy, room, commit)
+            .follow(rt, &mut seat.share, &mut seat.told, copy, room, commit)
         {
             Ok((cursor, items)) => {
                 return Ok(Taker::new(self, cursor, query, true, commit, items));
@@ -591,43 +667,37 @@ impl<C: KeyClass, L: Ledger> DeskOver<World<C, Ring<C::Key>>, L> {
         seat: &mut Seat<C, L>,
         cursor: u64,
     ) -> Option<View<C::Key>>
-        ensures seat { seat.new ≡ seat.old }
-        ensures visit { IsVisit C.rules (ClosesWithView C.rules C cursor result) }
+        ensures seat { seat.new ≡ record seat.old { told = seat.new.told } }
+        ensures seen { IsPrefix seat.old.told seat.new.told }
+        ensures view { IfSome result (λ view. view ≡ seat.new.told) }
+        ensures stamps { IfSome result (λ view. SeatStands view seat.old) }
+        ensures visit { IsVisit C.rules (ClosesWithView C.rules C cursor seat.new.told result) }
         ensures share { IfSome result (λ view. length seat.old.stamps ≤ length view) }
     {
         self.locked
             .lock(rt)
-            .close_with_view(&mut seat.share, cursor)
+            .close_with_view(rt, &mut seat.share, &mut seat.told, cursor)
     }
 
-    /// The commits as they stand, whatever follows, to be searched without the lock by any number of threads: no fewer than
-    /// the seat was answered, and its stamps stand in them. None where memory is wanting, or a stamp isn't there.
+    /// The commits as they stand, whatever follows, to be searched without the lock by any number of threads. The seat is told
+    /// them: they begin with all that it was told before, and its stamps stand in them.
     ///
-    /// One visit to the lock makes the snapshot, and no event; the stamps are looked up without it.
-    pub fn snapshot<R: Wait>(&self, rt: &R, seat: &mut Seat<C, L>) -> Option<Snapshot<C>>
-        ensures seat { seat.new ≡ seat.old }
-        ensures visit { IsVisit C.rules (ShowsCommits result) }
-        ensures share { IfSome result (λ snapshot. length seat.old.stamps ≤ length snapshot) }
-        ensures stamps { IfSome result (λ snapshot. SeatStands snapshot seat.old) }
+    /// One visit to the lock makes the snapshot, and no event.
+    ///
+    /// # Errors
+    /// Want of memory.
+    pub fn snapshot<R: Wait>(&self, rt: &R, seat: &mut Seat<C, L>) -> Result<Snapshot<C>, Refusal>
+        ensures seat { seat.new ≡ record seat.old { told = seat.new.told } }
+        ensures seen { IsPrefix seat.old.told seat.new.told }
+        ensures list { IfOk result (λ snapshot. snapshot ≡ seat.new.told) }
+        ensures visit { IsVisit C.rules (ShowsCommits seat.new.told result) }
+        ensures share { IfOk result (λ snapshot. length seat.old.stamps ≤ length snapshot) }
+        ensures stamps { IfOk result (λ snapshot. SeatStands snapshot seat.old) }
+        ensures refusals { IfErr result (λ why. why ≡ Refusal.OutOfMemory) }
     {
-        match self.snapshot_for(rt, seat) {
-            None => return None,
-            Some(snapshot) => {
-                if !seat_stands(snapshot.list(), seat) {
-                    return None;
-                }
-                return Some(snapshot);
-            }
-        }
-    }
-
-    /// The commits as they stand, with the tree, where there is memory for a snapshot.
-    fn snapshot_for<R: Wait>(&self, rt: &R, seat: &mut Seat<C, L>) -> Option<Snapshot<C>>
-        ensures seat { seat.new ≡ seat.old }
-        ensures visit { IsVisit C.rules (ShowsCommits result) }
-        ensures share { IfSome result (λ snapshot. length seat.old.stamps ≤ length snapshot) }
-    {
-        self.locked.lock_first(rt).snapshot(&mut seat.share)
+        self.locked
+            .lock_first(rt)
+            .snapshot(rt, &mut seat.share, &mut seat.told)
     }
 
     /// Waits until there are more commits than that, and tells how many there are then. The thread sleeps meanwhile, and is

@@ -3,16 +3,12 @@ ghost use Rattle.std.specs.Prelude.{◌≡◌};
 ghost use Rattle.key_class.specs.Queries.{query_of};
 ghost use Rattle.change_list.specs.Changes.{IsLegal};
 ghost use Rattle.desk.specs.Receipts.{IfReceipt, ShowsDelivery};
-ghost use Rattle.desk.specs.Weaving.{SeatStands};
 
-use crate::checks::seat_stands;
 use crate::receipt::Receipt;
-use crate::seat::Seat;
 use change_list::{Item, View};
 use key_class::{KeyClass, Pred};
 use listing::is_delivered;
 use std::alloc::Global;
-use std::sync::ledger::Ledger;
 
 /// What closing a cursor gives.
 #[derive(Drop)]
@@ -23,11 +19,10 @@ pub enum Ended<K> {
 }
 
 /// A receipt, where what a client took of a query since an opening, or behind the commit that it follows, is a delivery of
-/// the commits, and where the seat's stamps stand in them.
-pub(crate) fn checked<C: KeyClass, L: Ledger>(
+/// the commits.
+pub(crate) fn checked<C: KeyClass>(
     alloc: Global,
     commits: View<C::Key>,
-    seat: &Seat<C, L>,
     query: &Pred<C::Atom>,
     follows: bool,
     opened: u64,
@@ -37,14 +32,10 @@ pub(crate) fn checked<C: KeyClass, L: Ledger>(
     ensures opened { IfReceipt result (λ r. r.opened ≡ opened) }
     ensures list { IfReceipt result (λ r. r.commits ≡ commits) }
     ensures legal { IfReceipt result (λ r. IsLegal r.commits) }
-    ensures stamps { IfReceipt result (λ r. SeatStands r.commits seat.now) }
     ensures taken { IfReceipt result
         (ShowsDelivery C.rules (query_of query.now) follows opened taken.now) }
 {
     let _count = commits.len();
-    if !seat_stands(&commits, seat) {
-        return Ended::NoReceipt;
-    }
     match is_delivered::<C>(alloc, &commits, query, follows, opened, taken) {
         Ok(true) => return Ended::Receipt(Receipt::new(follows, opened, commits)),
         _ => return Ended::NoReceipt,

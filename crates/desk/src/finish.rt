@@ -1,28 +1,33 @@
 //! What a desk gives once all seats came back.
 ghost use Rattle.std.specs.Prelude.{◌≡◌, ◌≢◌, ◌↔◌, length, ◌+◌, ◌<◌};
+ghost use Rattle.std.specs.List.{AllByRecursion};
 ghost use Rattle.change_list.specs.Changes.{IsLegal};
+ghost use Rattle.history.specs.Pasts.{IsPastOf};
+ghost use Rattle.desk.specs.Seats.{AreAnswers};
 ghost use Rattle.desk.specs.Finishes.{IsOut, IfClosing, IfTorn, IfOut, IsSumOf, IsTornBy};
 ghost use Rattle.desk.specs.Weaving.{Woven, all_shares};
 
-use crate::checks::woven;
+use crate::checks::each_once;
 use crate::desk::{Desk, DeskOver};
 use crate::seat::Seat;
-use change_list::ChangeList;
+use change_list::{ChangeList, Write};
+use history::{History, Naming};
 use key_class::KeyClass;
 use mailbox::Ring;
 use std::marker::Model;
+use std::sync::Wait;
 use std::sync::ledger::{Book, Ledger, Share};
 use world::World;
 
 /// The commits and the seats, which fit, and the sum of the shares.
 #[derive(Drop)]
-pub struct Closing<C: KeyClass, L: Ledger> {
+pub struct Closing<C: KeyClass, L: Ledger + Naming> {
     commits: ChangeList<C::Key>,
     seats: Vec<Seat<C, L>>,
     sum: u64,
 }
 
-impl<C: KeyClass, L: Ledger> Model for Closing<C, L> {
+impl<C: KeyClass, L: Ledger + Naming> Model for Closing<C, L> {
     ghost use Rattle.desk.specs.Seats.{Closed};
 
     ghost Value = { Closed C.Key };
@@ -30,7 +35,7 @@ impl<C: KeyClass, L: Ledger> Model for Closing<C, L> {
     ghost view = { λ c. record { commits = c.commits; seats = c.seats.items; sum = c.sum } };
 }
 
-impl<C: KeyClass, L: Ledger> Closing<C, L> {
+impl<C: KeyClass, L: Ledger + Naming> Closing<C, L> {
     pub(crate) fn new(commits: ChangeList<C::Key>, seats: Vec<Seat<C, L>>, sum: u64) -> Self
         ensures { result ≡ record { commits = commits; seats = seats.items; sum = sum } }
     {
@@ -65,20 +70,20 @@ impl<C: KeyClass, L: Ledger> Closing<C, L> {
 
 /// The commits and the seats, which don't fit.
 #[derive(Drop)]
-pub struct Torn<C: KeyClass, L: Ledger> {
+pub struct Torn<C: KeyClass, L: Ledger + Naming> {
     pub commits: ChangeList<C::Key>,
     pub seats: Vec<Seat<C, L>>,
 }
 
 #[derive(Drop)]
-pub enum Finished<C: KeyClass, L: Ledger> {
+pub enum Finished<C: KeyClass, L: Ledger + Naming> {
     Closing(Closing<C, L>),
     Torn(Torn<C, L>),
     SeatsOut(Desk<C, L>, Vec<Seat<C, L>>),
 }
 
 /// Shows that the shares of the seats, with those that `all` has, sum up to the book's total.
-fn audit_all<C: KeyClass, L: Ledger>(
+fn audit_all<C: KeyClass, L: Ledger + Naming>(
     book: &mut Book<L>,
     seats: &mut [Seat<C, L>],
     all: &mut Share<L>,
@@ -102,7 +107,10 @@ fn audit_all<C: KeyClass, L: Ledger>(
 }
 
 /// Shows that the shares of all seats sum up to the book's total.
-pub(crate) fn audit_seats<C: KeyClass, L: Ledger>(book: &mut Book<L>, seats: &mut Vec<Seat<C, L>>)
+pub(crate) fn audit_seats<C: KeyClass, L: Ledger + Naming>(
+    book: &mut Book<L>,
+    seats: &mut Vec<Seat<C, L>>,
+)
     requires all { length seats.old.items ≡ L.parts }
     requires some { 0 < length seats.old.items }
     ensures seats { seats.new.items ≡ seats.old.items }
@@ -117,13 +125,34 @@ pub(crate) fn audit_seats<C: KeyClass, L: Ledger>(book: &mut Book<L>, seats: &mu
     audit_all(book, seats, &mut all);
 }
 
-impl<C: KeyClass, L: Ledger> DeskOver<World<C, Ring<C::Key>>, L> {
-    /// Ends the desk, where all seats came back, and compares their stamps with the commits. It takes no memory.
-    pub fn finish(self, seats: Vec<Seat<C, L>>) -> Finished<C, L>
+/// Shows that what each seat was told begins the history, and that its stamps stand in it.
+fn audit_told<C: KeyClass, L: Ledger + Naming, R: Wait>(
+    rt: &R,
+    history: &History<Write<C::Key>, L>,
+    seats: &[Seat<C, L>],
+)
+    ensures told { AllByRecursion (λ s. IsPastOf s.told history.now) seats.now }
+    ensures answers { AllByRecursion (λ s. AreAnswers s.told s.stamps) seats.now }
+{
+    match seats.split_first() {
+        None => {}
+        Some((first, rest)) => {
+            history.audit(rt, &first.told);
+            audit_told(rt, history, rest);
+        }
+    }
+}
+
+impl<C: KeyClass, L: Ledger + Naming> DeskOver<World<C, Ring<C::Key>>, L> {
+    /// Ends the desk, where all seats came back, and looks whether each commit was answered to one of them. It takes no
+    /// memory. What each seat was told begins the commits, and its stamps stand in them.
+    pub fn finish<R: Wait>(self, rt: &R, seats: Vec<Seat<C, L>>) -> Finished<C, L>
         ensures out { IsOut result ↔ (length seats.items ≢ self) }
         ensures back { IfOut result (λ d s. (d ≡ self) × (s ≡ seats.items)) }
         ensures seats { IfClosing result (λ c. c.seats ≡ seats.items) }
         ensures legal { IfClosing result (λ c. IsLegal c.commits) }
+        ensures told { IfClosing result (λ c.
+            AllByRecursion (λ s. IsPastOf s.told c.commits) seats.items) }
         ensures woven { IfClosing result (λ c. Woven c.commits c.seats) }
         ensures sum { IfClosing result (IsSumOf seats.items) }
         ensures torn { IfTorn result (IsTornBy seats.items) }
@@ -132,13 +161,14 @@ impl<C: KeyClass, L: Ledger> DeskOver<World<C, Ring<C::Key>>, L> {
             return Finished::SeatsOut(self, seats);
         }
         let DeskOver { locked, .. } = self;
-        let (world, book) = locked.into_inner().open_up();
+        let (world, history, book) = locked.into_inner().open_up();
         let mut book = book;
         let mut seats = seats;
         audit_seats(&mut book, &mut seats);
+        audit_told(rt, &history, seats.as_slice());
         let commits = world.into_commits();
         let sum = commits.len() as u64;
-        if woven(commits.as_view(), seats.as_slice()) {
+        if each_once(sum, seats.as_slice()) {
             Finished::Closing(Closing::new(commits, seats, sum))
         } else {
             Finished::Torn(Torn { commits, seats })

@@ -11,6 +11,7 @@ mod priority_lock;
 mod receipt;
 mod seat;
 mod taker;
+mod turns;
 
 pub use desk::{Desk, DeskOver};
 pub use ending::Ended;
@@ -19,3 +20,4 @@ pub use locked::{Guarded, Locked};
 pub use receipt::Receipt;
 pub use seat::Seat;
 pub use taker::Taker;
+pub use turns::TurnsMade;

@@ -1,9 +1,11 @@
 //! What lies under the lock, and the visits to it. Each makes one event or none.
 ghost use Rattle.std.specs.Prelude.{ℕ, ◌≡◌, ◌↔◌, ◌<◌, ◌≤◌, ◌+◌, [], length, Err, IfSome, IfNone, IfOk, IfErr, OnOk, OnErr};
+ghost use mathlib.Core.List.{IsPrefix};
 ghost use Rattle.rtrb.specs.Ring.{received};
 ghost use Rattle.mailbox.specs.Rings.{ring_rule};
 ghost use Rattle.world.specs.declared.event.Event.TheVariants as event;
 ghost use Rattle.world.specs.States.{IsFullOfCommits};
+ghost use Rattle.world.specs.Tasks.{VisitsPageNext};
 ghost use Rattle.world.specs.Steps.{Opens, opened_cursor, following_cursor};
 ghost use Rattle.insertion.specs.Visits.{Goes};
 ghost use Rattle.removal.specs.Ending.{Looks};
@@ -12,7 +14,9 @@ ghost use Rattle.removal.specs.declared.ending.Ending.TheVariants as Ending;
 ghost use Rattle.relocation.specs.Moves.{Relocates};
 ghost use Rattle.desk.specs.Visits.{MakesClose, Counts, CountsMoving, CountsSearch, IsHeld, IsMovingCommitted, IsSearchCommitted, IsSplitAtMost, IsSplitInTime, IsWayCommitted, MakesOneEvent, IsReplyTo, IsInsertRefused, IsDeleteRefused, IsMoveRefused, IsOpeningRefused, IsFollowingRefused};
 
-use change_list::{Item, View};
+use crate::seat::CommitsTold;
+use change_list::{Item, View, Write};
+use history::{History, Naming};
 use insertion::{Way, insert_step, split_at_once, split_prepared};
 use key_class::{KeyClass, Pred, Refusal};
 use mailbox::Ring;
@@ -22,53 +26,70 @@ use rtrb::Consumer;
 use snapshot::Snapshot;
 use std::alloc::Global;
 use std::marker::Model;
+use std::sync::Wait;
 use std::sync::ledger::{Book, Ledger, Share};
 use world::{Event, Reply, SplitTask, VisitTask, World};
 
 /// What stands under the lock of a desk.
 pub trait Guarded: Drop {
-    /// How many commits it has.
-    ghost commits_of: { Self → ℕ };
+    ghost use Rattle.std.specs.Prelude.{List};
+
+    /// What a commit is.
+    type Commit;
+
+    /// Its commits.
+    ghost commits_of: { Self → List Self.Commit };
 
     /// Whether it is sound, and what each cursor's ring was sent fits the cursor.
     ghost is_held: { Self → Type 0 };
 }
 
 impl<C: KeyClass> Guarded for World<C, Ring<C::Key>> {
-    ghost use Rattle.std.specs.Prelude.{length};
     ghost use Rattle.mailbox.specs.Rings.{ring_rule};
     ghost use Rattle.desk.specs.Visits.{IsHeld};
 
-    ghost commits_of = { λ world. length world.commits };
+    type Commit = Write<C::Key>;
+
+    ghost commits_of = { λ world. world.commits };
 
     ghost is_held = { λ world. IsHeld C.rules world };
 }
 
-/// The world, beside the book of all shares.
+/// The world, beside the history of its commits and the book of all shares.
 #[derive(Drop)]
-pub struct Locked<W: Guarded, L: Ledger> {
+pub struct Locked<W: Guarded, L: Ledger + Naming> {
     pub(crate) world: W,
+    pub(crate) history: History<W::Commit, L>,
     pub(crate) book: Book<L>,
 }
 
-impl<W: Guarded, L: Ledger> Model for Locked<W, L> {
-    ghost use Rattle.std.specs.Prelude.{◌≡◌};
+impl<W: Guarded, L: Ledger + Naming> Model for Locked<W, L> {
+    ghost use Rattle.std.specs.Prelude.{◌≡◌, List, length};
 
     ghost Value = { W };
 
     ghost view = { λ locked. locked.world };
 
-    ghost invariant = { λ locked. (W.commits_of locked.world ≡ locked.book.total) × W.is_held locked.world };
+    ghost invariant = { λ locked. (W.commits_of locked.world ≡ locked.history) × (length locked.history ≡ locked.book.total) × W.is_held locked.world };
 }
 
-impl<C: KeyClass, L: Ledger> Locked<World<C, Ring<C::Key>>, L> {
-    pub(crate) fn new(world: World<C, Ring<C::Key>>, book: Book<L>) -> Self
-        requires no_commits { length world.commits ≡ book.total }
+impl<C: KeyClass, L: Ledger + Naming> Locked<World<C, Ring<C::Key>>, L> {
+    pub(crate) fn new(
+        world: World<C, Ring<C::Key>>,
+        history: History<Write<C::Key>, L>,
+        book: Book<L>,
+    ) -> Self
+        requires history { world.commits ≡ history }
+        requires no_commits { length history ≡ book.total }
         requires no_cursors { world.cursors ≡ [] }
         ensures { result ≡ world }
     {
         world.recall_soundness();
-        Locked { world, book }
+        Locked {
+            world,
+            history,
+            book,
+        }
     }
 
     /// The book of all shares. The clauses state what stands under the lock before and after each visit.
@@ -79,19 +100,27 @@ impl<C: KeyClass, L: Ledger> Locked<World<C, Ring<C::Key>>, L> {
         &self.book
     }
 
-    pub(crate) fn open_up(self) -> (World<C, Ring<C::Key>>, Book<L>)
-        ensures { (result.0 ≡ self) × (length self.commits ≡ result.1.total) }
+    pub(crate) fn open_up(self) -> (World<C, Ring<C::Key>>, History<Write<C::Key>, L>, Book<L>)
+        ensures world { result.0 ≡ self }
+        ensures history { result.1 ≡ self.commits }
+        ensures total { length self.commits ≡ result.2.total }
     {
-        let Locked { world, book } = self;
-        (world, book)
+        let Locked {
+            world,
+            history,
+            book,
+        } = self;
+        (world, history, book)
     }
 
     /// A step of an insertion that has come to a page.
-    pub(crate) fn insert_on(
+    pub(crate) fn insert_on<R: Wait>(
         &mut self,
+        rt: &R,
         alloc: Global,
         seat: u32,
         share: &mut Share<L>,
+        told: &mut CommitsTold<C, L>,
         page: u32,
         key: C::Key,
         tag: u64,
@@ -106,14 +135,27 @@ impl<C: KeyClass, L: Ledger> Locked<World<C, Ring<C::Key>>, L> {
         ensures unchanged { OnErr result (self.new ≡ self.old) }
         ensures uncounted { OnErr result (share.new.amount ≡ share.old.amount) }
         ensures full { (result ≡ Err Refusal.CommitsFull) ↔ IsFullOfCommits self.old }
-        ensures committed { IfOk result (IsWayCommitted C.rules) }
-        ensures refusals { IfErr result (IsInsertRefused C.rules) }
+        ensures seen { IsPrefix told.old told.new }
+        ensures committed { IfOk result (IsWayCommitted C.rules told.old told.new) }
+        ensures refusals { IfErr result (IsInsertRefused C.rules told.new) }
     {
-        let Locked { world, book } = self;
-        match insert_step(alloc, world, seat, page, key, tag)? {
+        let Locked {
+            world,
+            history,
+            book,
+        } = self;
+        let way = match insert_step(alloc, world, seat, page, key, tag) {
+            Ok(way) => way,
+            Err(why) => {
+                history.show(rt, told);
+                return Err(why);
+            }
+        };
+        match way {
             Way::On(next) => return Ok(Way::On(next)),
             Way::Split(full) => return Ok(Way::Split(full)),
             Way::Placed(stamp) => {
+                history.tell(rt, told, &Write::Insert(key, tag));
                 book.add(share, 1);
                 book.audit(share);
                 return Ok(Way::Placed(stamp));
@@ -133,44 +175,81 @@ impl<C: KeyClass, L: Ledger> Locked<World<C, Ring<C::Key>>, L> {
     }
 
     /// Splits a page by a task; whether the task came in time.
-    pub(crate) fn split_prepared(&mut self, seat: u32, task: SplitTask<C>) -> Result<bool, Refusal>
+    pub(crate) fn split_prepared<R: Wait>(
+        &mut self,
+        rt: &R,
+        seat: u32,
+        told: &mut CommitsTold<C, L>,
+        task: SplitTask<C>,
+    ) -> Result<bool, Refusal>
         ensures splits { IfOk result (IsSplitInTime C.rules C seat self.old task self.new) }
         ensures commits { self.new.commits ≡ self.old.commits }
         ensures held { IsHeld C.rules self.old × IsHeld C.rules self.new }
         ensures unchanged { OnErr result (self.new ≡ self.old) }
-        ensures refusals { IfErr result (IsInsertRefused C.rules) }
+        ensures seen { IsPrefix told.old told.new }
+        ensures untold { OnOk result (told.new ≡ told.old) }
+        ensures refusals { IfErr result (IsInsertRefused C.rules told.new) }
     {
-        split_prepared(&mut self.world, seat, task)
+        let split = split_prepared(&mut self.world, seat, task);
+        if split.is_err() {
+            self.history.show(rt, told);
+        }
+        split
     }
 
     /// Splits a page in this one visit.
-    pub(crate) fn split_at_once(&mut self, seat: u32, page: u32) -> Result<(), Refusal>
+    pub(crate) fn split_at_once<R: Wait>(
+        &mut self,
+        rt: &R,
+        seat: u32,
+        told: &mut CommitsTold<C, L>,
+        page: u32,
+    ) -> Result<(), Refusal>
         ensures splits { IsSplitAtMost C.rules C seat self.old page self.new }
         ensures commits { self.new.commits ≡ self.old.commits }
         ensures held { IsHeld C.rules self.old × IsHeld C.rules self.new }
         ensures unchanged { OnErr result (self.new ≡ self.old) }
-        ensures refusals { IfErr result (IsInsertRefused C.rules) }
+        ensures seen { IsPrefix told.old told.new }
+        ensures untold { OnOk result (told.new ≡ told.old) }
+        ensures refusals { IfErr result (IsInsertRefused C.rules told.new) }
     {
-        split_at_once(&mut self.world, seat, page)
+        let split = split_at_once(&mut self.world, seat, page);
+        if split.is_err() {
+            self.history.show(rt, told);
+        }
+        split
     }
 
     /// A finder of a row; its serial.
-    pub(crate) fn find(&mut self, row: u64) -> Result<u64, Refusal>
+    pub(crate) fn find<R: Wait>(
+        &mut self,
+        rt: &R,
+        told: &mut CommitsTold<C, L>,
+        row: u64,
+    ) -> Result<u64, Refusal>
         ensures looks { OnOk result (Looks self.old row self.new) }
         ensures serial { IfOk result (λ finder. finder ≡ self.old.last_finder + 1) }
         ensures one_event { MakesOneEvent C.rules C 0 self.old self.new }
         ensures held { IsHeld C.rules self.old × IsHeld C.rules self.new }
         ensures unchanged { OnErr result (self.new ≡ self.old) }
-        ensures refusals { IfErr result (IsDeleteRefused C.rules row) }
+        ensures seen { IsPrefix told.old told.new }
+        ensures untold { OnOk result (told.new ≡ told.old) }
+        ensures refusals { IfErr result (IsDeleteRefused C.rules told.new row) }
     {
-        find_row(&mut self.world, row)
+        let found = find_row(&mut self.world, row);
+        if found.is_err() {
+            self.history.show(rt, told);
+        }
+        found
     }
 
     /// A step of a finder of a row.
-    pub(crate) fn seek(
+    pub(crate) fn seek<R: Wait>(
         &mut self,
+        rt: &R,
         seat: u32,
         share: &mut Share<L>,
+        told: &mut CommitsTold<C, L>,
         finder: u64,
         row: u64,
     ) -> Result<Search<C::Key>, Refusal>
@@ -183,14 +262,27 @@ impl<C: KeyClass, L: Ledger> Locked<World<C, Ring<C::Key>>, L> {
         ensures held { IsHeld C.rules self.old × IsHeld C.rules self.new }
         ensures unchanged { OnErr result (self.new ≡ self.old) }
         ensures uncounted { OnErr result (share.new.amount ≡ share.old.amount) }
-        ensures committed { IfOk result (IsSearchCommitted C.rules) }
-        ensures refusals { IfErr result (IsDeleteRefused C.rules row) }
+        ensures seen { IsPrefix told.old told.new }
+        ensures committed { IfOk result (IsSearchCommitted C.rules told.old told.new) }
+        ensures refusals { IfErr result (IsDeleteRefused C.rules told.new row) }
     {
-        let Locked { world, book } = self;
-        match seek_row(world, seat, finder, row)? {
+        let Locked {
+            world,
+            history,
+            book,
+        } = self;
+        let search = match seek_row(world, seat, finder, row) {
+            Ok(search) => search,
+            Err(why) => {
+                history.show(rt, told);
+                return Err(why);
+            }
+        };
+        match search {
             Search::On => return Ok(Search::On),
             Search::Lost => return Ok(Search::Lost),
             Search::Ended(stamp) => {
+                history.tell(rt, told, &Write::Delete(row));
                 book.add(share, 1);
                 book.audit(share);
                 return Ok(Search::Ended(stamp));
@@ -199,11 +291,13 @@ impl<C: KeyClass, L: Ledger> Locked<World<C, Ring<C::Key>>, L> {
     }
 
     /// A step of a move, whose way has come to a page.
-    pub(crate) fn move_step(
+    pub(crate) fn move_step<R: Wait>(
         &mut self,
+        rt: &R,
         alloc: Global,
         seat: u32,
         share: &mut Share<L>,
+        told: &mut CommitsTold<C, L>,
         page: u32,
         finder: u64,
         row: u64,
@@ -218,15 +312,28 @@ impl<C: KeyClass, L: Ledger> Locked<World<C, Ring<C::Key>>, L> {
         ensures held { IsHeld C.rules self.old × IsHeld C.rules self.new }
         ensures unchanged { OnErr result (self.new ≡ self.old) }
         ensures uncounted { OnErr result (share.new.amount ≡ share.old.amount) }
-        ensures committed { IfOk result (IsMovingCommitted C.rules) }
-        ensures refusals { IfErr result (IsMoveRefused C.rules row) }
+        ensures seen { IsPrefix told.old told.new }
+        ensures committed { IfOk result (IsMovingCommitted C.rules told.old told.new) }
+        ensures refusals { IfErr result (IsMoveRefused C.rules told.new row) }
     {
-        let Locked { world, book } = self;
-        match move_step(alloc, world, seat, page, finder, row, key)? {
+        let Locked {
+            world,
+            history,
+            book,
+        } = self;
+        let moving = match move_step(alloc, world, seat, page, finder, row, key) {
+            Ok(moving) => moving,
+            Err(why) => {
+                history.show(rt, told);
+                return Err(why);
+            }
+        };
+        match moving {
             Moving::On(next) => return Ok(Moving::On(next)),
             Moving::Split(full) => return Ok(Moving::Split(full)),
             Moving::Lost => return Ok(Moving::Lost),
             Moving::Moved(stamp) => {
+                history.tell(rt, told, &Write::Move(row, key));
                 book.add(share, 1);
                 book.audit(share);
                 return Ok(Moving::Moved(stamp));
@@ -242,10 +349,13 @@ impl<C: KeyClass, L: Ledger> Locked<World<C, Ring<C::Key>>, L> {
         self.world.step(Event::Unfind(finder))
     }
 
-    /// Opens a cursor: its serial, the number of commits, and the end of its ring. The share is at most that number.
-    pub(crate) fn open(
+    /// Opens a cursor: its serial, the number of commits, and the end of its ring. The share is at most that number. The
+    /// client is told the commits.
+    pub(crate) fn open<R: Wait>(
         &mut self,
+        rt: &R,
         share: &mut Share<L>,
+        told: &mut CommitsTold<C, L>,
         query: Pred<C::Atom>,
         room: u64,
     ) -> Result<(u64, u64, Consumer<Item<C::Key>>), Refusal>
@@ -259,20 +369,29 @@ impl<C: KeyClass, L: Ledger> Locked<World<C, Ring<C::Key>>, L> {
         ensures one_event { MakesOneEvent C.rules C 0 self.old self.new }
         ensures held { IsHeld C.rules self.old × IsHeld C.rules self.new }
         ensures unchanged { OnErr result (self.new ≡ self.old) }
-        ensures refusals { IfErr result (IsOpeningRefused C.rules query room) }
+        ensures seen { IsPrefix told.old told.new }
+        ensures whole { told.new ≡ self.old.commits }
+        ensures refusals { IfErr result (IsOpeningRefused C.rules told.new query room) }
     {
-        let Locked { world, book } = self;
+        let Locked {
+            world,
+            history,
+            book,
+        } = self;
         book.audit(share);
+        history.show(rt, told);
         let opened = world.commits();
         let (cursor, end) = world.open_cursor(query, room)?;
         Ok((cursor, opened, end))
     }
 
     /// Opens a cursor that follows a commit: its serial, and the end of its ring. The share is at most the number of
-    /// commits.
-    pub(crate) fn follow(
+    /// commits. The client is told the commits.
+    pub(crate) fn follow<R: Wait>(
         &mut self,
+        rt: &R,
         share: &mut Share<L>,
+        told: &mut CommitsTold<C, L>,
         query: Pred<C::Atom>,
         room: u64,
         commit: u64,
@@ -288,10 +407,17 @@ impl<C: KeyClass, L: Ledger> Locked<World<C, Ring<C::Key>>, L> {
         ensures one_event { MakesOneEvent C.rules C 0 self.old self.new }
         ensures held { IsHeld C.rules self.old × IsHeld C.rules self.new }
         ensures unchanged { OnErr result (self.new ≡ self.old) }
-        ensures refusals { IfErr result (IsFollowingRefused C.rules query room commit) }
+        ensures seen { IsPrefix told.old told.new }
+        ensures whole { told.new ≡ self.old.commits }
+        ensures refusals { IfErr result (IsFollowingRefused C.rules told.new query room commit) }
     {
-        let Locked { world, book } = self;
+        let Locked {
+            world,
+            history,
+            book,
+        } = self;
         book.audit(share);
+        history.show(rt, told);
         let (cursor, end) = world.follow_commit(query, room, commit)?;
         Ok((cursor, end))
     }
@@ -307,12 +433,13 @@ impl<C: KeyClass, L: Ledger> Locked<World<C, Ring<C::Key>>, L> {
     /// A cursor's turn, where it visits no page. Else the number of the page; nothing is done then.
     pub(crate) fn turn_unless_visit(&mut self, cursor: u64) -> Result<Reply<C, Ring<C::Key>>, u32>
         ensures step { IfOk result (IsReplyTo C.rules (event.Turn cursor) self.old self.new) }
+        ensures page { IfErr result (VisitsPageNext self.old cursor) }
         ensures unchanged { OnErr result (self.new ≡ self.old) }
         ensures held { IsHeld C.rules self.old × IsHeld C.rules self.new }
     {
-        match self.world.prepare_visit(cursor) {
-            Ok(task) => return Err(task.page()),
-            Err(_) => return Ok(self.world.step(Event::Turn(cursor))),
+        match self.world.page_to_visit(cursor) {
+            Some(page) => return Err(page),
+            None => return Ok(self.world.step(Event::Turn(cursor))),
         }
     }
 
@@ -365,10 +492,12 @@ impl<C: KeyClass, L: Ledger> Locked<World<C, Ring<C::Key>>, L> {
     }
 
     /// Closes a cursor, and gives the commits as they are, where there is memory for a view. The share is at most their
-    /// number.
-    pub(crate) fn close_with_view(
+    /// number. The client is told them.
+    pub(crate) fn close_with_view<R: Wait>(
         &mut self,
+        rt: &R,
         share: &mut Share<L>,
+        told: &mut CommitsTold<C, L>,
         cursor: u64,
     ) -> Option<View<C::Key>>
         ensures closed { MakesClose C.rules C self.old cursor self.new }
@@ -376,27 +505,48 @@ impl<C: KeyClass, L: Ledger> Locked<World<C, Ring<C::Key>>, L> {
         ensures number { share.new.amount ≤ length self.old.commits }
         ensures share { share.new.amount ≡ share.old.amount }
         ensures parts { share.new.parts ≡ share.old.parts }
+        ensures seen { IsPrefix told.old told.new }
+        ensures whole { told.new ≡ self.old.commits }
         ensures held { IsHeld C.rules self.old × IsHeld C.rules self.new }
     {
-        let Locked { world, book } = self;
+        let Locked {
+            world,
+            history,
+            book,
+        } = self;
         book.audit(share);
+        history.show(rt, told);
         let view = world.view().ok();
         let _closed = world.step(Event::Close(cursor));
         view
     }
 
-    /// The commits as they are, with the tree, where there is memory for a snapshot. The share is at most their number.
-    pub(crate) fn snapshot(&mut self, share: &mut Share<L>) -> Option<Snapshot<C>>
-        ensures shows { IfSome result (λ snapshot. snapshot ≡ self.old.commits) }
+    /// The commits as they are, with the tree, where there is memory for a snapshot. The share is at most their number. The
+    /// client is told them.
+    pub(crate) fn snapshot<R: Wait>(
+        &mut self,
+        rt: &R,
+        share: &mut Share<L>,
+        told: &mut CommitsTold<C, L>,
+    ) -> Result<Snapshot<C>, Refusal>
+        ensures shows { IfOk result (λ snapshot. snapshot ≡ self.old.commits) }
+        ensures refusals { IfErr result (λ why. why ≡ Refusal.OutOfMemory) }
         ensures unchanged { self.new ≡ self.old }
         ensures number { share.new.amount ≤ length self.old.commits }
         ensures share { share.new.amount ≡ share.old.amount }
         ensures parts { share.new.parts ≡ share.old.parts }
+        ensures seen { IsPrefix told.old told.new }
+        ensures whole { told.new ≡ self.old.commits }
         ensures held { IsHeld C.rules self.old × IsHeld C.rules self.new }
     {
-        let Locked { world, book } = self;
+        let Locked {
+            world,
+            history,
+            book,
+        } = self;
         book.audit(share);
-        world.snapshot().ok()
+        history.show(rt, told);
+        world.snapshot()
     }
 
     /// How many commits there are.

@@ -1,7 +1,8 @@
 ghost use Rattle.std.specs.Prelude.{◌≡◌};
 
-use change_list::Config;
+use change_list::{Config, Write};
 use desk::{Desk, Ended, Seat};
+use history::{BlankHistory, Naming};
 use interval_class::{Atom, Interval, Intervals};
 use key_class::{Pred, Refusal, Rel};
 use std::alloc::Global;
@@ -14,7 +15,7 @@ use world::Reply;
 
 /// Inserts a row and follows what overlaps it, until its cursor is idle. How many items came, where a receipt shows that
 /// none is amiss.
-fn insert_and_follow<L: Ledger, R: Wait>(
+fn insert_and_follow<L: Ledger + Naming, R: Wait>(
     rt: &R,
     alloc: Global,
     desk: &Desk<Intervals, L>,
@@ -42,9 +43,15 @@ fn insert_and_follow<L: Ledger, R: Wait>(
     }
 }
 
-fn one_seat<L: Ledger, R: Wait + Abort>(rt: &R, alloc: Global, blank: Blank) -> Result<(), Fail>
+fn one_seat<L: Ledger + Naming, R: Wait + Abort>(
+    rt: &R,
+    alloc: Global,
+    blank: Blank,
+    history: BlankHistory<Write<Interval>>,
+) -> Result<(), Fail>
     requires name { blank.name ≡ L.name }
     requires parts { blank.parts ≡ L.parts }
+    requires history { history ≡ L.history }
     requires one { blank.parts ≡ 1 }
 {
     let config = Config {
@@ -53,7 +60,7 @@ fn one_seat<L: Ledger, R: Wait + Abort>(rt: &R, alloc: Global, blank: Blank) -> 
         pages: 1_000,
         commits: 1_000,
     };
-    let (desk, mut seats) = Desk::<Intervals, L>::new(alloc, blank, config, 1)?;
+    let (desk, mut seats) = Desk::<Intervals, L>::new(alloc, blank, history, config, 1)?;
     let key = Interval::new(5, 8)?;
     let taken = insert_and_follow(rt, alloc, &desk, &mut seats[0], key)?;
     assert!(rt; taken == Some(1));
@@ -62,5 +69,5 @@ fn one_seat<L: Ledger, R: Wait + Abort>(rt: &R, alloc: Global, blank: Blank) -> 
 
 #[test]
 fn a_client_sees_its_own_row(rt: HostRuntime) -> Result<(), Fail> {
-    one_seat::<Brand, _>(&rt, rt.alloc(), Blank::new(1))
+    one_seat::<Brand, _>(&rt, rt.alloc(), Blank::new(1), BlankHistory::new())
 }

@@ -1,8 +1,9 @@
 ghost use Rattle.std.specs.Prelude.{◌≡◌};
 
 use crate::queries::all;
-use change_list::{ChangeList, Config, Item};
+use change_list::{ChangeList, Config, Item, Write};
 use desk::{Desk, Finished, Seat, Taker};
+use history::{BlankHistory, Naming};
 use interval_class::{Interval, Intervals};
 use key_class::Refusal;
 use std::alloc::{AllocError, Global};
@@ -29,7 +30,7 @@ fn key(number: u32, nth: u32) -> Result<Interval, Refusal> {
 }
 
 /// Inserts rows. A cursor that is opened amidst them has an opening that is no less than the seat's share.
-fn insert_rows<L: Ledger, R: Wait + Abort>(
+fn insert_rows<L: Ledger + Naming, R: Wait + Abort>(
     rt: &R,
     desk: &Desk<Intervals, L>,
     seat: &mut Seat<Intervals, L>,
@@ -51,7 +52,7 @@ fn insert_rows<L: Ledger, R: Wait + Abort>(
 }
 
 /// Deletes some of the rows that a seat inserted, each of which is then refused.
-fn delete_rows<L: Ledger, R: Wait + Abort>(
+fn delete_rows<L: Ledger + Naming, R: Wait + Abort>(
     rt: &R,
     desk: &Desk<Intervals, L>,
     seat: &mut Seat<Intervals, L>,
@@ -69,7 +70,7 @@ fn delete_rows<L: Ledger, R: Wait + Abort>(
 }
 
 /// How many items a cursor sends, and the number of its mark.
-fn items_and_mark<L: Ledger, R: Wait + Abort>(
+fn items_and_mark<L: Ledger + Naming, R: Wait + Abort>(
     rt: &R,
     desk: &Desk<Intervals, L>,
     taker: &mut Taker<'_, Intervals, L>,
@@ -88,12 +89,12 @@ fn items_and_mark<L: Ledger, R: Wait + Abort>(
 }
 
 /// What a client does.
-trait Works<L: Ledger> {
+trait Works<L: Ledger + Naming> {
     /// 250 inserts and 100 deletes for a seat.
     fn work<R: Wait + Abort>(&self, rt: &R, seat: &mut Seat<Intervals, L>);
 }
 
-impl<L: Ledger> Works<L> for Desk<Intervals, L> {
+impl<L: Ledger + Naming> Works<L> for Desk<Intervals, L> {
     fn work<R: Wait + Abort>(&self, rt: &R, seat: &mut Seat<Intervals, L>) {
         insert_rows(rt, self, seat);
         delete_rows(rt, self, seat)
@@ -104,14 +105,14 @@ impl<L: Ledger> Works<L> for Desk<Intervals, L> {
 fn work_at_once<D, L, R>(rt: &R, desk: &D, seats: &mut [Seat<Intervals, L>])
 where
     D: Works<L> + Sync,
-    L: Ledger + Send + Sync,
+    L: Ledger + Naming + Send + Sync,
     R: Threads + Wait + Abort + Sync,
 {
     thread::for_each_mut(rt, seats, 4, &|_, seat| desk.work(rt, seat))
 }
 
 /// The stamps of seats.
-fn stamps_of<L: Ledger>(
+fn stamps_of<L: Ledger + Naming>(
     alloc: Global,
     seats: &[Seat<Intervals, L>],
 ) -> Result<Vec<Stamped<Interval>>, AllocError> {
@@ -137,7 +138,7 @@ fn are_the_commits(stamps: &[Stamped<Interval>], commits: &ChangeList<Interval>)
 }
 
 /// Follows all rows by a cursor that has had a ring of four since before they were inserted, up to a mark.
-fn follow<L: Ledger, R: Wait + Abort>(
+fn follow<L: Ledger + Naming, R: Wait + Abort>(
     rt: &R,
     desk: &Desk<Intervals, L>,
     taker: &mut Taker<'_, Intervals, L>,
@@ -149,7 +150,7 @@ fn follow<L: Ledger, R: Wait + Abort>(
 }
 
 /// How many items a cursor sends before any is taken, and how many then are.
-fn sent_and_taken<L: Ledger, R: Wait + Abort>(
+fn sent_and_taken<L: Ledger + Naming, R: Wait + Abort>(
     rt: &R,
     desk: &Desk<Intervals, L>,
     taker: &mut Taker<'_, Intervals, L>,
@@ -169,7 +170,7 @@ fn sent_and_taken<L: Ledger, R: Wait + Abort>(
     (sent, taken)
 }
 
-fn work_and_follow<L: Ledger + Send + Sync, R: Threads + Wait + Abort + Sync>(
+fn work_and_follow<L: Ledger + Naming + Send + Sync, R: Threads + Wait + Abort + Sync>(
     rt: &R,
     desk: &Desk<Intervals, L>,
     seats: &mut [Seat<Intervals, L>],
@@ -189,22 +190,24 @@ fn work_and_follow<L: Ledger + Send + Sync, R: Threads + Wait + Abort + Sync>(
     Ok(())
 }
 
-fn five_seats<L: Ledger + Send + Sync, R: Threads + Wait + Abort + Sync>(
+fn five_seats<L: Ledger + Naming + Send + Sync, R: Threads + Wait + Abort + Sync>(
     rt: &R,
     alloc: Global,
     blank: Blank,
+    history: BlankHistory<Write<Interval>>,
 ) -> Result<(), Fail>
     requires name { blank.name ≡ L.name }
     requires parts { blank.parts ≡ L.parts }
+    requires history { history ≡ L.history }
     requires five { blank.parts ≡ 5 }
 {
-    let (desk, mut seats) = Desk::<Intervals, L>::new(alloc, blank, CONFIG, 5)?;
+    let (desk, mut seats) = Desk::<Intervals, L>::new(alloc, blank, history, CONFIG, 5)?;
     work_and_follow(rt, &desk, seats.as_mut_slice())?;
     let mut stamps = stamps_of(alloc, seats.as_slice())?;
     stamps
         .as_mut_slice()
         .sort_unstable_by_key(|stamp| stamp.number());
-    match desk.finish(seats) {
+    match desk.finish(rt, seats) {
         Finished::Closing(closing) => {
             assert!(rt; closing.sum() == 1_400);
             assert!(rt; are_the_commits(stamps.as_slice(), closing.commits()));
@@ -216,5 +219,5 @@ fn five_seats<L: Ledger + Send + Sync, R: Threads + Wait + Abort + Sync>(
 
 #[test]
 fn a_cursor_follows_four_threads(rt: HostRuntime) -> Result<(), Fail> {
-    five_seats::<Brand, _>(&rt, rt.alloc(), Blank::new(5))
+    five_seats::<Brand, _>(&rt, rt.alloc(), Blank::new(5), BlankHistory::new())
 }

@@ -3,8 +3,9 @@
 ghost use Rattle.std.specs.Prelude.{◌≡◌};
 
 use crate::queries::all;
-use change_list::{Config, Item, Row};
+use change_list::{Config, Item, Row, Write};
 use desk::{Desk, Ended, Finished, Seat, Taker};
+use history::{BlankHistory, Naming};
 use interval_class::{Interval, Intervals};
 use key_class::Refusal;
 use std::alloc::Global;
@@ -38,11 +39,11 @@ impl Refusals {
 }
 
 /// A call that changes a seat, and is refused: the seat is as it was.
-fn is_kept<L: Ledger>(seat: &Seat<Intervals, L>, share: u64) -> bool {
+fn is_kept<L: Ledger + Naming>(seat: &Seat<Intervals, L>, share: u64) -> bool {
     seat.share() == share && seat.stamps().len() as u64 == share
 }
 
-fn insert<L: Ledger, R: Wait>(
+fn insert<L: Ledger + Naming, R: Wait>(
     rt: &R,
     desk: &Desk<Intervals, L>,
     seat: &mut Seat<Intervals, L>,
@@ -58,7 +59,7 @@ fn insert<L: Ledger, R: Wait>(
     stamped
 }
 
-fn delete<L: Ledger, R: Wait>(
+fn delete<L: Ledger + Naming, R: Wait>(
     rt: &R,
     desk: &Desk<Intervals, L>,
     seat: &mut Seat<Intervals, L>,
@@ -73,7 +74,7 @@ fn delete<L: Ledger, R: Wait>(
     stamped
 }
 
-fn move_row<L: Ledger, R: Wait>(
+fn move_row<L: Ledger + Naming, R: Wait>(
     rt: &R,
     desk: &Desk<Intervals, L>,
     seat: &mut Seat<Intervals, L>,
@@ -92,7 +93,7 @@ fn move_row<L: Ledger, R: Wait>(
     stamped
 }
 
-fn open<'d, L: Ledger, R: Wait>(
+fn open<'d, L: Ledger + Naming, R: Wait>(
     rt: &R,
     desk: &'d Desk<Intervals, L>,
     seat: &mut Seat<Intervals, L>,
@@ -104,7 +105,7 @@ fn open<'d, L: Ledger, R: Wait>(
     }
 }
 
-fn open_from<'d, L: Ledger, R: Wait>(
+fn open_from<'d, L: Ledger + Naming, R: Wait>(
     rt: &R,
     desk: &'d Desk<Intervals, L>,
     seat: &mut Seat<Intervals, L>,
@@ -118,7 +119,11 @@ fn open_from<'d, L: Ledger, R: Wait>(
 }
 
 /// How many dead rows a sweep of a page takes out. None where it is no leaf, or none at all.
-fn sweep<L: Ledger, R: Wait>(rt: &R, desk: &Desk<Intervals, L>, page: u64) -> Result<u64, Refusal> {
+fn sweep<L: Ledger + Naming, R: Wait>(
+    rt: &R,
+    desk: &Desk<Intervals, L>,
+    page: u64,
+) -> Result<u64, Refusal> {
     match desk.sweep(rt, page) {
         Reply::Swept(count) => Ok(count),
         Reply::Refused(Refusal::OutOfMemory) => Err(Refusal::OutOfMemory),
@@ -127,7 +132,7 @@ fn sweep<L: Ledger, R: Wait>(rt: &R, desk: &Desk<Intervals, L>, page: u64) -> Re
 }
 
 /// How many dead rows a sweep of all pages takes out.
-fn sweep_all<L: Ledger, R: Wait>(
+fn sweep_all<L: Ledger + Naming, R: Wait>(
     rt: &R,
     desk: &Desk<Intervals, L>,
     refusals: &mut Refusals,
@@ -144,7 +149,7 @@ fn sweep_all<L: Ledger, R: Wait>(
 }
 
 /// Adds what a cursor sends until it is idle, and tells whether it comes to that.
-fn take_all<L: Ledger, R: Wait>(
+fn take_all<L: Ledger + Naming, R: Wait>(
     rt: &R,
     desk: &Desk<Intervals, L>,
     taker: &mut Taker<'_, Intervals, L>,
@@ -188,7 +193,7 @@ fn is_received(ended: &Ended<Interval>, opened: u64, refusals: &mut Refusals) ->
 }
 
 /// Whether seven rows get the numbers from 1.
-fn write_all<L: Ledger, R: Wait>(
+fn write_all<L: Ledger + Naming, R: Wait>(
     rt: &R,
     desk: &Desk<Intervals, L>,
     seat: &mut Seat<Intervals, L>,
@@ -203,7 +208,7 @@ fn write_all<L: Ledger, R: Wait>(
 }
 
 /// What a cursor over all rows sends while a client deletes and moves, and whether its closing tells the same.
-fn is_served<L: Ledger, R: Wait>(
+fn is_served<L: Ledger + Naming, R: Wait>(
     rt: &R,
     desk: &Desk<Intervals, L>,
     seat: &mut Seat<Intervals, L>,
@@ -222,7 +227,7 @@ fn is_served<L: Ledger, R: Wait>(
 }
 
 /// What a cursor sends that follows commit 5, and whether its closing tells the same.
-fn is_followed<L: Ledger, R: Wait>(
+fn is_followed<L: Ledger + Naming, R: Wait>(
     rt: &R,
     desk: &Desk<Intervals, L>,
     seat: &mut Seat<Intervals, L>,
@@ -238,7 +243,7 @@ fn is_followed<L: Ledger, R: Wait>(
 }
 
 /// Whether both cursors send what they should, and the dead rows are swept behind them.
-fn are_served<L: Ledger, R: Wait>(
+fn are_served<L: Ledger + Naming, R: Wait>(
     rt: &R,
     alloc: Global,
     desk: &Desk<Intervals, L>,
@@ -260,31 +265,33 @@ fn are_served<L: Ledger, R: Wait>(
 }
 
 /// Whether all is whole in the end, and at most one call was refused for want of memory.
-fn is_whole<L: Ledger>(finished: Finished<Intervals, L>, refusals: &Refusals) -> bool {
+fn is_whole<L: Ledger + Naming>(finished: Finished<Intervals, L>, refusals: &Refusals) -> bool {
     match finished {
         Finished::Closing(closing) => closing.sum() == 9 && refusals.0 < 2,
         _ => false,
     }
 }
 
-fn refused_at_a_desk<L: Ledger, R: Wait + Abort>(
+fn refused_at_a_desk<L: Ledger + Naming, R: Wait + Abort>(
     rt: &R,
     alloc: Global,
     blank: Blank,
+    history: BlankHistory<Write<Interval>>,
 ) -> Result<(), Fail>
     requires name { blank.name ≡ L.name }
     requires parts { blank.parts ≡ L.parts }
+    requires history { history ≡ L.history }
     requires one { blank.parts ≡ 1 }
 {
-    let (desk, mut seats) = Desk::<Intervals, L>::new(alloc, blank, CONFIG, 1)?;
+    let (desk, mut seats) = Desk::<Intervals, L>::new(alloc, blank, history, CONFIG, 1)?;
     let mut refusals = Refusals(0);
     assert!(rt; write_all(rt, &desk, &mut seats[0], &mut refusals)?);
     assert!(rt; are_served(rt, alloc, &desk, &mut seats[0], &mut refusals)?);
-    assert!(rt; is_whole(desk.finish(seats), &refusals));
+    assert!(rt; is_whole(desk.finish(rt, seats), &refusals));
     Ok(())
 }
 
 #[test]
 fn refused_memory_leaves_a_desk_whole(rt: HostRuntime) -> Result<(), Fail> {
-    refused_at_a_desk::<Brand, _>(&rt, rt.alloc(), Blank::new(1))
+    refused_at_a_desk::<Brand, _>(&rt, rt.alloc(), Blank::new(1), BlankHistory::new())
 }

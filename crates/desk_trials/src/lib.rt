@@ -2,11 +2,15 @@
 #![tactic(auto)]
 
 #[cfg(test)]
+mod beside;
+#[cfg(test)]
 mod example;
 #[cfg(test)]
 mod following;
 #[cfg(test)]
 mod growths;
+#[cfg(test)]
+mod histories;
 #[cfg(test)]
 mod judged;
 #[cfg(test)]
@@ -33,5 +37,7 @@ mod resumed;
 mod seats;
 #[cfg(test)]
 mod snapshots;
+#[cfg(test)]
+mod turns;
 #[cfg(test)]
 mod two_threads;

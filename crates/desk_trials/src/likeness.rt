@@ -1,8 +1,9 @@
 ghost use Rattle.std.specs.Prelude.{◌≡◌};
 
 use crate::queries::overlapping;
-use change_list::{Config, Item};
+use change_list::{Config, Item, Write};
 use desk::{Desk, Seat, Taker};
+use history::{BlankHistory, Naming};
 use interval_class::{Interval, Intervals};
 use key_class::Refusal;
 use rand_core::Rng;
@@ -36,7 +37,7 @@ fn random_key(generator: &mut Pcg32) -> Result<Interval, Refusal> {
     Interval::new(low, low.wrapping_add(i64::from(random(generator, 10))))
 }
 
-fn insert_alike<L: Ledger, R: Wait>(
+fn insert_alike<L: Ledger + Naming, R: Wait>(
     rt: &R,
     desk: &Desk<Intervals, L>,
     seat: &mut Seat<Intervals, L>,
@@ -48,7 +49,7 @@ fn insert_alike<L: Ledger, R: Wait>(
 }
 
 /// Fifty rows, before a cursor is opened.
-fn fill_alike<L: Ledger, R: Wait>(
+fn fill_alike<L: Ledger + Naming, R: Wait>(
     rt: &R,
     desk: &Desk<Intervals, L>,
     seat: &mut Seat<Intervals, L>,
@@ -62,7 +63,7 @@ fn fill_alike<L: Ledger, R: Wait>(
     Ok(true)
 }
 
-fn delete_alike<L: Ledger, R: Wait>(
+fn delete_alike<L: Ledger + Naming, R: Wait>(
     rt: &R,
     desk: &Desk<Intervals, L>,
     seat: &mut Seat<Intervals, L>,
@@ -73,7 +74,7 @@ fn delete_alike<L: Ledger, R: Wait>(
     stamped.map(|stamp| stamp.number()) == store.delete(row)
 }
 
-fn move_alike<L: Ledger, R: Wait>(
+fn move_alike<L: Ledger + Naming, R: Wait>(
     rt: &R,
     desk: &Desk<Intervals, L>,
     seat: &mut Seat<Intervals, L>,
@@ -86,7 +87,7 @@ fn move_alike<L: Ledger, R: Wait>(
 }
 
 /// Turns a cursor until it has an item or is idle.
-fn next_of_desk<L: Ledger, R: Wait>(
+fn next_of_desk<L: Ledger + Naming, R: Wait>(
     rt: &R,
     desk: &Desk<Intervals, L>,
     taker: &mut Taker<'_, Intervals, L>,
@@ -103,7 +104,7 @@ fn next_of_desk<L: Ledger, R: Wait>(
 }
 
 /// The first of random calls that the desk answers in another way than the store.
-fn first_unlike<L: Ledger, R: Wait>(
+fn first_unlike<L: Ledger + Naming, R: Wait>(
     rt: &R,
     desk: &Desk<Intervals, L>,
     seat: &mut Seat<Intervals, L>,
@@ -137,7 +138,7 @@ fn first_unlike<L: Ledger, R: Wait>(
 }
 
 /// How many items a desk and a store still have for a cursor, where they are the same.
-fn rest_alike<L: Ledger, R: Wait>(
+fn rest_alike<L: Ledger + Naming, R: Wait>(
     rt: &R,
     desk: &Desk<Intervals, L>,
     store: &mut Store<Intervals>,
@@ -156,7 +157,7 @@ fn rest_alike<L: Ledger, R: Wait>(
 }
 
 /// Lets a desk and a store answer the same calls, with a cursor that has been open since fifty rows were in.
-fn compare<L: Ledger, R: Wait + Abort>(
+fn compare<L: Ledger + Naming, R: Wait + Abort>(
     rt: &R,
     desk: &Desk<Intervals, L>,
     seat: &mut Seat<Intervals, L>,
@@ -172,12 +173,18 @@ fn compare<L: Ledger, R: Wait + Abort>(
     Ok(())
 }
 
-fn one_client<L: Ledger, R: Wait + Abort>(rt: &R, alloc: Global, blank: Blank) -> Result<(), Fail>
+fn one_client<L: Ledger + Naming, R: Wait + Abort>(
+    rt: &R,
+    alloc: Global,
+    blank: Blank,
+    history: BlankHistory<Write<Interval>>,
+) -> Result<(), Fail>
     requires name { blank.name ≡ L.name }
     requires parts { blank.parts ≡ L.parts }
+    requires history { history ≡ L.history }
     requires one { blank.parts ≡ 1 }
 {
-    let (desk, mut seats) = Desk::<Intervals, L>::new(alloc, blank, CONFIG, 1)?;
+    let (desk, mut seats) = Desk::<Intervals, L>::new(alloc, blank, history, CONFIG, 1)?;
     let mut store = Store::<Intervals>::new(alloc, CONFIG)?;
     let seat = &mut seats[0];
     compare(rt, &desk, seat, &mut store)?;
@@ -188,5 +195,5 @@ fn one_client<L: Ledger, R: Wait + Abort>(rt: &R, alloc: Global, blank: Blank) -
 
 #[test]
 fn one_client_is_answered_as_by_a_store(rt: HostRuntime) -> Result<(), Fail> {
-    one_client::<Brand, _>(&rt, rt.alloc(), Blank::new(1))
+    one_client::<Brand, _>(&rt, rt.alloc(), Blank::new(1), BlankHistory::new())
 }

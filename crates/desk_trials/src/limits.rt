@@ -1,8 +1,9 @@
 ghost use Rattle.std.specs.Prelude.{◌≡◌};
 
 use crate::queries::all;
-use change_list::Config;
+use change_list::{Config, Write};
 use desk::{Desk, Seat};
+use history::{BlankHistory, Naming};
 use interval_class::{Interval, Intervals};
 use key_class::Refusal;
 use std::alloc::Global;
@@ -20,7 +21,7 @@ const CONFIG: Config = Config {
 };
 
 /// Opens a cursor over all rows, and tells at which number of commits.
-fn open<L: Ledger, R: Wait>(
+fn open<L: Ledger + Naming, R: Wait>(
     rt: &R,
     desk: &Desk<Intervals, L>,
     seat: &mut Seat<Intervals, L>,
@@ -30,12 +31,18 @@ fn open<L: Ledger, R: Wait>(
 }
 
 /// 64 seats, and a cursor's room and number at their limits.
-fn many_seats<L: Ledger, R: Wait + Abort>(rt: &R, alloc: Global, blank: Blank) -> Result<(), Fail>
+fn many_seats<L: Ledger + Naming, R: Wait + Abort>(
+    rt: &R,
+    alloc: Global,
+    blank: Blank,
+    history: BlankHistory<Write<Interval>>,
+) -> Result<(), Fail>
     requires name { blank.name ≡ L.name }
     requires parts { blank.parts ≡ L.parts }
+    requires history { history ≡ L.history }
     requires many { blank.parts ≡ 64 }
 {
-    let (desk, mut seats) = Desk::<Intervals, L>::new(alloc, blank, CONFIG, 64)?;
+    let (desk, mut seats) = Desk::<Intervals, L>::new(alloc, blank, history, CONFIG, 64)?;
     assert_eq!(rt; seats.len(), 64);
     for seat in seats.iter_mut() {
         let inserted = desk.insert(rt, seat, Interval::new(1, 2)?, 0)?;
@@ -59,22 +66,27 @@ fn many_seats<L: Ledger, R: Wait + Abort>(rt: &R, alloc: Global, blank: Blank) -
 
 #[test]
 fn limits_are_reached(rt: HostRuntime) -> Result<(), Fail> {
-    many_seats::<Brand, _>(&rt, rt.alloc(), Blank::new(64))
+    many_seats::<Brand, _>(&rt, rt.alloc(), Blank::new(64), BlankHistory::new())
 }
 
 /// Too many seats are refused.
-fn crowd<L: Ledger>(alloc: Global, blank: Blank) -> Option<Refusal>
+fn crowd<L: Ledger + Naming>(
+    alloc: Global,
+    blank: Blank,
+    history: BlankHistory<Write<Interval>>,
+) -> Option<Refusal>
     requires name { blank.name ≡ L.name }
     requires parts { blank.parts ≡ L.parts }
+    requires history { history ≡ L.history }
     requires many { blank.parts ≡ 65 }
 {
-    Desk::<Intervals, L>::new(alloc, blank, CONFIG, 65).err()
+    Desk::<Intervals, L>::new(alloc, blank, history, CONFIG, 65).err()
 }
 
 #[test]
 fn a_crowd_is_refused(rt: HostRuntime) {
     assert_eq!(rt;
-        crowd::<Brand>(rt.alloc(), Blank::new(65)),
+        crowd::<Brand>(rt.alloc(), Blank::new(65), BlankHistory::new()),
         Some(Refusal::BadConfig)
     );
 }

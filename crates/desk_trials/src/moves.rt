@@ -1,8 +1,9 @@
 ghost use Rattle.std.specs.Prelude.{◌≡◌};
 
 use crate::queries::all;
-use change_list::{ChangeList, Config, Item};
+use change_list::{ChangeList, Config, Item, Write};
 use desk::{Desk, Finished, Seat, Taker};
+use history::{BlankHistory, Naming};
 use interval_class::{Interval, Intervals};
 use key_class::Refusal;
 use std::alloc::Global;
@@ -24,12 +25,18 @@ pub const CONFIG: Config = Config {
 };
 
 /// A desk of two seats that move one row, of which one does.
-fn two_seats<L: Ledger, R: Wait + Abort>(rt: &R, alloc: Global, blank: Blank) -> Result<(), Fail>
+fn two_seats<L: Ledger + Naming, R: Wait + Abort>(
+    rt: &R,
+    alloc: Global,
+    blank: Blank,
+    history: BlankHistory<Write<Interval>>,
+) -> Result<(), Fail>
     requires name { blank.name ≡ L.name }
     requires parts { blank.parts ≡ L.parts }
+    requires history { history ≡ L.history }
     requires two { blank.parts ≡ 2 }
 {
-    let (desk, mut seats) = Desk::<Intervals, L>::new(alloc, blank, CONFIG, 2)?;
+    let (desk, mut seats) = Desk::<Intervals, L>::new(alloc, blank, history, CONFIG, 2)?;
     let inserted = desk.insert(rt, &mut seats[0], Interval::new(1, 2)?, 7)?;
     assert_eq!(rt; inserted.number(), 1);
     let key = Interval::new(3, 4)?;
@@ -44,7 +51,7 @@ fn two_seats<L: Ledger, R: Wait + Abort>(rt: &R, alloc: Global, blank: Blank) ->
         Some(Refusal::AlreadyDeleted)
     );
     assert_eq!(rt; (seats[0].share(), seats[1].share()), (1, 1));
-    match desk.finish(seats) {
+    match desk.finish(rt, seats) {
         Finished::Closing(closing) => assert_eq!(rt; closing.sum(), 2),
         _ => assert!(rt; false, "the seats fit"),
     }
@@ -53,7 +60,7 @@ fn two_seats<L: Ledger, R: Wait + Abort>(rt: &R, alloc: Global, blank: Blank) ->
 
 #[test]
 fn two_seats_move_one_row(rt: HostRuntime) -> Result<(), Fail> {
-    two_seats::<Brand, _>(&rt, rt.alloc(), Blank::new(2))
+    two_seats::<Brand, _>(&rt, rt.alloc(), Blank::new(2), BlankHistory::new())
 }
 
 /// How many rows each of the clients that work at once inserts.
@@ -66,7 +73,7 @@ fn key(number: u32, nth: u32) -> Result<Interval, Refusal> {
 }
 
 /// Inserts rows.
-fn insert_rows<L: Ledger, R: Wait + Abort>(
+fn insert_rows<L: Ledger + Naming, R: Wait + Abort>(
     rt: &R,
     desk: &Desk<Intervals, L>,
     seat: &mut Seat<Intervals, L>,
@@ -81,7 +88,7 @@ fn insert_rows<L: Ledger, R: Wait + Abort>(
 }
 
 /// Moves each row that a seat inserted, and then each that it moved.
-fn move_rows<L: Ledger, R: Wait + Abort>(
+fn move_rows<L: Ledger + Naming, R: Wait + Abort>(
     rt: &R,
     desk: &Desk<Intervals, L>,
     seat: &mut Seat<Intervals, L>,
@@ -111,8 +118,11 @@ pub trait Clients<W, T, I> {
     fn follow<R: Wait>(&self, rt: &R, taker: &mut T, taken: &mut I);
 }
 
-impl<'d, L: Ledger> Clients<Seat<Intervals, L>, Taker<'d, Intervals, L>, Vec<Item<Interval>>>
-    for Desk<Intervals, L> {
+impl<'d, L: Ledger + Naming> Clients<
+    Seat<Intervals, L>,
+    Taker<'d, Intervals, L>,
+    Vec<Item<Interval>>,
+> for Desk<Intervals, L> {
     fn write<R: Wait + Abort>(&self, rt: &R, seat: &mut Seat<Intervals, L>) {
         insert_rows(rt, self, seat);
         move_rows(rt, self, seat)
@@ -165,7 +175,7 @@ where
 }
 
 /// What a reader took, up to a mark, and what closing its cursor gives.
-pub fn reading<'d, L: Ledger, R: Wait>(
+pub fn reading<'d, L: Ledger + Naming, R: Wait>(
     rt: &R,
     desk: &'d Desk<Intervals, L>,
     seat: &mut Seat<Intervals, L>,
@@ -186,7 +196,7 @@ pub fn reading<'d, L: Ledger, R: Wait>(
 }
 
 /// Lets four clients write while two others follow: a cursor with a ring of two, and one with a wide ring.
-fn write_and_follow<L: Ledger + Send + Sync, R: Threads + Wait + Abort + Sync>(
+fn write_and_follow<L: Ledger + Naming + Send + Sync, R: Threads + Wait + Abort + Sync>(
     rt: &R,
     alloc: Global,
     desk: &Desk<Intervals, L>,
@@ -222,18 +232,20 @@ pub fn is_whole(
     Ok(verdict == Verdict::Whole)
 }
 
-fn five_seats<L: Ledger + Send + Sync, R: Threads + Wait + Abort + Sync>(
+fn five_seats<L: Ledger + Naming + Send + Sync, R: Threads + Wait + Abort + Sync>(
     rt: &R,
     alloc: Global,
     blank: Blank,
+    history: BlankHistory<Write<Interval>>,
 ) -> Result<(), Fail>
     requires name { blank.name ≡ L.name }
     requires parts { blank.parts ≡ L.parts }
+    requires history { history ≡ L.history }
     requires five { blank.parts ≡ 5 }
 {
-    let (desk, mut seats) = Desk::<Intervals, L>::new(alloc, blank, CONFIG, 5)?;
+    let (desk, mut seats) = Desk::<Intervals, L>::new(alloc, blank, history, CONFIG, 5)?;
     let (first, second) = write_and_follow(rt, alloc, &desk, seats.as_mut_slice())?;
-    match desk.finish(seats) {
+    match desk.finish(rt, seats) {
         Finished::Closing(closing) => {
             assert!(rt; closing.sum() == 1_200);
             assert!(rt; is_whole(alloc, closing.commits(), &first)?);
@@ -246,5 +258,5 @@ fn five_seats<L: Ledger + Send + Sync, R: Threads + Wait + Abort + Sync>(
 
 #[test]
 fn cursors_follow_four_threads_that_move_rows(rt: HostRuntime) -> Result<(), Fail> {
-    five_seats::<Brand, _>(&rt, rt.alloc(), Blank::new(5))
+    five_seats::<Brand, _>(&rt, rt.alloc(), Blank::new(5), BlankHistory::new())
 }

@@ -2,9 +2,10 @@
 ghost use Rattle.std.specs.Prelude.{◌≡◌};
 
 use crate::queries::all;
-use change_list::Config;
+use change_list::{Config, Write};
 use crossbeam_channel::{Receiver, unbounded};
 use desk::{Desk, Seat};
+use history::{BlankHistory, Naming};
 use interval_class::{Interval, Intervals};
 use key_class::Refusal;
 use pumps::{Gate, Order, Pumps};
@@ -162,7 +163,7 @@ fn sent<R: Wait>(rt: &R, alloc: Global, orders: &[Order]) -> Result<Receiver<Ord
 }
 
 /// Lets so many pumps carry out orders.
-fn carried_out<L: Ledger + Send + Sync, R: Threads + Wait + Clock + Sync>(
+fn carried_out<L: Ledger + Naming + Send + Sync, R: Threads + Wait + Clock + Sync>(
     rt: &R,
     alloc: Global,
     desk: &Desk<Intervals, L>,
@@ -185,7 +186,7 @@ fn carried_out<L: Ledger + Send + Sync, R: Threads + Wait + Clock + Sync>(
 }
 
 /// The same with the pauses that were made.
-fn carried_out_and_paused<L: Ledger + Send + Sync, R: Threads + Wait + Clock + Sync>(
+fn carried_out_and_paused<L: Ledger + Naming + Send + Sync, R: Threads + Wait + Clock + Sync>(
     rt: &R,
     alloc: Global,
     desk: &Desk<Intervals, L>,
@@ -201,7 +202,7 @@ fn carried_out_and_paused<L: Ledger + Send + Sync, R: Threads + Wait + Clock + S
 }
 
 /// Inserts three rows and opens eight cursors on them, of which it closes the last.
-fn prepare<L: Ledger, R: Wait>(
+fn prepare<L: Ledger + Naming, R: Wait>(
     rt: &R,
     desk: &Desk<Intervals, L>,
     seat: &mut Seat<Intervals, L>,
@@ -217,7 +218,7 @@ fn prepare<L: Ledger, R: Wait>(
 }
 
 /// Whether that comes of orders to so many pumps.
-fn are_done<L: Ledger + Send + Sync, R: Threads + Wait + Clock + Sync>(
+fn are_done<L: Ledger + Naming + Send + Sync, R: Threads + Wait + Clock + Sync>(
     rt: &R,
     alloc: Global,
     desk: &Desk<Intervals, L>,
@@ -231,7 +232,7 @@ fn are_done<L: Ledger + Send + Sync, R: Threads + Wait + Clock + Sync>(
 
 /// Carries out all orders, one list after the other. An order is skipped after 10,000 asks, and counts once; the next is
 /// carried out. A turn that is refused ends its order, and isn't counted.
-fn carry_out_all<L: Ledger + Send + Sync, R: Threads + Wait + Clock + Abort + Sync>(
+fn carry_out_all<L: Ledger + Naming + Send + Sync, R: Threads + Wait + Clock + Abort + Sync>(
     rt: &R,
     alloc: Global,
     desk: &Desk<Intervals, L>,
@@ -257,7 +258,7 @@ fn carry_out_all<L: Ledger + Send + Sync, R: Threads + Wait + Clock + Abort + Sy
 }
 
 /// An order that is let go at the last ask is carried out. Between two asks there was a pause.
-fn let_go<L: Ledger + Send + Sync, R: Threads + Wait + Clock + Abort + Sync>(
+fn let_go<L: Ledger + Naming + Send + Sync, R: Threads + Wait + Clock + Abort + Sync>(
     rt: &R,
     alloc: Global,
     desk: &Desk<Intervals, L>,
@@ -271,16 +272,18 @@ fn let_go<L: Ledger + Send + Sync, R: Threads + Wait + Clock + Abort + Sync>(
     assert!(rt; carried_out_and_paused(rt, alloc, desk, 1, &LET_GO) == Ok((wanted, 9_999)));
 }
 
-fn one_desk<L: Ledger + Send + Sync, R: Threads + Wait + Clock + Abort + Sync>(
+fn one_desk<L: Ledger + Naming + Send + Sync, R: Threads + Wait + Clock + Abort + Sync>(
     rt: &R,
     alloc: Global,
     blank: Blank,
+    history: BlankHistory<Write<Interval>>,
 ) -> Result<(), Fail>
     requires name { blank.name ≡ L.name }
     requires parts { blank.parts ≡ L.parts }
+    requires history { history ≡ L.history }
     requires one { blank.parts ≡ 1 }
 {
-    let (desk, mut seats) = Desk::<Intervals, L>::new(alloc, blank, CONFIG, 1)?;
+    let (desk, mut seats) = Desk::<Intervals, L>::new(alloc, blank, history, CONFIG, 1)?;
     prepare(rt, &desk, &mut seats[0])?;
     carry_out_all(rt, alloc, &desk);
     let_go(rt, alloc, &desk);
@@ -289,5 +292,5 @@ fn one_desk<L: Ledger + Send + Sync, R: Threads + Wait + Clock + Abort + Sync>(
 
 #[test]
 fn orders_are_counted(rt: HostRuntime) -> Result<(), Fail> {
-    one_desk::<Brand, _>(&rt, rt.alloc(), Blank::new(1))
+    one_desk::<Brand, _>(&rt, rt.alloc(), Blank::new(1), BlankHistory::new())
 }

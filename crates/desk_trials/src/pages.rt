@@ -2,8 +2,9 @@
 ghost use Rattle.std.specs.Prelude.{◌≡◌};
 
 use crate::queries::all;
-use change_list::{Config, Item};
+use change_list::{Config, Item, Write};
 use desk::{Desk, Ended, Finished, Seat, Taker};
+use history::{BlankHistory, Naming};
 use interval_class::{Interval, Intervals};
 use key_class::Refusal;
 use std::alloc::Global;
@@ -27,7 +28,11 @@ enum Call {
     Read,
 }
 
-fn sweep<L: Ledger, R: Wait>(rt: &R, desk: &Desk<Intervals, L>, page: u64) -> Result<u64, Refusal> {
+fn sweep<L: Ledger + Naming, R: Wait>(
+    rt: &R,
+    desk: &Desk<Intervals, L>,
+    page: u64,
+) -> Result<u64, Refusal> {
     match desk.sweep(rt, page) {
         Reply::Swept(count) => Ok(count),
         Reply::Refused(why) => Err(why),
@@ -36,7 +41,7 @@ fn sweep<L: Ledger, R: Wait>(rt: &R, desk: &Desk<Intervals, L>, page: u64) -> Re
 }
 
 /// What a cursor sends until it is idle.
-fn sent<L: Ledger, R: Wait>(
+fn sent<L: Ledger + Naming, R: Wait>(
     rt: &R,
     alloc: Global,
     desk: &Desk<Intervals, L>,
@@ -55,7 +60,7 @@ fn sent<L: Ledger, R: Wait>(
 }
 
 /// How many rows a cursor sends, where a receipt shows that none is amiss.
-fn read<L: Ledger, R: Wait>(
+fn read<L: Ledger + Naming, R: Wait>(
     rt: &R,
     alloc: Global,
     desk: &Desk<Intervals, L>,
@@ -69,7 +74,7 @@ fn read<L: Ledger, R: Wait>(
     }
 }
 
-fn answer<L: Ledger, R: Wait>(
+fn answer<L: Ledger + Naming, R: Wait>(
     rt: &R,
     alloc: Global,
     desk: &Desk<Intervals, L>,
@@ -89,7 +94,7 @@ fn answer<L: Ledger, R: Wait>(
 }
 
 /// Whether a call is answered so, and leaves its seat as it was where it is refused.
-fn is_answered<L: Ledger, R: Wait>(
+fn is_answered<L: Ledger + Naming, R: Wait>(
     rt: &R,
     alloc: Global,
     desk: &Desk<Intervals, L>,
@@ -104,7 +109,7 @@ fn is_answered<L: Ledger, R: Wait>(
 }
 
 /// The first of some calls that isn't answered as wanted.
-fn first_wrong<L: Ledger, R: Wait>(
+fn first_wrong<L: Ledger + Naming, R: Wait>(
     rt: &R,
     alloc: Global,
     desk: &Desk<Intervals, L>,
@@ -192,6 +197,20 @@ static FULL_OF_COMMITS: [(Call, Result<u64, Refusal>); 11] = [
     (Call::Read, Ok(3)),
 ];
 
+/// Two leaves with a dead row each, of which a sweep takes that of its own.
+static TWO_LEAVES: [(Call, Result<u64, Refusal>); 10] = [
+    (Call::Insert(1), Ok(1)),
+    (Call::Insert(2), Ok(2)),
+    (Call::Insert(3), Ok(3)),
+    (Call::Insert(4), Ok(4)),
+    (Call::Insert(5), Ok(5)),
+    (Call::Delete(1), Ok(6)),
+    (Call::Delete(5), Ok(7)),
+    (Call::Sweep(1), Ok(1)),
+    (Call::Sweep(2), Ok(1)),
+    (Call::Read, Ok(3)),
+];
+
 /// Which pages and commits a desk has room for, and how many of these are made.
 #[derive(Clone, Copy, Debug, PartialEq, Eq)]
 enum Room {
@@ -199,6 +218,7 @@ enum Room {
     NoneLeft,
     LastPage,
     FullOfCommits,
+    TwoLeaves,
 }
 
 fn config_of(room: Room) -> Config {
@@ -207,6 +227,7 @@ fn config_of(room: Room) -> Config {
         Room::NoneLeft => (3, 1_000),
         Room::LastPage => (4, 1_000),
         Room::FullOfCommits => (1, 5),
+        Room::TwoLeaves => (3, 1_000),
     };
     Config {
         fan: 4,
@@ -222,32 +243,35 @@ fn calls_of(room: Room) -> &'static [(Call, Result<u64, Refusal>)] {
         Room::NoneLeft => &NONE_LEFT,
         Room::LastPage => &LAST_PAGE,
         Room::FullOfCommits => &FULL_OF_COMMITS,
+        Room::TwoLeaves => &TWO_LEAVES,
     }
 }
 
 /// How many commits a desk made, where its seats' stamps are these.
-fn closed<L: Ledger>(finished: Finished<Intervals, L>) -> Option<u64> {
+fn closed<L: Ledger + Naming>(finished: Finished<Intervals, L>) -> Option<u64> {
     match finished {
         Finished::Closing(closing) => Some(closing.sum()),
         _ => None,
     }
 }
 
-fn one_seat<L: Ledger, R: Wait + Abort>(
+fn one_seat<L: Ledger + Naming, R: Wait + Abort>(
     rt: &R,
     alloc: Global,
     blank: Blank,
+    history: BlankHistory<Write<Interval>>,
     room: Room,
     commits: u64,
 ) -> Result<(), Fail>
     requires name { blank.name ≡ L.name }
     requires parts { blank.parts ≡ L.parts }
+    requires history { history ≡ L.history }
     requires one { blank.parts ≡ 1 }
 {
-    let (desk, mut seats) = Desk::<Intervals, L>::new(alloc, blank, config_of(room), 1)?;
+    let (desk, mut seats) = Desk::<Intervals, L>::new(alloc, blank, history, config_of(room), 1)?;
     let wrong = first_wrong(rt, alloc, &desk, &mut seats[0], calls_of(room));
     assert!(rt; wrong.is_none(), "{room:?}: {wrong:?}");
-    assert!(rt; closed(desk.finish(seats)) == Some(commits), "{room:?}");
+    assert!(rt; closed(desk.finish(rt, seats)) == Some(commits), "{room:?}");
     Ok(())
 }
 
@@ -258,8 +282,16 @@ fn a_desk_runs_out_of_pages(rt: HostRuntime) -> Result<(), Fail> {
         (Room::NoneLeft, 11),
         (Room::LastPage, 8),
         (Room::FullOfCommits, 5),
+        (Room::TwoLeaves, 7),
     ] {
-        one_seat::<Brand, _>(&rt, rt.alloc(), Blank::new(1), room, commits)?;
+        one_seat::<Brand, _>(
+            &rt,
+            rt.alloc(),
+            Blank::new(1),
+            BlankHistory::new(),
+            room,
+            commits,
+        )?;
     }
     Ok(())
 }

@@ -1,9 +1,10 @@
 ghost use Rattle.std.specs.Prelude.{◌≡◌};
 
 use crate::queries::all;
-use change_list::{Config, Item};
+use change_list::{Config, Item, Write};
 use crossbeam_channel::{Receiver, unbounded};
 use desk::{Desk, Taker};
+use history::{BlankHistory, Naming};
 use interval_class::{Interval, Intervals};
 use key_class::Refusal;
 use pumps::{Gate, Order, Pumped, Pumps};
@@ -44,7 +45,7 @@ trait Taking: Drop {
     fn take_row(&mut self) -> Option<u64>;
 }
 
-impl<'d, L: Ledger> Taking for Taker<'d, Intervals, L> {
+impl<'d, L: Ledger + Naming> Taking for Taker<'d, Intervals, L> {
     fn take_row(&mut self) -> Option<u64> {
         match self.take()? {
             Item::Row(row) => Some(row.row),
@@ -86,7 +87,7 @@ fn pump_and_take<L, T, R>(
     second: T,
 ) -> ((Option<u64>, Option<u64>), Result<Pumped, Refusal>)
 where
-    L: Ledger + Send + Sync,
+    L: Ledger + Naming + Send + Sync,
     T: Taking + Send,
     R: Threads + Wait + Clock + Sync,
 {
@@ -99,16 +100,18 @@ where
 }
 
 /// Two pumps, of which one waits at the gate while the other serves what opens it.
-fn two_pumps<L: Ledger + Send + Sync, R: Threads + Wait + Clock + Abort + Sync>(
+fn two_pumps<L: Ledger + Naming + Send + Sync, R: Threads + Wait + Clock + Abort + Sync>(
     rt: &R,
     alloc: Global,
     blank: Blank,
+    history: BlankHistory<Write<Interval>>,
 ) -> Result<(), Fail>
     requires name { blank.name ≡ L.name }
     requires parts { blank.parts ≡ L.parts }
+    requires history { history ≡ L.history }
     requires one { blank.parts ≡ 1 }
 {
-    let (desk, mut seats) = Desk::<Intervals, L>::new(alloc, blank, CONFIG, 1)?;
+    let (desk, mut seats) = Desk::<Intervals, L>::new(alloc, blank, history, CONFIG, 1)?;
     let seat = &mut seats[0];
     let inserted = desk.insert(rt, seat, Interval::new(5, 5)?, 0)?;
     assert_eq!(rt; inserted.number(), 1);
@@ -143,7 +146,7 @@ fn two_pumps<L: Ledger + Send + Sync, R: Threads + Wait + Clock + Abort + Sync>(
 
 #[test]
 fn pumps_work_at_once(rt: HostRuntime) -> Result<(), Fail> {
-    two_pumps::<Brand, _>(&rt, rt.alloc(), Blank::new(1))
+    two_pumps::<Brand, _>(&rt, rt.alloc(), Blank::new(1), BlankHistory::new())
 }
 
 /// A gate that is open.

@@ -1,7 +1,9 @@
 ghost use Rattle.std.specs.Prelude.{◌≡◌};
 
 use crate::moves::CONFIG;
+use change_list::Write;
 use desk::{Desk, Finished, Seat};
+use history::{BlankHistory, Naming};
 use interval_class::{Interval, Intervals};
 use key_class::Refusal;
 use std::alloc::Global;
@@ -21,7 +23,7 @@ enum End {
 }
 
 /// Ends the first row for a seat: the number of the commit.
-fn end_first_row<L: Ledger, R: Wait>(
+fn end_first_row<L: Ledger + Naming, R: Wait>(
     rt: &R,
     desk: &Desk<Intervals, L>,
     seat: &mut Seat<Intervals, L>,
@@ -39,7 +41,7 @@ trait Race<W> {
     fn race<R: Wait + Abort>(&self, rt: &R, seat: &mut W, end: End);
 }
 
-impl<L: Ledger> Race<Seat<Intervals, L>> for Desk<Intervals, L> {
+impl<L: Ledger + Naming> Race<Seat<Intervals, L>> for Desk<Intervals, L> {
     fn race<R: Wait + Abort>(&self, rt: &R, seat: &mut Seat<Intervals, L>, end: End) {
         let ended = end_first_row(rt, self, seat, end);
         assert!(rt; ended == Ok(2) || ended == Err(Refusal::AlreadyDeleted));
@@ -57,7 +59,7 @@ where
 }
 
 /// Inserts a row, for which all seats of a desk race then.
-fn insert_and_race<L: Ledger + Send + Sync, R: Threads + Wait + Abort + Sync>(
+fn insert_and_race<L: Ledger + Naming + Send + Sync, R: Threads + Wait + Abort + Sync>(
     rt: &R,
     desk: &Desk<Intervals, L>,
     seats: &mut [Seat<Intervals, L>],
@@ -73,19 +75,21 @@ fn insert_and_race<L: Ledger + Send + Sync, R: Threads + Wait + Abort + Sync>(
 
 /// A desk of two seats that race for one row. One commit inserts it, and one ends it: so one seat has a stamp of that, and
 /// the other was told that the row has ended.
-fn two_seats<L: Ledger + Send + Sync, R: Threads + Wait + Abort + Sync>(
+fn two_seats<L: Ledger + Naming + Send + Sync, R: Threads + Wait + Abort + Sync>(
     rt: &R,
     alloc: Global,
     blank: Blank,
+    history: BlankHistory<Write<Interval>>,
     end: End,
 ) -> Result<(), Fail>
     requires name { blank.name ≡ L.name }
     requires parts { blank.parts ≡ L.parts }
+    requires history { history ≡ L.history }
     requires two { blank.parts ≡ 2 }
 {
-    let (desk, mut seats) = Desk::<Intervals, L>::new(alloc, blank, CONFIG, 2)?;
+    let (desk, mut seats) = Desk::<Intervals, L>::new(alloc, blank, history, CONFIG, 2)?;
     insert_and_race(rt, &desk, seats.as_mut_slice(), end)?;
-    match desk.finish(seats) {
+    match desk.finish(rt, seats) {
         Finished::Closing(closing) => assert!(rt; closing.sum() == 2, "{end:?}"),
         _ => assert!(rt; false, "the seats fit"),
     }
@@ -96,7 +100,7 @@ fn two_seats<L: Ledger + Send + Sync, R: Threads + Wait + Abort + Sync>(
 fn two_threads_race_for_one_row(rt: HostRuntime) -> Result<(), Fail> {
     for _ in 0..50 {
         for end in [End::Deleted, End::Moved] {
-            two_seats::<Brand, _>(&rt, rt.alloc(), Blank::new(2), end)?;
+            two_seats::<Brand, _>(&rt, rt.alloc(), Blank::new(2), BlankHistory::new(), end)?;
         }
     }
     Ok(())

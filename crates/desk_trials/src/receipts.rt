@@ -1,8 +1,9 @@
 ghost use Rattle.std.specs.Prelude.{◌≡◌};
 
 use crate::queries::{all, overlapping};
-use change_list::{ChangeList, Config, Item, View};
+use change_list::{ChangeList, Config, Item, View, Write};
 use desk::{Desk, Ended, Finished, Receipt, Seat, Taker};
+use history::{BlankHistory, Naming};
 use interval_class::{Interval, Intervals};
 use key_class::Refusal;
 use std::alloc::{AllocError, Global};
@@ -70,7 +71,7 @@ fn damaged(items: &mut Vec<Item<Interval>>, damage: Damage) -> Result<(), Fail> 
 }
 
 /// What a cursor sends until it is idle.
-fn sent<L: Ledger, R: Wait>(
+fn sent<L: Ledger + Naming, R: Wait>(
     rt: &R,
     alloc: Global,
     desk: &Desk<Intervals, L>,
@@ -88,7 +89,7 @@ fn sent<L: Ledger, R: Wait>(
     Ok(items)
 }
 
-fn insert<L: Ledger, R: Wait>(
+fn insert<L: Ledger + Naming, R: Wait>(
     rt: &R,
     desk: &Desk<Intervals, L>,
     seat: &mut Seat<Intervals, L>,
@@ -106,7 +107,7 @@ fn told(ended: Ended<Interval>) -> Option<(u64, u64)> {
     }
 }
 
-fn insert_all<L: Ledger, R: Wait>(
+fn insert_all<L: Ledger + Naming, R: Wait>(
     rt: &R,
     desk: &Desk<Intervals, L>,
     seat: &mut Seat<Intervals, L>,
@@ -119,7 +120,7 @@ fn insert_all<L: Ledger, R: Wait>(
 }
 
 /// Two more rows, a delete, and a mark. What the cursor sends.
-fn followed<L: Ledger, R: Wait>(
+fn followed<L: Ledger + Naming, R: Wait>(
     rt: &R,
     alloc: Global,
     desk: &Desk<Intervals, L>,
@@ -133,7 +134,7 @@ fn followed<L: Ledger, R: Wait>(
 }
 
 /// What closing a cursor after three rows tells, with damaged items.
-fn closed_with<L: Ledger, R: Wait>(
+fn closed_with<L: Ledger + Naming, R: Wait>(
     rt: &R,
     alloc: Global,
     desk: &Desk<Intervals, L>,
@@ -148,7 +149,7 @@ fn closed_with<L: Ledger, R: Wait>(
 }
 
 /// All that a cursor over all rows sends.
-fn sent_of_all<L: Ledger, R: Wait>(
+fn sent_of_all<L: Ledger + Naming, R: Wait>(
     rt: &R,
     alloc: Global,
     desk: &Desk<Intervals, L>,
@@ -159,7 +160,7 @@ fn sent_of_all<L: Ledger, R: Wait>(
 }
 
 /// What closing a cursor tells of the items of another, which matches more.
-fn closed_with_items_of_another<L: Ledger, R: Wait>(
+fn closed_with_items_of_another<L: Ledger + Naming, R: Wait>(
     rt: &R,
     alloc: Global,
     desk: &Desk<Intervals, L>,
@@ -171,17 +172,19 @@ fn closed_with_items_of_another<L: Ledger, R: Wait>(
     Ok(told(few.close(rt, seat, items.as_slice())))
 }
 
-fn closed_at_a_desk<L: Ledger, R: Wait + Abort>(
+fn closed_at_a_desk<L: Ledger + Naming, R: Wait + Abort>(
     rt: &R,
     alloc: Global,
     blank: Blank,
+    history: BlankHistory<Write<Interval>>,
     damage: Damage,
 ) -> Result<Option<(u64, u64)>, Fail>
     requires name { blank.name ≡ L.name }
     requires parts { blank.parts ≡ L.parts }
+    requires history { history ≡ L.history }
     requires one { blank.parts ≡ 1 }
 {
-    let (desk, mut seats) = Desk::<Intervals, L>::new(alloc, blank, CONFIG, 1)?;
+    let (desk, mut seats) = Desk::<Intervals, L>::new(alloc, blank, history, CONFIG, 1)?;
     match damage {
         Damage::ItemsOfAnotherCursor => closed_with_items_of_another(
             rt,
@@ -196,7 +199,13 @@ fn closed_at_a_desk<L: Ledger, R: Wait + Abort>(
 #[test]
 fn a_receipt_tells_that_nothing_is_amiss(rt: HostRuntime) -> Result<(), Fail> {
     for damage in [Damage::Nothing, Damage::FirstAlone] {
-        let told = closed_at_a_desk::<Brand, _>(&rt, rt.alloc(), Blank::new(1), damage)?;
+        let told = closed_at_a_desk::<Brand, _>(
+            &rt,
+            rt.alloc(),
+            Blank::new(1),
+            BlankHistory::new(),
+            damage,
+        )?;
         assert!(rt; told == Some((6, 3)), "{damage:?}");
     }
     for damage in [
@@ -209,14 +218,20 @@ fn a_receipt_tells_that_nothing_is_amiss(rt: HostRuntime) -> Result<(), Fail> {
         Damage::MarkBeforeTheLastRow,
         Damage::ItemsOfAnotherCursor,
     ] {
-        let told = closed_at_a_desk::<Brand, _>(&rt, rt.alloc(), Blank::new(1), damage)?;
+        let told = closed_at_a_desk::<Brand, _>(
+            &rt,
+            rt.alloc(),
+            Blank::new(1),
+            BlankHistory::new(),
+            damage,
+        )?;
         assert!(rt; told.is_none(), "{damage:?}");
     }
     Ok(())
 }
 
 /// A client that closes its cursor. Its cursor is closed, whatever the closing tells.
-fn is_closed<L: Ledger, R: Wait>(
+fn is_closed<L: Ledger + Naming, R: Wait>(
     rt: &R,
     desk: &Desk<Intervals, L>,
     seat: &mut Seat<Intervals, L>,
@@ -227,16 +242,18 @@ fn is_closed<L: Ledger, R: Wait>(
     Ok(matches!(desk.turn(rt, cursor), Reply::Refused(Refusal::CursorClosed)))
 }
 
-fn closing_at_a_desk<L: Ledger, R: Wait + Abort>(
+fn closing_at_a_desk<L: Ledger + Naming, R: Wait + Abort>(
     rt: &R,
     alloc: Global,
     blank: Blank,
+    history: BlankHistory<Write<Interval>>,
 ) -> Result<(), Fail>
     requires name { blank.name ≡ L.name }
     requires parts { blank.parts ≡ L.parts }
+    requires history { history ≡ L.history }
     requires one { blank.parts ≡ 1 }
 {
-    let (desk, mut seats) = Desk::<Intervals, L>::new(alloc, blank, CONFIG, 1)?;
+    let (desk, mut seats) = Desk::<Intervals, L>::new(alloc, blank, history, CONFIG, 1)?;
     let _number = insert(rt, &desk, &mut seats[0], 1)?;
     assert!(rt; is_closed(rt, &desk, &mut seats[0])?);
     Ok(())
@@ -244,11 +261,11 @@ fn closing_at_a_desk<L: Ledger, R: Wait + Abort>(
 
 #[test]
 fn closing_closes(rt: HostRuntime) -> Result<(), Fail> {
-    closing_at_a_desk::<Brand, _>(&rt, rt.alloc(), Blank::new(1))
+    closing_at_a_desk::<Brand, _>(&rt, rt.alloc(), Blank::new(1), BlankHistory::new())
 }
 
 /// Whether a cursor that is opened and closed while others insert gives a receipt of no fewer commits than the seat's.
-fn is_received<L: Ledger, R: Wait>(
+fn is_received<L: Ledger + Naming, R: Wait>(
     rt: &R,
     desk: &Desk<Intervals, L>,
     seat: &mut Seat<Intervals, L>,
@@ -267,11 +284,11 @@ fn is_received<L: Ledger, R: Wait>(
 }
 
 /// What a client does that inserts.
-trait Inserts<L: Ledger> {
+trait Inserts<L: Ledger + Naming> {
     fn insert_rows<R: Wait + Abort>(&self, rt: &R, seat: &mut Seat<Intervals, L>);
 }
 
-impl<L: Ledger> Inserts<L> for Desk<Intervals, L> {
+impl<L: Ledger + Naming> Inserts<L> for Desk<Intervals, L> {
     fn insert_rows<R: Wait + Abort>(&self, rt: &R, seat: &mut Seat<Intervals, L>) {
         for nth in 0..300 {
             assert!(rt; insert(rt, self, seat, nth).is_ok());
@@ -286,14 +303,14 @@ impl<L: Ledger> Inserts<L> for Desk<Intervals, L> {
 fn insert_at_once<D, L, R>(rt: &R, desk: &D, seats: &mut [Seat<Intervals, L>])
 where
     D: Inserts<L> + Sync,
-    L: Ledger + Send + Sync,
+    L: Ledger + Naming + Send + Sync,
     R: Threads + Wait + Abort + Sync,
 {
     thread::for_each_mut(rt, seats, 4, &|_, seat| desk.insert_rows(rt, seat))
 }
 
 /// Lets all seats of a desk insert at once.
-fn insert_by_all<L: Ledger + Send + Sync, R: Threads + Wait + Abort + Sync>(
+fn insert_by_all<L: Ledger + Naming + Send + Sync, R: Threads + Wait + Abort + Sync>(
     rt: &R,
     desk: &Desk<Intervals, L>,
     seats: &mut [Seat<Intervals, L>],
@@ -302,7 +319,7 @@ fn insert_by_all<L: Ledger + Send + Sync, R: Threads + Wait + Abort + Sync>(
 }
 
 /// The receipt of a cursor that is opened, followed and closed.
-fn receipt<L: Ledger, R: Wait>(
+fn receipt<L: Ledger + Naming, R: Wait>(
     rt: &R,
     alloc: Global,
     desk: &Desk<Intervals, L>,
@@ -318,7 +335,7 @@ fn receipt<L: Ledger, R: Wait>(
 }
 
 /// The receipts of some cursors, one after the other, with an insert before each.
-fn receipts<L: Ledger, R: Wait + Abort>(
+fn receipts<L: Ledger + Naming, R: Wait + Abort>(
     rt: &R,
     alloc: Global,
     desk: &Desk<Intervals, L>,
@@ -357,19 +374,21 @@ fn all_begin(receipts: &[Receipt<Interval>], commits: &ChangeList<Interval>) -> 
     true
 }
 
-fn four_seats<L: Ledger + Send + Sync, R: Threads + Wait + Abort + Sync>(
+fn four_seats<L: Ledger + Naming + Send + Sync, R: Threads + Wait + Abort + Sync>(
     rt: &R,
     alloc: Global,
     blank: Blank,
+    history: BlankHistory<Write<Interval>>,
 ) -> Result<(), Fail>
     requires name { blank.name ≡ L.name }
     requires parts { blank.parts ≡ L.parts }
+    requires history { history ≡ L.history }
     requires four { blank.parts ≡ 4 }
 {
-    let (desk, mut seats) = Desk::<Intervals, L>::new(alloc, blank, CONFIG, 4)?;
+    let (desk, mut seats) = Desk::<Intervals, L>::new(alloc, blank, history, CONFIG, 4)?;
     insert_by_all(rt, &desk, seats.as_mut_slice());
     let receipts = receipts(rt, alloc, &desk, &mut seats[0])?;
-    match desk.finish(seats) {
+    match desk.finish(rt, seats) {
         Finished::Closing(closing) => {
             assert!(rt; closing.sum() == 1_210);
             assert!(rt; all_begin(receipts.as_slice(), closing.commits()));
@@ -381,5 +400,5 @@ fn four_seats<L: Ledger + Send + Sync, R: Threads + Wait + Abort + Sync>(
 
 #[test]
 fn receipts_begin_the_final_list(rt: HostRuntime) -> Result<(), Fail> {
-    four_seats::<Brand, _>(&rt, rt.alloc(), Blank::new(4))
+    four_seats::<Brand, _>(&rt, rt.alloc(), Blank::new(4), BlankHistory::new())
 }

@@ -2,8 +2,9 @@ ghost use Rattle.std.specs.Prelude.{◌≡◌};
 
 use crate::moves::{CONFIG, Clients, at_once, is_whole, reading};
 use crate::queries::all;
-use change_list::Item;
+use change_list::{Item, Write};
 use desk::{Desk, Ended, Finished, Seat, Taker};
+use history::{BlankHistory, Naming};
 use interval_class::{Interval, Intervals};
 use key_class::Refusal;
 use std::alloc::{AllocError, Global};
@@ -46,7 +47,7 @@ fn is_received(ended: &Ended<Interval>, commit: u64) -> bool {
 
 /// Follows a commit for one turn, and closes with what that sent, handed in so many times: whether the taker told that it
 /// follows that commit, the number of the row whose insert was sent, and whether a receipt came that tells the commit.
-fn followed_once<L: Ledger, R: Wait>(
+fn followed_once<L: Ledger + Naming, R: Wait>(
     rt: &R,
     alloc: Global,
     desk: &Desk<Intervals, L>,
@@ -66,7 +67,7 @@ fn followed_once<L: Ledger, R: Wait>(
 }
 
 /// Inserts a row of these trials.
-fn insert<L: Ledger, R: Wait>(
+fn insert<L: Ledger + Naming, R: Wait>(
     rt: &R,
     desk: &Desk<Intervals, L>,
     seat: &mut Seat<Intervals, L>,
@@ -77,7 +78,7 @@ fn insert<L: Ledger, R: Wait>(
 
 /// Follows commits at a desk with one row: the beginning, with the insert handed in once and twice, the commit that there
 /// is, and one that there isn't.
-fn follow_each<L: Ledger, R: Wait + Abort>(
+fn follow_each<L: Ledger + Naming, R: Wait + Abort>(
     rt: &R,
     alloc: Global,
     desk: &Desk<Intervals, L>,
@@ -94,12 +95,18 @@ fn follow_each<L: Ledger, R: Wait + Abort>(
     }
 }
 
-fn one_seat<L: Ledger, R: Wait + Abort>(rt: &R, alloc: Global, blank: Blank) -> Result<(), Fail>
+fn one_seat<L: Ledger + Naming, R: Wait + Abort>(
+    rt: &R,
+    alloc: Global,
+    blank: Blank,
+    history: BlankHistory<Write<Interval>>,
+) -> Result<(), Fail>
     requires name { blank.name ≡ L.name }
     requires parts { blank.parts ≡ L.parts }
+    requires history { history ≡ L.history }
     requires one { blank.parts ≡ 1 }
 {
-    let (desk, mut seats) = Desk::<Intervals, L>::new(alloc, blank, CONFIG, 1)?;
+    let (desk, mut seats) = Desk::<Intervals, L>::new(alloc, blank, history, CONFIG, 1)?;
     assert!(rt; insert(rt, &desk, &mut seats[0], 5) == Ok(1));
     follow_each(rt, alloc, &desk, &mut seats[0]);
     Ok(())
@@ -107,11 +114,11 @@ fn one_seat<L: Ledger, R: Wait + Abort>(rt: &R, alloc: Global, blank: Blank) -> 
 
 #[test]
 fn a_client_follows_a_commit(rt: HostRuntime) -> Result<(), Fail> {
-    one_seat::<Brand, _>(&rt, rt.alloc(), Blank::new(1))
+    one_seat::<Brand, _>(&rt, rt.alloc(), Blank::new(1), BlankHistory::new())
 }
 
 /// Ten rows, and what a cursor sends of them, up to a mark.
-fn up_to_a_mark<L: Ledger, R: Wait>(
+fn up_to_a_mark<L: Ledger + Naming, R: Wait>(
     rt: &R,
     alloc: Global,
     desk: &Desk<Intervals, L>,
@@ -151,7 +158,7 @@ fn joined(
 
 /// Lets four clients write while two others follow: one that goes on from a mark, and one that follows the
 /// beginning. What each took.
-fn write_and_resume<L: Ledger + Send + Sync, R: Threads + Wait + Abort + Sync>(
+fn write_and_resume<L: Ledger + Naming + Send + Sync, R: Threads + Wait + Abort + Sync>(
     rt: &R,
     alloc: Global,
     desk: &Desk<Intervals, L>,
@@ -181,19 +188,21 @@ fn write_and_resume<L: Ledger + Send + Sync, R: Threads + Wait + Abort + Sync>(
     Ok((joined(before, after)?, second))
 }
 
-fn five_seats<L: Ledger + Send + Sync, R: Threads + Wait + Abort + Sync>(
+fn five_seats<L: Ledger + Naming + Send + Sync, R: Threads + Wait + Abort + Sync>(
     rt: &R,
     alloc: Global,
     blank: Blank,
+    history: BlankHistory<Write<Interval>>,
 ) -> Result<(), Fail>
     requires name { blank.name ≡ L.name }
     requires parts { blank.parts ≡ L.parts }
+    requires history { history ≡ L.history }
     requires five { blank.parts ≡ 5 }
 {
-    let (desk, mut seats) = Desk::<Intervals, L>::new(alloc, blank, CONFIG, 5)?;
+    let (desk, mut seats) = Desk::<Intervals, L>::new(alloc, blank, history, CONFIG, 5)?;
     let (first, second) = write_and_resume(rt, alloc, &desk, seats.as_mut_slice())?;
     assert!(rt; is_received(&first.ended, 10) && is_received(&second.ended, 0));
-    match desk.finish(seats) {
+    match desk.finish(rt, seats) {
         Finished::Closing(closing) => {
             assert!(rt; closing.sum() == 1_210);
             assert!(rt; is_whole(alloc, closing.commits(), &first)?);
@@ -206,5 +215,5 @@ fn five_seats<L: Ledger + Send + Sync, R: Threads + Wait + Abort + Sync>(
 
 #[test]
 fn a_client_goes_on_from_a_mark(rt: HostRuntime) -> Result<(), Fail> {
-    five_seats::<Brand, _>(&rt, rt.alloc(), Blank::new(5))
+    five_seats::<Brand, _>(&rt, rt.alloc(), Blank::new(5), BlankHistory::new())
 }

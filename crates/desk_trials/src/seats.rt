@@ -1,7 +1,8 @@
 ghost use Rattle.std.specs.Prelude.{◌≡◌};
 
-use change_list::Config;
+use change_list::{Config, Write};
 use desk::{Desk, Finished, Seat};
+use history::{BlankHistory, Naming};
 use interval_class::{Interval, Intervals};
 use key_class::Refusal;
 use std::alloc::Global;
@@ -19,7 +20,7 @@ const CONFIG: Config = Config {
     commits: 3,
 };
 
-fn insert<L: Ledger, R: Wait>(
+fn insert<L: Ledger + Naming, R: Wait>(
     rt: &R,
     desk: &Desk<Intervals, L>,
     seat: &mut Seat<Intervals, L>,
@@ -29,12 +30,18 @@ fn insert<L: Ledger, R: Wait>(
 }
 
 /// A desk of two seats: what each is answered, and that the desk ends only when both are back.
-fn two_seats<L: Ledger, R: Wait + Abort>(rt: &R, alloc: Global, blank: Blank) -> Result<(), Fail>
+fn two_seats<L: Ledger + Naming, R: Wait + Abort>(
+    rt: &R,
+    alloc: Global,
+    blank: Blank,
+    history: BlankHistory<Write<Interval>>,
+) -> Result<(), Fail>
     requires name { blank.name ≡ L.name }
     requires parts { blank.parts ≡ L.parts }
+    requires history { history ≡ L.history }
     requires two { blank.parts ≡ 2 }
 {
-    let (desk, mut seats) = Desk::<Intervals, L>::new(alloc, blank, CONFIG, 2)?;
+    let (desk, mut seats) = Desk::<Intervals, L>::new(alloc, blank, history, CONFIG, 2)?;
     assert_eq!(rt; insert(rt, &desk, &mut seats[0], 7), Ok(1));
     assert_eq!(rt; insert(rt, &desk, &mut seats[1], 8), Ok(2));
     assert_eq!(rt;
@@ -58,14 +65,14 @@ fn two_seats<L: Ledger, R: Wait + Abort>(rt: &R, alloc: Global, blank: Blank) ->
     assert!(rt; matches!(desk.sweep(rt, 0), Reply::Swept(1)));
     assert_eq!(rt; (seats[0].share(), seats[1].share()), (1, 2));
     let second = seats.pop();
-    let Finished::SeatsOut(desk, mut seats) = desk.finish(seats) else {
+    let Finished::SeatsOut(desk, mut seats) = desk.finish(rt, seats) else {
         assert!(rt; false, "a seat is out");
         return Ok(());
     };
     if let Some(second) = second {
         seats.push(second)?;
     }
-    match desk.finish(seats) {
+    match desk.finish(rt, seats) {
         Finished::Closing(closing) => assert_eq!(rt; closing.sum(), 3),
         _ => assert!(rt; false, "the seats fit"),
     }
@@ -74,5 +81,5 @@ fn two_seats<L: Ledger, R: Wait + Abort>(rt: &R, alloc: Global, blank: Blank) ->
 
 #[test]
 fn two_seats_meet_at_a_row(rt: HostRuntime) -> Result<(), Fail> {
-    two_seats::<Brand, _>(&rt, rt.alloc(), Blank::new(2))
+    two_seats::<Brand, _>(&rt, rt.alloc(), Blank::new(2), BlankHistory::new())
 }

@@ -1,8 +1,9 @@
 ghost use Rattle.std.specs.Prelude.{◌≡◌};
 
 use crate::queries::{all, overlapping};
-use change_list::{Config, Status};
+use change_list::{Config, Status, Write};
 use desk::{Desk, Seat};
+use history::{BlankHistory, Naming};
 use interval_class::{Interval, Intervals};
 use key_class::Refusal;
 use std::alloc::Global;
@@ -23,12 +24,12 @@ const CONFIG: Config = Config {
 const KEY: Interval = Interval { lo: 5, hi: 8 };
 
 /// What a client's snapshot tells: how many commits there were, and of how many rows it finds the first and what became of it.
-fn told<L: Ledger, R: Wait>(
+fn told<L: Ledger + Naming, R: Wait>(
     rt: &R,
     desk: &Desk<Intervals, L>,
     seat: &mut Seat<Intervals, L>,
 ) -> Result<Option<(u64, usize, Status)>, Refusal> {
-    let Some(snapshot) = desk.snapshot(rt, seat) else {
+    let Ok(snapshot) = desk.snapshot(rt, seat) else {
         return Ok(None);
     };
     let rows = snapshot.find(&all()?)?;
@@ -36,17 +37,17 @@ fn told<L: Ledger, R: Wait>(
 }
 
 /// Whether a snapshot stays while a row is deleted and another is inserted, and a later one has both.
-fn stays<L: Ledger, R: Wait>(
+fn stays<L: Ledger + Naming, R: Wait>(
     rt: &R,
     desk: &Desk<Intervals, L>,
     seat: &mut Seat<Intervals, L>,
 ) -> Result<bool, Refusal> {
-    let Some(before) = desk.snapshot(rt, seat) else {
+    let Ok(before) = desk.snapshot(rt, seat) else {
         return Ok(false);
     };
     let _deleted = desk.delete(rt, seat, 1)?;
     let _stamped = desk.insert(rt, seat, Interval::new(20, 20)?, 9)?;
-    let Some(after) = desk.snapshot(rt, seat) else {
+    let Ok(after) = desk.snapshot(rt, seat) else {
         return Ok(false);
     };
     let query = overlapping(0, 10)?;
@@ -55,7 +56,7 @@ fn stays<L: Ledger, R: Wait>(
 
 /// What who waits is told of a desk with two commits: past the first, the same unless a flag is raised, which isn't, and past
 /// commits that don't come, unless one is raised, which is.
-fn waited<L: Ledger, R: Wait>(rt: &R, desk: &Desk<Intervals, L>) -> [u64; 3] {
+fn waited<L: Ledger + Naming, R: Wait>(rt: &R, desk: &Desk<Intervals, L>) -> [u64; 3] {
     let (is_open, is_over) = (AtomicBool::new(false), AtomicBool::new(true));
     desk.wake(rt);
     [
@@ -65,12 +66,18 @@ fn waited<L: Ledger, R: Wait>(rt: &R, desk: &Desk<Intervals, L>) -> [u64; 3] {
     ]
 }
 
-fn two_seats<L: Ledger, R: Wait + Abort>(rt: &R, alloc: Global, blank: Blank) -> Result<(), Fail>
+fn two_seats<L: Ledger + Naming, R: Wait + Abort>(
+    rt: &R,
+    alloc: Global,
+    blank: Blank,
+    history: BlankHistory<Write<Interval>>,
+) -> Result<(), Fail>
     requires name { blank.name ≡ L.name }
     requires parts { blank.parts ≡ L.parts }
+    requires history { history ≡ L.history }
     requires two { blank.parts ≡ 2 }
 {
-    let (desk, mut seats) = Desk::<Intervals, L>::new(alloc, blank, CONFIG, 2)?;
+    let (desk, mut seats) = Desk::<Intervals, L>::new(alloc, blank, history, CONFIG, 2)?;
     let (firsts, seconds) = seats.split_at_mut(1);
     let _stamped = desk.insert(rt, &mut firsts[0], KEY, 7)?;
     assert!(rt; told(rt, &desk, &mut firsts[0])? == Some((1, 1, Status::Live)));
@@ -84,5 +91,5 @@ fn two_seats<L: Ledger, R: Wait + Abort>(rt: &R, alloc: Global, blank: Blank) ->
 
 #[test]
 fn a_client_sees_what_it_wrote(rt: HostRuntime) -> Result<(), Fail> {
-    two_seats::<Brand, _>(&rt, rt.alloc(), Blank::new(2))
+    two_seats::<Brand, _>(&rt, rt.alloc(), Blank::new(2), BlankHistory::new())
 }

@@ -1,7 +1,8 @@
 ghost use Rattle.std.specs.Prelude.{◌≡◌};
 
-use change_list::{Config, Item};
+use change_list::{Config, Item, Write};
 use desk::{Desk, Ended, Seat, Taker};
+use history::{BlankHistory, Naming};
 use interval_class::{Atom, Interval, Intervals};
 use key_class::{Pred, Refusal, Rel};
 use std::alloc::Global;
@@ -24,8 +25,11 @@ trait WriteAndFollow<W, T, I> {
     fn follow<R: Wait>(&self, rt: &R, taker: &mut T, taken: &mut I);
 }
 
-impl<'d, L: Ledger> WriteAndFollow<Seat<Intervals, L>, Taker<'d, Intervals, L>, Vec<Item<Interval>>>
-    for Desk<Intervals, L> {
+impl<'d, L: Ledger + Naming> WriteAndFollow<
+    Seat<Intervals, L>,
+    Taker<'d, Intervals, L>,
+    Vec<Item<Interval>>,
+> for Desk<Intervals, L> {
     fn write<R: Wait>(&self, rt: &R, seat: &mut Seat<Intervals, L>) {
         for tag in 0..10 {
             let _stamped = self.insert(rt, seat, KEY, tag);
@@ -64,7 +68,7 @@ where
 }
 
 /// How many items a client takes of what another writes meanwhile, where a receipt shows that none is amiss.
-fn take_all<L: Ledger + Send + Sync, R: Threads + Wait + Sync>(
+fn take_all<L: Ledger + Naming + Send + Sync, R: Threads + Wait + Sync>(
     rt: &R,
     alloc: Global,
     desk: &Desk<Intervals, L>,
@@ -85,13 +89,15 @@ fn take_all<L: Ledger + Send + Sync, R: Threads + Wait + Sync>(
     }
 }
 
-fn two_seats<L: Ledger + Send + Sync, R: Threads + Wait + Abort + Sync>(
+fn two_seats<L: Ledger + Naming + Send + Sync, R: Threads + Wait + Abort + Sync>(
     rt: &R,
     alloc: Global,
     blank: Blank,
+    history: BlankHistory<Write<Interval>>,
 ) -> Result<(), Fail>
     requires name { blank.name ≡ L.name }
     requires parts { blank.parts ≡ L.parts }
+    requires history { history ≡ L.history }
     requires two { blank.parts ≡ 2 }
 {
     let config = Config {
@@ -100,7 +106,7 @@ fn two_seats<L: Ledger + Send + Sync, R: Threads + Wait + Abort + Sync>(
         pages: 1_000,
         commits: 1_000,
     };
-    let (desk, mut seats) = Desk::<Intervals, L>::new(alloc, blank, config, 2)?;
+    let (desk, mut seats) = Desk::<Intervals, L>::new(alloc, blank, history, config, 2)?;
     let (writers, readers) = seats.split_at_mut(1);
     let taken = take_all(rt, alloc, &desk, &mut writers[0], &mut readers[0])?;
     assert!(rt; taken == Some(10));
@@ -109,5 +115,5 @@ fn two_seats<L: Ledger + Send + Sync, R: Threads + Wait + Abort + Sync>(
 
 #[test]
 fn a_cursor_follows_another_thread(rt: HostRuntime) -> Result<(), Fail> {
-    two_seats::<Brand, _>(&rt, rt.alloc(), Blank::new(2))
+    two_seats::<Brand, _>(&rt, rt.alloc(), Blank::new(2), BlankHistory::new())
 }

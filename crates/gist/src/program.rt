@@ -18,6 +18,7 @@ use change_list::Config;
 use clap::Error;
 use clap::error::ErrorKind;
 use front::session;
+use history::BlankHistory;
 use interval_class::Intervals;
 use key_class::limits::{MAX_COMMITS, MAX_PAGES};
 use key_class::{Fault, Refusal};
@@ -220,7 +221,7 @@ fn storm<W: Write, T: Threads + Wait + Clock + Sync>(
         return Err(Fault::Refused(Refusal::BadConfig));
     }
     let blank = Blank::new(limits.seats() as u64);
-    let Ok(outcome) = run_storm::<Brand, T>(rt, alloc, blank, limits) else {
+    let Ok(outcome) = run_storm::<Brand, T>(rt, alloc, blank, BlankHistory::new(), limits) else {
         return Err(Fault::OutOfMemory);
     };
     let Ok(()) = tell_storm(writer, &outcome) else {

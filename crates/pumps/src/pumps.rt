@@ -3,6 +3,7 @@ ghost use Rattle.key_class.specs.Limits.{most_pumps};
 
 use crossbeam_channel::Receiver;
 use desk::Desk;
+use history::Naming;
 use key_class::limits::MAX_PUMPS;
 use key_class::{KeyClass, Refusal};
 use std::alloc::Global;
@@ -42,7 +43,7 @@ trait Turning {
     fn turn_cursor<R: Wait>(&self, rt: &R, cursor: u64) -> bool;
 }
 
-impl<C: KeyClass, L: Ledger> Turning for Desk<C, L> {
+impl<C: KeyClass, L: Ledger + Naming> Turning for Desk<C, L> {
     fn turn_cursor<R: Wait>(&self, rt: &R, cursor: u64) -> bool {
         !matches!(self.turn(rt, cursor), Reply::Refused(_))
     }
@@ -210,7 +211,7 @@ impl<G: Gate> Pumps<G> {
         C: KeyClass + Send + Sync,
         C::Key: Send + Sync,
         C::Atom: Send + Sync,
-        L: Ledger + Send + Sync,
+        L: Ledger + Naming + Send + Sync,
         R: Threads + Wait + Clock + Sync,
         ensures refusals { IfErr result (λ why. why ≡ Refusal.OutOfMemory) }
     {

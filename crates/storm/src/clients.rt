@@ -9,6 +9,7 @@ use crate::looks::Look;
 use change_list::Item;
 use crossbeam_channel::Sender;
 use desk::{Desk, Ended, Seat, Taker};
+use history::Naming;
 use interval_class::{Atom, Interval, Intervals};
 use key_class::{Pred, Refusal, Rel};
 use pumps::Order;
@@ -59,14 +60,14 @@ fn small_interval(generator: &mut Pcg32) -> Result<Interval, Refusal> {
 
 /// A reader: its seat, and what it read.
 #[derive(Drop)]
-pub struct Reader<L: Ledger> {
+pub struct Reader<L: Ledger + Naming> {
     pub seat: Seat<Intervals, L>,
     pub reading: Option<Reading<Interval>>,
 }
 
 /// A looker: its seat, and what it found.
 #[derive(Drop)]
-pub struct Looker<L: Ledger> {
+pub struct Looker<L: Ledger + Naming> {
     pub seat: Seat<Intervals, L>,
     pub looks: Vec<Look<Interval>>,
 }
@@ -115,7 +116,7 @@ fn is_last(item: Item<Interval>, commits: u64) -> bool {
 
 /// Takes items until it took a mark of all commits. It ends before that where no item comes for a minute, or where memory is
 /// wanting.
-fn follow<L: Ledger, R: Wait + Clock>(
+fn follow<L: Ledger + Naming, R: Wait + Clock>(
     rt: &R,
     desk: &Desk<Intervals, L>,
     taker: &mut Taker<'_, Intervals, L>,
@@ -153,7 +154,7 @@ fn follow<L: Ledger, R: Wait + Clock>(
 
 /// Keeps what a looker finds in a snapshot, with the changes after one of `from` commits. How many commits it has; none where
 /// memory is wanting. Its snapshot is dropped, so that writers needn't copy pages that it shares.
-fn look_behind<L: Ledger, R: Wait>(
+fn look_behind<L: Ledger + Naming, R: Wait>(
     rt: &R,
     alloc: Global,
     desk: &Desk<Intervals, L>,
@@ -161,7 +162,7 @@ fn look_behind<L: Ledger, R: Wait>(
     from: u64,
 ) -> Option<u64> {
     let query = asked();
-    let snapshot = desk.snapshot(rt, &mut looker.seat)?;
+    let snapshot = desk.snapshot(rt, &mut looker.seat).ok()?;
     let commits = snapshot.commits();
     let rows = snapshot.find(&query).ok()?;
     let mut changes = Vec::new(alloc);
@@ -177,7 +178,7 @@ fn look_behind<L: Ledger, R: Wait>(
     Some(commits)
 }
 
-impl<L: Ledger> Clients<Seat<Intervals, L>, Reader<L>, Looker<L>> for Desk<Intervals, L> {
+impl<L: Ledger + Naming> Clients<Seat<Intervals, L>, Reader<L>, Looker<L>> for Desk<Intervals, L> {
     fn write<R: Wait>(&self, rt: &R, limits: Limits, seat: &mut Seat<Intervals, L>) {
         let state = u64::from(limits.seed) + u64::from(seat.number());
         let mut generator = Pcg32::new(state, 0);

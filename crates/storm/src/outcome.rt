@@ -9,9 +9,10 @@ use crate::clients::{Looker, Reader, asked, work_beside};
 use crate::judge::{Reading, Verdict, are_whole, judged};
 use crate::limits::Limits;
 use crate::looks::{Look, looker_judged};
-use change_list::{ChangeList, Config};
+use change_list::{ChangeList, Config, Write};
 use crossbeam_channel::bounded;
 use desk::{Desk, Finished, Seat, Torn};
+use history::{BlankHistory, Naming};
 use interval_class::{Atom, Interval, Intervals};
 use key_class::limits::{MAX_COMMITS, MAX_PAGES};
 use key_class::{Pred, Refusal};
@@ -89,7 +90,7 @@ fn run_all<L, R>(
     lookers: &mut [Looker<L>],
 ) -> Result<(), Refusal>
 where
-    L: Ledger + Send + Sync,
+    L: Ledger + Naming + Send + Sync,
     R: Threads + Wait + Clock + Sync,
     requires { IsStorm limits }
     ensures refusals { IfErr result (λ why. why ≡ Refusal.OutOfMemory) }
@@ -107,7 +108,7 @@ where
 }
 
 /// Some seats as readers.
-fn readers_of<L: Ledger>(
+fn readers_of<L: Ledger + Naming>(
     alloc: Global,
     seats: Vec<Seat<Intervals, L>>,
 ) -> Result<Vec<Reader<L>>, AllocError>
@@ -124,7 +125,7 @@ fn readers_of<L: Ledger>(
 }
 
 /// Some seats as lookers.
-fn lookers_of<L: Ledger>(
+fn lookers_of<L: Ledger + Naming>(
     alloc: Global,
     seats: Vec<Seat<Intervals, L>>,
 ) -> Result<Vec<Looker<L>>, AllocError>
@@ -187,7 +188,7 @@ fn sights_of(
 }
 
 /// What seats were answered.
-fn stamps_of<L: Ledger>(
+fn stamps_of<L: Ledger + Naming>(
     alloc: Global,
     seats: Vec<Seat<Intervals, L>>,
 ) -> Result<Vec<Vec<Stamped<Interval>>>, AllocError>
@@ -209,7 +210,7 @@ struct Gathered {
 }
 
 /// What came of a storm of these commits, by which readers and lookers are judged.
-fn outcome_by<L: Ledger>(
+fn outcome_by<L: Ledger + Naming>(
     alloc: Global,
     commits: ChangeList<Interval>,
     seats: Vec<Seat<Intervals, L>>,
@@ -240,7 +241,8 @@ fn outcome_by<L: Ledger>(
 }
 
 /// What came of it, where all seats came back.
-fn outcome_of<L: Ledger>(
+fn outcome_of<L: Ledger + Naming, R: Wait>(
+    rt: &R,
     alloc: Global,
     desk: Desk<Intervals, L>,
     seats: Vec<Seat<Intervals, L>>,
@@ -251,7 +253,7 @@ fn outcome_of<L: Ledger>(
     ensures seats { IfOk result (λ o. length o.stamps.items ≡ desk) }
     ensures refusals { IfErr result (λ why. why ≡ Refusal.OutOfMemory) }
 {
-    match desk.finish(seats) {
+    match desk.finish(rt, seats) {
         Finished::Closing(closing) => {
             let (commits, seats) = closing.into_parts();
             return outcome_by(alloc, commits, seats, true, gathered);
@@ -275,13 +277,15 @@ pub fn run_storm<L, R>(
     rt: &R,
     alloc: Global,
     blank: Blank,
+    history: BlankHistory<Write<Interval>>,
     limits: Limits,
 ) -> Result<Outcome, Refusal>
 where
-    L: Ledger + Send + Sync,
+    L: Ledger + Naming + Send + Sync,
     R: Threads + Wait + Clock + Sync,
     requires name { blank.name ≡ L.name }
     requires parts { blank.parts ≡ L.parts }
+    requires history { history ≡ L.history }
     requires one_each { blank.parts ≡ limits.writers + limits.readers + limits.lookers }
     ensures told { IfOk result IsTrueOutcome }
     ensures seats { IfOk result
@@ -293,7 +297,13 @@ where
     if !limits.is_within() {
         return Err(Refusal::BadConfig);
     }
-    let (desk, mut writers) = Desk::<Intervals, L>::new(alloc, blank, CONFIG, limits.seats())?;
+    let (desk, mut writers) = Desk::<Intervals, L>::new(
+        alloc,
+        blank,
+        history,
+        CONFIG,
+        limits.seats(),
+    )?;
     let Ok(mut rest) = writers.split_off(limits.writers as usize) else {
         return Err(Refusal::OutOfMemory);
     };
@@ -320,11 +330,11 @@ where
     let Ok(gathered) = take_back(alloc, &mut writers, readers, lookers) else {
         return Err(Refusal::OutOfMemory);
     };
-    outcome_of(alloc, desk, writers, gathered)
+    outcome_of(rt, alloc, desk, writers, gathered)
 }
 
 /// Puts the seats of readers and lookers behind those of writers, and gives what these took and found.
-fn take_back<L: Ledger>(
+fn take_back<L: Ledger + Naming>(
     alloc: Global,
     seats: &mut Vec<Seat<Intervals, L>>,
     readers: Vec<Reader<L>>,
@@ -339,7 +349,7 @@ fn take_back<L: Ledger>(
 }
 
 /// Puts the seats of readers behind others, and gives what the readers read.
-fn take_readings<L: Ledger>(
+fn take_readings<L: Ledger + Naming>(
     alloc: Global,
     seats: &mut Vec<Seat<Intervals, L>>,
     readers: Vec<Reader<L>>,
@@ -357,7 +367,7 @@ fn take_readings<L: Ledger>(
 }
 
 /// Puts the seats of lookers behind others, and gives what the lookers found.
-fn take_looks<L: Ledger>(
+fn take_looks<L: Ledger + Naming>(
     alloc: Global,
     seats: &mut Vec<Seat<Intervals, L>>,
     lookers: Vec<Looker<L>>,
