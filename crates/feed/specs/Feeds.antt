@@ -34,12 +34,12 @@ module _ {A : Type 0} where
   subscription_of feed serial = find (λ s. nat_eq s.serial serial) feed.subscriptions
 
   -- no further subscription can be opened
-  abbrev pub IsFull : FeedState A → Type 0
-  IsFull feed = (most_subscriptions ≤ length feed.subscriptions) ⊎ (greatest_serial ≤ feed.last)
+  abbrev pub HasAllSubscriptions : FeedState A → Type 0
+  HasAllSubscriptions feed = (most_subscriptions ≤ length feed.subscriptions) ⊎ (greatest_serial ≤ feed.last)
 
   -- the query is in range, but no further subscription can be opened
   abbrev pub HasNoPlaceFor : FeedState A → Query A → Type 0
-  HasNoPlaceFor feed query = (depth_of query ≤ most_depth) × IsFull feed
+  HasNoPlaceFor feed query = (depth_of query ≤ most_depth) × HasAllSubscriptions feed
 
   -- with a subscription to a query's changes after commit n, under the next serial
   abbrev pub with_subscription : FeedState A → Query A → ℕ → FeedState A

@@ -1,0 +1,5 @@
+//! Trials of a feed for a desk.
+#![tactic(auto)]
+
+#[cfg(test)]
+mod shared_feeds;
