@@ -1,0 +1,6 @@
+mod Batches
+mod Ends
+mod HeldBoxes
+mod ManyFinds
+mod Threads
+mod Writing

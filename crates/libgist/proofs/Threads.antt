@@ -1,0 +1,182 @@
+-- A store may go to another thread, whatever its class, and so may what owns it behind a pointer.
+use mir.Raw.{raw}
+use base.Fraction.{full_share}
+use base.Shift.{Keyless}
+use denote.Exit.{Exit, unchanged, leaves, hidden, under}
+use denote.RattleType.{RattleType}
+use denote.Builtin.{u64}
+use denote.RawPtr.{Ptr, block_ptr, null_ptr}
+use denote.Struct.Struct.{exits_of}
+use denote.Struct.Declared as declared
+use denote.Struct.Owning.{shape, fields, to}
+use denote.Memory.{lone}
+use denote.Param.Send.{IsSend, IsSync, Quiet, AllSend, sendable, owning_send, struct_send, view_send, recorded_send, part_keyless}
+use Rattle.std.specs.Prelude.{Option, Some, None}
+use Rattle.std.specs.Global.{Global}
+use Rattle.std.proofs.Crossing.{frees, crosses}
+use Rattle.std.proofs.alloc.Global.TheSendSync as heap
+use Rattle.interval_class.proofs.interval.Interval.TheSendSync as interval
+use Rattle.interval_class.proofs.atom.Atom.TheSendSync as interval_atom
+use Rattle.box_class.proofs.boxes.BoxKey.TheSendSync as box
+use Rattle.box_class.proofs.atom.Atom.TheSendSync as box_atom
+use Rattle.set_class.proofs.elements.Elements.TheSendSync as set
+use Rattle.set_class.proofs.atom.Atom.TheSendSync as set_atom
+use Rattle.key_class.proofs.pred.Pred.TheLaws.TheKnot as pred
+use Rattle.snapshot.proofs.snapshot.Snapshot.TheSendSync as snapshot
+use Rattle.mailbox.proofs.tray.Tray.TheSendSync as tray
+use Rattle.world.proofs.Crossing.{world_send}
+use Rattle.key_class.specs.declared.class.KeyClass as class
+use Rattle.std.specs.declared.clone.Clone as clone
+use Rattle.std.specs.declared.cmp.PartialEq as partial_eq
+use Rattle.store.specs.contracts.store.Store as Store
+use Rattle.store.specs.contracts.store.Store.TheInside as store_inside
+use Rattle.reach.specs.declared.reach.Reach as reach
+use Rattle.slab.specs.contracts.Slab as Slab
+use Rattle.slab.specs.contracts.Slab.TheInside as slab_inside
+use Rattle.std.specs.contracts.alloc.Global as Heap
+use Rattle.std.specs.contracts.impls.GlobalAllocator.TheImpl.{ghosts}
+use Rattle.std.specs.contracts.prelude.U64Ord.TheImpl as u64_ord
+use Rattle.std.specs.contracts.prelude.U64PartialEq.TheImpl as u64_eq
+use Rattle.std.specs.contracts.prelude.U64PartialOrd.TheImpl as u64_partial
+use Rattle.change_list.proofs.item.Item.TheSendSync as item
+use Rattle.std.proofs.MapsCrossing.{BTreeMap-send}
+use Rattle.feed.specs.contracts.listeners.Listeners as Listeners
+use Rattle.feed.specs.contracts.subscriber.Subscriber as Subscriber
+use Rattle.feed.specs.contracts.topics.Topic as Topic
+use Rattle.feed.specs.contracts.topics.Topics as Topics
+use Rattle.feed.specs.contracts.topics.Topics.TheInside as topics_inside
+use Rattle.feed.specs.contracts.feed.Feed as Feed
+use Rattle.feed.specs.contracts.feed.Feed.TheInside as feed_inside
+use Rattle.libgist.specs.contracts.following.Following as Following
+use Rattle.libgist.specs.contracts.following.Following.TheInside as following_inside
+use Rattle.libgist.specs.Owning.{HeldState, owned}
+use Rattle.libgist.specs.contracts.held.Held as any
+use Rattle.libgist.specs.contracts.inside.Inside as inside
+
+module _ (C K A : RattleType) (c : class.Ghosts C.Denot K.Denot A.Denot) (kc : clone.Ghosts K.Denot) (kp : partial_eq.Ghosts K.Denot) (ap : partial_eq.Ghosts A.Denot) where
+  store_send : IsSend K → IsSync K → IsSend A → IsSync A → IsSend (Store.the_row C K A c kc kp ap)
+  store_send sk yk sa ya =
+      view_send (store_inside.the_row C K A c kc kp ap) _ _ _ _
+      (recorded_send (store_inside.the_field C K A c kc kp ap).row _ _ (store_inside.the_type C K A c kc kp ap).to_one
+      (struct_send (declared.shape (store_inside.the_type C K A c kc kp ap)) (
+        search (heap.the_field_send, crosses, sendable) depth 20,
+        (
+          search (world_send, tray.the_send, sendable) depth 20,
+          tt,
+        ),
+      )))
+
+listeners_send : IsSend Listeners.the_row
+listeners_send = search (BTreeMap-send, crosses, sendable) depth 30
+
+module _ (A : RattleType) where
+  topic_send : IsSend A → IsSync A → IsSend (Topic.the_row A)
+  topic_send sa ya =
+      recorded_send (Topic.the_field A).row _ _ (Topic.the_type A).to_one
+      (struct_send (declared.shape (Topic.the_type A)) (
+        search (pred.crosses, pred.crosses_both, crosses, sendable) depth 20,
+        (
+          search (listeners_send, sendable) depth 10,
+          tt,
+        ),
+      ))
+
+  subscriber_send : IsSend A → IsSync A → IsSend (Subscriber.the_row A)
+  subscriber_send sa ya = search (pred.crosses, pred.crosses_both, crosses, sendable) depth 30
+
+slab_send : (T : RattleType) → IsSend T → IsSend (Slab.the_field T Heap.the_row ghosts).row
+slab_send T st =
+    view_send (slab_inside.the_row T Heap.the_row ghosts) _ _ _ _
+    (recorded_send (slab_inside.the_field T Heap.the_row ghosts).row _ _ (slab_inside.the_type T Heap.the_row ghosts).to_one
+    (struct_send (declared.shape (slab_inside.the_type T Heap.the_row ghosts)) (
+      search (crosses, sendable) depth 30,
+      (
+        search sendable depth 20,
+        (
+          search sendable depth 20,
+          tt,
+        ),
+      ),
+    )))
+
+module _ (C K A : RattleType) (r : reach.Ghosts C.Denot K.Denot A.Denot) (c : class.Ghosts C.Denot K.Denot A.Denot) (kc : clone.Ghosts K.Denot) (kp : partial_eq.Ghosts K.Denot) (ap : partial_eq.Ghosts A.Denot) where
+  topics_send : IsSend K → IsSync K → IsSend A → IsSync A → IsSend (Topics.the_row C K A r c kc kp ap)
+  topics_send sk yk sa ya =
+      let tree = store_send C K A c kc kp ap sk yk sa ya in
+      view_send (topics_inside.the_row C K A r c kc kp ap) _ _ _ _
+      (recorded_send (topics_inside.the_field C K A r c kc kp ap).row _ _ (topics_inside.the_type C K A r c kc kp ap).to_one
+      (struct_send (declared.shape (topics_inside.the_type C K A r c kc kp ap)) (
+        search (heap.the_field_send, crosses, sendable) depth 20,
+        (
+          slab_send (Topic.the_row A) (topic_send A sa ya),
+          (
+            search (BTreeMap-send, sendable) depth 30,
+            (
+              search (tree, crosses, sendable) depth 20,
+              (
+                search sendable depth 20,
+                tt,
+              ),
+            ),
+          ),
+        ),
+      )))
+
+  feed_send : IsSend K → IsSync K → IsSend A → IsSync A → IsSend (Feed.the_row C K A r c kc kp ap)
+  feed_send sk yk sa ya =
+      let topics = topics_send sk yk sa ya in
+      view_send (feed_inside.the_row C K A r c kc kp ap) _ _ _ _
+      (recorded_send (feed_inside.the_field C K A r c kc kp ap).row _ _ (feed_inside.the_type C K A r c kc kp ap).to_one
+      (struct_send (declared.shape (feed_inside.the_type C K A r c kc kp ap)) (
+        search (heap.the_field_send, crosses, sendable) depth 20,
+        (
+          search sendable depth 20,
+          (
+            search sendable depth 20,
+            (
+              search sendable depth 20,
+              (
+                BTreeMap-send u64 (Subscriber.the_row A) u64_ord.ghosts u64_eq.ghosts u64_partial.ghosts (search sendable depth 10) (subscriber_send A sa ya),
+                (
+                  search (topics, crosses, sendable) depth 20,
+                  tt,
+                ),
+              ),
+            ),
+          ),
+        ),
+      )))
+
+  following_send : IsSend K → IsSync K → IsSend A → IsSync A → IsSend (Following.the_row C K A r c kc kp ap)
+  following_send sk yk sa ya =
+      let feed = feed_send sk yk sa ya in
+      view_send (following_inside.the_row C K A r c kc kp ap) _ _ _ _
+      (recorded_send (following_inside.the_field C K A r c kc kp ap).row _ _ (following_inside.the_type C K A r c kc kp ap).to_one
+      (struct_send (declared.shape (following_inside.the_type C K A r c kc kp ap)) (
+        search (heap.the_field_send, crosses, sendable) depth 20,
+        (
+          search (feed, crosses, sendable) depth 20,
+          (
+            search (item.the_send, crosses, sendable) depth 30,
+            tt,
+          ),
+        ),
+      )))
+
+any_send : IsSend any.the_row
+any_send = search (store_send, following_send, snapshot.the_send, pred.crosses, pred.crosses_both, interval.the_send, interval.the_sync, interval_atom.the_send, interval_atom.the_sync, box.the_send, box.the_sync, box_atom.the_send, box_atom.the_sync, set.the_send, set.the_sync, set_atom.the_send, set_atom.the_sync, crosses, sendable) depth 40
+
+owned_keyless : (alloc : Global) (at : Ptr) (state : Option HeldState) → Keyless (owned alloc at state)
+owned_keyless alloc at None = tt
+owned_keyless alloc null_ptr (Some state) = (tt, frees.frees alloc (raw (lone any.the_row.mir)) null_ptr)
+owned_keyless alloc (block_ptr b o) (Some state) = (part_keyless any.the_row any_send full_share state b o, frees.frees alloc (raw (lone any.the_row.mir)) (block_ptr b o))
+
+quiet : {D X : Type 0} (f : D → X) (e : Exit X) → Quiet e → Quiet (hidden (under f e))
+quiet f unchanged q = λ x w. tt
+quiet f (leaves L l S s r₀) q = λ d. q (f d)
+
+pub inside_send : IsSend inside.the_row
+inside_send =
+    let O = inside.the_type in
+    let all : AllSend (fields O) = search (crosses, sendable) depth 20 in
+    owning_send O all (λ d. owned_keyless d.alloc d.at d.state) (λ k. quiet (to O) (exits_of k (fields O)) ((struct_send (shape O) all).leaving k))

@@ -1,0 +1,26 @@
+-- What a handle owns.
+use base.Fml.{Fml, ftrue}
+use base.Stored.{Coded}
+use denote.RawPtr.{Ptr}
+use Rattle.std.specs.Prelude.{Bool, true, false, Option, Some, None}
+use Rattle.std.specs.Box.Ownership.{box_owns}
+use Rattle.std.specs.Global.{Global}
+use Rattle.std.specs.contracts.impls.GlobalAllocator.TheImpl.{ghosts}
+use Rattle.libgist.specs.contracts.held.Held.{the_row}
+
+-- the state of what a handle has
+abbrev pub HeldState : Type 0
+HeldState = the_row.Denot
+
+abbrev pub held_coded : Coded HeldState
+held_coded = the_row.coded
+
+-- the block of what a handle has and the right to free it, or nothing
+abbrev pub owned : Global → Ptr → Option HeldState → Fml
+owned alloc at None = ftrue
+owned alloc at (Some state) = box_owns (ghosts.dealloc_token alloc) the_row at state
+
+-- whether a handle has what it is for
+abbrev pub is_held : {X : Type 0} → Option X → Bool
+is_held None = false
+is_held (Some state) = true

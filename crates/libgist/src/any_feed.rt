@@ -1,0 +1,44 @@
+//! The calls of a feed that a handle has, whichever its class is.
+ghost use Rattle.std.specs.Prelude.{◌≡◌, OnErr};
+ghost use Rattle.libgist.specs.Calls.{Passing};
+ghost use Rattle.libgist.specs.Feeding.{InFeed, InFeedBy, InFeedOver};
+ghost use Rattle.libgist.specs.Following.{IsAdvancing, IsSubscribing, IsUnsubscribing};
+
+use crate::by_class::{in_feed, in_feed_by, in_feed_over, of_class, of_one_class};
+use crate::denied::{Denied, passed_on};
+use crate::following;
+use crate::held::{AnyFeed, AnyQuery, AnySnapshot, Held};
+use crate::words::ToldItem;
+
+/// Subscribes to the changes of a query that come after a commit.
+pub fn subscribe(asked: &Held, held: &mut Held, from: u64) -> Result<u64, Denied>
+    ensures { InFeedBy (λ K A class query. Passing (IsSubscribing query from))
+        asked.now held.old result held.new }
+{
+    in_feed_by!(asked, query, held, feed => passed_on(feed.subscribe(query, from)))
+}
+
+/// Ends a subscription.
+pub fn unsubscribe(held: &mut Held, serial: u64) -> Result<(), Denied>
+    ensures { InFeed (λ K A class. Passing (IsUnsubscribing serial))
+        held.old result held.new }
+{
+    in_feed!(held, feed => passed_on(feed.unsubscribe(serial)))
+}
+
+/// Goes on over a snapshot, and gives what waits.
+pub fn advance(
+    over: &Held,
+    held: &mut Held,
+    most: u64,
+    items: &mut [ToldItem],
+) -> Result<(u64, u64), Denied>
+    ensures given { InFeedOver (λ K A class commits. Passing
+        (IsAdvancing class.rules class.words_of most commits items.old items.new))
+        over.now held.old result held.new }
+    ensures unfilled { OnErr result (items.new ≡ items.old) }
+{
+    in_feed_over!(over, snapshot, held, feed => {
+        passed_on(following::advance(feed, snapshot, most, items))
+    })
+}

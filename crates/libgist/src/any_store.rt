@@ -1,0 +1,91 @@
+//! The calls of a store that a handle has, whichever its class is.
+ghost use Rattle.std.specs.Prelude.{◌≡◌, OnErr};
+ghost use Rattle.libgist.specs.Calls.{Passing, IsInserting, IsDeleting, IsMovingTo, IsTaking, IsSweep, IsTelling, IsOpening, IsFollowing, IsAsking, IsClosing};
+ghost use Rattle.libgist.specs.Classes.{InStore, InStoreBy};
+
+use crate::by_class::{in_store, in_store_by, of_class, of_one_class};
+use crate::denied::{Denied, passed_on};
+use crate::figures::Figures;
+use crate::held::{AnyQuery, AnyStore, Held};
+use crate::stores;
+use crate::words::{KeyWords, NewRow, ShownItem};
+use std::alloc::Global;
+
+/// Adds rows.
+pub fn insert(held: &mut Held, rows: &[NewRow]) -> Result<u64, Denied>
+    ensures { InStore (λ K A class. IsInserting class.rules class.key_of rows.now)
+        held.old result held.new }
+{
+    in_store!(held, store => stores::insert(store, rows))
+}
+
+/// Deletes rows.
+pub fn delete(held: &mut Held, rows: &[u64]) -> Result<u64, Denied>
+    ensures { InStore (λ K A class. IsDeleting class.rules rows.now) held.old result held.new }
+{
+    in_store!(held, store => stores::delete(store, rows))
+}
+
+/// Moves a row.
+pub fn move_row(held: &mut Held, row: u64, key: KeyWords) -> Result<u64, Denied>
+    ensures { InStore (λ K A class. IsMovingTo class.rules class.key_of row key)
+        held.old result held.new }
+{
+    in_store!(held, store => stores::move_row(store, row, key))
+}
+
+/// Sweeps the dead rows that no scan needs.
+pub fn sweep(held: &mut Held) -> Result<u64, Denied>
+    ensures { InStore (λ K A class. Passing (IsSweep class.rules)) held.old result held.new }
+{
+    in_store!(held, store => passed_on(stores::sweep(store)))
+}
+
+/// Tells how far the store has come.
+pub fn stats(held: &Held) -> Result<Figures, Denied>
+    ensures { InStore (λ K A class. IsTelling) held.now result held.now }
+{
+    in_store!(held, store => stores::stats(store))
+}
+
+/// Gives a cursor's next items.
+pub fn next(held: &mut Held, cursor: u64, items: &mut [ShownItem]) -> Result<u64, Denied>
+    ensures given { InStore (λ K A class.
+        Passing (IsTaking class.rules class.words_of cursor items.old items.new))
+        held.old result held.new }
+    ensures unfilled { OnErr result (items.new ≡ items.old) }
+{
+    in_store!(held, store => passed_on(stores::next(store, cursor, items)))
+}
+
+/// Asks a cursor for a mark.
+pub fn mark(held: &mut Held, cursor: u64) -> Result<(), Denied>
+    ensures { InStore (λ K A class. Passing (IsAsking cursor)) held.old result held.new }
+{
+    in_store!(held, store => passed_on(stores::mark(store, cursor)))
+}
+
+/// Closes a cursor.
+pub fn close(held: &mut Held, cursor: u64) -> Result<(), Denied>
+    ensures { InStore (λ K A class. Passing (IsClosing cursor)) held.old result held.new }
+{
+    in_store!(held, store => passed_on(stores::close(store, cursor)))
+}
+
+/// Opens a cursor on a query, at the present commits.
+pub fn open(alloc: Global, asked: &Held, held: &mut Held) -> Result<u64, Denied>
+    ensures { InStoreBy (λ K A class query. Passing (IsOpening class.rules query))
+        asked.now held.old result held.new }
+{
+    in_store_by!(asked, query, held, store => passed_on(stores::open(alloc, store, query)))
+}
+
+/// Opens a cursor on a query, which follows a commit.
+pub fn follow(alloc: Global, asked: &Held, held: &mut Held, commit: u64) -> Result<u64, Denied>
+    ensures { InStoreBy (λ K A class query. Passing (IsFollowing class.rules query commit))
+        asked.now held.old result held.new }
+{
+    in_store_by!(asked, query, held, store => {
+        passed_on(stores::follow(alloc, store, query, commit))
+    })
+}

@@ -1,0 +1,27 @@
+//! Buffers of a caller, which are filled as far as they go.
+ghost use Rattle.std.specs.Prelude.{◌≡◌, map};
+ghost use Rattle.libgist.specs.Buffers.{written_over};
+ghost use Rattle.libgist.specs.Shown.{shown_row};
+
+use crate::crossing::Crossing;
+use crate::shown;
+use crate::words::ShownRow;
+use change_list::Row;
+
+/// Puts as many items as fit into a buffer, the first into its first place.
+pub fn write_over<T: Copy>(buffer: &mut [T], items: &[T])
+    ensures { buffer.new ≡ written_over items.now buffer.old }
+{
+    let fitting = items.len().min(buffer.len());
+    buffer[..fitting].copy_from_slice(&items[..fitting]);
+}
+
+/// Puts as many rows as fit into a buffer, as C is given them.
+pub fn write_rows<C: Crossing>(buffer: &mut [ShownRow], rows: &[Row<C::Key>])
+    ensures { buffer.new ≡ written_over (map (shown_row C.words_of) rows.now) buffer.old }
+{
+    let fitting = rows.len().min(buffer.len());
+    for place in 0..fitting {
+        buffer[place] = shown::row::<C>(rows[place]);
+    }
+}

@@ -1,0 +1,149 @@
+//! A feed of any class, with what it gave that hasn't been taken yet.
+ghost use Rattle.std.specs.Prelude.{◌≡◌, ◌<◌, ◌≤◌, min, length, map, drop, Err, IfOk, IfErr, OnOk, OnErr};
+ghost use Rattle.key_class.specs.declared.refusal.Refusal.TheVariants.{FromFuture, OutOfMemory};
+ghost use Rattle.key_class.specs.Refusals.{IsEither};
+ghost use Rattle.libgist.specs.Buffers.{written_over};
+ghost use Rattle.libgist.specs.Following.{GivesWaiting, GoesOn, IsAdvancing, IsSubscribing, IsUnsubscribing, new_following, told_item};
+
+use crate::crossing::Crossing;
+use crate::reading;
+use crate::words::ToldItem;
+use change_list::Item;
+use feed::Feed;
+use key_class::{Pred, Refusal};
+use reach::Reach;
+use snapshot::Snapshot;
+use std::alloc::Global;
+use std::marker::Model;
+
+/// A feed, and the items that it gave and that weren't taken yet.
+#[derive(Drop)]
+pub struct Following<C: Reach> {
+    alloc: Global,
+    feed: Feed<C>,
+    waiting: Vec<(u64, Item<C::Key>)>,
+}
+
+impl<C: Reach> Model for Following<C> {
+    ghost use Rattle.key_class.specs.QueryCodes.{query_code};
+    ghost use Rattle.std.specs.Coded.{codes};
+    ghost use Rattle.libgist.specs.Following.{FollowingState};
+
+    ghost Value = { FollowingState C.Key C.Atom };
+
+    ghost coded = { Prim.hlevel (codes, query_code) };
+
+    ghost view = { λ f. record { feed = f.feed; waiting = f.waiting.items } };
+}
+
+/// What an item tells that a subscription is given.
+fn told<C: Crossing>(snapshot: &Snapshot<C>, given: (u64, Item<C::Key>)) -> ToldItem
+    ensures { result ≡ told_item C.words_of snapshot.now given }
+{
+    ToldItem {
+        serial: given.0,
+        item: reading::item(snapshot, given.1),
+    }
+}
+
+/// Takes the first n items out of a list.
+fn take_out<K: Copy>(items: &mut Vec<(u64, Item<K>)>, n: usize)
+    requires { n ≤ length items.old.items }
+    ensures { items.new.items ≡ drop n items.old.items }
+{
+    let left = items.len() - n;
+    items.rotate_left(n);
+    items.truncate(left);
+}
+
+/// Puts as many items as fit into a buffer, as C is given them.
+fn write_told<C: Crossing>(
+    snapshot: &Snapshot<C>,
+    buffer: &mut [ToldItem],
+    items: &[(u64, Item<C::Key>)],
+) -> usize
+    ensures written { buffer.new
+        ≡ written_over (map (told_item C.words_of snapshot.now) items.now) buffer.old }
+    ensures counted { result ≡ min (length items.now) (length buffer.old) }
+{
+    let fitting = items.len().min(buffer.len());
+    for place in 0..fitting {
+        buffer[place] = told(snapshot, items[place]);
+    }
+    fitting
+}
+
+impl<C: Reach> Following<C> {
+    /// A feed without subscriptions, which has gone over no commit.
+    pub fn new(alloc: Global) -> Result<Following<C>, Refusal>
+        ensures ok { IfOk result (λ following. following ≡ new_following) }
+        ensures refused { IfErr result (λ why. why ≡ OutOfMemory) }
+    {
+        let feed = Feed::new(alloc)?;
+        Ok(Following {
+            alloc,
+            feed,
+            waiting: Vec::new(alloc),
+        })
+    }
+
+    /// Subscribes to the changes of a query that come after a commit, and gives the subscription's serial.
+    pub fn subscribe(&mut self, query: &Pred<C::Atom>, from: u64) -> Result<u64, Refusal>
+        ensures { IsSubscribing query.now from self.old result self.new }
+    {
+        let copy = query.copy(self.alloc)?;
+        self.feed.subscribe(copy, from)
+    }
+
+    /// Goes over at most `most` further commits of a snapshot, where nothing waits to be taken.
+    fn go_on(&mut self, snapshot: &Snapshot<C>, most: u64) -> Result<(), Refusal>
+        ensures ok { OnOk result (GoesOn C.rules most snapshot.now self.old self.new) }
+        ensures err { OnErr result (self.new ≡ self.old) }
+        ensures future { result ≡ Err FromFuture → length snapshot.now < self.old.feed.upto }
+        ensures refusals { IfErr result (IsEither FromFuture OutOfMemory) }
+    {
+        if self.waiting.is_empty() {
+            self.feed.advance(snapshot, most, &mut self.waiting)?;
+        }
+        Ok(())
+    }
+
+    /// Ends a subscription.
+    pub fn unsubscribe(&mut self, serial: u64) -> Result<(), Refusal>
+        ensures { IsUnsubscribing serial self.old result self.new }
+    {
+        self.feed.unsubscribe(serial)
+    }
+}
+
+/// Gives the items that wait, as many as fit into a buffer, and tells how many they are and up to which commit the feed has gone.
+fn give<C: Crossing + Reach>(
+    following: &mut Following<C>,
+    snapshot: &Snapshot<C>,
+    items: &mut [ToldItem],
+) -> (u64, u64)
+    ensures { GivesWaiting C.words_of snapshot.now items.old items.new
+        following.old following.new result }
+{
+    let given = write_told(snapshot, items, &following.waiting);
+    take_out(&mut following.waiting, given);
+    (given as u64, following.feed.upto())
+}
+
+/// Gives the items that wait, as many as fit into a buffer. Where none waits the feed goes over at most `most` further commits of
+/// a snapshot before. Tells how many items were given, and up to which commit the feed has gone.
+///
+/// # Errors
+/// `FromFuture` where the snapshot has fewer commits than the feed has gone over, and want of memory.
+pub fn advance<C: Crossing + Reach>(
+    following: &mut Following<C>,
+    snapshot: &Snapshot<C>,
+    most: u64,
+    items: &mut [ToldItem],
+) -> Result<(u64, u64), Refusal>
+    ensures { IsAdvancing C.rules C.words_of most snapshot.now items.old items.new
+        following.old result following.new }
+{
+    following.go_on(snapshot, most)?;
+    Ok(give(following, snapshot, items))
+}

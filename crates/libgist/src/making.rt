@@ -1,0 +1,143 @@
+//! What is made for a handle that has nothing.
+ghost use Rattle.std.specs.Prelude.{◌≡◌, ◌↔◌, ◌⊎◌, None, Err, IfOk, IfErr};
+ghost use Rattle.key_class.specs.declared.refusal.Refusal.TheVariants.{OutOfMemory};
+ghost use Rattle.change_list.specs.Configs.{IsWithinLimits};
+ghost use Rattle.store.specs.States.{new_store};
+ghost use Rattle.libgist.specs.declared.denied.Denied.TheVariants.{By, BadLimits};
+ghost use Rattle.libgist.specs.Feeding.{IsBeginning};
+ghost use Rattle.libgist.specs.Making.{Settles, IsCreation, IsTaken, IsPrepared, asked_of};
+
+use crate::crossing::Crossing;
+use crate::denied::{Denied, passed_on};
+use crate::following::Following;
+use crate::handle::Handle;
+use crate::held::{AnyFeed, AnyQuery, AnySnapshot, AnyStore, Held};
+use crate::relations::atom;
+use crate::words::KeyWords;
+use box_class::Boxes;
+use change_list::Config;
+use interval_class::Intervals;
+use key_class::{KeyClass, Pred, Refusal};
+use query_text::{ClassText, parse};
+use set_class::Sets;
+use std::alloc::Global;
+use store::Store;
+
+/// Puts what was made into a handle that has nothing. 0, or the number of the refusal.
+pub fn settle(alloc: Global, made: Result<Held, Denied>, handle: &mut Handle) -> u32
+    requires { handle.old.inside.state ≡ None }
+    ensures { Settles made result handle.new.inside.state }
+{
+    match made {
+        Ok(it) => match Box::new(alloc, it) {
+            Ok(held) => {
+                handle.put(held);
+                0
+            }
+            Err(_) => 1,
+        },
+        Err(why) => why.number(),
+    }
+}
+
+/// An empty store of a class.
+fn empty<C: KeyClass>(alloc: Global, config: Config) -> Result<Store<C>, Denied>
+    ensures ok { IfOk result (λ store. store ≡ new_store config) }
+    ensures bad { (result ≡ Err BadLimits) ↔ (¬ IsWithinLimits config) }
+    ensures refusals { IfErr result (λ why. (why ≡ BadLimits) ⊎ (why ≡ By OutOfMemory)) }
+{
+    match Store::new(alloc, config) {
+        Ok(store) => Ok(store),
+        Err(Refusal::BadConfig) => Err(Denied::BadLimits),
+        Err(why) => Err(Denied::By(why)),
+    }
+}
+
+/// An empty store of the class with a number: 1 of intervals, 2 of boxes, 3 of sets.
+///
+/// # Errors
+/// `BadConfig` where no class has the number, else `BadLimits` where a limit is out of its range; and want of memory.
+pub fn store(alloc: Global, class: u32, config: Config) -> Result<Held, Denied>
+    ensures { IsCreation class config result }
+{
+    match class {
+        1 => Ok(Held::Store(AnyStore::Intervals(empty::<Intervals>(alloc, config)?))),
+        2 => Ok(Held::Store(AnyStore::Boxes(empty::<Boxes>(alloc, config)?))),
+        3 => Ok(Held::Store(AnyStore::Sets(empty::<Sets>(alloc, config)?))),
+        _ => Err(Denied::By(Refusal::BadConfig)),
+    }
+}
+
+/// A snapshot of a store.
+///
+/// # Errors
+/// `NoHandle` where it is none, and want of memory.
+pub fn snapshot(held: &Held) -> Result<Held, Denied>
+    ensures { IsTaken held.now result }
+{
+    match held {
+        Held::Store(any) => {
+            let taken = match any {
+                AnyStore::Intervals(store) => AnySnapshot::Intervals(store.snapshot()?),
+                AnyStore::Boxes(store) => AnySnapshot::Boxes(store.snapshot()?),
+                AnyStore::Sets(store) => AnySnapshot::Sets(store.snapshot()?),
+            };
+            Ok(Held::Snapshot(taken))
+        }
+        _ => Err(Denied::NoHandle),
+    }
+}
+
+/// The query of a text, for the class with a number.
+///
+/// # Errors
+/// `BadConfig` where no class has the number, `QueryText` where the text spells no query, and want of memory.
+pub fn query(alloc: Global, class: u32, text: &[u8]) -> Result<Held, Denied>
+    ensures { IsPrepared class text.now result }
+{
+    match class {
+        1 => Ok(Held::Query(AnyQuery::Intervals(parse::<Intervals>(alloc, text)?))),
+        2 => Ok(Held::Query(AnyQuery::Boxes(parse::<Boxes>(alloc, text)?))),
+        3 => Ok(Held::Query(AnyQuery::Sets(parse::<Sets>(alloc, text)?))),
+        _ => Err(Denied::By(Refusal::BadConfig)),
+    }
+}
+
+/// The query for the relation with a number to a key, for the class with a number.
+///
+/// # Errors
+/// `BadConfig` where no class or no relation has the number, else `BadEnds` where the key's ends are out of order.
+pub fn asked(class: u32, relation: u32, key: KeyWords) -> Result<Held, Denied>
+    ensures { result ≡ asked_of class relation key }
+{
+    match class {
+        1 => match atom::<Intervals>(relation, key) {
+            Ok(wanted) => Ok(Held::Query(AnyQuery::Intervals(Pred::Atom(wanted)))),
+            Err(why) => Err(why),
+        },
+        2 => match atom::<Boxes>(relation, key) {
+            Ok(wanted) => Ok(Held::Query(AnyQuery::Boxes(Pred::Atom(wanted)))),
+            Err(why) => Err(why),
+        },
+        3 => match atom::<Sets>(relation, key) {
+            Ok(wanted) => Ok(Held::Query(AnyQuery::Sets(Pred::Atom(wanted)))),
+            Err(why) => Err(why),
+        },
+        _ => Err(Denied::By(Refusal::BadConfig)),
+    }
+}
+
+/// A feed without subscriptions, of the class with a number.
+///
+/// # Errors
+/// `BadConfig` where no class has the number, and want of memory.
+pub fn feed(alloc: Global, class: u32) -> Result<Held, Denied>
+    ensures { IsBeginning class result }
+{
+    match class {
+        1 => Ok(Held::Feed(AnyFeed::Intervals(Following::new(alloc)?))),
+        2 => Ok(Held::Feed(AnyFeed::Boxes(Following::new(alloc)?))),
+        3 => Ok(Held::Feed(AnyFeed::Sets(Following::new(alloc)?))),
+        _ => Err(Denied::By(Refusal::BadConfig)),
+    }
+}

@@ -1,0 +1,105 @@
+//! The calls of a snapshot of any class.
+ghost use Rattle.std.specs.Prelude.{◌≡◌, ◌↔◌, IsTrue, map};
+ghost use Rattle.change_list.specs.declared.write.Status.TheVariants.{Live};
+ghost use Rattle.libgist.specs.Buffers.{written_over};
+ghost use Rattle.libgist.specs.Reading.{IsFind, IsCount, IsChanges, IsRowOf};
+ghost use Rattle.libgist.specs.Shown.{shown_commit, shown_item};
+
+use crate::buffers::write_rows;
+use crate::crossing::Crossing;
+use crate::shown;
+use crate::words::{ShownItem, ShownRow};
+use change_list::{Item, Status};
+use key_class::{KeyClass, Pred, Refusal};
+use snapshot::Snapshot;
+use std::alloc::Global;
+
+/// Puts the rows that live and match into a buffer, as many as fit, and tells how many there are.
+pub fn find<C: Crossing>(
+    snapshot: &Snapshot<C>,
+    query: &Pred<C::Atom>,
+    rows: &mut [ShownRow],
+) -> Result<u64, Refusal>
+    ensures { IsFind C.rules C.words_of query.now snapshot.now rows.old rows.new result }
+{
+    let found = snapshot.find(query)?;
+    write_rows::<C>(rows, &found);
+    Ok(found.len() as u64)
+}
+
+/// How many rows live and match.
+pub fn count<C: KeyClass>(snapshot: &Snapshot<C>, query: &Pred<C::Atom>) -> Result<u64, Refusal>
+    ensures { IsCount C.rules query.now snapshot.now result }
+{
+    snapshot.count(query)
+}
+
+/// What an item of a snapshot tells.
+pub fn item<C: Crossing>(snapshot: &Snapshot<C>, item: Item<C::Key>) -> ShownItem
+    ensures { result ≡ shown_item C.words_of snapshot.now item }
+{
+    let ended = shown::ended_in::<C>(&item);
+    shown::item::<C>(item, snapshot.row(ended))
+}
+
+/// Puts as many items as fit into a buffer, as C is given them.
+fn write_items<C: Crossing>(
+    snapshot: &Snapshot<C>,
+    buffer: &mut [ShownItem],
+    items: &[Item<C::Key>],
+)
+    ensures { buffer.new ≡ written_over (map (shown_item C.words_of snapshot.now) items.now)
+        buffer.old }
+{
+    let fitting = items.len().min(buffer.len());
+    for place in 0..fitting {
+        buffer[place] = item(snapshot, items[place]);
+    }
+}
+
+/// Puts the items of the commits after `from` that match into a buffer, until it is full, and tells how many they are and
+/// up to which commit all were given.
+pub fn changes<C: Crossing>(
+    alloc: Global,
+    snapshot: &Snapshot<C>,
+    query: &Pred<C::Atom>,
+    from: u64,
+    items: &mut [ShownItem],
+) -> Result<(u64, u64), Refusal>
+    ensures { IsChanges C.rules C.words_of query.now snapshot.now from items.old items.new result }
+{
+    let mut given = Vec::new(alloc);
+    let upto = snapshot.changes(query, from, &mut given, items.len())?;
+    write_items(snapshot, items, &given);
+    Ok((given.len() as u64, upto))
+}
+
+/// Whether it is that of a row that lives.
+fn is_live(status: Status) -> bool
+    ensures { IsTrue result ↔ (status ≡ Live) }
+{
+    match status {
+        Status::Live => true,
+        Status::Dead | Status::NeverIssued => false,
+    }
+}
+
+/// The row with a number, and whether it lives.
+pub fn row_of<C: Crossing>(snapshot: &Snapshot<C>, number: u64) -> Result<(ShownRow, bool), Refusal>
+    ensures { IsRowOf C.words_of snapshot.now number result }
+{
+    let Some(row) = snapshot.row(number) else {
+        return Err(Refusal::NoSuchRow);
+    };
+    let lives = is_live(snapshot.status(number)?);
+    Ok((shown::row::<C>(row), lives))
+}
+
+/// What the commit with a number tells, or that there is none.
+pub fn commit<C: Crossing>(snapshot: &Snapshot<C>, number: u64) -> ShownItem
+    ensures { result ≡ shown_commit C.words_of snapshot.now number }
+{
+    let write = snapshot.commit(number);
+    let ended = shown::ended_by::<C>(write);
+    shown::commit::<C>(number, snapshot.row(number), snapshot.row(ended), write)
+}

@@ -1,0 +1,257 @@
+//! What C can ask of a store.
+ghost use Rattle.std.specs.Prelude.{◌≡◌, ◌≢◌, None};
+ghost use Rattle.libgist.specs.Calls.{Passing, IsInserting, IsDeleting, IsMovingTo, IsTaking, IsSweep, IsTelling, IsOpening, IsFollowing, IsAsking, IsClosing};
+ghost use Rattle.libgist.specs.Classes.{OnHandle, OnHandles, InStore, InStoreBy};
+ghost use Rattle.libgist.specs.Configs.{config_of};
+ghost use Rattle.libgist.specs.Making.{Makes, IsCreation};
+ghost use Rattle.libgist.specs.Told.{TellsCode, Tells};
+
+use crate::any_store;
+use crate::figures::Figures;
+use crate::handle::Handle;
+use crate::limits::{Limits, config};
+use crate::making::{self, settle};
+use crate::telling::{code, no_handle, tell};
+use crate::words::{KeyWords, NewRow, ShownItem};
+use std::alloc::Global;
+
+/// Makes an empty store of a class for a handle that has nothing.
+#[unsafe(no_mangle)]
+pub extern "C" fn gist_create(alloc: Global, store: &mut Handle, class: u32, limits: &Limits) -> u32
+    ensures { Makes (IsCreation class (config_of limits.now))
+        store.old.inside.state store.new.inside.state result }
+{
+    if store.is_open() {
+        return 2;
+    }
+    settle(alloc, making::store(alloc, class, config(limits)), store)
+}
+
+/// Drops the store of a handle, if it has one. The handle has none then.
+#[unsafe(no_mangle)]
+pub extern "C" fn gist_destroy(alloc: Global, store: &mut Handle)
+    ensures { store.new.inside.state ≡ None }
+{
+    drop(store.take(alloc));
+}
+
+/// Adds rows one after the other, until one is refused, and tells how many were added.
+#[unsafe(no_mangle)]
+pub extern "C" fn gist_insert(
+    alloc: Global,
+    store: &mut Handle,
+    rows: &[NewRow],
+    added: &mut u64,
+) -> u32
+    ensures { Tells result added.old added.new (OnHandle
+        (InStore (λ K A class. IsInserting class.rules class.key_of rows.now))
+        store.old.inside.state store.new.inside.state) }
+{
+    match store.take(alloc) {
+        None => tell(no_handle(), added),
+        Some(mut held) => {
+            let answer = any_store::insert(&mut held, rows);
+            store.put(held);
+            tell(answer, added)
+        }
+    }
+}
+
+/// Moves a row to a key, and gives the number of the row that it makes.
+#[unsafe(no_mangle)]
+pub extern "C" fn gist_move(
+    alloc: Global,
+    store: &mut Handle,
+    row: u64,
+    key: KeyWords,
+    moved: &mut u64,
+) -> u32
+    ensures { Tells result moved.old moved.new (OnHandle
+        (InStore (λ K A class. IsMovingTo class.rules class.key_of row key))
+        store.old.inside.state store.new.inside.state) }
+{
+    match store.take(alloc) {
+        None => tell(no_handle(), moved),
+        Some(mut held) => {
+            let answer = any_store::move_row(&mut held, row, key);
+            store.put(held);
+            tell(answer, moved)
+        }
+    }
+}
+
+/// Deletes rows one after the other, until one is refused, and tells how many were deleted.
+#[unsafe(no_mangle)]
+pub extern "C" fn gist_delete(
+    alloc: Global,
+    store: &mut Handle,
+    rows: &[u64],
+    deleted: &mut u64,
+) -> u32
+    ensures { Tells result deleted.old deleted.new (OnHandle
+        (InStore (λ K A class. IsDeleting class.rules rows.now))
+        store.old.inside.state store.new.inside.state) }
+{
+    match store.take(alloc) {
+        None => tell(no_handle(), deleted),
+        Some(mut held) => {
+            let answer = any_store::delete(&mut held, rows);
+            store.put(held);
+            tell(answer, deleted)
+        }
+    }
+}
+
+/// Removes the dead rows that no scan needs, and tells how many they were.
+#[unsafe(no_mangle)]
+pub extern "C" fn gist_sweep(alloc: Global, store: &mut Handle, removed: &mut u64) -> u32
+    ensures { Tells result removed.old removed.new (OnHandle
+        (InStore (λ K A class. Passing (IsSweep class.rules)))
+        store.old.inside.state store.new.inside.state) }
+{
+    match store.take(alloc) {
+        None => tell(no_handle(), removed),
+        Some(mut held) => {
+            let answer = any_store::sweep(&mut held);
+            store.put(held);
+            tell(answer, removed)
+        }
+    }
+}
+
+/// Tells how far a store has come.
+#[unsafe(no_mangle)]
+pub extern "C" fn gist_stats(alloc: Global, store: &mut Handle, figures: &mut Figures) -> u32
+    ensures { Tells result figures.old figures.new (OnHandle
+        (InStore (λ K A class. IsTelling))
+        store.old.inside.state store.new.inside.state) }
+{
+    match store.take(alloc) {
+        None => tell(no_handle(), figures),
+        Some(held) => {
+            let answer = any_store::stats(&held);
+            store.put(held);
+            tell(answer, figures)
+        }
+    }
+}
+
+/// Opens a cursor on a query, at the present commits.
+#[unsafe(no_mangle)]
+pub extern "C" fn gist_open(
+    alloc: Global,
+    store: &mut Handle,
+    query: &mut Handle,
+    cursor: &mut u64,
+) -> u32
+    ensures { Tells result cursor.old cursor.new (OnHandles
+        (InStoreBy (λ K A class query. Passing (IsOpening class.rules query)))
+        query.old.inside.state query.new.inside.state
+        store.old.inside.state store.new.inside.state) }
+{
+    match query.take(alloc) {
+        None => tell(no_handle(), cursor),
+        Some(asked) => {
+            let answer = match store.take(alloc) {
+                None => no_handle(),
+                Some(mut held) => {
+                    let opened = any_store::open(alloc, &asked, &mut held);
+                    store.put(held);
+                    opened
+                }
+            };
+            query.put(asked);
+            tell(answer, cursor)
+        }
+    }
+}
+
+/// Opens a cursor on a query, which follows a commit.
+#[unsafe(no_mangle)]
+pub extern "C" fn gist_follow(
+    alloc: Global,
+    store: &mut Handle,
+    query: &mut Handle,
+    commit: u64,
+    cursor: &mut u64,
+) -> u32
+    ensures { Tells result cursor.old cursor.new (OnHandles
+        (InStoreBy (λ K A class query. Passing (IsFollowing class.rules query commit)))
+        query.old.inside.state query.new.inside.state
+        store.old.inside.state store.new.inside.state) }
+{
+    match query.take(alloc) {
+        None => tell(no_handle(), cursor),
+        Some(asked) => {
+            let answer = match store.take(alloc) {
+                None => no_handle(),
+                Some(mut held) => {
+                    let opened = any_store::follow(alloc, &asked, &mut held, commit);
+                    store.put(held);
+                    opened
+                }
+            };
+            query.put(asked);
+            tell(answer, cursor)
+        }
+    }
+}
+
+/// Gives a cursor's next items, until a buffer is full, nothing is left or the next is refused, and tells how many they
+/// are.
+#[unsafe(no_mangle)]
+pub extern "C" fn gist_next(
+    alloc: Global,
+    store: &mut Handle,
+    cursor: u64,
+    items: &mut [ShownItem],
+    given: &mut u64,
+) -> u32
+    ensures given { Tells result given.old given.new (OnHandle (InStore (λ K A class.
+        Passing (IsTaking class.rules class.words_of cursor items.old items.new)))
+        store.old.inside.state store.new.inside.state) }
+    ensures unfilled { result ≢ 0 → items.new ≡ items.old }
+{
+    match store.take(alloc) {
+        None => tell(no_handle(), given),
+        Some(mut held) => {
+            let answer = any_store::next(&mut held, cursor, items);
+            store.put(held);
+            tell(answer, given)
+        }
+    }
+}
+
+/// Asks a cursor for a mark.
+#[unsafe(no_mangle)]
+pub extern "C" fn gist_mark(alloc: Global, store: &mut Handle, cursor: u64) -> u32
+    ensures { TellsCode result (OnHandle
+        (InStore (λ K A class. Passing (IsAsking cursor)))
+        store.old.inside.state store.new.inside.state) }
+{
+    match store.take(alloc) {
+        None => code(no_handle()),
+        Some(mut held) => {
+            let answer = any_store::mark(&mut held, cursor);
+            store.put(held);
+            code(answer)
+        }
+    }
+}
+
+/// Closes a cursor.
+#[unsafe(no_mangle)]
+pub extern "C" fn gist_close(alloc: Global, store: &mut Handle, cursor: u64) -> u32
+    ensures { TellsCode result (OnHandle
+        (InStore (λ K A class. Passing (IsClosing cursor)))
+        store.old.inside.state store.new.inside.state) }
+{
+    match store.take(alloc) {
+        None => code(no_handle()),
+        Some(mut held) => {
+            let answer = any_store::close(&mut held, cursor);
+            store.put(held);
+            code(answer)
+        }
+    }
+}

@@ -1,0 +1,47 @@
+//! What C hands in and is given, of any class.
+
+/// A key, as 16 bytes, which each class reads in its own way.
+#[repr(C)]
+#[derive(Clone, Copy)]
+pub struct KeyWords {
+    pub first: u64,
+    pub second: u64,
+}
+
+/// A row to be added.
+#[repr(C)]
+#[derive(Clone, Copy)]
+pub struct NewRow {
+    pub key: KeyWords,
+    pub tag: u64,
+}
+
+/// A row.
+#[repr(C)]
+#[derive(Clone, Copy)]
+pub struct ShownRow {
+    pub row: u64,
+    pub tag: u64,
+    pub key: KeyWords,
+}
+
+/// An item, or a commit. Where it has no key both words are 0.
+#[repr(C)]
+#[derive(Clone, Copy)]
+pub struct ShownItem {
+    pub kind: u32,
+    /// The number of a commit, and of the row that it made.
+    pub number: u64,
+    /// The number of a row that ended.
+    pub ended: u64,
+    pub tag: u64,
+    pub key: KeyWords,
+}
+
+/// An item that a feed gives to a subscription.
+#[repr(C)]
+#[derive(Clone, Copy)]
+pub struct ToldItem {
+    pub serial: u64,
+    pub item: ShownItem,
+}
