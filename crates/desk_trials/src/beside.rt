@@ -1,11 +1,11 @@
 //! What is done for one client leaves the cursor of another as it was.
 ghost use Rattle.std.specs.Prelude.{◌≡◌};
 
-use crate::queries::all;
 use change_list::{Config, Item, Write};
 use desk::{Desk, Seat, Taker};
 use history::{BlankHistory, Naming};
 use interval_class::{Interval, Intervals};
+use interval_queries::all;
 use key_class::Refusal;
 use std::alloc::Global;
 use std::marker::Brand;

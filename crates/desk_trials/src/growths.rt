@@ -2,11 +2,11 @@
 //! seats whole, and is made once more.
 ghost use Rattle.std.specs.Prelude.{◌≡◌};
 
-use crate::queries::all;
 use change_list::{Config, Item, Row, Write};
 use desk::{Desk, Ended, Finished, Seat, Taker};
 use history::{BlankHistory, Naming};
 use interval_class::{Interval, Intervals};
+use interval_queries::all;
 use key_class::Refusal;
 use std::alloc::Global;
 use std::marker::Brand;

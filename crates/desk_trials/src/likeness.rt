@@ -1,10 +1,10 @@
 ghost use Rattle.std.specs.Prelude.{◌≡◌};
 
-use crate::queries::overlapping;
 use change_list::{Config, Item, Write};
 use desk::{Desk, Seat, Taker};
 use history::{BlankHistory, Naming};
 use interval_class::{Interval, Intervals};
+use interval_queries::overlapping;
 use key_class::Refusal;
 use rand_core::Rng;
 use rand_pcg::Pcg32;

@@ -1,10 +1,10 @@
 ghost use Rattle.std.specs.Prelude.{◌≡◌};
 
-use crate::queries::all;
 use change_list::{Config, Write};
 use desk::{Desk, Seat};
 use history::{BlankHistory, Naming};
 use interval_class::{Interval, Intervals};
+use interval_queries::all;
 use key_class::Refusal;
 use std::alloc::Global;
 use std::marker::Brand;

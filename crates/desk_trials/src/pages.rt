@@ -1,11 +1,11 @@
 //! A desk that runs out of pages tells so, and serves on.
 ghost use Rattle.std.specs.Prelude.{◌≡◌};
 
-use crate::queries::all;
 use change_list::{Config, Item, Write};
 use desk::{Desk, Ended, Finished, Seat, Taker};
 use history::{BlankHistory, Naming};
 use interval_class::{Interval, Intervals};
+use interval_queries::all;
 use key_class::Refusal;
 use std::alloc::Global;
 use std::marker::Brand;

@@ -1,10 +1,10 @@
 ghost use Rattle.std.specs.Prelude.{◌≡◌};
 
-use crate::queries::{all, overlapping};
 use change_list::{Config, Status, Write};
 use desk::{Desk, Seat};
 use history::{BlankHistory, Naming};
 use interval_class::{Interval, Intervals};
+use interval_queries::{all, overlapping};
 use key_class::Refusal;
 use std::alloc::Global;
 use std::marker::Brand;

@@ -1,11 +1,11 @@
 //! Turns in a row are those that a client would make one by one.
 ghost use Rattle.std.specs.Prelude.{◌≡◌};
 
-use crate::queries::all;
 use change_list::{Config, Write};
 use desk::{Desk, Seat, Taker, TurnsMade};
 use history::{BlankHistory, Naming};
 use interval_class::{Interval, Intervals};
+use interval_queries::all;
 use key_class::Refusal;
 use std::alloc::Global;
 use std::marker::Brand;

@@ -10,7 +10,7 @@ use Rattle.change_list.specs.Changes.{changes}
 use Rattle.change_list.proofs.Pushing.{changes_none}
 use Rattle.world.specs.Serials.{Rise, member}
 use Rattle.world.proofs.Serials.{member_within}
-use Rattle.feed.specs.declared.subscriber.Subscriber.{Subscriber}
+use Rattle.feed.specs.declared.registration.Registration.{Registration}
 use Rattle.feed.specs.Asking.{Gives, due_upto, under}
 use Rattle.feed.specs.Feeds.{Advances, IsGivenUpto, Subscription, items_under}
 use Rattle.feed.specs.Holding.{feed_state, serial_of}
@@ -30,64 +30,64 @@ module _ {K A : Type 0} (rules : Rules K A) (commits : List (Write K)) where
   }
 
   -- a feed that gave what is due went on
-  pub advances : (upto passed last most later : ℕ) (subscribers : List (ℕ × Subscriber A)) (given : List (ℕ × Item K)) → Rise serial_of 0 last subscribers → upto ≤ later → later ≡ min (upto + most) (length commits)
-      → Gives (due_upto rules commits later) (feed_state upto passed last subscribers) given
-      → Advances rules (feed_state upto passed last subscribers) commits most given (feed_state later last last subscribers)
-  advances upto passed last most later subscribers given rise further is gives = record {
+  pub advances : (upto passed last most later : ℕ) (registrations : List (ℕ × Registration A)) (given : List (ℕ × Item K)) → Rise serial_of 0 last registrations → upto ≤ later → later ≡ min (upto + most) (length commits)
+      → Gives (due_upto rules commits later) (feed_state upto passed last registrations) given
+      → Advances rules (feed_state upto passed last registrations) commits most given (feed_state later last last registrations)
+  advances upto passed last most later registrations given rise further is gives = record {
     upto = is;
-    subscriptions = all_given upto passed 0 last later subscribers rise further;
+    subscriptions = all_given upto passed 0 last later registrations rise further;
     last = refl;
     each = λ serial s found. is_given later s (items_under serial given) (omega (arith, is)) (gives serial ∙ ap (λ o. option_map_or (due_upto rules commits later) o []) found);
     no_others = λ serial none. gives serial ∙ ap (λ o. option_map_or (due_upto rules commits later) o []) none;
   }
 
 -- what was missed, told to one serial after the other
-module _ {A X : Type 0} (missed : ℕ × Subscriber A → List X) (subscribers : List (ℕ × Subscriber A)) where
+module _ {A X : Type 0} (missed : ℕ × Registration A → List X) (registrations : List (ℕ × Registration A)) where
   -- what a serial has missed
   abbrev pub missed_by : ℕ → List X
-  missed_by serial = option_map_or missed (member serial_of serial subscribers) []
+  missed_by serial = option_map_or missed (member serial_of serial registrations) []
 
-module _ {K A : Type 0} (missed : ℕ × Subscriber A → List (Item K)) (subscribers : List (ℕ × Subscriber A)) where
+module _ {K A : Type 0} (missed : ℕ × Registration A → List (Item K)) (registrations : List (ℕ × Registration A)) where
   -- each serial up to n was told what it has missed
   abbrev pub TellsUpto : ℕ → List (ℕ × Item K) → Type 0
-  TellsUpto n given = (serial : ℕ) → items_under serial given ≡ cond (nat_le serial n) (missed_by missed subscribers serial) []
+  TellsUpto n given = (serial : ℕ) → items_under serial given ≡ cond (nat_le serial n) (missed_by missed registrations serial) []
 
-  pub tells_none : (n : ℕ) → ((serial : ℕ) → serial ≤ n → missed_by missed subscribers serial ≡ []) → TellsUpto n []
+  pub tells_none : (n : ℕ) → ((serial : ℕ) → serial ≤ n → missed_by missed registrations serial ≡ []) → TellsUpto n []
   tells_none n nothing serial = by_test (nat_le serial n) refl
     where
-      by_test : (b : Bool) → nat_le serial n ≡ b → [] ≡ cond b (missed_by missed subscribers serial) []
+      by_test : (b : Bool) → nat_le serial n ≡ b → [] ≡ cond b (missed_by missed registrations serial) []
       by_test true e = let within : serial ≤ n = search (arith, e) in sym (nothing serial within)
       by_test false e = refl
 
   -- the next serial is nobody's
-  pub tells_nobody : (n : ℕ) (given : List (ℕ × Item K)) → TellsUpto n given → member serial_of (n + 1) subscribers ≡ None → TellsUpto (n + 1) given
+  pub tells_nobody : (n : ℕ) (given : List (ℕ × Item K)) → TellsUpto n given → member serial_of (n + 1) registrations ≡ None → TellsUpto (n + 1) given
   tells_nobody n given told none serial = told serial ∙ by_test (nat_le serial n) refl (nat_le serial (n + 1)) refl
     where
-      by_test : (b : Bool) → nat_le serial n ≡ b → (c : Bool) → nat_le serial (n + 1) ≡ c → cond b (missed_by missed subscribers serial) [] ≡ cond c (missed_by missed subscribers serial) []
+      by_test : (b : Bool) → nat_le serial n ≡ b → (c : Bool) → nat_le serial (n + 1) ≡ c → cond b (missed_by missed registrations serial) [] ≡ cond c (missed_by missed registrations serial) []
       by_test true e true f = refl
       by_test true e false f = let l : serial ≤ n = search (arith, e) in let m : n + 1 < serial = search (arith, f) in absurd (omega (arith, l, m))
       by_test false e true f =
           let l : n < serial = search (arith, e) in
           let m : serial ≤ n + 1 = search (arith, f) in
           let one : serial ≡ n + 1 = omega (arith, l, m) in
-          sym (ap (missed_by missed subscribers) one ∙ ap (λ o. option_map_or missed o []) none)
+          sym (ap (missed_by missed registrations) one ∙ ap (λ o. option_map_or missed o []) none)
       by_test false e false f = refl
 
   -- the next serial is told
-  pub tells_next : (n : ℕ) (given : List (ℕ × Item K)) (x : ℕ × Subscriber A) → TellsUpto n given → member serial_of (n + 1) subscribers ≡ Some x → TellsUpto (n + 1) (given ++ under (n + 1) (missed x))
+  pub tells_next : (n : ℕ) (given : List (ℕ × Item K)) (x : ℕ × Registration A) → TellsUpto n given → member serial_of (n + 1) registrations ≡ Some x → TellsUpto (n + 1) (given ++ under (n + 1) (missed x))
   tells_next n given x told is serial = items_under-append serial given (under (n + 1) (missed x)) ∙ ap (λ l. l ++ items_under serial (under (n + 1) (missed x))) (told serial) ∙ by_test (nat_eq serial (n + 1)) refl
     where
-      by_test : (b : Bool) → nat_eq serial (n + 1) ≡ b → cond (nat_le serial n) (missed_by missed subscribers serial) [] ++ items_under serial (under (n + 1) (missed x)) ≡ cond (nat_le serial (n + 1)) (missed_by missed subscribers serial) []
+      by_test : (b : Bool) → nat_eq serial (n + 1) ≡ b → cond (nat_le serial n) (missed_by missed registrations serial) [] ++ items_under serial (under (n + 1) (missed x)) ≡ cond (nat_le serial (n + 1)) (missed_by missed registrations serial) []
       by_test true e =
           let one : serial ≡ n + 1 = search (arith, e) in
           let before : nat_le serial n ≡ false = search (arith, one) in
           let now : nat_le serial (n + 1) ≡ true = search (arith, one) in
-          rw (before, now) (ap (λ m. items_under m (under (n + 1) (missed x))) one ∙ under_same (n + 1) (missed x) ∙ sym (ap (missed_by missed subscribers) one ∙ ap (λ o. option_map_or missed o []) is))
+          rw (before, now) (ap (λ m. items_under m (under (n + 1) (missed x))) one ∙ under_same (n + 1) (missed x) ∙ sym (ap (missed_by missed registrations) one ∙ ap (λ o. option_map_or missed o []) is))
       by_test false e =
           let apart : n + 1 ≡ serial → ⊥ = λ same. let t : nat_eq serial (n + 1) ≡ true = search (arith, same) in let f : true ≡ false = sym t ∙ e in absurd (cc) in
-          ap (λ l. cond (nat_le serial n) (missed_by missed subscribers serial) [] ++ l) (under_other serial (n + 1) (missed x) apart)
-          ∙ append-nil (cond (nat_le serial n) (missed_by missed subscribers serial) [])
-          ∙ ap (λ b. cond b (missed_by missed subscribers serial) []) (same_test (nat_le serial n) refl (nat_le serial (n + 1)) refl)
+          ap (λ l. cond (nat_le serial n) (missed_by missed registrations serial) [] ++ l) (under_other serial (n + 1) (missed x) apart)
+          ∙ append-nil (cond (nat_le serial n) (missed_by missed registrations serial) [])
+          ∙ ap (λ b. cond b (missed_by missed registrations serial) []) (same_test (nat_le serial n) refl (nat_le serial (n + 1)) refl)
         where
           same_test : (b : Bool) → nat_le serial n ≡ b → (c : Bool) → nat_le serial (n + 1) ≡ c → b ≡ c
           same_test true f true g = refl
@@ -102,13 +102,13 @@ module _ {K A : Type 0} (missed : ℕ × Subscriber A → List (Item K)) (subscr
           same_test false f false g = refl
 
   -- all serials that were given were told
-  pub tells_all : (n last : ℕ) (given : List (ℕ × Item K)) → Rise serial_of 0 last subscribers → last ≤ n → TellsUpto n given → (serial : ℕ) → items_under serial given ≡ missed_by missed subscribers serial
+  pub tells_all : (n last : ℕ) (given : List (ℕ × Item K)) → Rise serial_of 0 last registrations → last ≤ n → TellsUpto n given → (serial : ℕ) → items_under serial given ≡ missed_by missed registrations serial
   tells_all n last given rise all told serial = told serial ∙ by_test (nat_le serial n) refl
     where
-      by_test : (b : Bool) → nat_le serial n ≡ b → cond b (missed_by missed subscribers serial) [] ≡ missed_by missed subscribers serial
+      by_test : (b : Bool) → nat_le serial n ≡ b → cond b (missed_by missed registrations serial) [] ≡ missed_by missed registrations serial
       by_test true e = refl
-      by_test false e = let beyond : n < serial = search (arith, e) in sym (by_member (member serial_of serial subscribers) refl (omega (arith, beyond, all)))
+      by_test false e = let beyond : n < serial = search (arith, e) in sym (by_member (member serial_of serial registrations) refl (omega (arith, beyond, all)))
         where
-          by_member : (o : Option (ℕ × Subscriber A)) → member serial_of serial subscribers ≡ o → last < serial → missed_by missed subscribers serial ≡ []
+          by_member : (o : Option (ℕ × Registration A)) → member serial_of serial registrations ≡ o → last < serial → missed_by missed registrations serial ≡ []
           by_member None f l = ap (λ o. option_map_or missed o []) f
-          by_member (Some x) f l = absurd (omega (arith, l, (member_within serial_of serial 0 last subscribers x rise f).1))
+          by_member (Some x) f l = absurd (omega (arith, l, (member_within serial_of serial 0 last registrations x rise f).1))

@@ -1,4 +1,4 @@
--- What is due to the subscription of a subscriber.
+-- What is due to each subscription.
 use Rattle.std.proofs.Common.{◌≡◌, ◌<◌, ◌≤◌, ℕ, max, Bool, true, false, cond, List, [], Option, Some, None, refl, sym, ap, ◌∙◌, arith}
 use Rattle.std.specs.Prelude.{nat_le, option_map, option_to_list}
 use Rattle.std.specs.Option.{option_map_or}
@@ -10,7 +10,7 @@ use Rattle.change_list.specs.Changes.{changes, item_at}
 use Rattle.change_list.proofs.Pushing.{changes_none}
 use Rattle.world.specs.Serials.{member}
 use Rattle.world.proofs.Serials.{member_serial}
-use Rattle.feed.specs.declared.subscriber.Subscriber.{Subscriber}
+use Rattle.feed.specs.declared.registration.Registration.{Registration}
 use Rattle.feed.specs.Asking.{Gives, GivesInto, TellsCommit, due_at, due_to, due_upto}
 use Rattle.feed.specs.Feeds.{items_under, subscription_of}
 use Rattle.feed.specs.Hearing.{TopicState}
@@ -18,10 +18,10 @@ use Rattle.feed.specs.Holding.{IsHolding, feed_state, serial_of, shown, shown_at
 use Rattle.feed.proofs.Advancing.{missed_by}
 use Rattle.feed.proofs.Keeping.{found_shown, missing_unheard, none_shown, one_shown, unheard_elsewhere}
 
-module _ {K A : Type 0} (rules : Rules K A) (commits : List (Write K)) (upto passed last : ℕ) (subscribers : List (ℕ × Subscriber A)) where
+module _ {K A : Type 0} (rules : Rules K A) (commits : List (Write K)) (upto passed last : ℕ) (registrations : List (ℕ × Registration A)) where
   module _ (place : ℕ) (further : upto ≤ place) where
-    -- what a commit that the feed hasn't gone over gives to a subscriber
-    due_shown : (x : ℕ × Subscriber A) → due_at rules commits place (shown upto passed x) ≡ cond (nat_le x.1.from place) (option_to_list (item_at (satisfies rules (query_of x.1.query)) commits place)) []
+    -- what a commit that the feed hasn't gone over gives to a registration
+    due_shown : (x : ℕ × Registration A) → due_at rules commits place (shown upto passed x) ≡ cond (nat_le x.1.from place) (option_to_list (item_at (satisfies rules (query_of x.1.query)) commits place)) []
     due_shown x = ap (λ b. cond b (option_to_list (item_at (satisfies rules (query_of x.1.query)) commits place)) []) (by_test (nat_le x.0 passed))
       where
         by_from : (b : Bool) → nat_le x.1.from place ≡ b → nat_le (max x.1.from upto) place ≡ b
@@ -32,19 +32,19 @@ module _ {K A : Type 0} (rules : Rules K A) (commits : List (Write K)) (upto pas
         by_test true = by_from (nat_le x.1.from place) refl
         by_test false = refl
 
-    -- a serial that no subscriber has is given nothing
-    pub none_due : (serial : ℕ) → member serial_of serial subscribers ≡ None → option_map_or (due_at rules commits place) (subscription_of (feed_state upto passed last subscribers) serial) [] ≡ []
-    none_due serial none = ap (λ o. option_map_or (due_at rules commits place) o []) (none_shown upto passed last serial subscribers none)
+    -- a serial that no registration has is given nothing
+    pub none_due : (serial : ℕ) → member serial_of serial registrations ≡ None → option_map_or (due_at rules commits place) (subscription_of (feed_state upto passed last registrations) serial) [] ≡ []
+    none_due serial none = ap (λ o. option_map_or (due_at rules commits place) o []) (none_shown upto passed last serial registrations none)
 
-    found_due : (serial : ℕ) (x : ℕ × Subscriber A) → member serial_of serial subscribers ≡ Some x → option_map_or (due_at rules commits place) (subscription_of (feed_state upto passed last subscribers) serial) [] ≡ cond (nat_le x.1.from place) (option_to_list (item_at (satisfies rules (query_of x.1.query)) commits place)) []
-    found_due serial x found = ap (λ o. option_map_or (due_at rules commits place) o []) (one_shown upto passed last serial subscribers x found) ∙ due_shown x
+    found_due : (serial : ℕ) (x : ℕ × Registration A) → member serial_of serial registrations ≡ Some x → option_map_or (due_at rules commits place) (subscription_of (feed_state upto passed last registrations) serial) [] ≡ cond (nat_le x.1.from place) (option_to_list (item_at (satisfies rules (query_of x.1.query)) commits place)) []
+    found_due serial x found = ap (λ o. option_map_or (due_at rules commits place) o []) (one_shown upto passed last serial registrations x found) ∙ due_shown x
 
-  -- what is due to a subscriber up to where the feed stands
-  abbrev pub missed : ℕ × Subscriber A → List (Item K)
+  -- what is due to a registration up to where the feed stands
+  abbrev pub missed : ℕ × Registration A → List (Item K)
   missed x = due_upto rules commits upto (shown upto passed x)
 
   -- one that has missed nothing
-  none_missed : (x : ℕ × Subscriber A) → x.0 ≤ passed → missed x ≡ []
+  none_missed : (x : ℕ × Registration A) → x.0 ≤ passed → missed x ≡ []
   none_missed x within =
       let e : nat_le x.0 passed ≡ true = search (arith, within) in
       let at : shown_at upto passed x ≡ max x.1.from upto = ap (λ b. cond b (max x.1.from upto) x.1.from) e in
@@ -52,40 +52,40 @@ module _ {K A : Type 0} (rules : Rules K A) (commits : List (Write K)) (upto pas
       ap (λ n. changes (satisfies rules (query_of x.1.query)) (shown_at upto passed x) n commits) same ∙ changes_none (satisfies rules (query_of x.1.query)) (shown_at upto passed x) commits
 
   -- one that may have missed something
-  pub all_missed : (x : ℕ × Subscriber A) → passed < x.0 → missed x ≡ changes (satisfies rules (query_of x.1.query)) x.1.from (max x.1.from upto) commits
+  pub all_missed : (x : ℕ × Registration A) → passed < x.0 → missed x ≡ changes (satisfies rules (query_of x.1.query)) x.1.from (max x.1.from upto) commits
   all_missed x behind =
       let e : nat_le x.0 passed ≡ false = search (arith, behind) in
       let at : shown_at upto passed x ≡ x.1.from = ap (λ b. cond b (max x.1.from upto) x.1.from) e in
       ap (λ n. changes (satisfies rules (query_of x.1.query)) n (max n upto) commits) at
 
   -- a serial up to the one passed has missed nothing
-  pub nothing_missed : (serial : ℕ) → serial ≤ passed → missed_by missed subscribers serial ≡ []
-  nothing_missed serial within = by_member (member serial_of serial subscribers) refl
+  pub nothing_missed : (serial : ℕ) → serial ≤ passed → missed_by missed registrations serial ≡ []
+  nothing_missed serial within = by_member (member serial_of serial registrations) refl
     where
-      by_member : (o : Option (ℕ × Subscriber A)) → member serial_of serial subscribers ≡ o → option_map_or missed o [] ≡ []
+      by_member : (o : Option (ℕ × Registration A)) → member serial_of serial registrations ≡ o → option_map_or missed o [] ≡ []
       by_member None e = refl
-      by_member (Some x) e = none_missed x (omega (arith, within, member_serial serial_of serial subscribers x e))
+      by_member (Some x) e = none_missed x (omega (arith, within, member_serial serial_of serial registrations x e))
 
   -- who was told what it has missed was given what is due up to where the feed stands
-  pub missed_gives : (given : List (ℕ × Item K)) → ((serial : ℕ) → items_under serial given ≡ missed_by missed subscribers serial) → Gives (due_upto rules commits upto) (feed_state upto passed last subscribers) given
+  pub missed_gives : (given : List (ℕ × Item K)) → ((serial : ℕ) → items_under serial given ≡ missed_by missed registrations serial) → Gives (due_upto rules commits upto) (feed_state upto passed last registrations) given
   missed_gives given told serial =
-      told serial ∙ shown_due (member serial_of serial subscribers) ∙ ap (λ o. option_map_or (due_upto rules commits upto) o []) (sym (found_shown upto passed last serial subscribers))
+      told serial ∙ shown_due (member serial_of serial registrations) ∙ ap (λ o. option_map_or (due_upto rules commits upto) o []) (sym (found_shown upto passed last serial registrations))
     where
-      shown_due : (o : Option (ℕ × Subscriber A)) → option_map_or missed o [] ≡ option_map_or (due_upto rules commits upto) (option_map (shown upto passed) o) []
+      shown_due : (o : Option (ℕ × Registration A)) → option_map_or missed o [] ≡ option_map_or (due_upto rules commits upto) (option_map (shown upto passed) o) []
       shown_due None = refl
       shown_due (Some x) = refl
 
--- what a commit gives to subscribers, by what each hears of
-module _ {K A : Type 0} (rules : Rules K A) (commits : List (Write K)) (topics : List (Option (TopicState A))) (upto passed last place : ℕ) (subscribers : List (ℕ × Subscriber A)) (h : IsHolding topics passed last subscribers) (further : upto ≤ place) (before after : List (ℕ × Item K)) (told : TellsCommit rules commits topics place before after) where
-  pub commit_gives : GivesInto (due_at rules commits place) (feed_state upto passed last subscribers) before after
-  commit_gives = record { given = told.given; is = told.is; gives = λ serial. by_member serial (member serial_of serial subscribers) refl }
+-- what a commit gives to registrations, by what each hears of
+module _ {K A : Type 0} (rules : Rules K A) (commits : List (Write K)) (topics : List (Option (TopicState A))) (upto passed last place : ℕ) (registrations : List (ℕ × Registration A)) (h : IsHolding topics passed last registrations) (further : upto ≤ place) (before after : List (ℕ × Item K)) (told : TellsCommit rules commits topics place before after) where
+  pub commit_gives : GivesInto (due_at rules commits place) (feed_state upto passed last registrations) before after
+  commit_gives = record { given = told.given; is = told.is; gives = λ serial. by_member serial (member serial_of serial registrations) refl }
     where
-      by_member : (serial : ℕ) (o : Option (ℕ × Subscriber A)) → member serial_of serial subscribers ≡ o → items_under serial told.given ≡ option_map_or (due_at rules commits place) (subscription_of (feed_state upto passed last subscribers) serial) []
+      by_member : (serial : ℕ) (o : Option (ℕ × Registration A)) → member serial_of serial registrations ≡ o → items_under serial told.given ≡ option_map_or (due_at rules commits place) (subscription_of (feed_state upto passed last registrations) serial) []
       by_member serial None e =
-          told.gives 0 serial (λ other apart. missing_unheard topics passed last subscribers h other serial e)
-          ∙ ap (due_to rules commits place) (missing_unheard topics passed last subscribers h 0 serial e)
-          ∙ sym (none_due rules commits upto passed last subscribers place further serial e)
+          told.gives 0 serial (λ other apart. missing_unheard topics passed last registrations h other serial e)
+          ∙ ap (due_to rules commits place) (missing_unheard topics passed last registrations h 0 serial e)
+          ∙ sym (none_due rules commits upto passed last registrations place further serial e)
       by_member serial (Some x) e =
-          told.gives x.1.topic serial (λ other apart. unheard_elsewhere topics passed last subscribers h serial x e other apart)
+          told.gives x.1.topic serial (λ other apart. unheard_elsewhere topics passed last registrations h serial x e other apart)
           ∙ ap (due_to rules commits place) (h.listens serial x e)
-          ∙ sym (found_due rules commits upto passed last subscribers place further serial x e)
+          ∙ sym (found_due rules commits upto passed last registrations place further serial x e)

@@ -5,42 +5,42 @@ use Rattle.change_list.specs.declared.write.Write.{Write}
 use Rattle.change_list.specs.Changes.{IsLegal}
 use Rattle.reach.specs.Reaches.{reaches_of}
 use Rattle.world.specs.Serials.{Rise, member}
-use Rattle.feed.specs.declared.subscriber.Subscriber.{Subscriber}
+use Rattle.feed.specs.declared.registration.Registration.{Registration}
 use Rattle.feed.specs.declared.topics.Topic.{Topic}
 use Rattle.feed.specs.Feeds.{FeedState, Subscription}
 use Rattle.feed.specs.Hearing.{TopicState, heard}
 use Rattle.feed.specs.Planting.{HasRows, AreTagged}
 
 module _ {A : Type 0} where
-  abbrev pub serial_of : ℕ × Subscriber A → ℕ
+  abbrev pub serial_of : ℕ × Registration A → ℕ
   serial_of s = s.0
 
-  -- up to which commit a subscriber was given all, where the feed stands at `upto` and those up to the serial `passed` were
+  -- up to which commit a registration was given all, where the feed stands at `upto` and those up to the serial `passed` were
   -- given what they had missed
-  abbrev pub shown_at : ℕ → ℕ → ℕ × Subscriber A → ℕ
+  abbrev pub shown_at : ℕ → ℕ → ℕ × Registration A → ℕ
   shown_at upto passed s = if nat_le s.0 passed then max s.1.from upto else s.1.from
 
-  abbrev pub shown : ℕ → ℕ → ℕ × Subscriber A → Subscription A
+  abbrev pub shown : ℕ → ℕ → ℕ × Registration A → Subscription A
   shown upto passed s = record { serial = s.0; query = query_of s.1.query; at = shown_at upto passed s }
 
-  abbrev pub feed_state : ℕ → ℕ → ℕ → List (ℕ × Subscriber A) → FeedState A
-  feed_state upto passed last subscribers = record { upto = upto; subscriptions = map (shown upto passed) subscribers; last = last }
+  abbrev pub feed_state : ℕ → ℕ → ℕ → List (ℕ × Registration A) → FeedState A
+  feed_state upto passed last registrations = record { upto = upto; subscriptions = map (shown upto passed) registrations; last = last }
 
   abbrev pub topic_state : Topic A → TopicState A
   topic_state t = record { query = query_of t.query; listeners = t.listeners }
 
   -- somebody subscribed who listens to the query with a number
-  pub record IsListener (subscribers : List (ℕ × Subscriber A)) (number serial : ℕ) : Type 0 where
-    pub subscriber : ℕ × Subscriber A
-    pub is : member serial_of serial subscribers ≡ Some subscriber
-    pub topic : subscriber.1.topic ≡ number
+  pub record IsListener (registrations : List (ℕ × Registration A)) (number serial : ℕ) : Type 0 where
+    pub registration : ℕ × Registration A
+    pub is : member serial_of serial registrations ≡ Some registration
+    pub topic : registration.1.topic ≡ number
 
   -- The subscriptions' serials rise. Each listens to its query after its first commit, and nobody else listens to anything.
-  pub record IsHolding (topics : List (Option (TopicState A))) (passed last : ℕ) (subscribers : List (ℕ × Subscriber A)) : Type 0 where
-    pub rise : Rise serial_of 0 last subscribers
+  pub record IsHolding (topics : List (Option (TopicState A))) (passed last : ℕ) (registrations : List (ℕ × Registration A)) : Type 0 where
+    pub rise : Rise serial_of 0 last registrations
     pub passed_given : passed ≤ last
-    pub listens : (serial : ℕ) (s : ℕ × Subscriber A) → member serial_of serial subscribers ≡ Some s → heard topics s.1.topic serial ≡ Some (query_of s.1.query, s.1.from)
-    pub nobody_else : (number serial : ℕ) → (heard topics number serial ≡ None) ⊎ IsListener subscribers number serial
+    pub listens : (serial : ℕ) (s : ℕ × Registration A) → member serial_of serial registrations ≡ Some s → heard topics s.1.topic serial ≡ Some (query_of s.1.query, s.1.from)
+    pub nobody_else : (number serial : ℕ) → (heard topics number serial ≡ None) ⊎ IsListener registrations number serial
 
 module _ {K A : Type 0} (reach_of : A → Option K) (size_of : K → ℕ) where
   -- under each key under which a query is looked for lives a row with the number

@@ -5,7 +5,7 @@ ghost use Rattle.key_class.specs.declared.refusal.Refusal.TheVariants.{BadConfig
 ghost use Rattle.feed.specs.Asking.{GivesInto, due_at, due_upto};
 ghost use Rattle.feed.specs.Feeds.{AdvancesInto, HasNoPlaceFor, RefusesSubscription, new_feed, subscription_of, with_subscription, without_subscription};
 
-use crate::subscriber::{Subscriber, tell_since};
+use crate::registration::{Registration, tell_since};
 use crate::topics::Topics;
 use change_list::Item;
 use key_class::limits::{MAX_DEPTH, MAX_SERIAL, MAX_SUBSCRIPTIONS};
@@ -27,7 +27,7 @@ pub struct Feed<C: Reach> {
     passed: u64,
     last: u64,
     /// By their serials.
-    subscribers: BTreeMap<u64, Subscriber<C::Atom>>,
+    registrations: BTreeMap<u64, Registration<C::Atom>>,
     topics: Topics<C>,
 }
 
@@ -41,9 +41,9 @@ impl<C: Reach> Model for Feed<C> {
 
     ghost coded = { Prim.hlevel (codes, query_code) };
 
-    ghost view = { λ f. feed_state f.upto f.passed f.last f.subscribers.entries };
+    ghost view = { λ f. feed_state f.upto f.passed f.last f.registrations.entries };
 
-    ghost invariant = { λ f. IsHolding f.topics f.passed f.last f.subscribers.entries };
+    ghost invariant = { λ f. IsHolding f.topics f.passed f.last f.registrations.entries };
 }
 
 impl<C: Reach> Feed<C> {
@@ -61,7 +61,7 @@ impl<C: Reach> Feed<C> {
             upto: 0,
             passed: 0,
             last: 0,
-            subscribers: BTreeMap::new(alloc),
+            registrations: BTreeMap::new(alloc),
             topics,
         })
     }
@@ -77,7 +77,7 @@ impl<C: Reach> Feed<C> {
     pub fn len(&self) -> usize
         ensures { result ≡ length self.now.subscriptions }
     {
-        self.subscribers.len()
+        self.registrations.len()
     }
 
     /// Subscribes to the changes of a query that come after commit `from`, and gives the subscription's serial. That commit may lie
@@ -98,13 +98,13 @@ impl<C: Reach> Feed<C> {
         if !query.is_within_depth(MAX_DEPTH) {
             return Err(Refusal::BadConfig);
         }
-        if self.subscribers.len() >= MAX_SUBSCRIPTIONS || self.last >= MAX_SERIAL {
+        if self.registrations.len() >= MAX_SUBSCRIPTIONS || self.last >= MAX_SERIAL {
             return Err(Refusal::FeedFull);
         }
         let serial = self.last + 1;
         let topic = self.topics.enter(&query, serial, from)?;
-        let subscriber = Subscriber { query, from, topic };
-        let Ok(_) = self.subscribers.insert(serial, subscriber) else {
+        let registration = Registration { query, from, topic };
+        let Ok(_) = self.registrations.insert(serial, registration) else {
             self.topics.leave(topic, serial);
             return Err(Refusal::OutOfMemory);
         };
@@ -123,7 +123,7 @@ impl<C: Reach> Feed<C> {
             ↔ (subscription_of self.old serial ≡ None) }
         ensures refusal { IfErr result (λ why. why ≡ NotSubscribed) }
     {
-        let Some(gone) = self.subscribers.remove(&serial) else {
+        let Some(gone) = self.registrations.remove(&serial) else {
             return Err(Refusal::NotSubscribed);
         };
         self.topics.leave(gone.topic, serial);
@@ -202,8 +202,8 @@ impl<C: Reach> Feed<C> {
     {
         for passed in self.passed..self.last {
             let serial = passed + 1;
-            if let Some(subscriber) = self.subscribers.get(&serial) {
-                tell_since(serial, subscriber, snapshot, self.upto, told)?;
+            if let Some(registration) = self.registrations.get(&serial) {
+                tell_since(serial, registration, snapshot, self.upto, told)?;
             }
         }
         Ok(())

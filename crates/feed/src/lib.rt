@@ -6,7 +6,7 @@ mod enrolling;
 mod feed;
 mod laws;
 mod listeners;
-mod subscriber;
+mod registration;
 mod topics;
 mod tree;
 

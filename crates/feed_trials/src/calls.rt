@@ -3,19 +3,12 @@ use crate::source::CONFIG;
 use change_list::Item;
 use feed::{Feed, changes_go_on};
 use interval_class::{Atom, Interval, Intervals};
-use key_class::{Pred, Refusal, Rel};
+use interval_queries::overlapping;
+use key_class::{Pred, Refusal};
 use snapshot::Snapshot;
 use std::alloc::Global;
 use std::test::Fail;
 use store::Store;
-
-fn overlapping(lo: i64, hi: i64) -> Result<Pred<Atom>, Refusal> {
-    let operand = Interval::new(lo, hi)?;
-    Ok(Pred::Atom(Atom {
-        rel: Rel::Overlaps,
-        operand,
-    }))
-}
 
 /// A query of a depth.
 fn deep(alloc: Global, depth: u32) -> Result<Pred<Atom>, Refusal> {

@@ -41,7 +41,7 @@ use Rattle.std.specs.contracts.prelude.U64PartialOrd.TheImpl as u64_partial
 use Rattle.change_list.proofs.item.Item.TheSendSync as item
 use Rattle.std.proofs.MapsCrossing.{BTreeMap-send}
 use Rattle.feed.specs.contracts.listeners.Listeners as Listeners
-use Rattle.feed.specs.contracts.subscriber.Subscriber as Subscriber
+use Rattle.feed.specs.contracts.registration.Registration as Registration
 use Rattle.feed.specs.contracts.topics.Topic as Topic
 use Rattle.feed.specs.contracts.topics.Topics as Topics
 use Rattle.feed.specs.contracts.topics.Topics.TheInside as topics_inside
@@ -81,8 +81,8 @@ module _ (A : RattleType) where
         ),
       ))
 
-  subscriber_send : IsSend A → IsSync A → IsSend (Subscriber.the_row A)
-  subscriber_send sa ya = search (pred.crosses, pred.crosses_both, crosses, sendable) depth 30
+  registration_send : IsSend A → IsSync A → IsSend (Registration.the_row A)
+  registration_send sa ya = search (pred.crosses, pred.crosses_both, crosses, sendable) depth 30
 
 slab_send : (T : RattleType) → IsSend T → IsSend (Slab.the_field T Heap.the_row ghosts).row
 slab_send T st =
@@ -136,7 +136,7 @@ module _ (C K A : RattleType) (r : reach.Ghosts C.Denot K.Denot A.Denot) (c : cl
             (
               search sendable depth 20,
               (
-                BTreeMap-send u64 (Subscriber.the_row A) u64_ord.ghosts u64_eq.ghosts u64_partial.ghosts (search sendable depth 10) (subscriber_send A sa ya),
+                BTreeMap-send u64 (Registration.the_row A) u64_ord.ghosts u64_eq.ghosts u64_partial.ghosts (search sendable depth 10) (registration_send A sa ya),
                 (
                   search (topics, crosses, sendable) depth 20,
                   tt,

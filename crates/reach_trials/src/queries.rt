@@ -1,18 +1,11 @@
 //! The keys under which whole queries are looked for.
 use interval_class::{Atom, Interval, Intervals};
+use interval_queries::overlapping;
 use key_class::{Pred, Refusal, Rel};
 use reach::reaches;
 use set_class::{Elements, Sets};
 use std::alloc::Global;
 use std::test::Fail;
-
-fn overlapping(lo: i64, hi: i64) -> Result<Pred<Atom>, Refusal> {
-    let operand = Interval::new(lo, hi)?;
-    Ok(Pred::Atom(Atom {
-        rel: Rel::Overlaps,
-        operand,
-    }))
-}
 
 fn both<A>(alloc: Global, left: Pred<A>, right: Pred<A>) -> Result<Pred<A>, Refusal>
 where

@@ -150,7 +150,10 @@ impl<'f, C: Reach, L: Ledger + Naming> Subscriber<'f, C, L> {
     /// `FeedFull`, or want of memory. Nothing is changed then.
     fn resume<R: Wait>(&mut self, rt: &R, seat: &Seat<C, L>) -> Result<(), Refusal>
         requires { self.old.position ≤ length seat.now.told }
-        ensures kept { self.new ≡ record self.old { serial = self.new.serial; end = self.new.end } }
+        ensures kept { self.new ≡ record self.old {
+          serial = self.new.serial;
+          end = self.new.end;
+        } }
         ensures fresh { OnOk result (self.new.end.taken ≡ []) }
         ensures err { OnErr result (self.new ≡ self.old) }
         ensures refusals { IfErr result (RefusesOnVisit C.rules self.old.query) }

@@ -5,7 +5,8 @@ use change_list::{Config, Item, Row, Write};
 use desk::{Desk, Seat};
 use history::{BlankHistory, Naming};
 use interval_class::{Atom, Interval, Intervals};
-use key_class::{Pred, Refusal, Rel};
+use interval_queries::{all, overlapping};
+use key_class::{Pred, Refusal};
 use shared_feed::SharedFeed;
 use std::alloc::Global;
 use std::marker::Brand;
@@ -24,20 +25,6 @@ const CONFIG: Config = Config {
 const LOW: Interval = Interval { lo: 5, hi: 8 };
 
 const HIGH: Interval = Interval { lo: 105, hi: 108 };
-
-/// What overlaps an interval.
-fn overlapping(lo: i64, hi: i64) -> Result<Pred<Atom>, Refusal> {
-    let operand = Interval::new(lo, hi)?;
-    Ok(Pred::Atom(Atom {
-        rel: Rel::Overlaps,
-        operand,
-    }))
-}
-
-/// Every row.
-fn all() -> Result<Pred<Atom>, Refusal> {
-    overlapping(i64::MIN, i64::MAX)
-}
 
 /// The item of an insert.
 fn inserted(row: u64, key: Interval) -> Item<Interval> {

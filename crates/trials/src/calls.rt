@@ -1,6 +1,7 @@
 use change_list::{Config, Item, Row, Write};
-use interval_class::{Atom, Interval, Intervals};
-use key_class::{Pred, Refusal, Rel};
+use interval_class::{Interval, Intervals};
+use interval_queries::overlapping;
+use key_class::Refusal;
 use query_text::ClassText;
 use std::alloc::Global;
 use std::test::Fail;
@@ -15,10 +16,6 @@ const CONFIG: Config = Config {
 
 fn key(lo: i64, hi: i64) -> Result<Interval, Refusal> {
     Interval::new(lo, hi)
-}
-
-fn overlapping(lo: i64, hi: i64) -> Result<Pred<Atom>, Refusal> {
-    Ok(Pred::Atom(Intervals::atom(Rel::Overlaps, key(lo, hi)?)))
 }
 
 /// Whether a configuration is out of range, and refused as such.

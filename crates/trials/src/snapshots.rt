@@ -1,6 +1,7 @@
 use change_list::{Config, Item, Row, Status, Write};
-use interval_class::{Atom, Interval, Intervals};
-use key_class::{Pred, Refusal, Rel};
+use interval_class::{Interval, Intervals};
+use interval_queries::overlapping;
+use key_class::Refusal;
 use query_text::ClassText;
 use snapshot::{Snapshot, snapshots_go_on, snapshots_may_cross};
 use std::alloc::Global;
@@ -19,10 +20,6 @@ const ROWS: i64 = 40;
 
 pub(crate) fn point(at: i64) -> Result<Interval, Refusal> {
     Interval::new(at, at)
-}
-
-pub(crate) fn overlapping(lo: i64, hi: i64) -> Result<Pred<Atom>, Refusal> {
-    Ok(Pred::Atom(Intervals::atom(Rel::Overlaps, Interval::new(lo, hi)?)))
 }
 
 /// Inserts rows at rising points, whose tags are the points, on many pages.

@@ -1,7 +1,8 @@
 //! What a store tells of itself.
-use crate::snapshots::{overlapping, point};
+use crate::snapshots::point;
 use change_list::{Config, Row, Status};
 use interval_class::{Interval, Intervals};
+use interval_queries::overlapping;
 use key_class::Refusal;
 use std::alloc::Global;
 use std::test::Fail;

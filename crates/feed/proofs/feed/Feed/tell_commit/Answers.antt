@@ -12,5 +12,5 @@ returns-clause-ok g c =
     on_ok_weaker c.tell_commit.result
     (λ told.
     subst (λ f. GivesInto (due_at rules c.args.snapshot.now c.args.place) f c.args.told.now.items c.tell_commit.new.told.items) c.self.view_is
-    (commit_gives rules c.args.snapshot.now feed.topics feed.upto feed.passed feed.last c.args.place feed.subscribers.entries c.self.invariant further c.args.told.now.items c.tell_commit.new.told.items told))
+    (commit_gives rules c.args.snapshot.now feed.topics feed.upto feed.passed feed.last c.args.place feed.registrations.entries c.self.invariant further c.args.told.now.items c.tell_commit.new.told.items told))
     c.tell_commit.ensures.ok

@@ -6,7 +6,7 @@ use Rattle.key_class.specs.Rules.{satisfies}
 use Rattle.change_list.specs.Changes.{changes}
 use Rattle.change_list.specs.declared.item.Item.{Item}
 use Rattle.world.specs.Serials.{member}
-use Rattle.feed.specs.declared.subscriber.Subscriber.{Subscriber}
+use Rattle.feed.specs.declared.registration.Registration.{Registration}
 use Rattle.feed.specs.Asking.{GivesInto, due_upto, under}
 use Rattle.feed.specs.Holding.{serial_of, shown}
 use Rattle.feed.proofs.Advancing.{TellsUpto, tells_all, tells_next, tells_nobody, tells_none}
@@ -23,7 +23,7 @@ loop-passed-init g c =
     record {
       given = [];
       is = sym (append-nil c.args.told.now.items);
-      tells = tells_none (λ s. due_upto rules commits feed.upto (shown feed.upto feed.passed s)) feed.subscribers.entries feed.passed (λ serial within. nothing_missed rules commits feed.upto feed.passed feed.last feed.subscribers.entries serial within);
+      tells = tells_none (λ s. due_upto rules commits feed.upto (shown feed.upto feed.passed s)) feed.registrations.entries feed.passed (λ serial within. nothing_missed rules commits feed.upto feed.passed feed.last feed.registrations.entries serial within);
     }
 
 pub loop-passed-preserved : goal.loop-passed-preserved
@@ -31,13 +31,13 @@ loop-passed-preserved g c =
     let feed = c.self.inside in
     let rules = g.C.KeyClass.rules in
     let commits = c.args.snapshot.now in
-    let entries = feed.subscribers.entries in
+    let entries = feed.registrations.entries in
     let n = c.loop-passed.passed in
     let given = c.loop-passed.invariant.given in
-    let missed : ℕ × Subscriber g.row.C-Atom.Denot → List (Item g.row.C-Key.Denot) = λ s. due_upto rules commits feed.upto (shown feed.upto feed.passed s) in
+    let missed : ℕ × Registration g.row.C-Atom.Denot → List (Item g.row.C-Key.Denot) = λ s. due_upto rules commits feed.upto (shown feed.upto feed.passed s) in
     elim c.match-get.branch [
       | in-Some+in_ok-tell_since w ↦
-          let x = w.in-Some.subscriber.now in
+          let x = w.in-Some.registration.now in
           let found : member serial_of (n + 1) entries ≡ Some (n + 1, x) = member_found (n + 1) entries x (sym c.get.ensures.value ∙ ap option_copied w.in-Some.is) in
           let more = under (n + 1) (changes (satisfies rules (query_of x.query)) x.from (max x.from feed.upto) commits) in
           let behind : feed.passed < n + 1 = omega (arith, c.loop-passed.auto.passed) in
@@ -57,8 +57,8 @@ returns-clause-ok g c =
     let feed = c.self.inside in
     let rules = g.C.KeyClass.rules in
     let commits = c.args.snapshot.now in
-    let entries = feed.subscribers.entries in
-    let missed : ℕ × Subscriber g.row.C-Atom.Denot → List (Item g.row.C-Key.Denot) = λ s. due_upto rules commits feed.upto (shown feed.upto feed.passed s) in
+    let entries = feed.registrations.entries in
+    let missed : ℕ × Registration g.row.C-Atom.Denot → List (Item g.row.C-Key.Denot) = λ s. due_upto rules commits feed.upto (shown feed.upto feed.passed s) in
     subst (λ f. GivesInto (due_upto rules commits f.upto) f c.args.told.now.items c.loop-passed.told.items) c.self.view_is
     (record {
       given = c.loop-passed.invariant.given;

@@ -1,0 +1,34 @@
+//! Queries of intervals that tests ask.
+#![tactic(auto)]
+
+ghost use Rattle.std.specs.Prelude.{◌≡◌, ◌<ℤ◌, IfErr, IfOk, negsuc, pos};
+ghost use Rattle.key_class.specs.declared.refusal.Refusal.TheVariants.{BadConfig};
+ghost use Rattle.interval_queries.specs.Overlapping.{AsksForOverlaps};
+
+use interval_class::{Atom, Interval};
+use key_class::{Pred, Refusal, Rel};
+
+/// What overlaps the interval with these ends, both inside.
+///
+/// # Errors
+/// `BadConfig` where `lo` is above `hi`.
+pub fn overlapping(lo: i64, hi: i64) -> Result<Pred<Atom>, Refusal>
+    ensures asks { IfOk result (AsksForOverlaps lo hi) }
+    ensures refused { IfErr result (λ why. (why ≡ BadConfig) × (hi <ℤ lo)) }
+{
+    let operand = Interval::new(lo, hi)?;
+    Ok(Pred::Atom(Atom {
+        rel: Rel::Overlaps,
+        operand,
+    }))
+}
+
+/// What overlaps any interval: every row.
+///
+/// # Errors
+/// As `overlapping`.
+pub fn all() -> Result<Pred<Atom>, Refusal>
+    ensures asks { IfOk result (AsksForOverlaps (negsuc 9223372036854775807) (pos 9223372036854775807)) }
+{
+    overlapping(i64::MIN, i64::MAX)
+}
