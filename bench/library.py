@@ -18,7 +18,7 @@ from bench import HERE, PEER_FLAGS, PEER_HEADER, has_header, instructions_by_fun
 TOP = os.path.dirname(HERE)
 SOURCE = os.path.join(HERE, "library", "library.cpp")
 PROGRAM = os.path.join(HERE, "out", "library")
-LIBRARY = os.path.join(HERE, "out", "gist_c")
+LIBRARY = os.path.join(HERE, "out", "libgist")
 
 
 def build():

@@ -28,7 +28,7 @@ namespace {
 constexpr std::uint64_t SEED = 20240607;
 
 // What each tree gets: fan 32 with at least 12 a side, as in the measurements of lines, and as many pages and commits as there are
-constexpr gist_limits LIMITS = {32, 12, 65536, 16777216};
+constexpr gist_limits LIMITS = GIST_LIMITS;
 
 [[noreturn]] void fail(const std::string& what) {
     std::fprintf(stderr, "library: %s\n", what.c_str());
@@ -76,8 +76,6 @@ struct Intervals {
     struct Key {
         std::int64_t lo, hi;
     };
-    using Row = gist_interval_row;
-    using Item = gist_interval_item;
     static constexpr std::uint32_t CLASS = GIST_INTERVALS;
 
     static Key key(Generator& generator, std::uint64_t rows) {
@@ -93,17 +91,7 @@ struct Intervals {
         std::snprintf(text, sizeof text, "overlaps(%" PRId64 " %" PRId64 ")", key.lo, key.hi);
         return text;
     }
-    static std::uint32_t insert(gist_store* store, const Key& key, std::uint64_t* row) {
-        return gist_interval_insert(store, key.lo, key.hi, 0, row);
-    }
-    static std::uint32_t find(gist_store* store, const Key& key, std::vector<Row>& rows, std::uint64_t* count) {
-        return gist_interval_find_by(store, GIST_OVERLAPS, key.lo, key.hi, rows.data(), rows.size(), count);
-    }
-    static std::uint32_t find_text(gist_store* store, const std::string& query, std::vector<Row>& rows, std::uint64_t* count) {
-        std::uint64_t fault;
-        return gist_interval_find(store, query.data(), query.size(), rows.data(), rows.size(), count, &fault);
-    }
-    static std::uint32_t next(gist_store* store, std::uint64_t cursor, Item* item) { return gist_interval_next(store, cursor, item); }
+    static gist_key key_of(const Key& key) { return gist_interval(key.lo, key.hi); }
 };
 
 // Small boxes in a square, a hundred by a hundred points of it for each
@@ -111,8 +99,6 @@ struct Boxes {
     struct Key {
         std::int32_t x1, y1, x2, y2;
     };
-    using Row = gist_box_row;
-    using Item = gist_box_item;
     static constexpr std::uint32_t CLASS = GIST_BOXES;
 
     static std::int64_t side(std::uint64_t rows) {
@@ -138,73 +124,89 @@ struct Boxes {
         std::snprintf(text, sizeof text, "overlaps(%" PRId32 " %" PRId32 " %" PRId32 " %" PRId32 ")", key.x1, key.y1, key.x2, key.y2);
         return text;
     }
-    static std::uint32_t insert(gist_store* store, const Key& key, std::uint64_t* row) {
-        return gist_box_insert(store, key.x1, key.y1, key.x2, key.y2, 0, row);
-    }
-    static std::uint32_t find(gist_store* store, const Key& key, std::vector<Row>& rows, std::uint64_t* count) {
-        return gist_box_find_by(store, GIST_OVERLAPS, key.x1, key.y1, key.x2, key.y2, rows.data(), rows.size(), count);
-    }
-    static std::uint32_t find_text(gist_store* store, const std::string& query, std::vector<Row>& rows, std::uint64_t* count) {
-        std::uint64_t fault;
-        return gist_box_find(store, query.data(), query.size(), rows.data(), rows.size(), count, &fault);
-    }
-    static std::uint32_t next(gist_store* store, std::uint64_t cursor, Item* item) { return gist_box_next(store, cursor, item); }
+    static gist_key key_of(const Key& key) { return gist_box(key.x1, key.y1, key.x2, key.y2); }
 };
 
-// A store of gist
+// A store of gist. Its finds are those in a snapshot, which is taken anew once something was written
 template <class Kind>
 class Store {
   public:
     static constexpr const char* NAME = "gist";
 
-    Store() : rows(1024) { expect(gist_new(&store, Kind::CLASS, &LIMITS), "gist_new"); }
-    ~Store() { gist_drop(&store); }
+    Store() : rows(1024) { expect(gist_create(&store, Kind::CLASS, &LIMITS), "gist_create"); }
+    ~Store() {
+        gist_drop(&snapshot);
+        gist_destroy(&store);
+    }
     Store(const Store&) = delete;
 
-    void insert(std::uint64_t row, const typename Kind::Key& key) {
-        std::uint64_t made;
-        expect(Kind::insert(&store, key, &made), "insert");
-        if (made != row) fail("a row has another number");
+    void insert(std::uint64_t, const typename Kind::Key& key) {
+        const gist_entry entry = {Kind::key_of(key), 0};
+        std::uint64_t added;
+        is_current = false;
+        expect(gist_insert(&store, &entry, 1, &added), "gist_insert");
     }
     void erase(std::uint64_t row, const typename Kind::Key&) {
-        std::uint64_t commit;
-        expect(gist_delete(&store, row, &commit), "gist_delete");
+        std::uint64_t deleted;
+        is_current = false;
+        expect(gist_delete(&store, &row, 1, &deleted), "gist_delete");
     }
     Found find(const typename Kind::Key& wanted) {
-        std::uint64_t count = 0;
-        expect(Kind::find(&store, wanted, rows, &count), "find_by");
-        return first(count);
+        const gist_key key = Kind::key_of(wanted);
+        std::uint64_t end = 0, answered = 0;
+        take();
+        expect(gist_find_each(&snapshot, GIST_OVERLAPS, &key, 1, rows.data(), rows.size(), &end, 1, &answered), "gist_find_each");
+        if (answered != 1) fail("a find has more rows than the buffer");
+        return first(end);
     }
-    Found find_text(const std::string& query) {
+    Found find_text(const std::string& text) {
+        gist_query query = prepared(text);
         std::uint64_t count = 0;
-        expect(Kind::find_text(&store, query, rows, &count), "find");
+        take();
+        expect(gist_find(&snapshot, &query, rows.data(), rows.size(), &count), "gist_find");
+        gist_forget(&query);
+        if (count > rows.size()) fail("a find has more rows than the buffer");
         return first(count);
     }
     std::uint64_t open(const typename Kind::Key& wanted) {
-        std::uint64_t cursor, fault;
-        std::string query = Kind::overlaps(wanted);
-        expect(gist_open(&store, query.data(), query.size(), &cursor, &fault), "gist_open");
+        gist_query query = prepared(Kind::overlaps(wanted));
+        std::uint64_t cursor;
+        expect(gist_open(&store, &query, &cursor), "gist_open");
+        gist_forget(&query);
         return cursor;
     }
     // Takes items until nothing is left, and tells how many
     std::uint64_t follow(std::uint64_t cursor) {
-        typename Kind::Item item;
-        for (std::uint64_t taken = 0;; taken += 1) {
-            expect(Kind::next(&store, cursor, &item), "next");
-            if (item.kind == GIST_NOTHING) return taken;
+        gist_item item;
+        for (std::uint64_t taken = 0, given = 0;; taken += given) {
+            expect(gist_next(&store, cursor, &item, 1, &given), "gist_next");
+            if (given == 0) return taken;
         }
     }
 
   private:
+    void take() {
+        if (is_current) return;
+        gist_drop(&snapshot);
+        expect(gist_take(&store, &snapshot), "gist_take");
+        is_current = true;
+    }
+    gist_query prepared(const std::string& text) const {
+        gist_query query = GIST_NONE;
+        std::uint64_t fault;
+        expect(gist_prepare(&query, Kind::CLASS, text.data(), text.size(), &fault), "gist_prepare");
+        return query;
+    }
     Found first(std::uint64_t count) const {
-        if (count > rows.size()) fail("a find has more rows than the buffer");
         Found found;
         for (std::uint64_t at = 0; at < count; at += 1) found.add(rows[at].row);
         return found;
     }
 
-    gist_store store = {};
-    std::vector<typename Kind::Row> rows;
+    gist store = GIST_NONE;
+    gist_snapshot snapshot = GIST_NONE;
+    bool is_current = false;
+    std::vector<gist_row> rows;
 };
 
 #ifdef WITH_BOOST

@@ -24,37 +24,44 @@ static int64_t drawn(uint64_t n)
 
 int main(int argc, char **argv)
 {
-    static const char all[] = "overlaps (0 2000000)";
-    const gist_limits limits = {.fan = 32, .least = 12, .pages = 65536, .commits = 16777216};
+    const gist_limits limits = GIST_LIMITS;
     size_t rows = argc == 3 ? strtoul(argv[2], NULL, 10) : 0;
-    gist_interval_entry *entries = malloc(rows * sizeof *entries);
-    gist_interval_item *items = malloc(rows * sizeof *items);
-    gist_store store = GIST_NO_STORE;
-    uint64_t number = 0, cursor, fault;
+    gist_entry *entries = malloc(rows * sizeof *entries);
+    gist_item *items = malloc(rows * sizeof *items);
+    gist store = GIST_NONE;
+    gist_query all = GIST_NONE;
+    gist_snapshot snapshot = GIST_NONE;
+    uint64_t number = 0, sum = 0, cursor;
 
     if (rows == 0 || entries == NULL || items == NULL)
         return 2;
     for (size_t n = 0; n < rows; n++)
-        entries[n] = (gist_interval_entry){drawn(n), drawn(n) + 10, n};
-    need(gist_new(&store, GIST_INTERVALS, &limits));
+        entries[n] = (gist_entry){gist_interval(drawn(n), drawn(n) + 10), n};
+    need(gist_create(&store, GIST_INTERVALS, &limits));
+    need(gist_ask(&all, GIST_INTERVALS, GIST_OVERLAPS, gist_interval(0, 2000000)));
     if (strcmp(argv[1], "insert") == 0) {
         for (size_t n = 0; n < rows; n++)
-            need(gist_interval_insert(&store, entries[n].lo, entries[n].hi, entries[n].tag, &number));
+            need(gist_insert(&store, &entries[n], 1, &number));
     } else {
-        need(gist_interval_insert_all(&store, entries, rows, &number));
+        need(gist_insert(&store, entries, rows, &number));
     }
-    need(gist_open_from(&store, all, strlen(all), 0, &cursor, &fault));
+    need(gist_follow(&store, &all, 0, &cursor));
     if (strcmp(argv[1], "next") == 0) {
         for (size_t n = 0; n < rows; n++)
-            need(gist_interval_next(&store, cursor, &items[n]));
+            need(gist_next(&store, cursor, &items[n], 1, &number));
     } else if (strcmp(argv[1], "take") == 0) {
-        need(gist_interval_take(&store, cursor, items, rows, &number));
+        need(gist_next(&store, cursor, items, rows, &number));
     } else if (strcmp(argv[1], "commits") == 0) {
-        for (size_t n = 0; n < rows; n++)
-            number += gist_commits(&store);
+        need(gist_take(&store, &snapshot));
+        for (size_t n = 0; n < rows; n++) {
+            need(gist_commits(&snapshot, &number));
+            sum += number;
+        }
+        gist_drop(&snapshot);
     }
-    gist_drop(&store);
-    printf("%llu\n", (unsigned long long)number);
+    gist_forget(&all);
+    gist_destroy(&store);
+    printf("%llu\n", (unsigned long long)(sum + number));
     free(entries);
     free(items);
     return 0;

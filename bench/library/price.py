@@ -3,9 +3,9 @@
 
     bench/library/price.py
 
-A row by `gist_interval_insert` is compared with a row by `gist_interval_insert_all`, which makes the same call of the store
-for each row within one call of its own; an item by `gist_interval_next` with one by `gist_interval_take`; and
-`gist_commits`, which only reads a number, shows what getting to the store and back takes. Counted by callgrind, as the
+A row by `gist_insert` of one is compared with a row by `gist_insert` of all, which makes the same call of the store for each
+row within one call of its own; an item by `gist_next` of one with one by `gist_next` of all; and `gist_commits`, which only
+reads a number, shows what getting to the snapshot takes. Counted by callgrind, as the
 difference of two runs with 20,000 and 40,000 rows.
 """
 import os
@@ -33,10 +33,10 @@ def main():
         subprocess.run(["cc", "-O2", "-I", folder, f"{HERE}/price.c", "-L", folder, "-lgist", "-o", program], check=True)
         a_row = lambda what: (instructions(program, what, MANY, folder) - instructions(program, what, FEW, folder)) / (MANY - FEW)
         filled = a_row("insert_all")
-        print(f"a row more by insert_all: {filled:.0f}, its key and tag included")
-        print(f"a call of insert over it: {a_row('insert') - filled:.1f}")
-        print(f"an item of take: {a_row('take') - filled:.0f}")
-        print(f"an item of next: {a_row('next') - filled:.0f}")
+        print(f"a row more by insert of all: {filled:.0f}, its key and tag included")
+        print(f"a call of insert of one over it: {a_row('insert') - filled:.1f}")
+        print(f"an item of next of all: {a_row('take') - filled:.0f}")
+        print(f"an item of next of one: {a_row('next') - filled:.0f}")
         print(f"a call of commits: {a_row('commits') - filled:.1f}")
 
 

@@ -1,7 +1,0 @@
-use denote.Param.Send.{sendable}
-use Rattle.std.proofs.Crossing.{crosses}
-use Rattle.gist_c.proofs.world_handle.WorldHandle.TheSendSync as handle
-use Rattle.gist_c.proofs.world_handle.worlds_may_cross.Goals as goal
-
-pub may_cross-requires : goal.may_cross-requires
-may_cross-requires c = search (crosses, handle.the_send, sendable) depth 20

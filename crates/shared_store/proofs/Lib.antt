@@ -1,3 +1,0 @@
-pub mod Crossing
-mod Openings
-mod Sharing
