@@ -9,7 +9,7 @@ ROOT = os.path.abspath(os.path.join(os.path.dirname(os.path.abspath(__file__)), 
 RELEASE = f"{ROOT}/release"
 
 # What is released: the program and the library for C
-RELEASED = ("gist", "gist_c")
+RELEASED = ("gist", "libgist")
 
 # Where a crate's sources stand
 PARTS = ("src", "specs", "proofs")
