@@ -2,8 +2,11 @@
 """Measures the library for C in process, beside the R-tree of Boost.Geometry on the same keys where its headers are there.
 
     bench/library.py [--class interval|box] [--rows N ..] [--finds N] [--turns N] [--callgrind]
+    bench/library.py --threads [--rows N ..] [--finds N] [--turns N]
 
-It builds bench/library/library.cpp over the library that tools/library makes, and runs it. Each find must give the same rows by every tree, or the run ends with status 1.
+It builds bench/library/library.cpp over the library that tools/library makes, and runs it. Each find must give the same rows by
+every tree, or the run ends with status 1. By the second, 1, 2 and 4 threads find in snapshots beside one that inserts
+(bench/library/threads.c), and beside that as many find in Boost's tree under a std::shared_mutex.
 """
 import argparse
 import os
@@ -13,12 +16,15 @@ import sys
 import tempfile
 
 sys.dont_write_bytecode = True
+import threads as desks
 from bench import HERE, PEER_FLAGS, PEER_HEADER, has_header, instructions_by_function
 
 TOP = os.path.dirname(HERE)
 SOURCE = os.path.join(HERE, "library", "library.cpp")
 PROGRAM = os.path.join(HERE, "out", "library")
 LIBRARY = os.path.join(HERE, "out", "libgist")
+THREADS_SOURCE = os.path.join(HERE, "library", "threads.c")
+THREADS = os.path.join(HERE, "out", "library_threads")
 
 
 def build():
@@ -34,6 +40,28 @@ def build():
         raise SystemExit("library: the program can't be built")
 
 
+def measured(program, words, turns):
+    """Of some runs of a program that has readers and a writer, the one in which the readers found most a second."""
+    told = [subprocess.run([program, *map(str, words)], stdout=subprocess.PIPE, check=True, text=True).stdout for _ in range(turns)]
+    return desks.best([[dict(zip(desks.FIELDS, map(int, line.split()))) for line in lines.splitlines()] for lines in told])
+
+
+def print_threads(options):
+    """Finds a second of threads beside one that inserts, and what Boost's tree under a shared mutex does."""
+    flags = ["-O2", "-std=c11", "-D_GNU_SOURCE", "-pthread", f"-I{LIBRARY}"]
+    if subprocess.run(["cc", *flags, THREADS_SOURCE, f"-L{LIBRARY}", "-lgist", "-o", THREADS]).returncode != 0:
+        raise SystemExit("library: the program with threads can't be built")
+    desks.build_peer()
+    for rows in options.rows or [100_000]:
+        print(f"Finds of ten rows a second beside one thread that inserts, {rows:,} intervals")
+        print("  threads     gist  in snapshots   boost, shared mutex   times   inserts a second: gist, boost")
+        for count in (1, 2, 4):
+            own, peer = (measured(program, [count, rows, options.finds * count, 1], options.turns) for program in (THREADS, desks.PEER))
+            finds = [desks.a_second(it[1]) for it in (own, peer)]
+            inserts = [desks.a_second(it[0]) for it in (own, peer)]
+            print(f"  {count:>7}  {finds[0]:>22,.0f}  {finds[1]:>20,.0f}  {finds[0] / finds[1]:>6.2f}   {inserts[0]:>12,.0f} {inserts[1]:>12,.0f}", flush=True)
+
+
 def main():
     parser = argparse.ArgumentParser(description="Measures the library for C in process.")
     parser.add_argument("--class", dest="kinds", action="append", choices=["interval", "box"], help="by default both")
@@ -41,8 +69,11 @@ def main():
     parser.add_argument("--finds", type=int, default=20_000, help="finds in a phase")
     parser.add_argument("--turns", type=int, default=3, help="runs, the least of which counts; up to five times as many of short ones")
     parser.add_argument("--callgrind", action="store_true", help="instructions in place of time, by valgrind, of gist alone")
+    parser.add_argument("--threads", action="store_true", help="threads that find beside one that inserts")
     options = parser.parse_args()
     build()
+    if options.threads:
+        return print_threads(options)
     for kind in options.kinds or ["interval", "box"]:
         for rows in options.rows or ([20_000] if options.callgrind else [10_000, 100_000, 1_000_000]):
             turns = 1 if options.callgrind else options.turns * min(1 + 100_000 // rows, 5)
