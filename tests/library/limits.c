@@ -1,6 +1,8 @@
 /*
  * Each limit of the library, reached and passed by one: pages, commits, cursors and subscriptions. What is refused changes
- * nothing, and what makes room is taken.
+ * nothing, and what has room again is taken.
+ *
+ * It prints nothing, and ends with status 0, or tells the line of the first thing that isn't as it is to be.
  */
 #include "gist.h"
 
@@ -11,21 +13,14 @@
 #define MOST_CURSORS 256
 #define MOST_SUBSCRIPTIONS 1000000
 
-static void is(int line, uint32_t answer, uint32_t wanted) {
-    if (answer == wanted)
-        return;
-    fprintf(stderr, "line %d: %" PRIu32 " in place of %" PRIu32 "\n", line, answer, wanted);
-    exit(1);
+static void told(int line, const char *what, uint64_t is, uint64_t wanted) {
+    if (is != wanted) {
+        fprintf(stderr, "line %d: %s is %" PRIu64 ", not %" PRIu64 "\n", line, what, is, wanted);
+        exit(1);
+    }
 }
-#define IS(call, wanted) is(__LINE__, call, wanted)
 
-static void holds(int line, bool is_so) {
-    if (is_so)
-        return;
-    fprintf(stderr, "line %d: it is not so\n", line);
-    exit(1);
-}
-#define HOLDS(what) holds(__LINE__, what)
+#define IS(what, wanted) told(__LINE__, #what, (uint64_t)(what), (uint64_t)(wanted))
 
 static gist_store made(uint32_t pages, uint32_t commits) {
     const gist_limits limits = {4, 2, pages, commits};
@@ -61,13 +56,13 @@ static void pages(void) {
     while ((answer = insert(&store, (int64_t)rows)) == GIST_OK)
         rows++;
     IS(answer, GIST_PAGES_FULL);
-    HOLDS(rows >= 4 && commits_of(&store) == rows);
+    IS(rows >= 4 && commits_of(&store) == rows, true);
     IS(gist_move(&store, 1, gist_interval(1, 1), &deleted), GIST_PAGES_FULL);
-    HOLDS(commits_of(&store) == rows);
+    IS(commits_of(&store) == rows, true);
     for (uint64_t row = 1; row <= rows; row++)
         IS(gist_delete(&store, &row, 1, &deleted), GIST_OK);
     IS(gist_sweep(&store, &removed), GIST_OK);
-    HOLDS(removed == rows);
+    IS(removed == rows, true);
     IS(insert(&store, 0), GIST_OK);
     gist_destroy(&store);
 }
@@ -85,11 +80,11 @@ static void commits(void) {
     IS(insert(&store, 5), GIST_COMMITS_FULL);
     IS(gist_move(&store, row, gist_interval(9, 9), &done), GIST_COMMITS_FULL);
     IS(gist_delete(&store, &row, 1, &done), GIST_COMMITS_FULL);
-    HOLDS(commits_of(&store) == 5);
+    IS(commits_of(&store) == 5, true);
     IS(gist_open(&store, &every, &cursor), GIST_OK);
     IS(gist_take(&store, &now), GIST_OK);
     IS(gist_count(&now, &every, &count), GIST_OK);
-    HOLDS(count == 5);
+    IS(count == 5, true);
     gist_drop(&now);
     gist_forget(&every);
     gist_destroy(&store);
@@ -127,7 +122,7 @@ static void subscriptions(void) {
     IS(gist_subscribe(&feed, &every, 0, &subscription), GIST_FEED_FULL);
     IS(gist_unsubscribe(&feed, first), GIST_OK);
     IS(gist_subscribe(&feed, &every, 0, &subscription), GIST_OK);
-    HOLDS(subscription == first + MOST_SUBSCRIPTIONS);
+    IS(subscription == first + MOST_SUBSCRIPTIONS, true);
     IS(gist_subscribe(&feed, &every, 0, &subscription), GIST_FEED_FULL);
     gist_end(&feed);
     gist_forget(&every);
