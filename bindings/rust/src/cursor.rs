@@ -1,0 +1,151 @@
+//! Cursors.
+
+use crate::error::{told, Error};
+use crate::ffi;
+use crate::item::{item, Item};
+use crate::key::Key;
+use crate::store::Store;
+use std::fmt;
+use std::mem;
+
+/// Gives the rows that match, and then goes on: each later change that its query asks for, in the order of the commits,
+/// without a gap and without a repetition. [`Store::open`] and [`Store::follow`] make one.
+///
+/// As an iterator it ends where nothing is left, and goes on when there is more. It borrows its store, which can be
+/// written meanwhile, and is closed when it is dropped.
+///
+/// ```
+/// use gist::{Interval, Item, Query, Store};
+///
+/// let rooms = Store::<Interval>::new()?;
+/// rooms.insert(9..12, 71)?;
+/// let mut display = rooms.open(&Query::overlaps(8..18)?)?;
+/// display.mark()?;
+/// let items = display.by_ref().collect::<Result<Vec<_>, _>>()?;
+/// assert!(matches!(items[..], [Item::Row(_), Item::Mark(1)]));
+///
+/// // who has taken mark 1 may go away, and come back to what followed
+/// drop(display);
+/// rooms.delete(1)?;
+/// let back = rooms.follow(&Query::overlaps(8..18)?, 1)?;
+/// assert_eq!(back.count(), 1);
+/// # Ok::<(), gist::Error>(())
+/// ```
+#[must_use = "a cursor is closed when it is dropped"]
+pub struct Cursor<'a, K: Key> {
+    store: &'a Store<K>,
+    number: u64,
+}
+
+/// The number of an open cursor that borrows its store no more, as [`Cursor::detach`] gives it.
+#[derive(Debug, PartialEq, Eq, Hash)]
+#[must_use = "a cursor that isn't attached again stays open"]
+pub struct CursorNumber(u64);
+
+impl CursorNumber {
+    /// The number.
+    pub fn number(&self) -> u64 {
+        self.0
+    }
+}
+
+// SAFETY of each call below: as for the calls of a store.
+impl<'a, K: Key> Cursor<'a, K> {
+    pub(crate) fn of(store: &'a Store<K>, number: u64) -> Cursor<'a, K> {
+        Cursor { store, number }
+    }
+
+    /// The next items by one call, at most as many as that. There are none only where nothing is left now.
+    ///
+    /// # Errors
+    /// [`Error::OutOfMemory`], and the next call goes on. A cursor that was attached to another store than its own is
+    /// refused as [`Error::NoSuchCursor`] or [`Error::CursorClosed`], or is one of that store's.
+    pub fn next_items(&mut self, most: usize) -> Result<Vec<Item<K>>, Error> {
+        let mut items = vec![ffi::Item::default(); most];
+        let mut all = Vec::with_capacity(most);
+        let mut given = 0;
+        told(unsafe {
+            ffi::gist_next(
+                self.store.handle(),
+                self.number,
+                items.as_mut_ptr(),
+                items.len(),
+                &mut given,
+            )
+        })?;
+        all.extend(items[..given as usize].iter().copied().filter_map(item));
+        Ok(all)
+    }
+
+    /// Asks for a mark: an [`Item::Mark`] with the number of a commit, which shows that all up to that commit was given.
+    ///
+    /// # Errors
+    /// As [`Cursor::next_items`].
+    pub fn mark(&self) -> Result<(), Error> {
+        told(unsafe { ffi::gist_mark(self.store.handle(), self.number) })
+    }
+
+    /// Closes the cursor, as a drop does.
+    ///
+    /// # Errors
+    /// As [`Cursor::next_items`].
+    pub fn close(self) -> Result<(), Error> {
+        let store = self.store;
+        let number = self.detach();
+        told(unsafe { ffi::gist_close(store.handle(), number.0) })
+    }
+
+    /// Ends the borrow and leaves the cursor open. [`Store::attach`] goes on with it.
+    ///
+    /// ```
+    /// use gist::{Interval, Query, Store};
+    ///
+    /// let mut rooms = Store::<Interval>::new()?;
+    /// let display = rooms.open(&Query::overlaps(8..18)?)?.detach();
+    /// rooms.extend([((9..12).into(), 71)]);
+    /// assert_eq!(rooms.attach(display).count(), 1);
+    /// # Ok::<(), gist::Error>(())
+    /// ```
+    pub fn detach(self) -> CursorNumber {
+        let number = CursorNumber(self.number);
+        mem::forget(self);
+        number
+    }
+}
+
+impl<K: Key> Iterator for Cursor<'_, K> {
+    type Item = Result<Item<K>, Error>;
+
+    fn next(&mut self) -> Option<Result<Item<K>, Error>> {
+        let (mut told_item, mut given) = (ffi::Item::default(), 0);
+        let answer = unsafe {
+            ffi::gist_next(
+                self.store.handle(),
+                self.number,
+                &mut told_item,
+                1,
+                &mut given,
+            )
+        };
+        match told(answer) {
+            Ok(()) if given == 0 => None,
+            Ok(()) => item(told_item).map(Ok),
+            Err(error) => Some(Err(error)),
+        }
+    }
+}
+
+impl<K: Key> Drop for Cursor<'_, K> {
+    fn drop(&mut self) {
+        // a cursor that is closed already has nothing to be closed
+        let _closed = unsafe { ffi::gist_close(self.store.handle(), self.number) };
+    }
+}
+
+impl<K: Key> fmt::Debug for Cursor<'_, K> {
+    fn fmt(&self, f: &mut fmt::Formatter<'_>) -> fmt::Result {
+        f.debug_struct("Cursor")
+            .field("number", &self.number)
+            .finish_non_exhaustive()
+    }
+}

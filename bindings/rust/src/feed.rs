@@ -1,0 +1,148 @@
+//! Feeds.
+
+use crate::error::{told, Error};
+use crate::ffi;
+use crate::handle::Owned;
+use crate::item::{change, Subscription, Told};
+use crate::key::Key;
+use crate::query::Query;
+use crate::snapshot::Snapshot;
+use std::fmt;
+use std::marker::PhantomData;
+use std::mem;
+
+/// Tells many subscribers of the changes that each asked for. A commit costs work only for those whom it may concern.
+///
+/// It goes from snapshot to snapshot of one store, and needs the store's lock no more than a snapshot does. Who wants the
+/// rows first finds them in a snapshot of n commits, and subscribes from n.
+///
+/// ```
+/// use gist::{BoxKey, Feed, Query, Store};
+///
+/// let map = Store::<BoxKey>::new()?;
+/// let mut feed = Feed::new()?;
+/// let window = feed.subscribe(&Query::overlaps((0..640, 0..480))?, 0)?;
+/// map.insert(BoxKey::point(10, 20), 501)?;
+/// map.insert(BoxKey::point(900, 20), 502)?;
+///
+/// let advance = feed.advance(&map.snapshot()?, u64::MAX)?;
+/// assert_eq!(advance.upto, 2);
+/// assert_eq!(advance.told.len(), 1);
+/// assert_eq!(advance.told[0].to, window);
+/// assert_eq!(advance.told[0].change.row().tag, 501);
+/// # Ok::<(), gist::Error>(())
+/// ```
+pub struct Feed<K: Key> {
+    handle: Owned<ffi::Feed>,
+    /// What was given before a refusal, and isn't handed on.
+    kept: Vec<Told<K>>,
+    keys: PhantomData<K>,
+}
+
+/// What an advance gives.
+#[derive(Clone, Debug, PartialEq, Eq, Hash)]
+pub struct Advance<K> {
+    /// The changes. Those of one subscription are in the order of the commits.
+    pub told: Vec<Told<K>>,
+    /// The commit up to which the feed has gone.
+    pub upto: u64,
+}
+
+// SAFETY of each call below: the handle is this feed's own and was never copied, `&mut self` keeps every other call away,
+// and each pointer is that of a value that lives through the call.
+impl<K: Key> Feed<K> {
+    /// How many changes one call of the library gives at most.
+    const ROOM: usize = 1_024;
+
+    /// A feed without subscriptions, which has gone over no commit.
+    ///
+    /// # Errors
+    /// [`Error::OutOfMemory`].
+    pub fn new() -> Result<Feed<K>, Error> {
+        let handle = Owned::none();
+        told(unsafe { ffi::gist_begin(handle.get(), K::NUMBER) })?;
+        Ok(Feed {
+            handle,
+            kept: Vec::new(),
+            keys: PhantomData,
+        })
+    }
+
+    /// Subscribes to the changes of a query that come after a commit. Those up to the commit to which the feed has gone
+    /// are given by its next advance.
+    ///
+    /// # Errors
+    /// [`Error::FeedFull`], [`Error::OutOfMemory`].
+    pub fn subscribe(&mut self, query: &Query<K>, from: u64) -> Result<Subscription, Error> {
+        let mut number = 0;
+        told(query.read(|query| unsafe {
+            ffi::gist_subscribe(self.handle.get(), query, from, &mut number)
+        }))?;
+        Ok(Subscription(number))
+    }
+
+    /// Ends a subscription.
+    ///
+    /// # Errors
+    /// [`Error::NotSubscribed`].
+    pub fn unsubscribe(&mut self, subscription: Subscription) -> Result<(), Error> {
+        told(unsafe { ffi::gist_unsubscribe(self.handle.get(), subscription.0) })
+    }
+
+    /// Goes over at most so many further commits of a snapshot, and gives each subscription the changes that they are to
+    /// it.
+    ///
+    /// # Errors
+    /// [`Error::FromFuture`] where the snapshot has fewer commits than the feed has gone over. [`Error::OutOfMemory`];
+    /// nothing is lost then, and the next call gives it.
+    pub fn advance(&mut self, snapshot: &Snapshot<K>, most: u64) -> Result<Advance<K>, Error> {
+        let mut buffer = vec![ffi::Told::default(); Self::ROOM];
+        let (mut upto, mut most) = (0, most);
+        loop {
+            self.kept.reserve(Self::ROOM);
+            let given = self.advance_into(snapshot, most, &mut buffer, &mut upto)?;
+            self.kept.extend(buffer[..given].iter().filter_map(|it| {
+                let change = change(it.item)?;
+                Some(Told {
+                    to: Subscription(it.subscription),
+                    change,
+                })
+            }));
+            if given < Self::ROOM {
+                let told = mem::take(&mut self.kept);
+                return Ok(Advance { told, upto });
+            }
+            // what waits is given without going over further commits
+            most = 0;
+        }
+    }
+
+    /// Fills a buffer, as far as there is something to be given.
+    fn advance_into(
+        &mut self,
+        snapshot: &Snapshot<K>,
+        most: u64,
+        buffer: &mut [ffi::Told],
+        upto: &mut u64,
+    ) -> Result<usize, Error> {
+        let mut given = 0;
+        told(snapshot.read(|snapshot| unsafe {
+            ffi::gist_advance(
+                self.handle.get(),
+                snapshot,
+                most,
+                buffer.as_mut_ptr(),
+                buffer.len(),
+                &mut given,
+                upto,
+            )
+        }))?;
+        Ok(given as usize)
+    }
+}
+
+impl<K: Key> fmt::Debug for Feed<K> {
+    fn fmt(&self, f: &mut fmt::Formatter<'_>) -> fmt::Result {
+        f.debug_struct("Feed").finish_non_exhaustive()
+    }
+}

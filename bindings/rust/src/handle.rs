@@ -1,0 +1,50 @@
+//! Who has a handle: one thread at a time, or any number of them that only read.
+
+use crate::ffi::Handle;
+use std::cell::UnsafeCell;
+use std::sync::{Mutex, PoisonError};
+
+/// A handle with one owner, for calls that change what it has. It may go to another thread, and isn't shared by two.
+pub(crate) struct Owned<H: Handle>(UnsafeCell<H>);
+
+// SAFETY: what a handle has is bound to no thread.
+unsafe impl<H: Handle> Send for Owned<H> {}
+
+impl<H: Handle> Owned<H> {
+    /// A handle of nothing.
+    pub fn none() -> Owned<H> {
+        Owned(UnsafeCell::new(H::NONE))
+    }
+
+    /// The handle for one call. An `Owned` isn't `Sync` and no call of the library calls back, so there is no other call
+    /// of it meanwhile.
+    pub fn get(&self) -> *mut H {
+        self.0.get()
+    }
+}
+
+impl<H: Handle> Drop for Owned<H> {
+    fn drop(&mut self) {
+        // SAFETY: this is its only owner.
+        unsafe { H::drop_inside(self.0.get()) }
+    }
+}
+
+/// A handle for calls that only read what it has. Threads share it.
+///
+/// A call of the library has a handle to itself for now, so those of one handle wait for each other here. Who wants
+/// readers that never wait gives each thread a snapshot of its own.
+pub(crate) struct Shared<H: Handle>(Mutex<Owned<H>>);
+
+impl<H: Handle> Shared<H> {
+    /// Shares what a handle has.
+    pub fn new(handle: Owned<H>) -> Shared<H> {
+        Shared(Mutex::new(handle))
+    }
+
+    /// Makes a call that reads.
+    pub fn read<R>(&self, call: impl FnOnce(*const H) -> R) -> R {
+        let handle = self.0.lock().unwrap_or_else(PoisonError::into_inner);
+        call(handle.get())
+    }
+}

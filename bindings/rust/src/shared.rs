@@ -1,0 +1,135 @@
+//! A store that threads share.
+
+use crate::error::Error;
+use crate::key::Key;
+use crate::snapshot::Snapshot;
+use crate::store::Store;
+use std::fmt;
+use std::sync::{Arc, Condvar, Mutex, MutexGuard, PoisonError};
+use std::time::{Duration, Instant};
+
+/// A store for any number of threads: writers take turns, readers search snapshots without the lock, and who follows the
+/// changes sleeps until there are some. A clone is the same store.
+///
+/// ```
+/// use gist::{Interval, Query, SharedStore, Store};
+/// use std::thread;
+///
+/// let rooms = SharedStore::new(Store::<Interval>::new()?);
+/// let writer = rooms.clone();
+/// let clerk = thread::spawn(move || writer.write(|store| store.insert(9..12, 71)));
+///
+/// let now = rooms.wait_past(0)?;
+/// assert_eq!(now.count(&Query::overlaps(8..18)?)?, 1);
+/// clerk.join().expect("the clerk doesn't panic")?;
+/// # Ok::<(), gist::Error>(())
+/// ```
+pub struct SharedStore<K: Key> {
+    shared: Arc<Shared<K>>,
+}
+
+struct Shared<K: Key> {
+    store: Mutex<Store<K>>,
+    grown: Condvar,
+}
+
+impl<K: Key> Shared<K> {
+    /// The store. Each call of it is whole or refused, so a store stays good where a thread panics beside it.
+    fn lock(&self) -> MutexGuard<'_, Store<K>> {
+        self.store.lock().unwrap_or_else(PoisonError::into_inner)
+    }
+}
+
+/// Wakes those who wait for commits, also where the work that it follows panics.
+struct Wakes<'a>(&'a Condvar);
+
+impl Drop for Wakes<'_> {
+    fn drop(&mut self) {
+        self.0.notify_all();
+    }
+}
+
+impl<K: Key> SharedStore<K> {
+    /// Shares a store.
+    pub fn new(store: Store<K>) -> SharedStore<K> {
+        SharedStore {
+            shared: Arc::new(Shared {
+                store: Mutex::new(store),
+                grown: Condvar::new(),
+            }),
+        }
+    }
+
+    /// Does some work on the store, which no other thread has meanwhile, and then wakes those who wait for commits.
+    /// Within the work no other call of this shared store may be made: it would wait for ever, or panic.
+    ///
+    /// The store may be replaced, by one that was [renewed](Snapshot::renew): the numbers of commits begin anew then.
+    pub fn write<R>(&self, work: impl FnOnce(&mut Store<K>) -> R) -> R {
+        let _wakes = Wakes(&self.shared.grown);
+        work(&mut self.shared.lock())
+    }
+
+    /// Takes a snapshot.
+    ///
+    /// # Errors
+    /// [`Error::OutOfMemory`].
+    pub fn snapshot(&self) -> Result<Snapshot<K>, Error> {
+        self.shared.lock().snapshot()
+    }
+
+    /// Sleeps until there are more commits than that, and takes a snapshot.
+    ///
+    /// # Errors
+    /// [`Error::OutOfMemory`].
+    pub fn wait_past(&self, commit: u64) -> Result<Snapshot<K>, Error> {
+        let store = self.shared.lock();
+        let grown = self
+            .shared
+            .grown
+            .wait_while(store, |store| store.commits() <= commit);
+        grown.unwrap_or_else(PoisonError::into_inner).snapshot()
+    }
+
+    /// Sleeps until there are more commits than that, and takes a snapshot; or gives none where so much time went by.
+    ///
+    /// # Errors
+    /// [`Error::OutOfMemory`].
+    pub fn wait_past_for(
+        &self,
+        commit: u64,
+        longest: Duration,
+    ) -> Result<Option<Snapshot<K>>, Error> {
+        let begin = Instant::now();
+        let mut store = self.shared.lock();
+        while store.commits() <= commit {
+            let Some(left) = longest.checked_sub(begin.elapsed()) else {
+                return Ok(None);
+            };
+            let woken = self.shared.grown.wait_timeout(store, left);
+            store = woken.unwrap_or_else(PoisonError::into_inner).0;
+        }
+        store.snapshot().map(Some)
+    }
+}
+
+impl<K: Key> Clone for SharedStore<K> {
+    fn clone(&self) -> SharedStore<K> {
+        SharedStore {
+            shared: Arc::clone(&self.shared),
+        }
+    }
+}
+
+impl<K: Key> From<Store<K>> for SharedStore<K> {
+    fn from(store: Store<K>) -> SharedStore<K> {
+        SharedStore::new(store)
+    }
+}
+
+impl<K: Key> fmt::Debug for SharedStore<K> {
+    fn fmt(&self, f: &mut fmt::Formatter<'_>) -> fmt::Result {
+        f.debug_tuple("SharedStore")
+            .field(&*self.shared.lock())
+            .finish()
+    }
+}

@@ -1,0 +1,341 @@
+//! Snapshots.
+
+use crate::error::{told, Error};
+use crate::ffi;
+use crate::handle::{Owned, Shared};
+use crate::item::{change, row, Change, Row};
+use crate::key::{Key, Relation};
+use crate::query::Query;
+use crate::store::{Limits, Renewed, Store};
+use std::fmt;
+use std::marker::PhantomData;
+use std::sync::Arc;
+use std::vec;
+
+/// A store's commits as they stood when it was taken, whatever follows.
+///
+/// It goes to any thread and is read by any number of them; a clone is the same snapshot. It keeps the pages and rows
+/// that the store has changed since, for as long as it lives.
+///
+/// ```
+/// use gist::{Query, Set, Store};
+///
+/// let songs = Store::<Set>::new()?;
+/// let first = songs.insert([1, 5], 301)?;
+/// let before = songs.snapshot()?;
+/// songs.delete(first)?;
+/// assert_eq!(before.find(&Query::holds([5])?)?[0].tag, 301);
+/// assert!(songs.snapshot()?.is_empty()?);
+/// # Ok::<(), gist::Error>(())
+/// ```
+pub struct Snapshot<K: Key> {
+    handle: Arc<Shared<ffi::Snapshot>>,
+    keys: PhantomData<K>,
+}
+
+/// A row, and whether it lived.
+#[derive(Clone, Copy, Debug, PartialEq, Eq, Hash)]
+pub struct Known<K> {
+    /// The row, as the commit with its number made it.
+    pub row: Row<K>,
+    /// Whether no delete and no move had ended it.
+    pub lives: bool,
+}
+
+/// Some changes in the order of their commits.
+#[derive(Clone, Debug, PartialEq, Eq, Hash)]
+pub struct Changes<K> {
+    /// The changes.
+    pub changes: Vec<Change<K>>,
+    /// The commit up to which all were given: from that one a further call goes on.
+    pub upto: u64,
+}
+
+// SAFETY of each call below: the handle has a snapshot, and was never copied; `Shared` keeps every other call of it away,
+// and each pointer is that of a value that lives through the call.
+impl<K: Key> Snapshot<K> {
+    /// How many rows a search has room for at first.
+    const ROOM: usize = 64;
+
+    /// The snapshot that a handle has.
+    pub(crate) fn of(handle: Owned<ffi::Snapshot>) -> Snapshot<K> {
+        Snapshot {
+            handle: Arc::new(Shared::new(handle)),
+            keys: PhantomData,
+        }
+    }
+
+    /// Makes a call that reads this snapshot.
+    pub(crate) fn read<R>(&self, call: impl FnOnce(*const ffi::Snapshot) -> R) -> R {
+        self.handle.read(call)
+    }
+
+    /// How many commits there were.
+    pub fn commits(&self) -> u64 {
+        let mut commits = 0;
+        let answer = self.read(|it| unsafe { ffi::gist_commits(it, &mut commits) });
+        debug_assert_eq!(answer, 0, "a snapshot's handle has a snapshot");
+        commits
+    }
+
+    /// How many rows lived.
+    ///
+    /// # Errors
+    /// [`Error::OutOfMemory`].
+    pub fn len(&self) -> Result<u64, Error> {
+        self.count(&Query::everything()?)
+    }
+
+    /// Whether no row lived.
+    ///
+    /// # Errors
+    /// [`Error::OutOfMemory`].
+    pub fn is_empty(&self) -> Result<bool, Error> {
+        Ok(self.len()? == 0)
+    }
+
+    /// The row with a number, if it lived.
+    ///
+    /// # Errors
+    /// [`Error::OutOfMemory`].
+    pub fn get(&self, number: u64) -> Result<Option<Row<K>>, Error> {
+        match self.known(number) {
+            Ok(known) => Ok(known.lives.then_some(known.row)),
+            Err(Error::NoSuchRow) => Ok(None),
+            Err(other) => Err(other),
+        }
+    }
+
+    /// The row with a number, also where it was ended.
+    ///
+    /// # Errors
+    /// [`Error::NoSuchRow`], [`Error::OutOfMemory`].
+    pub fn known(&self, number: u64) -> Result<Known<K>, Error> {
+        let (mut found, mut lives) = (ffi::Row::default(), false);
+        told(self.read(|it| unsafe { ffi::gist_row_of(it, number, &mut found, &mut lives) }))?;
+        Ok(Known {
+            row: row(found),
+            lives,
+        })
+    }
+
+    /// What the commit with a number did, if there was one.
+    pub fn commit(&self, number: u64) -> Option<Change<K>> {
+        let mut commit = ffi::Item::default();
+        let answer = self.read(|it| unsafe { ffi::gist_commit_of(it, number, &mut commit) });
+        debug_assert_eq!(answer, 0, "a snapshot's handle has a snapshot");
+        change(commit)
+    }
+
+    /// All rows that lived, by rising number.
+    ///
+    /// # Errors
+    /// [`Error::OutOfMemory`].
+    pub fn iter(&self) -> Result<vec::IntoIter<Row<K>>, Error> {
+        Ok(self.find(&Query::everything()?)?.into_iter())
+    }
+
+    /// The rows that lived and that a query asks for, by rising number.
+    ///
+    /// # Errors
+    /// [`Error::OutOfMemory`].
+    pub fn find(&self, query: &Query<K>) -> Result<Vec<Row<K>>, Error> {
+        let mut rows = vec![ffi::Row::default(); Self::ROOM];
+        let mut found = self.find_into(query, &mut rows)?;
+        if found > rows.len() {
+            rows.resize(found, ffi::Row::default());
+            found = self.find_into(query, &mut rows)?;
+        }
+        Ok(rows[..found].iter().copied().map(row).collect())
+    }
+
+    /// Fills a buffer with the rows that a query asks for, as many as fit, and tells how many there are.
+    fn find_into(&self, query: &Query<K>, rows: &mut [ffi::Row]) -> Result<usize, Error> {
+        let mut found = 0;
+        told(self.read(|it| {
+            query.read(|query| unsafe {
+                ffi::gist_find(it, query, rows.as_mut_ptr(), rows.len(), &mut found)
+            })
+        }))?;
+        Ok(found as usize)
+    }
+
+    /// Counts the rows that lived and that a query asks for.
+    ///
+    /// # Errors
+    /// [`Error::OutOfMemory`].
+    pub fn count(&self, query: &Query<K>) -> Result<u64, Error> {
+        let mut count = 0;
+        told(
+            self.read(|it| query.read(|query| unsafe { ffi::gist_count(it, query, &mut count) })),
+        )?;
+        Ok(count)
+    }
+
+    /// For each key, the rows that lived and have a relation to it, by rising number.
+    ///
+    /// # Errors
+    /// [`Error::BadEnds`] where a key's ends are out of order, [`Error::OutOfMemory`].
+    ///
+    /// ```
+    /// use gist::{Interval, Relation, Store};
+    ///
+    /// let rooms = Store::<Interval>::new()?;
+    /// rooms.insert_all([(9..12, 71), (14..17, 72)])?;
+    /// let hours: Vec<Interval> = (10..15).map(Interval::from).collect();
+    /// let taken = rooms.snapshot()?.find_each(Relation::Holds, &hours)?;
+    /// assert_eq!(taken.iter().map(Vec::len).collect::<Vec<_>>(), [1, 1, 0, 0, 1]);
+    /// # Ok::<(), gist::Error>(())
+    /// ```
+    pub fn find_each(&self, relation: Relation, keys: &[K]) -> Result<Vec<Vec<Row<K>>>, Error> {
+        let keys: Vec<_> = keys.iter().map(|key| key.to_words()).collect();
+        let mut rows = vec![ffi::Row::default(); Self::ROOM];
+        let mut ends = vec![0; keys.len()];
+        let mut all = Vec::with_capacity(keys.len());
+        while all.len() < keys.len() {
+            let answered =
+                self.find_each_into(relation, &keys[all.len()..], &mut rows, &mut ends)?;
+            let mut first = 0;
+            for &end in &ends[..answered] {
+                let found = &rows[first..end as usize];
+                all.push(found.iter().copied().map(row).collect());
+                first = end as usize;
+            }
+            if answered == 0 {
+                rows.resize(2 * rows.len(), ffi::Row::default());
+            }
+        }
+        Ok(all)
+    }
+
+    /// Fills buffers with the rows of the first keys, and with where those of each key end, and tells how many keys were
+    /// answered.
+    fn find_each_into(
+        &self,
+        relation: Relation,
+        keys: &[ffi::Key],
+        rows: &mut [ffi::Row],
+        ends: &mut [u64],
+    ) -> Result<usize, Error> {
+        let mut answered = 0;
+        told(self.read(|it| unsafe {
+            ffi::gist_find_each(
+                it,
+                relation as u32,
+                keys.as_ptr(),
+                keys.len(),
+                rows.as_mut_ptr(),
+                rows.len(),
+                ends.as_mut_ptr(),
+                ends.len(),
+                &mut answered,
+            )
+        }))?;
+        Ok(answered as usize)
+    }
+
+    /// The first changes after a commit that a query asks for, at most as many as that. With the rows that were found
+    /// in a snapshot of so many commits they are what a cursor would give.
+    ///
+    /// # Errors
+    /// [`Error::FromFuture`] where there were fewer commits, [`Error::OutOfMemory`].
+    ///
+    /// ```
+    /// use gist::{Interval, Query, Store};
+    ///
+    /// let rooms = Store::<Interval>::new()?;
+    /// let query = Query::overlaps(8..18)?;
+    /// let before = rooms.snapshot()?;
+    /// rooms.insert_all([(9..12, 71), (20..22, 72), (14..17, 73)])?;
+    /// let later = rooms.snapshot()?.changes(&query, before.commits(), usize::MAX)?;
+    /// assert_eq!(later.changes.iter().map(|it| it.row().tag).collect::<Vec<_>>(), [71, 73]);
+    /// assert_eq!(later.upto, 3);
+    /// # Ok::<(), gist::Error>(())
+    /// ```
+    pub fn changes(&self, query: &Query<K>, from: u64, most: usize) -> Result<Changes<K>, Error> {
+        let left = self.commits().saturating_sub(from);
+        let room = most.min(usize::try_from(left).unwrap_or(usize::MAX));
+        let mut items = vec![ffi::Item::default(); room];
+        let (mut given, mut upto) = (0, from);
+        told(self.read(|it| {
+            query.read(|query| unsafe {
+                ffi::gist_changes(
+                    it,
+                    query,
+                    from,
+                    items.as_mut_ptr(),
+                    items.len(),
+                    &mut given,
+                    &mut upto,
+                )
+            })
+        }))?;
+        let changes = items[..given as usize]
+            .iter()
+            .copied()
+            .filter_map(change)
+            .collect();
+        Ok(Changes { changes, upto })
+    }
+
+    /// Makes a store of the rows that lived, in the order of their numbers, which has no other commit. So a store whose
+    /// commits are nearly used up goes on.
+    ///
+    /// # Errors
+    /// [`Error::BadLimits`]; [`Error::CommitsFull`] and [`Error::PagesFull`] where the limits are too small for the
+    /// rows; [`Error::OutOfMemory`].
+    ///
+    /// ```
+    /// use gist::{Interval, Limits, Store};
+    ///
+    /// let rooms = Store::<Interval>::new()?;
+    /// let first = rooms.insert(9..12, 71)?;
+    /// rooms.insert(14..17, 72)?;
+    /// rooms.delete(first)?;
+    /// let renewed = rooms.snapshot()?.renew(Limits::default())?;
+    /// assert_eq!(renewed.numbers, [2]);
+    /// assert_eq!(renewed.store.snapshot()?.get(1)?.map(|row| row.tag), Some(72));
+    /// # Ok::<(), gist::Error>(())
+    /// ```
+    pub fn renew(&self, limits: Limits) -> Result<Renewed<K>, Error> {
+        let handle = Owned::none();
+        let mut numbers = vec![0; self.len()? as usize];
+        let mut living = 0;
+        told(self.read(|it| unsafe {
+            ffi::gist_renew(
+                it,
+                &limits.to_c(),
+                handle.get(),
+                numbers.as_mut_ptr(),
+                numbers.len(),
+                &mut living,
+            )
+        }))?;
+        debug_assert_eq!(
+            living as usize,
+            numbers.len(),
+            "as many rows as were counted"
+        );
+        Ok(Renewed {
+            store: Store::of(handle),
+            numbers,
+        })
+    }
+}
+
+impl<K: Key> Clone for Snapshot<K> {
+    fn clone(&self) -> Snapshot<K> {
+        Snapshot {
+            handle: Arc::clone(&self.handle),
+            keys: PhantomData,
+        }
+    }
+}
+
+impl<K: Key> fmt::Debug for Snapshot<K> {
+    fn fmt(&self, f: &mut fmt::Formatter<'_>) -> fmt::Result {
+        f.debug_struct("Snapshot")
+            .field("commits", &self.commits())
+            .finish_non_exhaustive()
+    }
+}

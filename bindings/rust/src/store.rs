@@ -1,0 +1,331 @@
+//! Stores, and what a snapshot's rows are renewed to.
+
+use crate::cursor::{Cursor, CursorNumber};
+use crate::error::{told, Error, Stopped};
+use crate::ffi;
+use crate::handle::Owned;
+use crate::key::Key;
+use crate::query::Query;
+use crate::snapshot::Snapshot;
+use std::fmt;
+use std::marker::PhantomData;
+use std::ops::Range;
+
+/// The limits of a store. A value out of its range is refused as [`Error::BadLimits`].
+///
+/// ```
+/// use gist::{BoxKey, Limits, Store};
+///
+/// let small = Limits { pages: 1_024, commits: 10_000, ..Limits::default() };
+/// assert_eq!(Store::<BoxKey>::with_limits(small)?.figures().commit_limit, 10_000);
+/// # Ok::<(), gist::Error>(())
+/// ```
+#[derive(Clone, Copy, Debug, PartialEq, Eq, Hash)]
+pub struct Limits {
+    /// How many entries a page may have: 4 to 64.
+    pub fan: u32,
+    /// How many entries each side of a split has at least: 2 to half of `fan`.
+    pub least: u32,
+    /// How many pages there may be: 1 to 65,536. With fan 32 that many have some 1,450,000 rows.
+    pub pages: u32,
+    /// How many commits there may be: 1 to 16,777,216.
+    pub commits: u32,
+}
+
+impl Limits {
+    pub(crate) fn to_c(self) -> ffi::Limits {
+        let Limits {
+            fan,
+            least,
+            pages,
+            commits,
+        } = self;
+        ffi::Limits {
+            fan,
+            least,
+            pages,
+            commits,
+        }
+    }
+}
+
+/// The greatest limits, with what is good for many rows.
+impl Default for Limits {
+    fn default() -> Limits {
+        Limits {
+            fan: 32,
+            least: 12,
+            pages: 65_536,
+            commits: 16_777_216,
+        }
+    }
+}
+
+/// How far a store has come, and what is left to it.
+#[derive(Clone, Copy, Debug, PartialEq, Eq, Hash)]
+pub struct Figures {
+    /// How many commits there are.
+    pub commits: u64,
+    /// How many there may be.
+    pub commit_limit: u64,
+    /// How many pages there are.
+    pub pages: u64,
+    /// How many there may be.
+    pub page_limit: u64,
+    /// How many cursors are open.
+    pub cursors: u64,
+    /// The commit up to which a sweep removes the rows that ended.
+    pub horizon: u64,
+}
+
+/// Rows whose keys are of one class, and all commits that made them.
+///
+/// Each insert, delete and move is a commit with the next number: 1, 2, 3 and so on. A row's number is that of the commit
+/// that made it, and a move, which is one commit, gives a row another number.
+///
+/// A store is for one thread at a time, and may go to another; [`SharedStore`](crate::SharedStore) is for several. Its
+/// calls take `&self`, so that cursors may be open meanwhile.
+///
+/// ```
+/// use gist::{Change, Interval, Item, Query, Row, Store};
+///
+/// let rooms = Store::<Interval>::new()?;
+/// let morning = rooms.insert(9..12, 4711)?;
+/// let mut display = rooms.open(&Query::overlaps(8..18)?)?;
+/// let there = Row { number: 1, key: (9..12).into(), tag: 4711 };
+/// assert_eq!(display.next().transpose()?, Some(Item::Row(there)));
+///
+/// let later = rooms.move_to(morning, 14..17)?;
+/// let moved = Row { number: later, key: (14..17).into(), tag: 4711 };
+/// let change = Change::Moved { row: moved, ended: morning };
+/// assert_eq!(display.next().transpose()?, Some(Item::Change(change)));
+/// assert_eq!(display.next().transpose()?, None);
+/// # Ok::<(), gist::Error>(())
+/// ```
+pub struct Store<K: Key> {
+    handle: Owned<ffi::Store>,
+    keys: PhantomData<K>,
+}
+
+// SAFETY of each call below: the handle is this store's own and was never copied. A store isn't `Sync`, so no other call
+// has the handle meanwhile, and each pointer is that of a value that lives through the call.
+impl<K: Key> Store<K> {
+    /// An empty store with the greatest limits.
+    ///
+    /// # Errors
+    /// [`Error::OutOfMemory`].
+    pub fn new() -> Result<Store<K>, Error> {
+        Store::with_limits(Limits::default())
+    }
+
+    /// An empty store.
+    ///
+    /// # Errors
+    /// [`Error::BadLimits`], [`Error::OutOfMemory`].
+    pub fn with_limits(limits: Limits) -> Result<Store<K>, Error> {
+        let handle = Owned::none();
+        told(unsafe { ffi::gist_create(handle.get(), K::NUMBER, &limits.to_c()) })?;
+        Ok(Store::of(handle))
+    }
+
+    /// The store that a handle has.
+    pub(crate) fn of(handle: Owned<ffi::Store>) -> Store<K> {
+        Store {
+            handle,
+            keys: PhantomData,
+        }
+    }
+
+    /// Tells how far the store has come, and what is left to it.
+    pub fn figures(&self) -> Figures {
+        let mut told = ffi::Figures::default();
+        let answer = unsafe { ffi::gist_stats(self.handle.get(), &mut told) };
+        debug_assert_eq!(answer, 0, "a store's handle has a store");
+        Figures {
+            commits: told.commits,
+            commit_limit: told.commit_limit,
+            pages: told.pages,
+            page_limit: told.page_limit,
+            cursors: told.cursors,
+            horizon: told.horizon,
+        }
+    }
+
+    /// How many commits there are.
+    pub fn commits(&self) -> u64 {
+        self.figures().commits
+    }
+
+    /// Takes a snapshot of the commits as they stand.
+    ///
+    /// # Errors
+    /// [`Error::OutOfMemory`].
+    pub fn snapshot(&self) -> Result<Snapshot<K>, Error> {
+        let handle = Owned::none();
+        told(unsafe { ffi::gist_take(self.handle.get(), handle.get()) })?;
+        Ok(Snapshot::of(handle))
+    }
+
+    /// Adds a row, and gives its number.
+    ///
+    /// # Errors
+    /// [`Error::BadEnds`], [`Error::CommitsFull`], [`Error::PagesFull`], [`Error::OutOfMemory`].
+    pub fn insert(&self, key: impl Into<K>, tag: u64) -> Result<u64, Error> {
+        let entry = ffi::Entry {
+            key: key.into().to_words(),
+            tag,
+        };
+        Ok(self.add(&[entry])?.start)
+    }
+
+    /// Adds rows one after the other until one is refused, and gives their numbers.
+    ///
+    /// # Errors
+    /// As [`Store::insert`]; the rows before the one that is refused were added, as [`Stopped::done`] tells.
+    ///
+    /// ```
+    /// use gist::{BoxKey, Store};
+    ///
+    /// let map = Store::<BoxKey>::new()?;
+    /// let numbers = map.insert_all((0..1_000).map(|n| (BoxKey::point(n, n), n as u64)))?;
+    /// assert_eq!(numbers, 1..1_001);
+    /// # Ok::<(), gist::Error>(())
+    /// ```
+    pub fn insert_all<I, Q>(&self, rows: I) -> Result<Range<u64>, Stopped>
+    where
+        I: IntoIterator<Item = (Q, u64)>,
+        Q: Into<K>,
+    {
+        let entry = |(key, tag): (Q, u64)| ffi::Entry {
+            key: key.into().to_words(),
+            tag,
+        };
+        self.add(&rows.into_iter().map(entry).collect::<Vec<_>>())
+    }
+
+    /// Adds rows as they are told to the library.
+    fn add(&self, entries: &[ffi::Entry]) -> Result<Range<u64>, Stopped> {
+        self.all(entries, |rest, added| unsafe {
+            ffi::gist_insert(self.handle.get(), rest.as_ptr(), rest.len(), added)
+        })
+    }
+
+    /// Moves a row to a key by one commit, and gives the row's new number. It keeps its tag.
+    ///
+    /// # Errors
+    /// [`Error::BadEnds`]; else [`Error::NoSuchRow`], else [`Error::AlreadyDeleted`], else [`Error::CommitsFull`], else
+    /// [`Error::FindersFull`]; [`Error::PagesFull`], [`Error::OutOfMemory`].
+    pub fn move_to(&self, row: u64, key: impl Into<K>) -> Result<u64, Error> {
+        let mut moved = 0;
+        let key = key.into().to_words();
+        told(unsafe { ffi::gist_move(self.handle.get(), row, key, &mut moved) })?;
+        Ok(moved)
+    }
+
+    /// Deletes a row, and gives the commit's number.
+    ///
+    /// # Errors
+    /// [`Error::NoSuchRow`], else [`Error::AlreadyDeleted`], else [`Error::CommitsFull`], else [`Error::FindersFull`];
+    /// [`Error::OutOfMemory`].
+    pub fn delete(&self, row: u64) -> Result<u64, Error> {
+        Ok(self.delete_all(&[row])?.start)
+    }
+
+    /// Deletes rows one after the other until one is refused, and gives the commits' numbers.
+    ///
+    /// # Errors
+    /// As [`Store::delete`]; the rows before the one that is refused were deleted, as [`Stopped::done`] tells.
+    pub fn delete_all(&self, rows: &[u64]) -> Result<Range<u64>, Stopped> {
+        self.all(rows, |rest, deleted| unsafe {
+            ffi::gist_delete(self.handle.get(), rest.as_ptr(), rest.len(), deleted)
+        })
+    }
+
+    /// Makes a call until all are done or the next is refused, and gives the numbers of the commits.
+    fn all<T>(
+        &self,
+        all: &[T],
+        call: impl Fn(&[T], &mut u64) -> u32,
+    ) -> Result<Range<u64>, Stopped> {
+        let first = self.commits() + 1;
+        let mut rest = all;
+        while !rest.is_empty() {
+            let mut done = 0;
+            told(call(rest, &mut done)).map_err(|error| Stopped {
+                done: first..self.commits() + 1,
+                error,
+            })?;
+            rest = &rest[done as usize..];
+        }
+        Ok(first..first + all.len() as u64)
+    }
+
+    /// Removes the ended rows that no open cursor needs any more, and tells how many they were. That makes room for
+    /// later rows.
+    ///
+    /// # Errors
+    /// [`Error::OutOfMemory`]; some of them may be removed then.
+    pub fn sweep(&self) -> Result<u64, Error> {
+        let mut removed = 0;
+        told(unsafe { ffi::gist_sweep(self.handle.get(), &mut removed) })?;
+        Ok(removed)
+    }
+
+    /// Opens a cursor: it gives the rows that match now, in some order, and then each later change.
+    ///
+    /// # Errors
+    /// [`Error::CursorsFull`], [`Error::OutOfMemory`].
+    pub fn open(&self, query: &Query<K>) -> Result<Cursor<'_, K>, Error> {
+        let mut number = 0;
+        told(query.read(|query| unsafe { ffi::gist_open(self.handle.get(), query, &mut number) }))?;
+        Ok(Cursor::of(self, number))
+    }
+
+    /// Opens a cursor that gives the changes after a commit, and no row that was there. After a mark's commit it goes on
+    /// where the mark was given; after 0 it gives all changes that there are.
+    ///
+    /// # Errors
+    /// [`Error::FromFuture`] where there are fewer commits; [`Error::CursorsFull`], [`Error::OutOfMemory`].
+    pub fn follow(&self, query: &Query<K>, commit: u64) -> Result<Cursor<'_, K>, Error> {
+        let mut number = 0;
+        told(query.read(|query| unsafe {
+            ffi::gist_follow(self.handle.get(), query, commit, &mut number)
+        }))?;
+        Ok(Cursor::of(self, number))
+    }
+
+    /// A cursor of this store that was detached from its borrow.
+    pub fn attach(&self, cursor: CursorNumber) -> Cursor<'_, K> {
+        Cursor::of(self, cursor.number())
+    }
+
+    /// The handle, for a call of a cursor.
+    pub(crate) fn handle(&self) -> *mut ffi::Store {
+        self.handle.get()
+    }
+}
+
+/// # Panics
+/// Where a row is refused. [`Store::insert_all`] gives the refusal.
+impl<K: Key> Extend<(K, u64)> for Store<K> {
+    fn extend<I: IntoIterator<Item = (K, u64)>>(&mut self, rows: I) {
+        if let Err(stopped) = self.insert_all(rows) {
+            panic!("a store can't be extended: {stopped}");
+        }
+    }
+}
+
+impl<K: Key> fmt::Debug for Store<K> {
+    fn fmt(&self, f: &mut fmt::Formatter<'_>) -> fmt::Result {
+        f.debug_tuple("Store").field(&self.figures()).finish()
+    }
+}
+
+/// A store that was made anew of a snapshot.
+#[derive(Debug)]
+pub struct Renewed<K: Key> {
+    /// The store. Its rows are 1, 2 and so on, and it has no other commit.
+    pub store: Store<K>,
+    /// The numbers that its rows had: that of row 1 first.
+    pub numbers: Vec<u64>,
+}
