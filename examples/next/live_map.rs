@@ -1,1 +1,287 @@
-fn main() {}
+//! A live map: 100,000 vehicles move, two readers count in windows of their own, and 2,000 viewers are told by a feed
+//! what comes into their windows, moves in them and leaves them. The store is renewed before its commits are used up,
+//! while all of them go on.
+//!
+//!     GIST_LIB_DIR=FOLDER cargo run --release --example live_map
+//!
+//! It ends with status 0 only where each viewer, at the end, has exactly the vehicles that stand in its window.
+
+use gist::{BoxKey, Change, Error, Feed, Limits, Query, Row, Snapshot, Store, Subscription};
+use std::collections::HashMap;
+use std::sync::atomic::{AtomicBool, Ordering};
+use std::sync::mpsc::{sync_channel, Receiver, SyncSender};
+use std::sync::{Mutex, PoisonError};
+use std::thread;
+
+const VEHICLES: usize = 100_000;
+const VIEWERS: usize = 2_000;
+const ROUNDS: usize = 12;
+const MOVES_A_ROUND: usize = 20_000;
+const SIDE: i32 = 100_000;
+const WINDOW: i32 = 1_000;
+
+/// After the vehicles came there is room for five rounds; then the store is renewed.
+const COMMITS: u32 = 200_000;
+
+/// Numbers that look random, and are the same in each run (xorshift64).
+struct Dice(u64);
+
+impl Dice {
+    fn below(&mut self, end: i32) -> i32 {
+        self.0 ^= self.0 << 13;
+        self.0 ^= self.0 >> 7;
+        self.0 ^= self.0 << 17;
+        (self.0 % end as u64) as i32
+    }
+
+    fn place(&mut self) -> BoxKey {
+        BoxKey::point(self.below(SIDE), self.below(SIDE))
+    }
+
+    fn window(&mut self) -> BoxKey {
+        let (x, y) = (self.below(SIDE), self.below(SIDE));
+        (x..x + WINDOW, y..y + WINDOW).into()
+    }
+}
+
+/// What the writer tells the thread that has the feed.
+enum News {
+    /// There are more commits.
+    Grown(Snapshot<BoxKey>),
+    /// The store was made anew: its commits are numbered anew.
+    Renewed(Snapshot<BoxKey>),
+}
+
+/// The vehicles: a vehicle's number is its row's tag, and `rows` has the number of its row.
+struct Fleet {
+    store: Store<BoxKey>,
+    rows: Vec<u64>,
+    renewals: usize,
+}
+
+impl Fleet {
+    fn new(dice: &mut Dice) -> Result<Fleet, Error> {
+        let limits = Limits {
+            commits: COMMITS,
+            ..Limits::default()
+        };
+        let store = Store::with_limits(limits)?;
+        let rows = store.insert_all((0..VEHICLES as u64).map(|vehicle| (dice.place(), vehicle)))?;
+        Ok(Fleet {
+            store,
+            rows: rows.collect(),
+            renewals: 0,
+        })
+    }
+
+    /// Moves some vehicles, each by a commit.
+    fn drive(&mut self, dice: &mut Dice) -> Result<(), Error> {
+        for _ in 0..MOVES_A_ROUND {
+            let row = &mut self.rows[dice.below(VEHICLES as i32) as usize];
+            *row = self.store.move_to(*row, dice.place())?;
+        }
+        self.store.sweep().map(|_swept| ())
+    }
+
+    /// Whether another round would not find commits enough.
+    fn is_nearly_full(&self) -> bool {
+        let figures = self.store.figures();
+        figures.commits + MOVES_A_ROUND as u64 > figures.commit_limit
+    }
+
+    /// Goes on with a store of the rows that live. Others go on with snapshots of the one before.
+    fn renew(&mut self) -> Result<(), Error> {
+        let limits = Limits {
+            commits: COMMITS,
+            ..Limits::default()
+        };
+        let last = self.store.snapshot()?;
+        let renewed = last.renew(limits)?;
+        self.store = renewed.store;
+        for row in self.store.snapshot()?.iter()? {
+            self.rows[row.tag as usize] = row.number;
+        }
+        self.renewals += 1;
+        Ok(())
+    }
+}
+
+/// Moves the vehicles, shows each round's snapshot to the readers, and tells of it.
+fn write(
+    fleet: &mut Fleet,
+    dice: &mut Dice,
+    latest: &Mutex<Snapshot<BoxKey>>,
+    news: &SyncSender<News>,
+) -> Result<(), Error> {
+    let publish = |snapshot: &Snapshot<BoxKey>| {
+        *latest.lock().unwrap_or_else(PoisonError::into_inner) = snapshot.clone();
+    };
+    for _ in 0..ROUNDS {
+        if fleet.is_nearly_full() {
+            fleet.renew()?;
+            let first = fleet.store.snapshot()?;
+            publish(&first);
+            news.send(News::Renewed(first))
+                .expect("the feed's thread goes on until the end");
+        }
+        fleet.drive(dice)?;
+        let now = fleet.store.snapshot()?;
+        publish(&now);
+        news.send(News::Grown(now))
+            .expect("the feed's thread goes on until the end");
+    }
+    Ok(())
+}
+
+/// Counts vehicles as long as they drive: in all there are always as many as there were. Tells how often it looked.
+fn read(
+    latest: &Mutex<Snapshot<BoxKey>>,
+    is_over: &AtomicBool,
+    mut dice: Dice,
+) -> Result<usize, Error> {
+    let mut looks = 0;
+    while looks == 0 || !is_over.load(Ordering::Relaxed) {
+        let now = latest
+            .lock()
+            .unwrap_or_else(PoisonError::into_inner)
+            .clone();
+        assert_eq!(now.len()?, VEHICLES as u64);
+        now.count(&Query::overlaps(dice.window())?)?;
+        looks += 1;
+    }
+    Ok(looks)
+}
+
+/// Who looks at a window: its query, and the vehicles that it was told of, with their places.
+struct Viewer {
+    query: Query<BoxKey>,
+    shown: HashMap<u64, BoxKey>,
+}
+
+impl Viewer {
+    fn new(window: BoxKey, now: &Snapshot<BoxKey>) -> Result<Viewer, Error> {
+        let query = Query::overlaps(window)?;
+        let shown = now
+            .find(&query)?
+            .into_iter()
+            .map(|row| (row.tag, row.key))
+            .collect();
+        Ok(Viewer { query, shown })
+    }
+
+    fn take(&mut self, change: Change<BoxKey>) {
+        match change {
+            Change::Inserted(Row { key, tag, .. })
+            | Change::Moved {
+                row: Row { key, tag, .. },
+                ..
+            } => self.shown.insert(tag, key),
+            Change::Deleted { row, .. } => self.shown.remove(&row.tag),
+        };
+    }
+
+    fn is_right(&self, now: &Snapshot<BoxKey>) -> Result<bool, Error> {
+        let rows = now.find(&self.query)?;
+        let all = rows
+            .iter()
+            .all(|row| self.shown.get(&row.tag) == Some(&row.key));
+        Ok(all && rows.len() == self.shown.len())
+    }
+}
+
+/// A feed of one store, and whose subscription each is.
+struct Subscribers {
+    feed: Feed<BoxKey>,
+    viewers: HashMap<Subscription, usize>,
+}
+
+impl Subscribers {
+    /// Subscribes all viewers from the commits of a snapshot on, to which they are up to date.
+    fn new(viewers: &[Viewer], from: &Snapshot<BoxKey>) -> Result<Subscribers, Error> {
+        let mut feed = Feed::new()?;
+        let mut serials = HashMap::new();
+        for (place, viewer) in viewers.iter().enumerate() {
+            serials.insert(feed.subscribe(&viewer.query, from.commits())?, place);
+        }
+        Ok(Subscribers {
+            feed,
+            viewers: serials,
+        })
+    }
+
+    /// Tells each viewer what is new to it, and counts what was told.
+    fn advance(&mut self, viewers: &mut [Viewer], now: &Snapshot<BoxKey>) -> Result<usize, Error> {
+        let told = self.feed.advance(now, u64::MAX)?.told;
+        for it in &told {
+            viewers[self.viewers[&it.to]].take(it.change);
+        }
+        Ok(told.len())
+    }
+}
+
+/// Has the feed until the writer is through, and counts the viewers who have what stands in their windows.
+fn feed(first: Snapshot<BoxKey>, news: Receiver<News>) -> Result<(usize, usize), Error> {
+    let mut dice = Dice(7);
+    let mut viewers = (0..VIEWERS)
+        .map(|_| Viewer::new(dice.window(), &first))
+        .collect::<Result<Vec<_>, _>>()?;
+    let mut subscribers = Subscribers::new(&viewers, &first)?;
+    let (mut last, mut told) = (first, 0);
+    for it in news {
+        last = match it {
+            News::Grown(now) => {
+                told += subscribers.advance(&mut viewers, &now)?;
+                now
+            }
+            // all commits of the store before were told, so the viewers are up to date with the renewed one
+            News::Renewed(now) => {
+                subscribers = Subscribers::new(&viewers, &now)?;
+                now
+            }
+        };
+    }
+    let mut right = 0;
+    for viewer in &viewers {
+        right += usize::from(viewer.is_right(&last)?);
+    }
+    Ok((told, right))
+}
+
+fn main() -> Result<(), Error> {
+    let mut dice = Dice(1);
+    let mut fleet = Fleet::new(&mut dice)?;
+    let first = fleet.store.snapshot()?;
+    let latest = Mutex::new(first.clone());
+    let is_over = AtomicBool::new(false);
+    let (sender, receiver) = sync_channel(2);
+
+    let (told, right) = thread::scope(|scope| {
+        let viewing = scope.spawn(|| feed(first, receiver));
+        let readers = [21, 22].map(|seed| {
+            let (latest, is_over) = (&latest, &is_over);
+            scope.spawn(move || read(latest, is_over, Dice(seed)))
+        });
+        let written = write(&mut fleet, &mut dice, &latest, &sender);
+        drop(sender);
+        is_over.store(true, Ordering::Relaxed);
+        for reader in readers {
+            assert!(reader.join().expect("a reader finds all vehicles")? > 0);
+        }
+        let told = viewing
+            .join()
+            .expect("the feed's thread goes on until the end")?;
+        written.map(|()| told)
+    })?;
+
+    println!(
+        "{} vehicles, {} moves, {} renewals",
+        VEHICLES,
+        ROUNDS * MOVES_A_ROUND,
+        fleet.renewals
+    );
+    println!(
+        "{told} changes were told; {right} of {VIEWERS} viewers have what stands in their windows"
+    );
+    assert!(right == VIEWERS && fleet.renewals == 2);
+    Ok(())
+}

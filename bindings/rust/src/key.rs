@@ -211,11 +211,12 @@ impl From<(RangeInclusive<i32>, RangeInclusive<i32>)> for BoxKey {
 /// The x and the y that a box has. Where a range is empty, its ends are out of order.
 impl From<(Range<i32>, Range<i32>)> for BoxKey {
     fn from((x, y): (Range<i32>, Range<i32>)) -> BoxKey {
-        let inside = |range: Range<i32>| match range.end.checked_sub(1) {
-            Some(last) => range.start..=last,
-            None => i32::MAX..=i32::MIN,
+        let ends = |range: Range<i32>| match range.end.checked_sub(1) {
+            Some(last) => (range.start, last),
+            None => (i32::MAX, i32::MIN),
         };
-        BoxKey::from((inside(x), inside(y)))
+        let ((x1, x2), (y1, y2)) = (ends(x), ends(y));
+        BoxKey { x1, y1, x2, y2 }
     }
 }
 

@@ -1,0 +1,417 @@
+"""Tests of gist.py: each call, refusal, relation, kind, field and limit by its name, for each class of keys.
+
+    GIST_LIB_DIR=FOLDER python -m unittest -q test_gist     in this folder
+"""
+import copy
+import ctypes
+import doctest
+import gc
+import os
+import pickle
+import random
+import subprocess
+import sys
+import threading
+import time
+import unittest
+from typing import Any, NamedTuple
+
+import gist
+from gist import Box, Error, Feed, Interval, Kind, Limits, Query, Refusal, Relation, Row, Set, Store, holds, overlaps, same, within
+
+
+class Keys(NamedTuple):
+    """Some keys of a class: the first overlaps the second, and neither overlaps the third."""
+
+    key_class: Any
+    one: Any
+    two: Any
+    far: Any
+    text: str
+    other: Any
+
+
+CLASSES = (
+    Keys(Interval, Interval(-5, 9), Interval(9, 2**63 - 1), Interval(-2**63, -6), "overlaps (-5 9)", Box),
+    Keys(Box, Box(-3, -3, 4, 2**31 - 1), Box(4, 0, 9, 0), Box(-2**31, -2**31, -4, 2**31 - 1), "overlaps (-3 -3 4 2147483647)", Set),
+    Keys(Set, Set({1, 2}), Set({2, 64}), Set({127}), "overlaps {1 2}", Interval),
+)
+
+
+class Case(unittest.TestCase):
+    """What all tests share."""
+
+    def refused(self, refusal: Refusal, call: Any, *values: Any, done: int = 0, at: Any = None, **more: Any) -> Error:
+        """Whether a call is refused so."""
+        with self.assertRaises(Error) as caught:
+            call(*values, **more)
+        self.assertEqual((caught.exception.refusal, caught.exception.done, caught.exception.at), (refusal, done, at))
+        return caught.exception
+
+    def each(self) -> Any:
+        """Each class of keys."""
+        for keys in CLASSES:
+            with self.subTest(keys.key_class.__name__):
+                yield keys
+
+
+class Stores(Case):
+    """Stores, snapshots and cursors."""
+
+    def store(self, keys: Keys) -> Any:
+        """A store of three rows."""
+        store = Store(keys.key_class, Limits(fan=4, least=2, pages=64, commits=12))
+        self.assertEqual(store.insert_all([(keys.one, 10), (keys.two, 20), (keys.far, 30)]), range(1, 4))
+        return store
+
+    def test_rows_are_found_and_known(self) -> None:
+        for keys in self.each():
+            store = self.store(keys)
+            now = store.snapshot()
+            one, two, far = Row(number=1, key=keys.one, tag=10), Row(2, keys.two, 20), Row(3, keys.far, 30)
+            self.assertEqual(now.find(keys.text), [one, two])
+            self.assertEqual(now.find(overlaps(keys.one)), [one, two])
+            self.assertEqual(now.find(within(keys.far)), [far])
+            self.assertEqual(now.find(holds(keys.far)), [far])
+            self.assertEqual(now.find(same(keys.two)), [two])
+            self.assertEqual(now.find(same(keys.two) | ~overlaps(keys.two)), [two, far])
+            self.assertEqual(now.find(overlaps(keys.one) & overlaps(keys.two)), [one, two])
+            self.assertIsInstance(now.find(same(keys.two))[0].key, keys.key_class)
+            self.assertEqual(now.count(keys.text), 2)
+            for relation in Relation:
+                self.assertEqual(now.find_each(relation, [keys.far, keys.one])[0], [far])
+            self.assertEqual(now.find_each(Relation.OVERLAPS, [keys.one, keys.far]), [[one, two], [far]])
+            self.assertEqual((len(now), list(now), 3 in now, 4 in now), (3, [one, two, far], True, False))
+            self.assertEqual((now[2], now.get(2), now.get(4), now.get(0)), (two, two, None, None))
+            with self.assertRaises(KeyError):
+                now[4]
+            moved = store.move(1, keys.far)
+            self.assertEqual((moved, store.delete(2)), (4, 5))
+            later = store.snapshot()
+            self.assertEqual((now.commits(), later.commits(), store.commits()), (3, 5, 5))
+            known = later.known(1)
+            self.assertEqual((known.row, known.lives), (one, False))
+            self.assertEqual(later.known(4), (Row(4, keys.far, 10), True))
+            self.refused(Refusal.NoSuchRow, later.known, 5)
+            self.assertEqual((list(now), later.count(keys.text)), ([one, two, far], 0))
+
+    def test_commits_and_changes_are_told(self) -> None:
+        for keys in self.each():
+            store = self.store(keys)
+            store.move(1, keys.far)
+            store.delete(2)
+            now = store.snapshot()
+            first, fourth, fifth = now.commit(1), now.commit(4), now.commit(5)
+            self.assertEqual((first.kind, first.number, first.ended, first.tag, first.key), (Kind.INSERTED, 1, 0, 10, keys.one))
+            self.assertEqual(fourth, (Kind.MOVED, 4, 1, 10, keys.far))
+            self.assertEqual(fifth, (Kind.DELETED, 5, 2, 20, keys.two))
+            self.assertEqual((now.commit(0), now.commit(6)), (None, None))
+            changes = now.changes(keys.text, 0)
+            self.assertEqual([(it.kind, it.number, it.ended) for it in changes.items], [
+                (Kind.INSERTED, 1, 0), (Kind.INSERTED, 2, 0), (Kind.DELETED, 4, 1), (Kind.DELETED, 5, 2)])
+            self.assertEqual(changes.upto, 5)
+            some = now.changes(keys.text, 0, 3)
+            self.assertEqual((some.items, some.upto), (changes.items[:3], 4))
+            self.assertEqual(now.changes(keys.text, some.upto).items, changes.items[3:])
+            self.assertEqual(now.changes(keys.text, 0, 0).items, [])
+            self.refused(Refusal.FromFuture, now.changes, keys.text, 6)
+
+    def test_a_cursor_gives_rows_and_changes(self) -> None:
+        for keys in self.each():
+            store = self.store(keys)
+            with store.open(keys.text) as cursor, store.follow(Query(keys.key_class, keys.text), 1) as follower:
+                self.assertEqual(store.figures().cursors, 2)
+                rows = list(cursor)
+                self.assertEqual({it.kind for it in rows}, {Kind.ROW})
+                self.assertEqual({(it.number, it.tag) for it in rows}, {(1, 10), (2, 20)})
+                self.assertEqual(list(cursor), [])
+                store.move(1, keys.far)
+                cursor.mark()
+                self.assertEqual(list(cursor), [(Kind.DELETED, 4, 1, 10, keys.one), (Kind.MARK, 4, 0, 0, None)])
+                self.assertEqual(cursor.items(0), [])
+                self.assertEqual([it.number for it in follower.items(1)], [2])
+                self.assertEqual([it.number for it in follower.items()], [4])
+            self.assertEqual(store.figures().cursors, 0)
+            self.refused(Refusal.CursorClosed, list, cursor)
+            self.refused(Refusal.CursorClosed, cursor.mark)
+            self.refused(Refusal.NoSuchCursor, gist.Cursor(store, 9).items)
+            self.refused(Refusal.FromFuture, store.follow, keys.text, 5)
+            self.assertEqual(store.sweep(), 1)
+
+    def test_a_cursor_that_nothing_refers_to_is_closed(self) -> None:
+        store = Store(Interval)
+        for _ in range(1000):
+            store.open("overlaps (1 2)")
+        gc.collect()
+        self.assertEqual(store.figures().cursors, 0)
+        cursors = [store.open("overlaps (1 2)") for _ in range(256)]
+        self.refused(Refusal.CursorsFull, store.open, "overlaps (1 2)")
+        cursors.pop().close()
+        store.follow("overlaps (1 2)", 0).close()
+
+    def test_figures(self) -> None:
+        figures = self.store(CLASSES[0]).figures()
+        self.assertEqual((figures.commits, figures.commit_limit, figures.page_limit, figures.cursors), (3, 12, 64, 0))
+        self.assertEqual(figures.horizon, 3)
+        self.assertGreaterEqual(figures.pages, 1)
+
+    def test_rows_are_refused(self) -> None:
+        for keys in self.each():
+            store = self.store(keys)
+            self.refused(Refusal.NoSuchRow, store.delete, 4)
+            self.refused(Refusal.NoSuchRow, store.move, 0, keys.one)
+            self.refused(Refusal.AlreadyDeleted, store.delete_all, [1, 2, 2, 3], done=2)
+            self.refused(Refusal.AlreadyDeleted, store.move, 1, keys.one)
+            self.assertEqual(store.commits(), 5)
+            self.assertEqual((store.insert_all([]), store.delete_all([])), (range(6, 6), range(6, 6)))
+            self.refused(Refusal.CommitsFull, store.insert_all, [(keys.one, 0)] * 9, done=7)
+            self.refused(Refusal.CommitsFull, store.move, 3, keys.one)
+            self.refused(Refusal.CommitsFull, store.delete, 3)
+
+    def test_pages_run_out(self) -> None:
+        store = Store(Interval, Limits(4, 2, 6, 1000))
+        error = self.refused_at_last(store)
+        self.assertEqual((error.refusal, error.done), (Refusal.PagesFull, store.commits()))
+
+    def refused_at_last(self, store: Any) -> Error:
+        """The refusal of many rows."""
+        with self.assertRaises(Error) as caught:
+            store.insert_all([((n, n), 0) for n in range(1000)])
+        return caught.exception
+
+    def test_ends_out_of_order(self) -> None:
+        for key_class, bad in ((Interval, (2, 1)), (Box, (1, 0, 0, 0)), (Box, (0, 1, 0, 0))):
+            store, good = Store(key_class), tuple(0 for _ in bad)
+            self.refused(Refusal.BadEnds, store.insert, bad, 1)
+            self.refused(Refusal.BadEnds, store.insert_all, [(good, 1), (bad, 2)], done=1)
+            self.refused(Refusal.BadEnds, store.move, 1, bad)
+            self.refused(Refusal.BadEnds, overlaps, key_class(*bad))
+            self.refused(Refusal.BadEnds, store.snapshot().find_each, Relation.SAME, [good, bad], done=1)
+        self.refused(Refusal.BadEnds, Store(Interval).insert, range(5, 5), 1)
+
+    def test_a_range_is_an_interval(self) -> None:
+        store = Store(Interval)
+        store.insert(range(9, 18), 1)
+        self.assertEqual(store.snapshot()[1].key, Interval(lo=9, hi=17))
+        with self.assertRaises(TypeError):
+            store.insert(range(0, 9, 2), 1)
+        with self.assertRaises(TypeError):
+            Store(Box).insert(range(9), 1)
+
+    def test_numbers_that_do_not_fit(self) -> None:
+        for key_class, key in ((Interval, (0, 2**63)), (Interval, (1,)), (Box, (0, 0, 0, 2**31)), (Set, {128}), (Set, {-1})):
+            with self.assertRaises(ValueError):
+                Store(key_class).insert(key, 0)
+        for tag in (-1, 2**64):
+            with self.assertRaises(ValueError):
+                Store(Interval).insert((0, 0), tag)
+        with self.assertRaises(ValueError):
+            Store(Interval).delete(-1)
+        store = Store(Box)
+        store.insert(Box(x1=-2**31, y1=-2**31, x2=2**31 - 1, y2=2**31 - 1), 2**64 - 1)
+        row = store.snapshot()[1]
+        self.assertEqual((row.key.x1, row.key.y1, row.key.x2, row.key.y2, row.tag), (-2**31, -2**31, 2**31 - 1, 2**31 - 1, 2**64 - 1))
+
+    def test_limits(self) -> None:
+        least = Limits(fan=4, least=2, pages=1, commits=1)
+        greatest = Limits(fan=64, least=32, pages=65_536, commits=16_777_216)
+        for limits in (least, greatest, Limits()):
+            Store(Interval, limits)
+        for wrong in (
+            least._replace(fan=3), greatest._replace(fan=65), least._replace(least=1), least._replace(least=3), greatest._replace(least=33),
+            least._replace(pages=0), greatest._replace(pages=65_537), least._replace(commits=0), greatest._replace(commits=16_777_217),
+            least._replace(fan=-1), least._replace(pages=2**32 + 1),
+        ):
+            self.refused(Refusal.BadLimits, Store, Interval, wrong)
+
+    def test_renewal(self) -> None:
+        for keys in self.each():
+            store = self.store(keys)
+            store.move(1, keys.far)
+            store.delete(2)
+            now = store.snapshot()
+            renewed = now.renew(Limits(commits=2))
+            self.assertEqual(renewed.numbers, [3, 4])
+            self.assertEqual(list(renewed.store.snapshot()), [Row(1, keys.far, 30), Row(2, keys.far, 10)])
+            self.refused(Refusal.CommitsFull, renewed.store.insert, keys.one, 0)
+            self.refused(Refusal.CommitsFull, now.renew, Limits(commits=1))
+            self.refused(Refusal.BadLimits, now.renew, Limits(fan=3))
+            self.assertEqual(Store(keys.key_class).snapshot().renew().numbers, [])
+
+    def test_what_is_closed(self) -> None:
+        store = Store(Interval)
+        now, query, feed = store.snapshot(), overlaps(Interval(1, 2)), Feed(Interval)
+        cursor = store.open(query)
+        for it in (store, now, query, feed):
+            it.close()
+            it.close()
+        for call in (store.commits, store.snapshot, store.sweep, now.commits, cursor.items, cursor.mark):
+            self.refused(Refusal.NoHandle, call)
+        cursor.close()
+        self.refused(Refusal.NoHandle, Store(Interval).open, query)
+        self.refused(Refusal.NoHandle, feed.subscribe, "same (1 2)", 0)
+        self.assertEqual((repr(store), repr(now)), ("<Store of Interval, closed>", "<Snapshot, closed>"))
+
+    def test_nothing_is_copied(self) -> None:
+        store = Store(Interval)
+        for it in (store, store.snapshot(), overlaps(Interval(1, 2)), Feed(Interval)):
+            for call in (copy.copy, copy.deepcopy, pickle.dumps):
+                self.assertRaises(TypeError, call, it)
+
+
+class Queries(Case):
+    """Queries and their texts."""
+
+    def test_texts_are_refused_at_a_place(self) -> None:
+        for key_class, text, at in (
+            (Interval, "overlaps ?", 9), (Interval, "same (2 1)", 5), (Interval, "", 0), (Set, "holds {128}", 7), (Box, "within (1 2)", 11),
+            (Interval, "overläps (1 2)", 0),
+        ):
+            with self.subTest(text):
+                error = self.refused(Refusal.QueryText, Query, key_class, text, at=at)
+                self.assertIn(f"QueryText at {at} (21): expected overlaps, within", str(error))
+
+    def test_queries_have_texts(self) -> None:
+        self.assertEqual(repr(holds(Set({5, 1}))), "Query(Set, 'holds {1 5}')")
+        self.assertEqual((overlaps(Box(1, 2, 3, 4)) | same(Box(0, 0, 0, 0))).text, "(overlaps (1 2 3 4)) or (same (0 0 0 0))")
+        self.assertEqual(Query.by(Relation.WITHIN, (1, 2), Interval).text, "within (1 2)")
+        self.assertRaises(TypeError, overlaps, (1, 2))
+        self.assertRaises(TypeError, Store, int)
+
+    def test_a_query_is_at_most_so_deep_and_long(self) -> None:
+        deep = "not " * 31 + "within (1 2)"
+        self.assertEqual(Store(Interval).snapshot().count(Query(Interval, deep)), 0)
+        with self.assertRaises(Error):
+            Query(Interval, f"not {deep}")
+        long = "within (1 2)".ljust(4096)
+        self.assertEqual(Query(Interval, long).text, long)
+        self.refused(Refusal.QueryText, Query, Interval, f"{long} ", at=4096)
+
+    def test_keys_of_another_class(self) -> None:
+        for keys in self.each():
+            store, other = Store(keys.key_class), overlaps(next(it for it in CLASSES if it.key_class is keys.other).one)
+            self.refused(Refusal.OtherClass, store.open, other)
+            self.refused(Refusal.OtherClass, store.follow, other, 0)
+            self.refused(Refusal.OtherClass, store.snapshot().find, other)
+            self.refused(Refusal.OtherClass, store.snapshot().count, other)
+            self.refused(Refusal.OtherClass, store.snapshot().changes, other, 0)
+            self.refused(Refusal.OtherClass, Feed(keys.key_class).subscribe, other, 0)
+            self.refused(Refusal.OtherClass, Feed(keys.other).advance, store.snapshot())
+
+
+class Feeds(Case):
+    """Feeds."""
+
+    def test_subscriptions_are_told(self) -> None:
+        for keys in self.each():
+            store, feed = Store(keys.key_class), Feed(keys.key_class)
+            near, far = feed.subscribe(keys.text, 0), feed.subscribe(same(keys.far), 2)
+            self.assertEqual((near, far), (1, 2))
+            store.insert_all([(keys.one, 10), (keys.two, 20), (keys.far, 30)])
+            some = feed.advance(store.snapshot(), 2)
+            self.assertEqual(some.upto, 2)
+            self.assertEqual([(it.subscription, it.item.kind, it.item.number, it.item.tag) for it in some.told], [
+                (near, Kind.INSERTED, 1, 10), (near, Kind.INSERTED, 2, 20)])
+            told, upto = feed.advance(store.snapshot())
+            self.assertEqual((told, upto), ([(far, (Kind.INSERTED, 3, 0, 30, keys.far))], 3))
+            feed.unsubscribe(far)
+            self.refused(Refusal.NotSubscribed, feed.unsubscribe, far)
+            store.move(1, keys.far)
+            self.assertEqual(feed.advance(store.snapshot()).told, [(near, (Kind.DELETED, 4, 1, 10, keys.one))])
+            self.refused(Refusal.FromFuture, feed.advance, Store(keys.key_class).snapshot())
+            late = feed.subscribe(keys.text, 3)
+            self.assertEqual([it.subscription for it in feed.advance(store.snapshot()).told], [late])
+
+    def test_more_is_told_than_a_buffer_holds(self) -> None:
+        store, feed = Store(Interval), Feed(Interval)
+        for _ in range(100):
+            feed.subscribe("overlaps (0 9)", 0)
+        store.insert_all([((n % 10, n % 10), n) for n in range(300)])
+        told, upto = feed.advance(store.snapshot(), 200)
+        self.assertEqual((len(told), upto), (20_000, 200))
+        self.assertEqual(len(feed.advance(store.snapshot()).told), 10_000)
+
+
+class Threads(Case):
+    """Threads that share objects."""
+
+    def test_readers_beside_a_writer(self) -> None:
+        store: Any = Store(Interval)
+        wrong = []
+
+        def write() -> None:
+            for n in range(0, 4000, 10):
+                store.insert_all([((n + i, n + i + 5), n + i) for i in range(10)])
+
+        def read(snapshot: Any, query: Any) -> None:
+            for _ in range(50):
+                with store.snapshot() as now:
+                    if now.count(query) != now.commits() or snapshot.count(query) != 0:
+                        wrong.append(now.commits())
+
+        shared, query = store.snapshot(), Query(Interval, "not overlaps (-9 -1)")
+        threads = [threading.Thread(target=write)] + [threading.Thread(target=read, args=(shared, query)) for _ in range(3)]
+        for thread in threads:
+            thread.start()
+        for thread in threads:
+            thread.join()
+        self.assertEqual((wrong, store.commits()), ([], 4000))
+
+    def test_who_waits_is_woken(self) -> None:
+        store: Any = Store(Interval)
+        self.assertIsNone(store.wait_past(0, 0.01))
+        threading.Timer(0.05, store.insert, ((1, 2), 3)).start()
+        self.assertEqual(store.wait_past(0, 30).commits(), 1)
+        self.assertEqual(store.wait_past(0).commits(), 1)
+
+
+class Numbers(Case):
+    """What is told by numbers and names."""
+
+    def test_refusals_have_the_names_of_the_library(self) -> None:
+        name = ctypes.create_string_buffer(16)
+        call = gist._library.gist_refusal_name
+        call.argtypes, call.restype = (ctypes.c_uint32, ctypes.c_void_p, ctypes.c_size_t), ctypes.c_size_t
+        for refusal in Refusal:
+            length = call(refusal, ctypes.addressof(name), 16)
+            self.assertEqual(name.raw[:length].decode(), refusal.name)
+            self.assertIn(f"{refusal.name} ({refusal.value}): ", str(Error(refusal)))
+        self.assertEqual([call(number, ctypes.addressof(name), 16) for number in (0, 30)], [0, 0])
+        error = Error(Refusal.QueryText, 7, 2)
+        again = pickle.loads(pickle.dumps(error))
+        self.assertEqual((again.refusal, again.at, again.done, str(again)), (Refusal.QueryText, 7, 2, str(error)))
+
+    def test_numbers_are_those_of_the_header(self) -> None:
+        header = os.path.join(os.path.dirname(os.path.abspath(__file__)), "../../include/gist_next.h")
+        with open(header, encoding="utf-8") as file:
+            text = file.read()
+        for names, prefix in ((Refusal, ""), (Kind, ""), (Relation, "")):
+            for it in names:
+                words = "".join(f"_{letter}" if letter.isupper() and names is Refusal else letter for letter in it.name).upper().strip("_")
+                self.assertIn(f"    GIST_{prefix}{words} = {it.value}", text)
+        self.assertEqual(gist.version(), (0, 3, 0))
+
+    def test_many_boxes_in_half_a_second(self) -> None:
+        dice = random.Random(1)
+        places = [(dice.randrange(10**6), dice.randrange(10**6)) for _ in range(100_000)]
+        rows = [(Box(x, y, x + 9, y + 9), n) for n, (x, y) in enumerate(places)]
+        store, begin = Store(Box), time.perf_counter()
+        self.assertEqual(store.insert_all(rows), range(1, 100_001))
+        took = time.perf_counter() - begin
+        self.assertEqual(len(store.snapshot()), 100_000)
+        self.assertLess(took, 0.5 * float(os.environ.get("GIST_SLOWER", "1")))
+
+    def test_the_missing_library_is_named(self) -> None:
+        env = {**os.environ, "GIST_LIB_DIR": "/nowhere", "PYTHONPATH": os.path.dirname(os.path.abspath(gist.__file__))}
+        ended = subprocess.run([sys.executable, "-c", "import gist"], env=env, text=True, capture_output=True, check=False)
+        self.assertNotEqual(ended.returncode, 0)
+        self.assertIn("GIST_LIB_DIR has to name the folder with libgist.so", ended.stderr)
+
+    def test_documents(self) -> None:
+        failed, tried = doctest.testmod(gist)
+        self.assertEqual(failed, 0)
+        self.assertGreater(tried, 10)
+
+
+if __name__ == "__main__":
+    unittest.main()
