@@ -1,0 +1,41 @@
+"""The shared library for programs in C, which is made of the other one, and what pkg-config tells of both."""
+import os
+
+from released import run
+
+PKG_CONFIG = """prefix=${{pcfiledir}}{up}
+libdir=${{prefix}}{lib}
+includedir=${{prefix}}{include}
+
+Name: gist
+Description: An index in memory whose readers never miss a change
+Version: {version}
+Cflags: -I${{includedir}}
+Libs: -L${{libdir}} -lgist
+"""
+
+
+def soname(version):
+    """The name by which programs find the library. The calls of one version 0.N fit each other, so N is a part of it."""
+    return f"libgist.so.{'.'.join(version.split('.')[:2])}"
+
+
+def link_shared(folder, version):
+    """Makes the shared library of a folder's other one, by the toolchain's own linker, so that it is the same on each machine."""
+    tools = os.path.join(os.path.dirname(run("rt", "doc").strip()), "toolchain")
+    exported, name = f"{folder}/exported", f"libgist.so.{version}"
+    with open(exported, "w", encoding="utf-8") as file:
+        file.write("{ global: gist_*; local: *; };\n")
+    words = ["-shared", "-soname", soname(version), "--version-script", exported, "--no-undefined", "-o", f"{folder}/{name}"]
+    words += ["--whole-archive", f"{folder}/libgist.a", "--no-whole-archive", f"{tools}/lib/libc.so.6"]
+    run(f"{tools}/bin/ld.lld", *words)
+    os.remove(exported)
+    for link, to in ((soname(version), name), ("libgist.so", soname(version))):
+        if os.path.lexists(f"{folder}/{link}"):
+            os.remove(f"{folder}/{link}")
+        os.symlink(to, f"{folder}/{link}")
+
+
+def pkg_config(version, up="/../..", lib="/lib", include="/include"):
+    """What pkg-config tells of the libraries, where they lie so from the folder of its file."""
+    return PKG_CONFIG.format(version=version, up=up, lib=lib, include=include)
