@@ -1,0 +1,82 @@
+"""What the tools share that run programs over the library: how one is built and run, and how what came of it is told."""
+import importlib.machinery
+import importlib.util
+import os
+import re
+import shutil
+import subprocess
+import sys
+
+from sources import ROOT, text_of
+
+FLAGS = ["-std=c11", "-O2", "-g", "-Wall", "-Wextra", "-Werror", "-pedantic", "-pthread"]
+
+# Seconds that one run may take
+LONGEST = 300
+
+
+def valgrind(kinds):
+    """Valgrind, for which blocks of these kinds that are left at the end are errors."""
+    # it runs one thread at a time: each has its turn, so that one that waits for another doesn't keep it from running
+    return ["valgrind", "--quiet", "--fair-sched=yes", "--leak-check=full", f"--show-leak-kinds={kinds}", f"--errors-for-leak-kinds={kinds}", "--error-exitcode=9"]
+
+
+def library():
+    loader = importlib.machinery.SourceFileLoader("library", f"{ROOT}/tools/library")
+    module = importlib.util.module_from_spec(importlib.util.spec_from_loader("library", loader))
+    loader.exec_module(module)
+    return module
+
+
+class Tally:
+    """How many runs went as they have to, and how many didn't."""
+
+    def __init__(self):
+        self.passed, self.failed = 0, 0
+
+    def note(self, what, is_well, said=""):
+        self.passed += is_well
+        self.failed += not is_well
+        print(f"{'passed' if is_well else 'FAILED'}: {what}", flush=True)
+        if not is_well:
+            print(said, file=sys.stderr, flush=True)
+
+
+def has(program):
+    if shutil.which(program):
+        return True
+    print(f"there is no {program}, so what needs it is not run", flush=True)
+    return False
+
+
+def run(words, **more):
+    try:
+        return subprocess.run(words, stdin=subprocess.DEVNULL, capture_output=True, text=True, errors="replace", timeout=LONGEST, **more)
+    except subprocess.TimeoutExpired:
+        return subprocess.CompletedProcess(words, 1, "", f"no end within {LONGEST} seconds")
+
+
+def compile_c(tally, source, folder, compiler=("cc", *FLAGS), linked=("-lgist",)):
+    """The program that a source makes with the library, or none where it doesn't compile."""
+    program = f"{folder}/{os.path.basename(source).replace('.', '_')}"
+    built = run([*compiler, "-I", folder, source, "-L", folder, *linked, "-o", program])
+    if built.returncode:
+        tally.note(f"{compiler[0]} {os.path.relpath(source, ROOT)}", False, built.stderr)
+        return None
+    return program
+
+
+def run_well(tally, what, words, wanted=None, **more):
+    """Runs a program, which has to end with status 0, to say nothing on standard error, and to print what is wanted."""
+    ended = run(words, **more)
+    said = ended.stdout + ended.stderr
+    is_well = ended.returncode == 0 and not ended.stderr and (wanted is None or ended.stdout == wanted)
+    tally.note(what, is_well, f"status {ended.returncode}\n{said}")
+
+
+def compare_names(tally, folder, header, tests):
+    """Compares a header's functions with those that the library exports and that the tests call."""
+    declared = set(re.findall(r"^\w+ \**(gist_\w+)\(", text_of(f"{ROOT}/{header}"), re.M))
+    exported = set(re.findall(r" T (gist_\w+)$", run(["nm", f"{folder}/libgist.a"]).stdout, re.M))
+    called = {name for test in tests for name in re.findall(r"\b(gist_\w+)\(", text_of(f"{ROOT}/{test}"))}
+    tally.note(f"{len(declared)} functions in {header}, the library and {' and '.join(tests)}", declared == exported and declared <= called, f"{declared ^ exported} {declared - called}")
