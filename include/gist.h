@@ -10,7 +10,7 @@
  * asks for, in the order of the commits, without a gap and without a repetition, whatever is done meanwhile. A feed does
  * that for many queries at once: it goes from snapshot to snapshot and tells each change to those who asked for it.
  *
- *     gist store = GIST_NONE;
+ *     gist_store store = GIST_NONE;
  *     gist_snapshot now = GIST_NONE;
  *     gist_query free = GIST_NONE;
  *     gist_limits limits = GIST_LIMITS;
@@ -95,10 +95,10 @@ enum {
 size_t gist_refusal_name(uint32_t refusal, char *name, size_t room);
 
 /* A handle of a store, of a snapshot, of a query or of a feed, or of nothing. */
-typedef struct gist {
+typedef struct gist_store {
     bool is_open;
     void *inside;
-} gist;
+} gist_store;
 typedef struct gist_snapshot {
     bool is_open;
     void *inside;
@@ -216,10 +216,10 @@ typedef struct gist_limits {
  *
  * GIST_BAD_CONFIG where no class has the number or the handle has something, GIST_BAD_LIMITS; GIST_OUT_OF_MEMORY.
  */
-uint32_t gist_create(gist *store, uint32_t key_class, const gist_limits *limits);
+uint32_t gist_create(gist_store *store, uint32_t key_class, const gist_limits *limits);
 
 /* Drops what a handle has, if it has something. It has nothing then. */
-void gist_destroy(gist *store);
+void gist_destroy(gist_store *store);
 
 /* How far a store has come, and what is left to it. */
 typedef struct gist_figures {
@@ -232,7 +232,7 @@ typedef struct gist_figures {
 } gist_figures;
 
 /* Tells how far a store has come. */
-uint32_t gist_stats(gist *store, gist_figures *figures);
+uint32_t gist_stats(gist_store *store, gist_figures *figures);
 
 /*
  * Adds n rows one after the other, until one is refused, and tells how many were added. Their numbers are the next ones.
@@ -240,7 +240,7 @@ uint32_t gist_stats(gist *store, gist_figures *figures);
  *
  * Where the first row is refused: GIST_BAD_ENDS; GIST_COMMITS_FULL; GIST_PAGES_FULL; GIST_OUT_OF_MEMORY.
  */
-uint32_t gist_insert(gist *store, const gist_entry *rows, size_t n, uint64_t *added);
+uint32_t gist_insert(gist_store *store, const gist_entry *rows, size_t n, uint64_t *added);
 
 /*
  * Moves a row to a key by one commit, and gives the number of the row that it makes.
@@ -248,7 +248,7 @@ uint32_t gist_insert(gist *store, const gist_entry *rows, size_t n, uint64_t *ad
  * GIST_BAD_ENDS; else GIST_NO_SUCH_ROW, else GIST_ALREADY_DELETED, else GIST_COMMITS_FULL, else GIST_FINDERS_FULL;
  * GIST_PAGES_FULL; GIST_OUT_OF_MEMORY.
  */
-uint32_t gist_move(gist *store, uint64_t row, gist_key key, uint64_t *moved);
+uint32_t gist_move(gist_store *store, uint64_t row, gist_key key, uint64_t *moved);
 
 /*
  * Deletes n rows one after the other, until one is refused, and tells how many were deleted. Each is a commit.
@@ -256,7 +256,7 @@ uint32_t gist_move(gist *store, uint64_t row, gist_key key, uint64_t *moved);
  * Where the first row is refused: GIST_NO_SUCH_ROW, else GIST_ALREADY_DELETED, else GIST_COMMITS_FULL, else
  * GIST_FINDERS_FULL; GIST_OUT_OF_MEMORY.
  */
-uint32_t gist_delete(gist *store, const uint64_t *rows, size_t n, uint64_t *deleted);
+uint32_t gist_delete(gist_store *store, const uint64_t *rows, size_t n, uint64_t *deleted);
 
 /*
  * Removes the ended rows that no open cursor needs any more, and tells how many they were. That makes room for later
@@ -264,7 +264,7 @@ uint32_t gist_delete(gist *store, const uint64_t *rows, size_t n, uint64_t *dele
  *
  * GIST_OUT_OF_MEMORY; some of them may be removed then.
  */
-uint32_t gist_sweep(gist *store, uint64_t *removed);
+uint32_t gist_sweep(gist_store *store, uint64_t *removed);
 
 /* --- queries --- */
 
@@ -302,7 +302,7 @@ void gist_forget(gist_query *query);
 /* --- snapshots --- */
 
 /* Takes a snapshot of a store, for a handle that has nothing. GIST_BAD_CONFIG where it has something; GIST_OUT_OF_MEMORY. */
-uint32_t gist_take(gist *store, gist_snapshot *snapshot);
+uint32_t gist_take(gist_store *store, gist_snapshot *snapshot);
 
 /* Drops what a handle has, if it has something. It has nothing then. */
 void gist_drop(gist_snapshot *snapshot);
@@ -356,7 +356,7 @@ uint32_t gist_changes(gist_snapshot *snapshot, gist_query *query, uint64_t from,
  * GIST_BAD_CONFIG where the handle has something, GIST_BAD_LIMITS; GIST_COMMITS_FULL and GIST_PAGES_FULL where the limits
  * are too small for the rows; GIST_OUT_OF_MEMORY.
  */
-uint32_t gist_renew(gist_snapshot *snapshot, const gist_limits *limits, gist *store, uint64_t *numbers, size_t room,
+uint32_t gist_renew(gist_snapshot *snapshot, const gist_limits *limits, gist_store *store, uint64_t *numbers, size_t room,
                     uint64_t *living);
 
 /* --- cursors --- */
@@ -367,7 +367,7 @@ uint32_t gist_renew(gist_snapshot *snapshot, const gist_limits *limits, gist *st
  *
  * GIST_CURSORS_FULL; GIST_OUT_OF_MEMORY.
  */
-uint32_t gist_open(gist *store, gist_query *query, uint64_t *cursor);
+uint32_t gist_open(gist_store *store, gist_query *query, uint64_t *cursor);
 
 /*
  * Opens a cursor that follows a commit: it gives the changes after that commit and no row that was there. Of a mark's
@@ -375,7 +375,7 @@ uint32_t gist_open(gist *store, gist_query *query, uint64_t *cursor);
  *
  * GIST_FROM_FUTURE where there are fewer commits than that; else as gist_open.
  */
-uint32_t gist_follow(gist *store, gist_query *query, uint64_t commit, uint64_t *cursor);
+uint32_t gist_follow(gist_store *store, gist_query *query, uint64_t commit, uint64_t *cursor);
 
 /*
  * Gives a cursor's next items, until the buffer is full, nothing is left or the next is refused, and tells how many
@@ -384,16 +384,16 @@ uint32_t gist_follow(gist *store, gist_query *query, uint64_t commit, uint64_t *
  *
  * Where the first is refused: GIST_NO_SUCH_CURSOR, GIST_CURSOR_CLOSED; GIST_OUT_OF_MEMORY, and the next call goes on.
  */
-uint32_t gist_next(gist *store, uint64_t cursor, gist_item *items, size_t room, uint64_t *given);
+uint32_t gist_next(gist_store *store, uint64_t cursor, gist_item *items, size_t room, uint64_t *given);
 
 /*
  * Asks a cursor for a mark: an item with the number of a commit, which shows that all up to that commit was given. It
  * comes once what was there is given. GIST_NO_SUCH_CURSOR, GIST_CURSOR_CLOSED.
  */
-uint32_t gist_mark(gist *store, uint64_t cursor);
+uint32_t gist_mark(gist_store *store, uint64_t cursor);
 
 /* Closes a cursor. It gives nothing more. GIST_NO_SUCH_CURSOR, GIST_CURSOR_CLOSED. */
-uint32_t gist_close(gist *store, uint64_t cursor);
+uint32_t gist_close(gist_store *store, uint64_t cursor);
 
 /* --- feeds --- */
 

@@ -1,12 +1,12 @@
 /*
- * gist for C++17: the stores, queries, snapshots, cursors and feeds of gist_next.h, which drop what they own.
+ * gist for C++17: the stores, queries, snapshots, cursors and feeds of gist.h, which drop what they own.
  *
  *     gist::Store<gist::Interval> rooms;
  *     rooms.insert({9, 17}, 4711);
  *     for (const auto &row : rooms.snapshot().find(gist::overlaps(gist::Interval{12, 13})))
  *         std::cout << row.tag << '\n';
  *
- * What a call does, and when it is refused, stands in gist_next.h at the call of that name. A refusal is thrown as a
+ * What a call does, and when it is refused, stands in gist.h at the call of that name. A refusal is thrown as a
  * gist::Error. Objects are moved and not copied; one that was moved away may be assigned to or destroyed, and no more.
  * What the header says of handles and threads is so of these objects; a const function only reads its handle.
  */
@@ -40,7 +40,7 @@ template <class Raw, void (*drop)(Raw *)> class Owner {
     std::unique_ptr<Raw, Drop> handle{new Raw GIST_NONE};
 
   public:
-    Raw *raw() const noexcept { return handle.get(); } /* for calls of gist_next.h */
+    Raw *raw() const noexcept { return handle.get(); } /* for calls of gist.h */
 };
 using OwnStore = Owner<gist_store, gist_destroy>;
 

@@ -4,9 +4,7 @@
 #ifndef GIST_VALUES_HPP
 #define GIST_VALUES_HPP
 
-#define gist gist_store /* the header's name of a store's handle is that of this namespace */
-#include "gist_next.h"
-#undef gist
+#include "gist.h"
 
 #include <algorithm>
 #include <cstddef>

@@ -203,7 +203,7 @@ class Store {
         return found;
     }
 
-    gist store = GIST_NONE;
+    gist_store store = GIST_NONE;
     gist_snapshot snapshot = GIST_NONE;
     bool is_current = false;
     std::vector<gist_row> rows;

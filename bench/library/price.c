@@ -28,7 +28,7 @@ int main(int argc, char **argv)
     size_t rows = argc == 3 ? strtoul(argv[2], NULL, 10) : 0;
     gist_entry *entries = malloc(rows * sizeof *entries);
     gist_item *items = malloc(rows * sizeof *items);
-    gist store = GIST_NONE;
+    gist_store store = GIST_NONE;
     gist_query all = GIST_NONE;
     gist_snapshot snapshot = GIST_NONE;
     uint64_t number = 0, sum = 0, cursor;

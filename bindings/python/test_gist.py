@@ -382,7 +382,7 @@ class Numbers(Case):
         self.assertEqual((again.refusal, again.at, again.done, str(again)), (Refusal.QueryText, 7, 2, str(error)))
 
     def test_numbers_are_those_of_the_header(self) -> None:
-        header = os.path.join(os.path.dirname(os.path.abspath(__file__)), "../../include/gist_next.h")
+        header = os.path.join(os.path.dirname(os.path.abspath(__file__)), "../../include/gist.h")
         with open(header, encoding="utf-8") as file:
             text = file.read()
         for names, prefix in ((Refusal, ""), (Kind, ""), (Relation, "")):

@@ -8,7 +8,7 @@ use std::process::exit;
 fn stop(wrong: &str) -> ! {
     eprintln!(
         "error: {wrong}\n\
-         GIST_LIB_DIR has to name the folder with libgist.a, which `tools/library --next FOLDER` makes:\n    \
+         GIST_LIB_DIR has to name the folder with libgist.a, which `tools/library FOLDER` makes:\n    \
          GIST_LIB_DIR=FOLDER cargo build"
     );
     exit(1)

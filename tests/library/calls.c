@@ -10,7 +10,7 @@
 #include <stdlib.h>
 #include <string.h>
 
-#include "gist_next.h"
+#include "gist.h"
 
 static void told(int line, const char *what, uint64_t is, uint64_t wanted) {
     if (is != wanted) {
@@ -35,7 +35,7 @@ typedef struct keys {
 
 static void stores(const keys *k) {
     const gist_limits limits = {4, 2, 64, 12};
-    gist store = GIST_NONE;
+    gist_store store = GIST_NONE;
     gist_snapshot now = GIST_NONE, later = GIST_NONE;
     gist_query near = GIST_NONE, again = GIST_NONE, other = GIST_NONE;
     gist_entry entries[3] = {{gist_set(0, 0), 0}, {gist_set(0, 0), 0}, {gist_set(0, 0), 0}};
@@ -235,7 +235,7 @@ static void stores(const keys *k) {
     gist_destroy(&store);
 
     /* a handle of something else */
-    IS(gist_insert((gist *)(void *)&now, entries, 1, &n), GIST_NO_HANDLE);
+    IS(gist_insert((gist_store *)(void *)&now, entries, 1, &n), GIST_NO_HANDLE);
     gist_drop(&now);
     gist_drop(&later);
     IS(gist_commits(&later, &n), GIST_NO_HANDLE);
@@ -247,7 +247,7 @@ static void stores(const keys *k) {
 /* A feed over snapshots: what each subscription is given, and what waits. */
 static void feeds(const keys *k) {
     const gist_limits limits = {4, 2, 64, 12};
-    gist store = GIST_NONE;
+    gist_store store = GIST_NONE;
     gist_snapshot now = GIST_NONE, none = GIST_NONE;
     gist_query near = GIST_NONE, far = GIST_NONE, other = GIST_NONE;
     gist_feed feed = GIST_NONE;
@@ -338,7 +338,7 @@ static void ends(void) {
     const gist_limits limits = GIST_LIMITS;
     const gist_entry bad = {gist_interval(2, 1), 1};
     gist_key keys[2];
-    gist store = GIST_NONE;
+    gist_store store = GIST_NONE;
     gist_snapshot now = GIST_NONE;
     gist_query query = GIST_NONE;
     gist_row rows[1];

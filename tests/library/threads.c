@@ -10,12 +10,12 @@
 #include <stdio.h>
 #include <stdlib.h>
 
-#include "gist_next.h"
+#include "gist.h"
 
 enum { ROWS = 4000, AT_ONCE = 10, READERS = 3, LOOKS = 60 };
 
 static pthread_mutex_t lock = PTHREAD_MUTEX_INITIALIZER;
-static gist store = GIST_NONE;
+static gist_store store = GIST_NONE;
 
 static void told(int line, const char *what, uint64_t is, uint64_t wanted) {
     if (is != wanted) {

@@ -1,4 +1,4 @@
-//! The declarations of `include/gist_next.h`.
+//! The declarations of `include/gist.h`.
 
 use std::ffi::{c_char, c_void};
 

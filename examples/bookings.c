@@ -4,7 +4,7 @@
  *
  *     cc bookings.c -IFOLDER -LFOLDER -lgist -o bookings
  */
-#include "gist_next.h"
+#include "gist.h"
 
 #include <inttypes.h>
 #include <stdio.h>
@@ -25,7 +25,7 @@ static void need(const char *what, uint32_t answer) {
 }
 
 /* Finds who has the room in some hours: as many rows as there is room for, and how many there are. */
-static uint64_t taken(gist *rooms, gist_key hours, gist_row *rows, size_t room) {
+static uint64_t taken(gist_store *rooms, gist_key hours, gist_row *rows, size_t room) {
     gist_snapshot now = GIST_NONE;
     gist_query query = GIST_NONE;
     uint64_t found;
@@ -44,7 +44,7 @@ static void tell(const char *what, gist_key hours, uint64_t guest) {
 }
 
 /* Books the room from an hour up to another. Tells the booking's number, or 0 where somebody has the room. */
-static uint64_t book(gist *rooms, int64_t from, int64_t until, uint64_t guest) {
+static uint64_t book(gist_store *rooms, int64_t from, int64_t until, uint64_t guest) {
     const gist_entry booking = {gist_interval_until(from, until), guest};
     gist_figures figures;
     gist_row other;
@@ -62,7 +62,7 @@ static uint64_t book(gist *rooms, int64_t from, int64_t until, uint64_t guest) {
 }
 
 /* Moves a booking to other hours, where nobody else has the room. Tells its new number, or the old one. */
-static uint64_t rebook(gist *rooms, uint64_t booking, int64_t from, int64_t until) {
+static uint64_t rebook(gist_store *rooms, uint64_t booking, int64_t from, int64_t until) {
     const gist_key hours = gist_interval_until(from, until);
     gist_row others[2];
     uint64_t found = taken(rooms, hours, others, 2);
@@ -93,7 +93,7 @@ static void hide(display *of, uint64_t row) {
 }
 
 /* Takes what the cursor gives, up to a mark. */
-static void follow(display *of, gist *rooms, uint64_t cursor) {
+static void follow(display *of, gist_store *rooms, uint64_t cursor) {
     gist_item item;
     uint64_t given;
 
@@ -132,7 +132,7 @@ static int by_number(const void *one, const void *other) {
 }
 
 /* Whether the display shows what a find in its day gives. */
-static bool is_right(display *of, gist *rooms, gist_key day) {
+static bool is_right(display *of, gist_store *rooms, gist_key day) {
     gist_row rows[MOST_SHOWN];
 
     qsort(of->rows, of->shown, sizeof of->rows[0], by_number);
@@ -143,7 +143,7 @@ static bool is_right(display *of, gist *rooms, gist_key day) {
 int main(void) {
     const gist_limits limits = {32, 12, 1024, 10000};
     const gist_key today = gist_interval_until(0, HOURS_A_DAY);
-    gist rooms = GIST_NONE;
+    gist_store rooms = GIST_NONE;
     gist_query of_today = GIST_NONE;
     display shown = {.shown = 0};
     uint64_t cursor, early, late, deleted;

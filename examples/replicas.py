@@ -1,7 +1,7 @@
 #!/usr/bin/env python3
 """One process writes, and others have replicas, which they keep up to date through Redis Streams and search by themselves.
 
-    GIST_LIB_DIR=FOLDER PYTHONPATH=bindings/python examples/next/replicas.py
+    GIST_LIB_DIR=FOLDER PYTHONPATH=bindings/python examples/replicas.py
 
 The writer sends each commit with its number as the number of the message. A replica makes the commits in their order in a
 store of its own. So its commits are the writer's first ones, with the same numbers, and so are its rows; how many they

@@ -1,7 +1,7 @@
 #!/usr/bin/env python3
 """An index of songs by their tags: queries that are composed, and what a plain loop does better.
 
-    GIST_LIB_DIR=FOLDER PYTHONPATH=bindings/python examples/next/tags.py [--times]
+    GIST_LIB_DIR=FOLDER PYTHONPATH=bindings/python examples/tags.py [--times]
 
 It ends with status 0 only where the index and a plain loop over all songs give the same. --times tells how long each
 took.

@@ -1,0 +1,161 @@
+/*
+ * Every call that asks for memory, for each class. A call that is refused for lack of memory is made again; it has to
+ * succeed then, and all is to be as if it had not been refused. tools/examples runs this with each request for memory
+ * refused, one in each run.
+ *
+ * It prints nothing, and ends with status 0, or tells the line of the first thing that isn't as it is to be.
+ */
+#include "gist.h"
+
+#include <inttypes.h>
+#include <stdio.h>
+#include <stdlib.h>
+
+#define ROWS 24
+
+static void told(int line, const char *what, uint64_t is, uint64_t wanted) {
+    if (is != wanted) {
+        fprintf(stderr, "line %d: %s is %" PRIu64 ", not %" PRIu64 "\n", line, what, is, wanted);
+        exit(1);
+    }
+}
+
+#define IS(what, wanted) told(__LINE__, #what, (uint64_t)(what), (uint64_t)(wanted))
+
+/* Makes a call, and makes it again where memory was wanting: one request is refused in a run. */
+#define NEED(call)                                                                                  \
+    do {                                                                                            \
+        uint32_t answer = (call);                                                                   \
+        if (answer == GIST_OUT_OF_MEMORY)                                                           \
+            answer = (call);                                                                        \
+        IS(answer, GIST_OK);                                                                        \
+    } while (0)
+
+/* The keys of a class, one for each number, each of which overlaps the one that overlaps all. */
+static gist_key key(uint32_t key_class, int at) {
+    switch (key_class) {
+    case GIST_INTERVALS:
+        return gist_interval(at, at + 2);
+    case GIST_BOXES:
+        return gist_box(at, at, at + 2, at + 2);
+    default:
+        return gist_set(UINT64_C(1) << at, 1);
+    }
+}
+
+static const char *all(uint32_t key_class) {
+    static const char *const texts[] = {"overlaps (-9 99)", "overlaps (-9 -9 99 99)", "holds {64}"};
+    return texts[key_class - GIST_INTERVALS];
+}
+
+static size_t length(const char *text) {
+    size_t count = 0;
+    while (text[count] != 0)
+        count++;
+    return count;
+}
+
+/* Inserts all rows of a list, however many calls that takes. */
+static void insert_all(gist_store *store, const gist_entry *entries) {
+    uint64_t added;
+    for (uint64_t done = 0; done < ROWS; done += added)
+        NEED(gist_insert(store, entries + done, ROWS - done, &added));
+}
+
+static void delete_all(gist_store *store, const uint64_t *rows, size_t n) {
+    uint64_t deleted;
+    for (uint64_t done = 0; done < n; done += deleted)
+        NEED(gist_delete(store, rows + done, n - done, &deleted));
+}
+
+/* Takes all that a cursor gives, and counts it. */
+static uint64_t take_all(gist_store *store, uint64_t cursor) {
+    gist_item items[5];
+    uint64_t given, count = 0;
+    do {
+        NEED(gist_next(store, cursor, items, 5, &given));
+        count += given;
+    } while (given > 0);
+    return count;
+}
+
+/* Asks a snapshot of ROWS rows, of which two were deleted and one was moved by the last three commits. */
+static void ask(const gist_snapshot *snapshot, const gist_query *every, uint32_t key_class) {
+    const gist_key keys[2] = {key(key_class, 5), key(key_class, 5)};
+    gist_row rows[ROWS], row;
+    gist_item items[ROWS + 3];
+    uint64_t n, upto, ends[2];
+    bool lives;
+
+    NEED(gist_find((gist_snapshot *)snapshot, (gist_query *)every, rows, ROWS, &n));
+    IS(n, ROWS - 2);
+    NEED(gist_count((gist_snapshot *)snapshot, (gist_query *)every, &n));
+    IS(n, ROWS - 2);
+    NEED(gist_row_of((gist_snapshot *)snapshot, 6, &row, &lives));
+    IS(row.tag == 5 && lives, true);
+    for (uint64_t answered = 0; answered < 2; answered += n)
+        NEED(gist_find_each((gist_snapshot *)snapshot, GIST_SAME, keys + answered, 2 - answered, rows, ROWS, ends, 2, &n));
+    NEED(gist_changes((gist_snapshot *)snapshot, (gist_query *)every, 0, items, ROWS + 3, &n, &upto));
+    IS(n == ROWS + 3 && upto == ROWS + 3, true);
+}
+
+static void follow(gist_feed *feed, gist_snapshot *snapshot, gist_query *every) {
+    gist_told buffer[7];
+    uint64_t one, two, given, upto = 0, count = 0;
+
+    NEED(gist_subscribe(feed, every, 0, &one));
+    NEED(gist_subscribe(feed, every, ROWS, &two));
+    do {
+        NEED(gist_advance(feed, snapshot, 10, buffer, 7, &given, &upto));
+        count += given;
+    } while (given > 0 || upto < ROWS + 3);
+    IS(count, ROWS + 3 + 3);
+    IS(gist_unsubscribe(feed, one), GIST_OK);
+}
+
+static void call_all(uint32_t key_class) {
+    const gist_limits limits = {4, 2, 200, 200};
+    const uint64_t gone[2] = {1, 2};
+    gist_store store = GIST_NONE, anew = GIST_NONE;
+    gist_snapshot now = GIST_NONE;
+    gist_query every = GIST_NONE, one = GIST_NONE;
+    gist_feed feed = GIST_NONE;
+    gist_entry entries[ROWS];
+    uint64_t cursor, follower, fault, n, numbers[ROWS];
+
+    for (int at = 0; at < ROWS; at++)
+        entries[at] = (gist_entry){key(key_class, at), (uint64_t)at};
+    NEED(gist_create(&store, key_class, &limits));
+    NEED(gist_prepare(&every, key_class, all(key_class), length(all(key_class)), &fault));
+    NEED(gist_ask(&one, key_class, GIST_SAME, key(key_class, 5)));
+    insert_all(&store, entries);
+    NEED(gist_open(&store, &every, &cursor));
+    NEED(gist_follow(&store, &one, 0, &follower));
+    IS(take_all(&store, cursor), ROWS);
+    delete_all(&store, gone, 2);
+    NEED(gist_move(&store, 3, key(key_class, 30), &n));
+    IS(n, ROWS + 3);
+    IS(take_all(&store, cursor), 3);
+    IS(take_all(&store, follower), 1);
+    NEED(gist_take(&store, &now));
+    ask(&now, &every, key_class);
+    NEED(gist_begin(&feed, key_class));
+    follow(&feed, &now, &every);
+    NEED(gist_renew(&now, &limits, &anew, numbers, ROWS, &n));
+    IS(n, ROWS - 2);
+    IS(gist_close(&store, cursor), GIST_OK);
+    NEED(gist_sweep(&store, &n));
+    gist_end(&feed);
+    gist_drop(&now);
+    gist_forget(&one);
+    gist_forget(&every);
+    gist_destroy(&anew);
+    gist_destroy(&store);
+}
+
+int main(void) {
+    call_all(GIST_INTERVALS);
+    call_all(GIST_BOXES);
+    call_all(GIST_SETS);
+    return 0;
+}
