@@ -265,7 +265,7 @@ def _load() -> ctypes.CDLL:
             raise OSError("there is no libgist.so beside gist.py or where the system looks")
         return ctypes.CDLL(path)
     except OSError as why:
-        raise ImportError(f"gist: {why}; GIST_LIB_DIR has to name the folder with libgist.so, as `tools/library --next FOLDER` makes it") from None
+        raise ImportError(f"gist: {why}; GIST_LIB_DIR has to name the folder with libgist.so, as `tools/library FOLDER` makes it") from None
 
 
 _library = _load()
