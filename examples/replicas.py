@@ -136,11 +136,18 @@ class Writer:
         else:
             self.store.delete(self.rows.pop(at))
 
-    def send(self, now: Snapshot) -> None:
+    def send(self, now: Snapshot[Box]) -> None:
         """Sends the commits that weren't sent. Redis refuses a number that it has, so none is there twice."""
-        new = range(self.sent + 1, now.commits() + 1)
-        self.redis.ask_all([["XADD", STREAM, f"{number}-0", *message(now.commit(number))] for number in new])
+        self.redis.ask_all([["XADD", STREAM, f"{commit.number}-0", *message(commit)] for commit in commits_after(self.sent, now)])
         self.sent = now.commits()
+
+
+def commits_after(number: int, now: Snapshot[Box]) -> Iterator[Item]:
+    """The commits after one, in their order."""
+    for further in range(number + 1, now.commits() + 1):
+        commit = now.commit(further)
+        if commit:
+            yield commit
 
 
 def message(commit: Item) -> List[Any]:
@@ -202,8 +209,7 @@ class Replica:
     def all_commits(self, commit: int) -> List[Any]:
         """All commits, once there are so many."""
         self.catch_up(commit)
-        now = self.store.snapshot()
-        return [tuple(now.commit(number)) for number in range(1, now.commits() + 1)]
+        return [tuple(it) for it in commits_after(0, self.store.snapshot())]
 
 
 def serve(port: int, pipe: Connection) -> None:
@@ -244,7 +250,7 @@ class Asked:
 def run(port: int) -> bool:
     """Writes, has replicas answer meanwhile, and tells whether all was right."""
     writer, replicas = Writer(Redis(port)), [Asked(port) for _ in range(REPLICAS)]
-    snapshots: Dict[int, Snapshot] = {0: writer.store.snapshot()}
+    snapshots: Dict[int, Snapshot[Box]] = {0: writer.store.snapshot()}
     finds = wrong = 0
     for turn in range(ROUNDS):
         if turn == AWAY.start:
@@ -265,7 +271,7 @@ def run(port: int) -> bool:
             finds += 1
             wrong += not is_due or rows != [tuple(row) for row in snapshots[commits].find(text)]
     last = snapshots[ROUNDS * COMMITS_A_ROUND]
-    wanted = [tuple(last.commit(number)) for number in range(1, last.commits() + 1)]
+    wanted = [tuple(it) for it in commits_after(0, last)]
     same = [replica.ask("all_commits", last.commits()) == wanted for replica in replicas]
     for replica in replicas:
         replica.end()

@@ -104,7 +104,7 @@ def asked_of(index: TagIndex) -> Iterator[Tuple[str, Any, Callable[[FrozenSet[st
     yield "without rock", ~overlaps(index.set_of(["rock"])), lambda tags: "rock" not in tags
 
 
-def tag_counts(now: Snapshot) -> Dict[str, int]:
+def tag_counts(now: Snapshot[Set]) -> Dict[str, int]:
     """How many songs each tag has. Every row matters, so one loop over them does it, and no query would help."""
     counts = collections.Counter(number for row in now for number in row.key)
     return {TAGS[number]: count for number, count in counts.items()}

@@ -32,7 +32,7 @@ import sys
 import threading
 import time
 import weakref
-from typing import Any, Callable, Generic, Iterable, Iterator, List, NamedTuple, Optional, Sequence, Tuple, Type, TypeVar, Union
+from typing import Any, Callable, FrozenSet, Generic, Iterable, Iterator, List, NamedTuple, Optional, Tuple, Type, TypeVar, Union
 
 __all__ = [
     "Advance", "Box", "Changes", "Cursor", "Error", "Feed", "Figures", "Interval", "Item", "Kind", "Known", "Limits", "Query",
@@ -58,7 +58,7 @@ class Box(NamedTuple):
     y2: int
 
 
-class Set(frozenset):
+class Set(FrozenSet[int]):
     """A set of the numbers from 0 to 127, as `Set({1, 5})`."""
 
     def __repr__(self) -> str:
@@ -337,7 +337,7 @@ class _Class:
         self.item_form = struct.Struct(f"<I4xQQQ{form}")
         self.told_form = struct.Struct(f"<QI4xQQQ{form}")
 
-    def fields(self, key: Any) -> Sequence[int]:
+    def fields(self, key: Any) -> Any:
         """The numbers of a key, as they stand in memory."""
         if isinstance(key, range):
             if self.key is not Interval or key.step != 1:
@@ -392,7 +392,7 @@ class _Class:
 class _Sets(_Class):
     """Sets: two masks of 64 bits."""
 
-    def fields(self, key: Any) -> Sequence[int]:
+    def fields(self, key: Any) -> Any:
         bits = 0
         for element in key:
             if not 0 <= element <= 127:
@@ -412,7 +412,7 @@ class _Sets(_Class):
         return f"{{{' '.join(map(str, sorted(key)))}}}"
 
 
-_KINDS = (None, *Kind)
+_KINDS: Tuple[Any, ...] = (None, *Kind)
 _CLASSES = {
     Interval: _Class(1, Interval, "qq", (Relation.OVERLAPS, (-2**63, 2**63 - 1))),
     Box: _Class(2, Box, "4i", (Relation.OVERLAPS, (-2**31, -2**31, 2**31 - 1, 2**31 - 1))),
@@ -485,7 +485,7 @@ class Query(_Owner, Generic[K]):
 
     def __init__(self, key_class: Type[K], text: str) -> None:
         super().__init__("forget")
-        self.key_class = key_class
+        self.key_class: Type[K] = key_class
         self.text = text
         self._made_of_text()
 
@@ -559,7 +559,7 @@ class Snapshot(_Owner, Generic[K]):
 
     def __init__(self, key_class: Type[K]) -> None:
         super().__init__("drop")
-        self.key_class = key_class
+        self.key_class: Type[K] = key_class
         self._class = _class_of(key_class)
 
     def commits(self) -> int:
@@ -635,7 +635,8 @@ class Snapshot(_Owner, Generic[K]):
         Raises Error: BadEnds, with the number of keys before that one as `done`.
         """
         packed = [self._class.packed(self._class.key_form, key) for key in keys]
-        room, found, answered = _ROOM * 4, [], _u64()
+        found: List[List[Row]] = []
+        room, answered = _ROOM * 4, _u64()
         while len(found) < len(packed):
             rest = b"".join(packed[len(found):len(found) + _MOST_ROOM])
             asked = len(rest) // 16
@@ -710,7 +711,7 @@ class Store(_Owner, Generic[K]):
         _need(_call["create"](self._at, self._class.number, ctypes.byref(_limits(limits))))
 
     def _prepare(self, key_class: Type[K]) -> None:
-        self.key_class = key_class
+        self.key_class: Type[K] = key_class
         self._class = _class_of(key_class)
         self._grown = threading.Condition(self._turn)
         # the cursors that nothing refers to any more
@@ -859,7 +860,8 @@ class Cursor(Generic[K]):
     """
 
     def __init__(self, store: Store[K], number: int) -> None:
-        self.store, self.number = store, number
+        self.store: Store[K] = store
+        self.number = number
         self._finalizer = weakref.finalize(self, store._left.append, number)
 
     def __iter__(self) -> Iterator[Item]:
@@ -917,7 +919,7 @@ class Feed(_Owner, Generic[K]):
 
     def __init__(self, key_class: Type[K]) -> None:
         super().__init__("end")
-        self.key_class = key_class
+        self.key_class: Type[K] = key_class
         self._class = _class_of(key_class)
         self._kept: List[Told] = []
         _need(_call["begin"](self._at, self._class.number))
