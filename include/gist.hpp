@@ -32,11 +32,17 @@ inline void need(uint32_t answer, uint64_t fault = 0, uint64_t done = 0) {
 /* What a call gives by its last pointer. */
 template <class Call, class... Parts> uint64_t given(Call call, Parts... parts) {
     uint64_t number = 0;
-    return need(call(parts..., &number)), number;
+    need(call(parts..., &number));
+    return number;
 }
 /* What has a handle, whose address stays, and drops what the handle has. */
 template <class Raw, void (*drop)(Raw *)> class Owner {
-    struct Drop { void operator()(Raw *raw) const noexcept { drop(raw), delete raw; } };
+    struct Drop {
+        void operator()(Raw *raw) const noexcept {
+            drop(raw);
+            delete raw;
+        }
+    };
     std::unique_ptr<Raw, Drop> handle{new Raw GIST_NONE};
 
   public:
@@ -54,7 +60,8 @@ template <class Key> Item<Key> item_of(const gist_item &it) {
 template <class Key> struct Query : detail::Owner<gist_query, gist_forget> {
     explicit Query(std::string_view text) {
         uint64_t at = 0;
-        const auto answer = gist_prepare(raw(), Key::key_class, text.data(), text.size(), &at);
+        const char *const first = text.empty() ? "" : text.data();
+        const auto answer = gist_prepare(raw(), Key::key_class, first, text.size(), &at);
         detail::need(answer, at);
     }
     Query(Relation relation, const Key &key) {
@@ -72,10 +79,10 @@ template <class Key> struct Snapshot : detail::Owner<gist_snapshot, gist_drop> {
     uint64_t count(const Query<Key> &query) const { return detail::given(gist_count, this->raw(), query.raw()); }
     /* The row with a number, and whether it lived. */
     Known<Key> row(uint64_t number) const {
-        Known<Key> known;
         gist_row row;
-        detail::need(gist_row_of(this->raw(), number, &row, &known.lives));
-        return known.row = detail::row_of<Key>(row), known;
+        bool lives = false;
+        detail::need(gist_row_of(this->raw(), number, &row, &lives));
+        return {detail::row_of<Key>(row), lives};
     }
     /* The commit with a number, if there was one. */
     std::optional<Item<Key>> commit(uint64_t number) const {
@@ -126,8 +133,15 @@ template <class Key> class Cursor {
   public:
     Cursor(std::shared_ptr<detail::OwnStore> of, uint64_t opened) : store(std::move(of)), number(opened) {}
     Cursor(Cursor &&) = default;
-    Cursor &operator=(Cursor &&it) { return std::swap(store, it.store), std::swap(number, it.number), *this; }
-    ~Cursor() { store && gist_close(store->raw(), number); }
+    Cursor &operator=(Cursor &&it) noexcept {
+        std::swap(store, it.store);
+        std::swap(number, it.number);
+        return *this;
+    }
+    ~Cursor() {
+        if (store)
+            gist_close(store->raw(), number);
+    }
     void mark() { detail::need(gist_mark(store->raw(), number)); }
     /* The next items, at most so many. There are none only where nothing is left. */
     std::vector<Item<Key>> next(size_t most = detail::room) {
@@ -135,7 +149,8 @@ template <class Key> class Cursor {
         std::vector<Item<Key>> all(most);
         const auto count = detail::given(gist_next, store->raw(), number, items.data(), most);
         std::transform(items.begin(), items.begin() + count, all.begin(), detail::item_of<Key>);
-        return all.resize(count), all;
+        all.resize(count);
+        return all;
     }
 };
 
@@ -155,11 +170,13 @@ template <class Key> class Store {
     Store(const Snapshot<Key> &from, std::vector<uint64_t> &numbers, const Limits &limits = GIST_LIMITS) {
         numbers.resize(from.commits() + 1);
         numbers.resize(detail::given(gist_renew, from.raw(), &limits, raw(), numbers.data(), numbers.size()));
+        numbers.shrink_to_fit();
     }
     gist_store *raw() const noexcept { return owner->raw(); }
     Figures stats() const {
         Figures figures;
-        return detail::need(gist_stats(raw(), &figures)), figures;
+        detail::need(gist_stats(raw(), &figures));
+        return figures;
     }
     Snapshot<Key> snapshot() const {
         Snapshot<Key> now;

@@ -19,10 +19,10 @@ namespace gist {
 /* A refused call. */
 class Error : public std::runtime_error {
   public:
-    const uint32_t number; /* as GIST_COMMITS_FULL */
-    const std::string name;     /* as "CommitsFull" */
-    const uint64_t fault;  /* of GIST_QUERY_TEXT: the byte at which the text is refused, counted from 0 */
-    const uint64_t done;   /* of a call for many: how many were done before the one that is refused */
+    const uint32_t number;  /* as GIST_COMMITS_FULL */
+    const std::string name; /* as "CommitsFull" */
+    const uint64_t fault;   /* of GIST_QUERY_TEXT: the byte at which the text is refused, counted from 0 */
+    const uint64_t done;    /* of a call for many: how many were done before the one that is refused */
 
     Error(uint32_t refusal, uint64_t at, uint64_t before)
         : std::runtime_error("gist: " + name_of(refusal) + " (" + std::to_string(refusal) + ")" +
@@ -34,7 +34,7 @@ class Error : public std::runtime_error {
     }
 };
 
-/* The classes of keys: the whole numbers from lo to hi, both inside; */
+/* A class of keys: the whole numbers from lo to hi, both inside. */
 struct Interval {
     int64_t lo, hi;
     static constexpr uint32_t key_class = GIST_INTERVALS;
@@ -42,7 +42,7 @@ struct Interval {
     gist_key key() const { return gist_interval(lo, hi); }
     bool operator==(const Interval &it) const { return lo == it.lo && hi == it.hi; }
 };
-/* the whole points (x, y) with x1 <= x <= x2 and y1 <= y <= y2; */
+/* A class of keys: the whole points (x, y) with x1 <= x <= x2 and y1 <= y <= y2. */
 struct Box {
     int32_t x1, y1, x2, y2;
     static constexpr uint32_t key_class = GIST_BOXES;
@@ -50,19 +50,26 @@ struct Box {
     gist_key key() const { return gist_box(x1, y1, x2, y2); }
     bool operator==(const Box &it) const { return x1 == it.x1 && y1 == it.y1 && x2 == it.x2 && y2 == it.y2; }
 };
-/* and sets of the numbers from 0 to 127, with bit e of low for the element e, and bit e - 64 of high. */
+/* A class of keys: sets of the numbers from 0 to 127, with bit e of low for the element e, and bit e - 64 of high. */
 struct Set {
     uint64_t low = 0, high = 0;
     Set(std::initializer_list<unsigned> elements = {}) {
         for (const unsigned it : elements)
             insert(it);
     }
-    void insert(unsigned it) { /* throws std::out_of_range for another number */
-        (it < 64 ? low : it < 128 ? high : throw std::out_of_range("gist::Set")) |= uint64_t{1} << it % 64;
+    void insert(unsigned it) {
+        if (it >= 128)
+            throw std::out_of_range("a gist::Set has numbers from 0 to 127, not " + std::to_string(it));
+        (it < 64 ? low : high) |= uint64_t{1} << it % 64;
     }
     bool contains(unsigned it) const { return it < 128 && (it < 64 ? low : high) >> it % 64 & 1; }
     static constexpr uint32_t key_class = GIST_SETS;
-    static Set of(const gist_key &it) { Set set; return set.low = it.set.low, set.high = it.set.high, set; }
+    static Set of(const gist_key &it) {
+        Set set;
+        set.low = it.set.low;
+        set.high = it.set.high;
+        return set;
+    }
     gist_key key() const { return gist_set(low, high); }
     bool operator==(const Set &it) const { return low == it.low && high == it.high; }
 };
@@ -88,7 +95,8 @@ template <class T> struct Span {
     Span(std::initializer_list<T> all) : Span(all.begin(), all.size()) {}
     template <class Make> auto made(Make make) const { /* what each becomes */
         std::vector<decltype(make(*data))> all(size);
-        return std::transform(data, data + size, all.begin(), make), all;
+        std::transform(data, data + size, all.begin(), make);
+        return all;
     }
 };
 

@@ -395,11 +395,12 @@ class Numbers(Case):
         dice = random.Random(1)
         places = [(dice.randrange(10**6), dice.randrange(10**6)) for _ in range(100_000)]
         rows = [(Box(x, y, x + 9, y + 9), n) for n, (x, y) in enumerate(places)]
-        store, begin = Store(Box), time.perf_counter()
+        # the processor's time, since others may use the machine
+        store, begin = Store(Box), time.process_time()
         self.assertEqual(store.insert_all(rows), range(1, 100_001))
-        took = time.perf_counter() - begin
+        took = time.process_time() - begin
         self.assertEqual(len(store.snapshot()), 100_000)
-        self.assertLess(took, 0.5 * float(os.environ.get("GIST_SLOWER", "1")))
+        self.assertLess(took, 0.5)
 
     def test_the_missing_library_is_named(self) -> None:
         env = {**os.environ, "GIST_LIB_DIR": "/nowhere", "PYTHONPATH": os.path.dirname(os.path.abspath(gist.__file__))}
