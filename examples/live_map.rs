@@ -2,9 +2,9 @@
 //! what comes into their windows, moves in them and leaves them. The store is renewed before its commits are used up,
 //! while all of them go on.
 //!
-//!     GIST_LIB_DIR=FOLDER cargo run --release --example live_map
+//!     GIST_LIB_DIR=FOLDER cargo run --release --example live_map [VEHICLES]
 //!
-//! It ends with status 0 only where each viewer, at the end, has exactly the vehicles that stand in its window.
+//! With another number of vehicles there are viewers and moves in proportion. It ends with status 0 only where each viewer, at the end, has exactly the vehicles that stand in its window.
 
 use gist::{BoxKey, Change, Error, Feed, Limits, Query, Row, Snapshot, Store, Subscription};
 use std::collections::HashMap;
@@ -14,14 +14,34 @@ use std::sync::{Mutex, PoisonError};
 use std::thread;
 
 const VEHICLES: usize = 100_000;
-const VIEWERS: usize = 2_000;
 const ROUNDS: usize = 12;
-const MOVES_A_ROUND: usize = 20_000;
 const SIDE: i32 = 100_000;
 const WINDOW: i32 = 1_000;
 
-/// After the vehicles came there is room for five rounds; then the store is renewed.
-const COMMITS: u32 = 200_000;
+/// How large the map is.
+#[derive(Clone, Copy)]
+struct Size {
+    vehicles: usize,
+    viewers: usize,
+    moves_a_round: usize,
+    limits: Limits,
+}
+
+impl Size {
+    /// After the vehicles came there are commits for five rounds; then the store is renewed.
+    fn of(vehicles: usize) -> Size {
+        let limits = Limits {
+            commits: 2 * vehicles as u32,
+            ..Limits::default()
+        };
+        Size {
+            vehicles,
+            viewers: vehicles / 50,
+            moves_a_round: vehicles / 5,
+            limits,
+        }
+    }
+}
 
 /// Numbers that look random, and are the same in each run (xorshift64).
 struct Dice(u64);
@@ -54,20 +74,19 @@ enum News {
 
 /// The vehicles: a vehicle's number is its row's tag, and `rows` has the number of its row.
 struct Fleet {
+    size: Size,
     store: Store<BoxKey>,
     rows: Vec<u64>,
     renewals: usize,
 }
 
 impl Fleet {
-    fn new(dice: &mut Dice) -> Result<Fleet, Error> {
-        let limits = Limits {
-            commits: COMMITS,
-            ..Limits::default()
-        };
-        let store = Store::with_limits(limits)?;
-        let rows = store.insert_all((0..VEHICLES as u64).map(|vehicle| (dice.place(), vehicle)))?;
+    fn new(size: Size, dice: &mut Dice) -> Result<Fleet, Error> {
+        let store = Store::with_limits(size.limits)?;
+        let vehicles = 0..size.vehicles as u64;
+        let rows = store.insert_all(vehicles.map(|vehicle| (dice.place(), vehicle)))?;
         Ok(Fleet {
+            size,
             store,
             rows: rows.collect(),
             renewals: 0,
@@ -76,8 +95,8 @@ impl Fleet {
 
     /// Moves some vehicles, each by a commit.
     fn drive(&mut self, dice: &mut Dice) -> Result<(), Error> {
-        for _ in 0..MOVES_A_ROUND {
-            let row = &mut self.rows[dice.below(VEHICLES as i32) as usize];
+        for _ in 0..self.size.moves_a_round {
+            let row = &mut self.rows[dice.below(self.size.vehicles as i32) as usize];
             *row = self.store.move_to(*row, dice.place())?;
         }
         self.store.sweep().map(|_swept| ())
@@ -86,17 +105,13 @@ impl Fleet {
     /// Whether another round would not find commits enough.
     fn is_nearly_full(&self) -> bool {
         let figures = self.store.figures();
-        figures.commits + MOVES_A_ROUND as u64 > figures.commit_limit
+        figures.commits + self.size.moves_a_round as u64 > figures.commit_limit
     }
 
     /// Goes on with a store of the rows that live. Others go on with snapshots of the one before.
     fn renew(&mut self) -> Result<(), Error> {
-        let limits = Limits {
-            commits: COMMITS,
-            ..Limits::default()
-        };
         let last = self.store.snapshot()?;
-        let renewed = last.renew(limits)?;
+        let renewed = last.renew(self.size.limits)?;
         self.store = renewed.store;
         for row in self.store.snapshot()?.iter()? {
             self.rows[row.tag as usize] = row.number;
@@ -137,6 +152,7 @@ fn write(
 fn read(
     latest: &Mutex<Snapshot<BoxKey>>,
     is_over: &AtomicBool,
+    vehicles: usize,
     mut dice: Dice,
 ) -> Result<usize, Error> {
     let mut looks = 0;
@@ -145,7 +161,7 @@ fn read(
             .lock()
             .unwrap_or_else(PoisonError::into_inner)
             .clone();
-        assert_eq!(now.len()?, VEHICLES as u64);
+        assert_eq!(now.len()?, vehicles as u64);
         now.count(&Query::overlaps(dice.window())?)?;
         looks += 1;
     }
@@ -220,9 +236,13 @@ impl Subscribers {
 }
 
 /// Has the feed until the writer is through, and counts the viewers who have what stands in their windows.
-fn feed(first: Snapshot<BoxKey>, news: Receiver<News>) -> Result<(usize, usize), Error> {
+fn feed(
+    viewers: usize,
+    first: Snapshot<BoxKey>,
+    news: Receiver<News>,
+) -> Result<(usize, usize), Error> {
     let mut dice = Dice(7);
-    let mut viewers = (0..VIEWERS)
+    let mut viewers = (0..viewers)
         .map(|_| Viewer::new(dice.window(), &first))
         .collect::<Result<Vec<_>, _>>()?;
     let mut subscribers = Subscribers::new(&viewers, &first)?;
@@ -248,18 +268,22 @@ fn feed(first: Snapshot<BoxKey>, news: Receiver<News>) -> Result<(usize, usize),
 }
 
 fn main() -> Result<(), Error> {
+    let vehicles = std::env::args()
+        .nth(1)
+        .map_or(VEHICLES, |it| it.parse().expect("a number"));
+    let size = Size::of(vehicles);
     let mut dice = Dice(1);
-    let mut fleet = Fleet::new(&mut dice)?;
+    let mut fleet = Fleet::new(size, &mut dice)?;
     let first = fleet.store.snapshot()?;
     let latest = Mutex::new(first.clone());
     let is_over = AtomicBool::new(false);
     let (sender, receiver) = sync_channel(2);
 
     let (told, right) = thread::scope(|scope| {
-        let viewing = scope.spawn(|| feed(first, receiver));
+        let viewing = scope.spawn(|| feed(size.viewers, first, receiver));
         let readers = [21, 22].map(|seed| {
             let (latest, is_over) = (&latest, &is_over);
-            scope.spawn(move || read(latest, is_over, Dice(seed)))
+            scope.spawn(move || read(latest, is_over, size.vehicles, Dice(seed)))
         });
         let written = write(&mut fleet, &mut dice, &latest, &sender);
         drop(sender);
@@ -275,13 +299,14 @@ fn main() -> Result<(), Error> {
 
     println!(
         "{} vehicles, {} moves, {} renewals",
-        VEHICLES,
-        ROUNDS * MOVES_A_ROUND,
+        size.vehicles,
+        ROUNDS * size.moves_a_round,
         fleet.renewals
     );
     println!(
-        "{told} changes were told; {right} of {VIEWERS} viewers have what stands in their windows"
+        "{told} changes were told; {right} of {} viewers have what stands in their windows",
+        size.viewers
     );
-    assert!(right == VIEWERS && fleet.renewals == 2);
+    assert!(right == size.viewers && fleet.renewals == 2);
     Ok(())
 }

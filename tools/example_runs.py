@@ -1,4 +1,5 @@
 """What the tools share that run programs over the library: how one is built and run, and how what came of it is told."""
+import functools
 import importlib.machinery
 import importlib.util
 import os
@@ -42,7 +43,9 @@ class Tally:
             print(said, file=sys.stderr, flush=True)
 
 
+@functools.cache
 def has(program):
+    """Whether a program is there. Where it isn't, that is told once."""
     if shutil.which(program):
         return True
     print(f"there is no {program}, so what needs it is not run", flush=True)

@@ -60,6 +60,16 @@ impl<'a, K: Key> Cursor<'a, K> {
     /// # Errors
     /// [`Error::OutOfMemory`], and the next call goes on. A cursor that was attached to another store than its own is
     /// refused as [`Error::NoSuchCursor`] or [`Error::CursorClosed`], or is one of that store's.
+    ///
+    /// ```
+    /// use gist::{Interval, Query, Store};
+    ///
+    /// let rooms = Store::<Interval>::new()?;
+    /// rooms.insert_all((0..10).map(|hour| (hour, 71)))?;
+    /// let mut all = rooms.open(&Query::everything()?)?;
+    /// assert_eq!((all.next_items(4)?.len(), all.next_items(9)?.len(), all.next_items(9)?.len()), (4, 6, 0));
+    /// # Ok::<(), gist::Error>(())
+    /// ```
     pub fn next_items(&mut self, most: usize) -> Result<Vec<Item<K>>, Error> {
         let mut items = vec![ffi::Item::default(); most];
         let mut all = Vec::with_capacity(most);
@@ -81,6 +91,17 @@ impl<'a, K: Key> Cursor<'a, K> {
     ///
     /// # Errors
     /// As [`Cursor::next_items`].
+    ///
+    /// ```
+    /// use gist::{Interval, Item, Query, Store};
+    ///
+    /// let rooms = Store::<Interval>::new()?;
+    /// rooms.insert(9..12, 71)?;
+    /// let mut evening = rooms.open(&Query::within(18..)?)?;
+    /// evening.mark()?;
+    /// assert_eq!(evening.next().transpose()?, Some(Item::Mark(1)));
+    /// # Ok::<(), gist::Error>(())
+    /// ```
     pub fn mark(&self) -> Result<(), Error> {
         told(unsafe { ffi::gist_mark(self.store.handle(), self.number) })
     }
@@ -89,6 +110,17 @@ impl<'a, K: Key> Cursor<'a, K> {
     ///
     /// # Errors
     /// As [`Cursor::next_items`].
+    ///
+    /// ```
+    /// use gist::{Interval, Query, Store};
+    ///
+    /// let rooms = Store::<Interval>::new()?;
+    /// let cursor = rooms.open(&Query::everything()?)?;
+    /// assert_eq!(rooms.figures().cursors, 1);
+    /// cursor.close()?;
+    /// assert_eq!(rooms.figures().cursors, 0);
+    /// # Ok::<(), gist::Error>(())
+    /// ```
     pub fn close(self) -> Result<(), Error> {
         let store = self.store;
         let number = self.detach();

@@ -85,6 +85,16 @@ impl<K: Key> Feed<K> {
     ///
     /// # Errors
     /// [`Error::NotSubscribed`].
+    ///
+    /// ```
+    /// use gist::{Error, Feed, Interval, Query};
+    ///
+    /// let mut feed = Feed::<Interval>::new()?;
+    /// let day = feed.subscribe(&Query::overlaps(8..18)?, 0)?;
+    /// feed.unsubscribe(day)?;
+    /// assert_eq!(feed.unsubscribe(day), Err(Error::NotSubscribed));
+    /// # Ok::<(), gist::Error>(())
+    /// ```
     pub fn unsubscribe(&mut self, subscription: Subscription) -> Result<(), Error> {
         told(unsafe { ffi::gist_unsubscribe(self.handle.get(), subscription.0) })
     }
@@ -95,6 +105,20 @@ impl<K: Key> Feed<K> {
     /// # Errors
     /// [`Error::FromFuture`] where the snapshot has fewer commits than the feed has gone over. [`Error::OutOfMemory`];
     /// nothing is lost then, and the next call gives it.
+    ///
+    /// ```
+    /// use gist::{Feed, Interval, Query, Store};
+    ///
+    /// let (rooms, mut feed) = (Store::<Interval>::new()?, Feed::new()?);
+    /// feed.subscribe(&Query::everything()?, 0)?;
+    /// rooms.insert_all((0..10).map(|hour| (hour, 71)))?;
+    /// let now = rooms.snapshot()?;
+    /// let first = feed.advance(&now, 4)?;
+    /// let rest = feed.advance(&now, u64::MAX)?;
+    /// assert_eq!((first.told.len(), first.upto), (4, 4));
+    /// assert_eq!((rest.told.len(), rest.upto), (6, 10));
+    /// # Ok::<(), gist::Error>(())
+    /// ```
     pub fn advance(&mut self, snapshot: &Snapshot<K>, most: u64) -> Result<Advance<K>, Error> {
         let mut buffer = vec![ffi::Told::default(); Self::ROOM];
         let (mut upto, mut most) = (0, most);

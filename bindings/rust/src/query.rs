@@ -34,6 +34,15 @@ impl<K: Key> Query<K> {
     ///
     /// # Errors
     /// [`Error::QueryText`] with the byte at which the text is refused, [`Error::OutOfMemory`].
+    ///
+    /// ```
+    /// use gist::{Error, Interval, Query};
+    ///
+    /// Query::<Interval>::new("overlaps (9 17) and not within (0 9)")?;
+    /// let refused = Query::<Interval>::new("overlaps 9").unwrap_err();
+    /// assert_eq!(refused, Error::QueryText { at: 9 });
+    /// # Ok::<(), gist::Error>(())
+    /// ```
     pub fn new(text: &str) -> Result<Query<K>, Error> {
         let (handle, mut fault) = (Owned::none(), 0);
         // SAFETY: the handle has nothing, and the text has that many bytes.
@@ -54,6 +63,18 @@ impl<K: Key> Query<K> {
     ///
     /// # Errors
     /// [`Error::BadEnds`] where the key's ends are out of order, [`Error::OutOfMemory`].
+    ///
+    /// ```
+    /// use gist::{Interval, Query, Relation, Store};
+    ///
+    /// let rooms = Store::<Interval>::new()?;
+    /// rooms.insert(9..12, 71)?;
+    /// let now = rooms.snapshot()?;
+    /// for relation in [Relation::Overlaps, Relation::Within, Relation::Holds, Relation::Same] {
+    ///     assert_eq!(now.count(&Query::by(relation, 9..12)?)?, 1);
+    /// }
+    /// # Ok::<(), gist::Error>(())
+    /// ```
     pub fn by(relation: Relation, key: impl Into<K>) -> Result<Query<K>, Error> {
         let handle = Owned::none();
         // SAFETY: the handle has nothing.

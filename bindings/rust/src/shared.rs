@@ -64,6 +64,19 @@ impl<K: Key> SharedStore<K> {
     /// Within the work no other call of this shared store may be made: it would wait for ever, or panic.
     ///
     /// The store may be replaced, by one that was [renewed](Snapshot::renew): the numbers of commits begin anew then.
+    ///
+    /// ```
+    /// use gist::{Interval, Query, SharedStore, Store};
+    ///
+    /// let rooms = SharedStore::new(Store::<Interval>::new()?);
+    /// // looks and books while no other clerk can
+    /// let booked = rooms.write(|store| {
+    ///     let is_free = store.snapshot()?.count(&Query::overlaps(9..12)?)? == 0;
+    ///     is_free.then(|| store.insert(9..12, 71)).transpose()
+    /// })?;
+    /// assert_eq!(booked, Some(1));
+    /// # Ok::<(), gist::Error>(())
+    /// ```
     pub fn write<R>(&self, work: impl FnOnce(&mut Store<K>) -> R) -> R {
         let _wakes = Wakes(&self.shared.grown);
         work(&mut self.shared.lock())
@@ -94,6 +107,15 @@ impl<K: Key> SharedStore<K> {
     ///
     /// # Errors
     /// [`Error::OutOfMemory`].
+    ///
+    /// ```
+    /// use gist::{Interval, SharedStore, Store};
+    /// use std::time::Duration;
+    ///
+    /// let rooms = SharedStore::new(Store::<Interval>::new()?);
+    /// assert!(rooms.wait_past_for(0, Duration::from_millis(1))?.is_none());
+    /// # Ok::<(), gist::Error>(())
+    /// ```
     pub fn wait_past_for(
         &self,
         commit: u64,

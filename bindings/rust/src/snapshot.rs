@@ -82,6 +82,17 @@ impl<K: Key> Snapshot<K> {
     ///
     /// # Errors
     /// [`Error::OutOfMemory`].
+    ///
+    /// ```
+    /// use gist::{Interval, Store};
+    ///
+    /// let rooms = Store::<Interval>::new()?;
+    /// rooms.insert_all([(9..12, 71), (14..17, 72)])?;
+    /// rooms.delete(1)?;
+    /// let now = rooms.snapshot()?;
+    /// assert_eq!((now.len()?, now.commits()), (1, 3));
+    /// # Ok::<(), gist::Error>(())
+    /// ```
     pub fn len(&self) -> Result<u64, Error> {
         self.count(&Query::everything()?)
     }
@@ -98,6 +109,17 @@ impl<K: Key> Snapshot<K> {
     ///
     /// # Errors
     /// [`Error::OutOfMemory`].
+    ///
+    /// ```
+    /// use gist::{Interval, Store};
+    ///
+    /// let rooms = Store::<Interval>::new()?;
+    /// let booking = rooms.insert(9..12, 71)?;
+    /// assert_eq!(rooms.snapshot()?.get(booking)?.map(|row| row.tag), Some(71));
+    /// rooms.delete(booking)?;
+    /// assert_eq!(rooms.snapshot()?.get(booking)?, None);
+    /// # Ok::<(), gist::Error>(())
+    /// ```
     pub fn get(&self, number: u64) -> Result<Option<Row<K>>, Error> {
         match self.known(number) {
             Ok(known) => Ok(known.lives.then_some(known.row)),
@@ -110,6 +132,19 @@ impl<K: Key> Snapshot<K> {
     ///
     /// # Errors
     /// [`Error::NoSuchRow`], [`Error::OutOfMemory`].
+    ///
+    /// ```
+    /// use gist::{Error, Interval, Store};
+    ///
+    /// let rooms = Store::<Interval>::new()?;
+    /// let booking = rooms.insert(9..12, 71)?;
+    /// rooms.delete(booking)?;
+    /// let now = rooms.snapshot()?;
+    /// let known = now.known(booking)?;
+    /// assert_eq!((known.row.tag, known.lives), (71, false));
+    /// assert_eq!(now.known(2), Err(Error::NoSuchRow));
+    /// # Ok::<(), gist::Error>(())
+    /// ```
     pub fn known(&self, number: u64) -> Result<Known<K>, Error> {
         let (mut found, mut lives) = (ffi::Row::default(), false);
         told(self.read(|it| unsafe { ffi::gist_row_of(it, number, &mut found, &mut lives) }))?;
@@ -120,6 +155,18 @@ impl<K: Key> Snapshot<K> {
     }
 
     /// What the commit with a number did, if there was one.
+    ///
+    /// ```
+    /// use gist::{Change, Interval, Store};
+    ///
+    /// let rooms = Store::<Interval>::new()?;
+    /// let booking = rooms.insert(9..12, 71)?;
+    /// rooms.move_to(booking, 14..17)?;
+    /// let now = rooms.snapshot()?;
+    /// assert!(matches!(now.commit(2), Some(Change::Moved { ended: 1, .. })));
+    /// assert_eq!(now.commit(3), None);
+    /// # Ok::<(), gist::Error>(())
+    /// ```
     pub fn commit(&self, number: u64) -> Option<Change<K>> {
         let mut commit = ffi::Item::default();
         let answer = self.read(|it| unsafe { ffi::gist_commit_of(it, number, &mut commit) });
@@ -131,6 +178,15 @@ impl<K: Key> Snapshot<K> {
     ///
     /// # Errors
     /// [`Error::OutOfMemory`].
+    ///
+    /// ```
+    /// use gist::{Interval, Store};
+    ///
+    /// let rooms = Store::<Interval>::new()?;
+    /// rooms.insert_all([(9..12, 71), (14..17, 72)])?;
+    /// assert!(rooms.snapshot()?.iter()?.map(|row| row.tag).eq([71, 72]));
+    /// # Ok::<(), gist::Error>(())
+    /// ```
     pub fn iter(&self) -> Result<vec::IntoIter<Row<K>>, Error> {
         Ok(self.find(&Query::everything()?)?.into_iter())
     }
@@ -139,6 +195,16 @@ impl<K: Key> Snapshot<K> {
     ///
     /// # Errors
     /// [`Error::OutOfMemory`].
+    ///
+    /// ```
+    /// use gist::{Interval, Query, Store};
+    ///
+    /// let rooms = Store::<Interval>::new()?;
+    /// rooms.insert_all([(9..12, 71), (14..17, 72), (20..22, 73)])?;
+    /// let found = rooms.snapshot()?.find(&Query::overlaps(11..=14)?)?;
+    /// assert_eq!(found.iter().map(|row| row.tag).collect::<Vec<_>>(), [71, 72]);
+    /// # Ok::<(), gist::Error>(())
+    /// ```
     pub fn find(&self, query: &Query<K>) -> Result<Vec<Row<K>>, Error> {
         let mut rows = vec![ffi::Row::default(); Self::ROOM];
         let mut found = self.find_into(query, &mut rows)?;
@@ -164,6 +230,16 @@ impl<K: Key> Snapshot<K> {
     ///
     /// # Errors
     /// [`Error::OutOfMemory`].
+    ///
+    /// ```
+    /// use gist::{Query, Set, Store};
+    ///
+    /// let songs = Store::<Set>::new()?;
+    /// songs.insert_all([([1, 5], 301), ([5, 9], 302)])?;
+    /// let query = "holds {5} and not overlaps {9}".parse()?;
+    /// assert_eq!(songs.snapshot()?.count(&query)?, 1);
+    /// # Ok::<(), gist::Error>(())
+    /// ```
     pub fn count(&self, query: &Query<K>) -> Result<u64, Error> {
         let mut count = 0;
         told(

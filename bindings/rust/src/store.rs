@@ -114,6 +114,13 @@ impl<K: Key> Store<K> {
     ///
     /// # Errors
     /// [`Error::OutOfMemory`].
+    ///
+    /// ```
+    /// use gist::{Set, Store};
+    ///
+    /// assert_eq!(Store::<Set>::new()?.commits(), 0);
+    /// # Ok::<(), gist::Error>(())
+    /// ```
     pub fn new() -> Result<Store<K>, Error> {
         Store::with_limits(Limits::default())
     }
@@ -122,6 +129,19 @@ impl<K: Key> Store<K> {
     ///
     /// # Errors
     /// [`Error::BadLimits`], [`Error::OutOfMemory`].
+    ///
+    /// ```
+    /// use gist::{Error, Interval, Limits, Store};
+    ///
+    /// let one = Limits { commits: 1, ..Limits::default() };
+    /// let store = Store::<Interval>::with_limits(one)?;
+    /// store.insert(1, 71)?;
+    /// assert_eq!(store.insert(2, 72), Err(Error::CommitsFull));
+    ///
+    /// let none = Limits { commits: 0, ..one };
+    /// assert_eq!(Store::<Interval>::with_limits(none).err(), Some(Error::BadLimits));
+    /// # Ok::<(), gist::Error>(())
+    /// ```
     pub fn with_limits(limits: Limits) -> Result<Store<K>, Error> {
         let handle = Owned::none();
         told(unsafe { ffi::gist_create(handle.get(), K::NUMBER, &limits.to_c()) })?;
@@ -137,6 +157,16 @@ impl<K: Key> Store<K> {
     }
 
     /// Tells how far the store has come, and what is left to it.
+    ///
+    /// ```
+    /// use gist::{Interval, Store};
+    ///
+    /// let store = Store::<Interval>::new()?;
+    /// store.insert(1..=2, 71)?;
+    /// let figures = store.figures();
+    /// assert_eq!(figures.commit_limit - figures.commits, 16_777_215);
+    /// # Ok::<(), gist::Error>(())
+    /// ```
     pub fn figures(&self) -> Figures {
         let mut told = ffi::Figures::default();
         let answer = unsafe { ffi::gist_stats(self.handle.get(), &mut told) };
@@ -160,6 +190,16 @@ impl<K: Key> Store<K> {
     ///
     /// # Errors
     /// [`Error::OutOfMemory`].
+    ///
+    /// ```
+    /// use gist::{Interval, Store};
+    ///
+    /// let store = Store::<Interval>::new()?;
+    /// let before = store.snapshot()?;
+    /// store.insert(1..=2, 71)?;
+    /// assert_eq!((before.len()?, store.snapshot()?.len()?), (0, 1));
+    /// # Ok::<(), gist::Error>(())
+    /// ```
     pub fn snapshot(&self) -> Result<Snapshot<K>, Error> {
         let handle = Owned::none();
         told(unsafe { ffi::gist_take(self.handle.get(), handle.get()) })?;
@@ -170,6 +210,15 @@ impl<K: Key> Store<K> {
     ///
     /// # Errors
     /// [`Error::BadEnds`], [`Error::CommitsFull`], [`Error::PagesFull`], [`Error::OutOfMemory`].
+    ///
+    /// ```
+    /// use gist::{BoxKey, Store};
+    ///
+    /// let map = Store::<BoxKey>::new()?;
+    /// assert_eq!(map.insert((0..640, 0..480), 501)?, 1);
+    /// assert_eq!(map.insert(BoxKey::point(3, 4), 502)?, 2);
+    /// # Ok::<(), gist::Error>(())
+    /// ```
     pub fn insert(&self, key: impl Into<K>, tag: u64) -> Result<u64, Error> {
         let entry = ffi::Entry {
             key: key.into().to_words(),
@@ -215,6 +264,17 @@ impl<K: Key> Store<K> {
     /// # Errors
     /// [`Error::BadEnds`]; else [`Error::NoSuchRow`], else [`Error::AlreadyDeleted`], else [`Error::CommitsFull`], else
     /// [`Error::FindersFull`]; [`Error::PagesFull`], [`Error::OutOfMemory`].
+    ///
+    /// ```
+    /// use gist::{Error, Interval, Store};
+    ///
+    /// let rooms = Store::<Interval>::new()?;
+    /// let morning = rooms.insert(9..12, 71)?;
+    /// let noon = rooms.move_to(morning, 12..14)?;
+    /// assert_eq!(rooms.snapshot()?.get(noon)?.map(|row| row.tag), Some(71));
+    /// assert_eq!(rooms.move_to(morning, 15..17), Err(Error::AlreadyDeleted));
+    /// # Ok::<(), gist::Error>(())
+    /// ```
     pub fn move_to(&self, row: u64, key: impl Into<K>) -> Result<u64, Error> {
         let mut moved = 0;
         let key = key.into().to_words();
@@ -227,6 +287,16 @@ impl<K: Key> Store<K> {
     /// # Errors
     /// [`Error::NoSuchRow`], else [`Error::AlreadyDeleted`], else [`Error::CommitsFull`], else [`Error::FindersFull`];
     /// [`Error::OutOfMemory`].
+    ///
+    /// ```
+    /// use gist::{Interval, Store};
+    ///
+    /// let rooms = Store::<Interval>::new()?;
+    /// let booking = rooms.insert(9..12, 71)?;
+    /// assert_eq!(rooms.delete(booking)?, 2);
+    /// assert!(rooms.snapshot()?.is_empty()?);
+    /// # Ok::<(), gist::Error>(())
+    /// ```
     pub fn delete(&self, row: u64) -> Result<u64, Error> {
         Ok(self.delete_all(&[row])?.start)
     }
@@ -235,6 +305,17 @@ impl<K: Key> Store<K> {
     ///
     /// # Errors
     /// As [`Store::delete`]; the rows before the one that is refused were deleted, as [`Stopped::done`] tells.
+    ///
+    /// ```
+    /// use gist::{Error, Interval, Store};
+    ///
+    /// let rooms = Store::<Interval>::new()?;
+    /// rooms.insert_all((0..5).map(|hour| (hour, 71)))?;
+    /// assert_eq!(rooms.delete_all(&[1, 3])?, 6..8);
+    /// let stopped = rooms.delete_all(&[2, 3, 4]).unwrap_err();
+    /// assert_eq!((stopped.done, stopped.error), (8..9, Error::AlreadyDeleted));
+    /// # Ok::<(), gist::Error>(())
+    /// ```
     pub fn delete_all(&self, rows: &[u64]) -> Result<Range<u64>, Stopped> {
         self.all(rows, |rest, deleted| unsafe {
             ffi::gist_delete(self.handle.get(), rest.as_ptr(), rest.len(), deleted)
@@ -265,6 +346,16 @@ impl<K: Key> Store<K> {
     ///
     /// # Errors
     /// [`Error::OutOfMemory`]; some of them may be removed then.
+    ///
+    /// ```
+    /// use gist::{Interval, Store};
+    ///
+    /// let rooms = Store::<Interval>::new()?;
+    /// let booking = rooms.insert(9..12, 71)?;
+    /// rooms.delete(booking)?;
+    /// assert_eq!((rooms.sweep()?, rooms.sweep()?), (1, 0));
+    /// # Ok::<(), gist::Error>(())
+    /// ```
     pub fn sweep(&self) -> Result<u64, Error> {
         let mut removed = 0;
         told(unsafe { ffi::gist_sweep(self.handle.get(), &mut removed) })?;
@@ -275,6 +366,18 @@ impl<K: Key> Store<K> {
     ///
     /// # Errors
     /// [`Error::CursorsFull`], [`Error::OutOfMemory`].
+    ///
+    /// ```
+    /// use gist::{Interval, Query, Store};
+    ///
+    /// let rooms = Store::<Interval>::new()?;
+    /// rooms.insert(9..12, 71)?;
+    /// let mut display = rooms.open(&Query::overlaps(8..18)?)?;
+    /// assert_eq!(display.by_ref().count(), 1);
+    /// rooms.insert_all([(20..22, 72), (14..17, 73)])?;
+    /// assert_eq!(display.by_ref().count(), 1);
+    /// # Ok::<(), gist::Error>(())
+    /// ```
     pub fn open(&self, query: &Query<K>) -> Result<Cursor<'_, K>, Error> {
         let mut number = 0;
         told(query.read(|query| unsafe { ffi::gist_open(self.handle.get(), query, &mut number) }))?;
@@ -286,6 +389,17 @@ impl<K: Key> Store<K> {
     ///
     /// # Errors
     /// [`Error::FromFuture`] where there are fewer commits; [`Error::CursorsFull`], [`Error::OutOfMemory`].
+    ///
+    /// ```
+    /// use gist::{Error, Interval, Query, Store};
+    ///
+    /// let rooms = Store::<Interval>::new()?;
+    /// rooms.insert_all([(9..12, 71), (14..17, 72)])?;
+    /// let day = Query::overlaps(8..18)?;
+    /// assert_eq!(rooms.follow(&day, 1)?.count(), 1);
+    /// assert_eq!(rooms.follow(&day, 3).err(), Some(Error::FromFuture));
+    /// # Ok::<(), gist::Error>(())
+    /// ```
     pub fn follow(&self, query: &Query<K>, commit: u64) -> Result<Cursor<'_, K>, Error> {
         let mut number = 0;
         told(query.read(|query| unsafe {
