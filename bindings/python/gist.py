@@ -660,15 +660,19 @@ class Snapshot(_Owner, Generic[K]):
         With the rows that were found in a snapshot of so many commits they are what a cursor gives.
         Raises Error: FromFuture where there were fewer commits.
         """
-        asked, left = _asked(self.key_class, query), max(self.commits() - since, 0)
-        room = left if most is None else min(most, left)
-        items, given, upto = _words(6 * room), _u64(), _u64()
-        with self._turn, asked._turn:
-            answer = _call["changes"](
-                self._at, asked._at, _number(since), ctypes.addressof(items), room, ctypes.addressof(given), ctypes.addressof(upto)
-            )
-        _need(answer)
-        return Changes(self._class.items(items, given.value), upto.value)
+        asked, buffer = _asked(self.key_class, query), _words(6 * _MOST_ROOM)
+        items: List[Item] = []
+        given, upto = _u64(), _u64(_number(since))
+        while True:
+            room = _MOST_ROOM if most is None else min(most - len(items), _MOST_ROOM)
+            with self._turn, asked._turn:
+                answer = _call["changes"](
+                    self._at, asked._at, upto.value, ctypes.addressof(buffer), room, ctypes.addressof(given), ctypes.addressof(upto)
+                )
+            _need(answer)
+            items += self._class.items(buffer, given.value)
+            if given.value < room or len(items) == most:
+                return Changes(items, upto.value)
 
     def renew(self, limits: Limits = Limits()) -> Renewed:
         """Makes a store of the rows that lived, which are its rows 1, 2 and so on, and with no other commit.

@@ -57,6 +57,9 @@ impl<K: Key> Snapshot<K> {
     /// How many rows a search has room for at first.
     const ROOM: usize = 64;
 
+    /// How many changes one call of the library gives at most.
+    const MOST_AT_ONCE: usize = 4_096;
+
     /// The snapshot that a handle has.
     pub(crate) fn of(handle: Owned<ffi::Snapshot>) -> Snapshot<K> {
         Snapshot {
@@ -329,10 +332,31 @@ impl<K: Key> Snapshot<K> {
     /// # Ok::<(), gist::Error>(())
     /// ```
     pub fn changes(&self, query: &Query<K>, from: u64, most: usize) -> Result<Changes<K>, Error> {
-        let left = self.commits().saturating_sub(from);
-        let room = most.min(usize::try_from(left).unwrap_or(usize::MAX));
-        let mut items = vec![ffi::Item::default(); room];
-        let (mut given, mut upto) = (0, from);
+        let mut items = vec![ffi::Item::default(); most.min(Self::MOST_AT_ONCE)];
+        let mut all = Changes {
+            changes: Vec::new(),
+            upto: from,
+        };
+        loop {
+            let room = items.len().min(most - all.changes.len());
+            let given = self.changes_into(query, &mut all.upto, &mut items[..room])?;
+            all.changes
+                .extend(items[..given].iter().copied().filter_map(change));
+            if given < room || all.changes.len() == most {
+                return Ok(all);
+            }
+        }
+    }
+
+    /// Fills a buffer with the changes after a commit, which becomes the one up to which all were given, and tells how
+    /// many they are.
+    fn changes_into(
+        &self,
+        query: &Query<K>,
+        at: &mut u64,
+        items: &mut [ffi::Item],
+    ) -> Result<usize, Error> {
+        let (from, mut given) = (*at, 0);
         told(self.read(|it| {
             query.read(|query| unsafe {
                 ffi::gist_changes(
@@ -342,16 +366,11 @@ impl<K: Key> Snapshot<K> {
                     items.as_mut_ptr(),
                     items.len(),
                     &mut given,
-                    &mut upto,
+                    at,
                 )
             })
         }))?;
-        let changes = items[..given as usize]
-            .iter()
-            .copied()
-            .filter_map(change)
-            .collect();
-        Ok(Changes { changes, upto })
+        Ok(given as usize)
     }
 
     /// Makes a store of the rows that lived, in the order of their numbers, which has no other commit. So a store whose
