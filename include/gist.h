@@ -30,10 +30,11 @@
  *   gist_drop, gist_forget or gist_end.
  * - A pointer points to a value of its type that may be read, and written where it isn't const, and that no other
  *   pointer of the call points to. A buffer has as many places as its length says, and isn't null.
- * - A handle is given to one call at a time, on any thread. Threads that share a store take a lock of their own round
- *   each call, or hand it on by a thread's start or end; the library has no lock and starts no thread. A snapshot is a
- *   handle of its own: who has one searches it without a lock, beside any call of the store and of other snapshots, and
- *   each thread takes its own by gist_take.
+ * - A call has a handle to itself where its pointer isn't const. Behind a const pointer a handle is only read, and any
+ *   number of calls read one at once, on any threads, but none while another call has it to itself. So threads share a
+ *   snapshot and the queries that they ask it. Threads that share a store take a lock of their own round each call (one
+ *   for readers and writers will do), or hand it on by a thread's start or end; the library has no lock and starts no
+ *   thread. A snapshot is a handle of its own, which is searched beside any call of the store and of other snapshots.
  * - No call is made from a signal handler, nor from the forked child of a process with threads.
  * - Memory comes from malloc, realloc and free. They are of one allocator, and align a block to each power of two up to
  *   16 that divides its size. The words of a key are little-endian.
@@ -232,7 +233,7 @@ typedef struct gist_figures {
 } gist_figures;
 
 /* Tells how far a store has come. */
-uint32_t gist_stats(gist_store *store, gist_figures *figures);
+uint32_t gist_stats(const gist_store *store, gist_figures *figures);
 
 /*
  * Adds n rows one after the other, until one is refused, and tells how many were added. Their numbers are the next ones.
@@ -302,19 +303,19 @@ void gist_forget(gist_query *query);
 /* --- snapshots --- */
 
 /* Takes a snapshot of a store, for a handle that has nothing. GIST_BAD_CONFIG where it has something; GIST_OUT_OF_MEMORY. */
-uint32_t gist_take(gist_store *store, gist_snapshot *snapshot);
+uint32_t gist_take(const gist_store *store, gist_snapshot *snapshot);
 
 /* Drops what a handle has, if it has something. It has nothing then. */
 void gist_drop(gist_snapshot *snapshot);
 
 /* How many commits there were. */
-uint32_t gist_commits(gist_snapshot *snapshot, uint64_t *commits);
+uint32_t gist_commits(const gist_snapshot *snapshot, uint64_t *commits);
 
 /* Gives the row with a number, and tells whether it lived. GIST_NO_SUCH_ROW; GIST_OUT_OF_MEMORY. */
-uint32_t gist_row_of(gist_snapshot *snapshot, uint64_t number, gist_row *row, bool *lives);
+uint32_t gist_row_of(const gist_snapshot *snapshot, uint64_t number, gist_row *row, bool *lives);
 
 /* Tells the commit with a number, as an item of the kind GIST_INSERTED, GIST_DELETED or GIST_MOVED, or GIST_NOTHING. */
-uint32_t gist_commit_of(gist_snapshot *snapshot, uint64_t number, gist_item *commit);
+uint32_t gist_commit_of(const gist_snapshot *snapshot, uint64_t number, gist_item *commit);
 
 /*
  * Puts the rows that lived and that a query asks for into a buffer, by rising number, as many as fit, and tells how many
@@ -322,10 +323,10 @@ uint32_t gist_commit_of(gist_snapshot *snapshot, uint64_t number, gist_item *com
  *
  * GIST_OUT_OF_MEMORY.
  */
-uint32_t gist_find(gist_snapshot *snapshot, gist_query *query, gist_row *rows, size_t room, uint64_t *found);
+uint32_t gist_find(const gist_snapshot *snapshot, const gist_query *query, gist_row *rows, size_t room, uint64_t *found);
 
 /* Counts the rows that lived and that a query asks for. GIST_OUT_OF_MEMORY. */
-uint32_t gist_count(gist_snapshot *snapshot, gist_query *query, uint64_t *count);
+uint32_t gist_count(const gist_snapshot *snapshot, const gist_query *query, uint64_t *count);
 
 /*
  * Puts the rows that lived and have a relation to each of n keys into a buffer, those of a key behind those of the key
@@ -336,7 +337,7 @@ uint32_t gist_count(gist_snapshot *snapshot, gist_query *query, uint64_t *count)
  * Where the first key is refused: GIST_BAD_CONFIG where no relation has the number, else GIST_BAD_ENDS;
  * GIST_OUT_OF_MEMORY.
  */
-uint32_t gist_find_each(gist_snapshot *snapshot, uint32_t relation, const gist_key *keys, size_t n, gist_row *rows,
+uint32_t gist_find_each(const gist_snapshot *snapshot, uint32_t relation, const gist_key *keys, size_t n, gist_row *rows,
                         size_t room, uint64_t *ends, size_t places, uint64_t *answered);
 
 /*
@@ -345,8 +346,8 @@ uint32_t gist_find_each(gist_snapshot *snapshot, uint32_t relation, const gist_k
  *
  * GIST_FROM_FUTURE where there were fewer commits than `from`; GIST_OUT_OF_MEMORY.
  */
-uint32_t gist_changes(gist_snapshot *snapshot, gist_query *query, uint64_t from, gist_item *items, size_t room,
-                      uint64_t *given, uint64_t *upto);
+uint32_t gist_changes(const gist_snapshot *snapshot, const gist_query *query, uint64_t from, gist_item *items,
+                      size_t room, uint64_t *given, uint64_t *upto);
 
 /*
  * Makes a store for a handle that has nothing, with the rows that lived in a snapshot, their keys and tags, and with no
@@ -356,8 +357,8 @@ uint32_t gist_changes(gist_snapshot *snapshot, gist_query *query, uint64_t from,
  * GIST_BAD_CONFIG where the handle has something, GIST_BAD_LIMITS; GIST_COMMITS_FULL and GIST_PAGES_FULL where the limits
  * are too small for the rows; GIST_OUT_OF_MEMORY.
  */
-uint32_t gist_renew(gist_snapshot *snapshot, const gist_limits *limits, gist_store *store, uint64_t *numbers, size_t room,
-                    uint64_t *living);
+uint32_t gist_renew(const gist_snapshot *snapshot, const gist_limits *limits, gist_store *store, uint64_t *numbers,
+                    size_t room, uint64_t *living);
 
 /* --- cursors --- */
 
@@ -367,7 +368,7 @@ uint32_t gist_renew(gist_snapshot *snapshot, const gist_limits *limits, gist_sto
  *
  * GIST_CURSORS_FULL; GIST_OUT_OF_MEMORY.
  */
-uint32_t gist_open(gist_store *store, gist_query *query, uint64_t *cursor);
+uint32_t gist_open(gist_store *store, const gist_query *query, uint64_t *cursor);
 
 /*
  * Opens a cursor that follows a commit: it gives the changes after that commit and no row that was there. Of a mark's
@@ -375,7 +376,7 @@ uint32_t gist_open(gist_store *store, gist_query *query, uint64_t *cursor);
  *
  * GIST_FROM_FUTURE where there are fewer commits than that; else as gist_open.
  */
-uint32_t gist_follow(gist_store *store, gist_query *query, uint64_t commit, uint64_t *cursor);
+uint32_t gist_follow(gist_store *store, const gist_query *query, uint64_t commit, uint64_t *cursor);
 
 /*
  * Gives a cursor's next items, until the buffer is full, nothing is left or the next is refused, and tells how many
@@ -419,7 +420,7 @@ void gist_end(gist_feed *feed);
  *
  * GIST_FEED_FULL; GIST_OUT_OF_MEMORY.
  */
-uint32_t gist_subscribe(gist_feed *feed, gist_query *query, uint64_t from, uint64_t *subscription);
+uint32_t gist_subscribe(gist_feed *feed, const gist_query *query, uint64_t from, uint64_t *subscription);
 
 /* Ends a subscription. It may still be given what waits. GIST_NOT_SUBSCRIBED. */
 uint32_t gist_unsubscribe(gist_feed *feed, uint64_t subscription);
@@ -432,7 +433,7 @@ uint32_t gist_unsubscribe(gist_feed *feed, uint64_t subscription);
  *
  * GIST_FROM_FUTURE where the snapshot has fewer commits than the feed has gone over; GIST_OUT_OF_MEMORY.
  */
-uint32_t gist_advance(gist_feed *feed, gist_snapshot *snapshot, uint64_t most, gist_told *told, size_t room,
+uint32_t gist_advance(gist_feed *feed, const gist_snapshot *snapshot, uint64_t most, gist_told *told, size_t room,
                       uint64_t *given, uint64_t *upto);
 
 /* A key is two words, and what has one has no gap before it. */

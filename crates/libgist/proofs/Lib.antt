@@ -1,6 +1,10 @@
 mod Batches
 mod Ends
+mod HandlesLent
 mod HeldBoxes
+mod Lending
 mod ManyFinds
+mod Pointers
+mod Sharing
 mod Threads
 mod Writing

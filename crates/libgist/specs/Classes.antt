@@ -115,20 +115,22 @@ module _ {V : Type 0} where
   InSnapshotBy call (held.Query asked) (held.Snapshot commits) answer = answer ≡ Err OtherClass
   InSnapshotBy call asked other answer = answer ≡ Err NoHandle
 
-  -- what it has stays
-  abbrev pub Reads : (Held → Result V Denied → Type 0) → Held → Result V Denied → Held → Type 0
-  Reads call old answer new = call old answer × (new ≡ old)
+  -- a call that reads what a handle has; a handle of nothing is refused
+  pub record FromHandle (call : Held → Result V Denied → Type 0) (state : Option Held) (answer : Result V Denied) : Type 0 where
+    pub none : state ≡ None → answer ≡ Err NoHandle
+    pub called : IfSome state (λ held. call held answer)
 
-  abbrev pub ReadsBy : (Held → Held → Result V Denied → Type 0) → Held → Held → Result V Denied → Held → Type 0
-  ReadsBy call asked old answer new = call asked old answer × (new ≡ old)
+  -- and what another handle has
+  pub record FromHandles (call : Held → Held → Result V Denied → Type 0) (asked state : Option Held) (answer : Result V Denied) : Type 0 where
+    pub none : (asked ≡ None) ⊎ (state ≡ None) → answer ≡ Err NoHandle
+    pub called : IfSome asked (λ query. IfSome state (λ held. call query held answer))
 
   -- a call of what a handle has; a handle of nothing is refused, and has nothing then
   pub record OnHandle (call : Held → Result V Denied → Held → Type 0) (old new : Option Held) (answer : Result V Denied) : Type 0 where
     pub none : old ≡ None → (answer ≡ Err NoHandle) × (new ≡ None)
     pub called : IfSome old (λ before. IsSomeAnd new (λ after. call before answer after))
 
-  -- and with what another handle has, which stays
-  pub record OnHandles (call : Held → Held → Result V Denied → Held → Type 0) (asked asked_after old new : Option Held) (answer : Result V Denied) : Type 0 where
+  -- and with what another handle has, which is only read
+  pub record OnHandles (call : Held → Held → Result V Denied → Held → Type 0) (asked old new : Option Held) (answer : Result V Denied) : Type 0 where
     pub none : (asked ≡ None) ⊎ (old ≡ None) → (answer ≡ Err NoHandle) × (new ≡ old)
     pub called : IfSome asked (λ query. IfSome old (λ before. IsSomeAnd new (λ after. call query before answer after)))
-    pub asked_stays : asked_after ≡ asked

@@ -1,3 +1,4 @@
+pub mod Asked
 pub mod Batches
 pub mod BoxKeys
 pub mod Buffers
@@ -8,6 +9,7 @@ pub mod Denials
 pub mod Feeding
 pub mod Following
 pub mod IntervalKeys
+pub mod Loans
 pub mod Making
 pub mod ManyFinds
 pub mod Names

@@ -1,7 +1,9 @@
 -- What a handle owns.
-use base.Fml.{Fml, ftrue}
+use base.Fraction.{full_share}
+use base.Fml.{Lft, Fml, ftrue}
 use base.Stored.{Coded}
-use denote.RawPtr.{Ptr}
+use denote.RawPtr.{Ptr, lies_at}
+use denote.Struct.Lending.{lent_at}
 use Rattle.std.specs.Prelude.{Bool, true, false, Option, Some, None}
 use Rattle.std.specs.Box.Ownership.{box_owns}
 use Rattle.std.specs.Global.{Global}
@@ -19,6 +21,16 @@ held_coded = the_row.coded
 abbrev pub owned : Global → Ptr → Option HeldState → Fml
 owned alloc at None = ftrue
 owned alloc at (Some state) = box_owns (ghosts.dealloc_token alloc) the_row at state
+
+-- what a handle has, without the right to free it, or nothing
+abbrev pub lent : Ptr → Option HeldState → Fml
+lent at None = ftrue
+lent at (Some state) = lies_at the_row full_share at state
+
+-- what is seen of it while it is lent
+abbrev pub shown_at : Ptr → Option HeldState → Lft → Fml
+shown_at at None κ = ftrue
+shown_at at (Some state) κ = lent_at the_row at state κ
 
 -- whether a handle has what it is for
 abbrev pub is_held : {X : Type 0} → Option X → Bool

@@ -1,8 +1,9 @@
 //! The calls of a feed that a handle has, whichever its class is.
 ghost use Rattle.std.specs.Prelude.{◌≡◌, OnErr};
+ghost use Rattle.libgist.specs.Asked.{AnswersAdvancing, AnswersSubscribing};
 ghost use Rattle.libgist.specs.Calls.{Passing};
-ghost use Rattle.libgist.specs.Feeding.{InFeed, InFeedBy, InFeedOver};
-ghost use Rattle.libgist.specs.Following.{IsAdvancing, IsSubscribing, IsUnsubscribing};
+ghost use Rattle.libgist.specs.Feeding.{InFeed};
+ghost use Rattle.libgist.specs.Following.{IsUnsubscribing};
 
 use crate::by_class::{in_feed, in_feed_by, in_feed_over, of_class, of_one_class};
 use crate::denied::{Denied, passed_on};
@@ -12,8 +13,7 @@ use crate::words::ToldItem;
 
 /// Subscribes to the changes of a query that come after a commit.
 pub fn subscribe(asked: &Held, held: &mut Held, from: u64) -> Result<u64, Denied>
-    ensures { InFeedBy (λ K A class query. Passing (IsSubscribing query from))
-        asked.now held.old result held.new }
+    ensures { AnswersSubscribing from asked.now held.old result held.new }
 {
     in_feed_by!(asked, query, held, feed => passed_on(feed.subscribe(query, from)))
 }
@@ -33,9 +33,7 @@ pub fn advance(
     most: u64,
     items: &mut [ToldItem],
 ) -> Result<(u64, u64), Denied>
-    ensures given { InFeedOver (λ K A class commits. Passing
-        (IsAdvancing class.rules class.words_of most commits items.old items.new))
-        over.now held.old result held.new }
+    ensures given { AnswersAdvancing most items.old items.new over.now held.old result held.new }
     ensures unfilled { OnErr result (items.new ≡ items.old) }
 {
     in_feed_over!(over, snapshot, held, feed => {

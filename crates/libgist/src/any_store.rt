@@ -1,7 +1,8 @@
 //! The calls of a store that a handle has, whichever its class is.
 ghost use Rattle.std.specs.Prelude.{◌≡◌, OnErr};
-ghost use Rattle.libgist.specs.Calls.{Passing, IsInserting, IsDeleting, IsMovingTo, IsTaking, IsSweep, IsTelling, IsOpening, IsFollowing, IsAsking, IsClosing};
-ghost use Rattle.libgist.specs.Classes.{InStore, InStoreBy};
+ghost use Rattle.libgist.specs.Asked.{AnswersFollowing, AnswersOpening, AnswersStats};
+ghost use Rattle.libgist.specs.Calls.{Passing, IsInserting, IsDeleting, IsMovingTo, IsTaking, IsSweep, IsAsking, IsClosing};
+ghost use Rattle.libgist.specs.Classes.{InStore};
 
 use crate::by_class::{in_store, in_store_by, of_class, of_one_class};
 use crate::denied::{Denied, passed_on};
@@ -43,7 +44,7 @@ pub fn sweep(held: &mut Held) -> Result<u64, Denied>
 
 /// Tells how far the store has come.
 pub fn stats(held: &Held) -> Result<Figures, Denied>
-    ensures { InStore (λ K A class. IsTelling) held.now result held.now }
+    ensures { AnswersStats held.now result }
 {
     in_store!(held, store => stores::stats(store))
 }
@@ -74,16 +75,14 @@ pub fn close(held: &mut Held, cursor: u64) -> Result<(), Denied>
 
 /// Opens a cursor on a query, at the present commits.
 pub fn open(alloc: Global, asked: &Held, held: &mut Held) -> Result<u64, Denied>
-    ensures { InStoreBy (λ K A class query. Passing (IsOpening class.rules query))
-        asked.now held.old result held.new }
+    ensures { AnswersOpening asked.now held.old result held.new }
 {
     in_store_by!(asked, query, held, store => passed_on(stores::open(alloc, store, query)))
 }
 
 /// Opens a cursor on a query, which follows a commit.
 pub fn follow(alloc: Global, asked: &Held, held: &mut Held, commit: u64) -> Result<u64, Denied>
-    ensures { InStoreBy (λ K A class query. Passing (IsFollowing class.rules query commit))
-        asked.now held.old result held.new }
+    ensures { AnswersFollowing commit asked.now held.old result held.new }
 {
     in_store_by!(asked, query, held, store => {
         passed_on(stores::follow(alloc, store, query, commit))

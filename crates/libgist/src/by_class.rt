@@ -56,22 +56,22 @@ macro_rules! in_store_by {
     };
 }
 
-/// A call of a snapshot that is held.
+/// A call of a snapshot that is lent.
 macro_rules! in_snapshot {
-    ($held:expr, $snapshot:ident => $call:expr) => {
-        match $held {
-            Held::Snapshot(any) => of_class!(any, AnySnapshot, $snapshot => $call),
+    ($lent:expr, $snapshot:ident => $call:expr) => {
+        match $lent.held() {
+            Some(Held::Snapshot(any)) => of_class!(any, AnySnapshot, $snapshot => $call),
             _ => Err(Denied::NoHandle),
         }
     };
 }
 
-/// A call of a snapshot that is held, with a query that is held.
+/// A call of a snapshot that is lent, with a query that is lent.
 macro_rules! in_snapshot_by {
-    ($asked:expr, $query:ident, $held:expr, $snapshot:ident => $call:expr) => {
-        match $asked {
-            Held::Query(by) => match $held {
-                Held::Snapshot(any) => {
+    ($asked:expr, $query:ident, $lent:expr, $snapshot:ident => $call:expr) => {
+        match $asked.held() {
+            Some(Held::Query(by)) => match $lent.held() {
+                Some(Held::Snapshot(any)) => {
                     of_one_class!(any, AnySnapshot, $snapshot, by, AnyQuery, $query => $call)
                 }
                 _ => Err(Denied::NoHandle),

@@ -1,14 +1,18 @@
 //! What C can ask of a feed.
 ghost use Rattle.std.specs.Prelude.{◌≡◌, ◌≢◌, None};
+ghost use Rattle.libgist.specs.Asked.{AnswersAdvancing, AnswersSubscribing};
 ghost use Rattle.libgist.specs.Calls.{Passing};
+ghost use Rattle.std.specs.Borrow.{sem};
 ghost use Rattle.libgist.specs.Classes.{OnHandle, OnHandles};
-ghost use Rattle.libgist.specs.Feeding.{InFeed, InFeedBy, InFeedOver, IsBeginning};
-ghost use Rattle.libgist.specs.Following.{IsAdvancing, IsSubscribing, IsUnsubscribing};
+ghost use Rattle.libgist.specs.Feeding.{InFeed, IsBeginning};
+ghost use Rattle.libgist.specs.Following.{IsUnsubscribing};
+ghost use Rattle.libgist.specs.Loans.{Loan, is_lent, lasts, state_of};
 ghost use Rattle.libgist.specs.Making.{Makes};
 ghost use Rattle.libgist.specs.Told.{TellsCode, Tells};
 
 use crate::any_feed;
 use crate::handle::Handle;
+use crate::lent::Lent;
 use crate::making::{self, settle};
 use crate::telling::{code, no_handle, tell, tell_both};
 use crate::words::ToldItem;
@@ -36,32 +40,36 @@ pub extern "C" fn gist_end(alloc: Global, feed: &mut Handle)
 
 /// Subscribes to the changes of a query that come after a commit, and gives the subscription's number.
 #[unsafe(no_mangle)]
-pub extern "C" fn gist_subscribe(
-    alloc: Global,
+pub unsafe extern "C" fn gist_subscribe(
     feed: &mut Handle,
-    query: &mut Handle,
+    query: *const Handle,
     from: u64,
     subscription: &mut u64,
 ) -> u32
-    ensures { Tells result subscription.old subscription.new (OnHandles
-        (InFeedBy (λ K A class query. Passing (IsSubscribing query from)))
-        query.old.inside.state query.new.inside.state
-        feed.old.inside.state feed.new.inside.state) }
+    ghost loan: { Loan }
+    requires* { sem 𝓛 (is_lent query loan) }
+    ensures* back { sem 𝓛 (lasts loan) }
+    ensures subscribed { Tells result subscription.old subscription.new (OnHandles
+        (AnswersSubscribing from) (state_of loan) feed.old.inside.state feed.new.inside.state) }
 {
-    match query.take(alloc) {
+    subscribe_to(feed, &*(query as *const Lent), from, subscription)
+}
+
+fn subscribe_to(feed: &mut Handle, query: &Lent, from: u64, subscription: &mut u64) -> u32
+    ensures subscribed { Tells result subscription.old subscription.new (OnHandles
+        (AnswersSubscribing from) query.now.inside.state feed.old.inside.state
+        feed.new.inside.state) }
+{
+    match query.held() {
         None => tell(no_handle(), subscription),
-        Some(asked) => {
-            let answer = match feed.take(alloc) {
-                None => no_handle(),
-                Some(mut held) => {
-                    let subscribed = any_feed::subscribe(&asked, &mut held, from);
-                    feed.put(held);
-                    subscribed
-                }
-            };
-            query.put(asked);
-            tell(answer, subscription)
-        }
+        Some(asked) => match feed.take(query.alloc()) {
+            None => tell(no_handle(), subscription),
+            Some(mut held) => {
+                let answer = any_feed::subscribe(asked, &mut held, from);
+                feed.put(held);
+                tell(answer, subscription)
+            }
+        },
     }
 }
 
@@ -85,35 +93,47 @@ pub extern "C" fn gist_unsubscribe(alloc: Global, feed: &mut Handle, subscriptio
 /// Gives what waits, until a buffer is full; where nothing waits, the feed goes over at most `most` further commits of a snapshot
 /// before. Tells how many items were given, and up to which commit the feed has gone.
 #[unsafe(no_mangle)]
-pub extern "C" fn gist_advance(
-    alloc: Global,
+pub unsafe extern "C" fn gist_advance(
     feed: &mut Handle,
-    snapshot: &mut Handle,
+    snapshot: *const Handle,
+    most: u64,
+    items: &mut [ToldItem],
+    given: &mut u64,
+    upto: &mut u64,
+) -> u32
+    ghost loan: { Loan }
+    requires* { sem 𝓛 (is_lent snapshot loan) }
+    ensures* back { sem 𝓛 (lasts loan) }
+    ensures given { Tells result (given.old, upto.old) (given.new, upto.new) (OnHandles
+        (AnswersAdvancing most items.old items.new) (state_of loan) feed.old.inside.state
+        feed.new.inside.state) }
+    ensures unfilled { result ≢ 0 → items.new ≡ items.old }
+{
+    advance_over(feed, &*(snapshot as *const Lent), most, items, given, upto)
+}
+
+fn advance_over(
+    feed: &mut Handle,
+    snapshot: &Lent,
     most: u64,
     items: &mut [ToldItem],
     given: &mut u64,
     upto: &mut u64,
 ) -> u32
     ensures given { Tells result (given.old, upto.old) (given.new, upto.new) (OnHandles
-        (InFeedOver (λ K A class commits. Passing
-        (IsAdvancing class.rules class.words_of most commits items.old items.new)))
-        snapshot.old.inside.state snapshot.new.inside.state
-        feed.old.inside.state feed.new.inside.state) }
+        (AnswersAdvancing most items.old items.new) snapshot.now.inside.state feed.old.inside.state
+        feed.new.inside.state) }
     ensures unfilled { result ≢ 0 → items.new ≡ items.old }
 {
-    match snapshot.take(alloc) {
+    match snapshot.held() {
         None => tell_both(no_handle(), given, upto),
-        Some(over) => {
-            let answer = match feed.take(alloc) {
-                None => no_handle(),
-                Some(mut held) => {
-                    let told = any_feed::advance(&over, &mut held, most, items);
-                    feed.put(held);
-                    told
-                }
-            };
-            snapshot.put(over);
-            tell_both(answer, given, upto)
-        }
+        Some(over) => match feed.take(snapshot.alloc()) {
+            None => tell_both(no_handle(), given, upto),
+            Some(mut held) => {
+                let answer = any_feed::advance(over, &mut held, most, items);
+                feed.put(held);
+                tell_both(answer, given, upto)
+            }
+        },
     }
 }

@@ -16,6 +16,7 @@ mod handle;
 mod held;
 mod inside;
 mod keys;
+mod lent;
 mod limits;
 mod making;
 mod names;

@@ -5,6 +5,8 @@ ghost use Rattle.change_list.specs.Configs.{IsWithinLimits};
 ghost use Rattle.store.specs.Renewing.{IsRenewed, numbers_of_living};
 ghost use Rattle.libgist.specs.declared.denied.Denied.TheVariants.{BadLimits};
 ghost use Rattle.libgist.specs.Configs.{config_of};
+ghost use Rattle.std.specs.Borrow.{sem};
+ghost use Rattle.libgist.specs.Loans.{Loan, is_lent, lasts, state_of};
 ghost use Rattle.libgist.specs.Making.{Makes, Settles};
 ghost use Rattle.libgist.specs.Renewal.{IsRenewal, IsRenewalOf, RefusesRenewing, TellsNumbers, numbers_in, stored};
 
@@ -12,6 +14,7 @@ use crate::buffers::write_over;
 use crate::denied::Denied;
 use crate::handle::Handle;
 use crate::held::{AnySnapshot, AnyStore, Held};
+use crate::lent::Lent;
 use crate::limits::{Limits, config};
 use crate::making::settle;
 use crate::telling::no_handle;
@@ -114,33 +117,46 @@ fn settle_anew(
 /// Makes a store of the rows that live in a snapshot, for a handle that has nothing, and tells the numbers that they had. They
 /// are numbered anew, in the order of their numbers.
 #[unsafe(no_mangle)]
-pub extern "C" fn gist_renew(
-    alloc: Global,
-    snapshot: &mut Handle,
+pub unsafe extern "C" fn gist_renew(
+    snapshot: *const Handle,
     limits: &Limits,
     store: &mut Handle,
     numbers: &mut [u64],
     living: &mut u64,
 ) -> u32
-    ensures made { Makes (IsRenewalOf (config_of limits.now) snapshot.old.inside.state)
+    ghost loan: { Loan }
+    requires* { sem 𝓛 (is_lent snapshot loan) }
+    ensures* back { sem 𝓛 (lasts loan) }
+    ensures made { Makes (IsRenewalOf (config_of limits.now) (state_of loan))
         store.old.inside.state store.new.inside.state result }
-    ensures told { result ≡ 0 → IsSomeAnd snapshot.old.inside.state
+    ensures told { result ≡ 0 → IsSomeAnd (state_of loan)
         (TellsNumbers numbers.old numbers.new living.new) }
     ensures untold { result ≢ 0 → (numbers.new ≡ numbers.old) × (living.new ≡ living.old) }
-    ensures kept { snapshot.new.inside.state ≡ snapshot.old.inside.state }
+{
+    renew_from(&*(snapshot as *const Lent), limits, store, numbers, living)
+}
+
+fn renew_from(
+    snapshot: &Lent,
+    limits: &Limits,
+    store: &mut Handle,
+    numbers: &mut [u64],
+    living: &mut u64,
+) -> u32
+    ensures made { Makes (IsRenewalOf (config_of limits.now) snapshot.now.inside.state)
+        store.old.inside.state store.new.inside.state result }
+    ensures told { result ≡ 0 → IsSomeAnd snapshot.now.inside.state
+        (TellsNumbers numbers.old numbers.new living.new) }
+    ensures untold { result ≢ 0 → (numbers.new ≡ numbers.old) × (living.new ≡ living.old) }
 {
     if store.is_open() {
         return 2;
     }
-    match snapshot.take(alloc) {
-        None => settle(alloc, no_handle(), store),
-        Some(held) => {
-            let made = renewed(alloc, config(limits), &held);
-            snapshot.put(held);
-            match made {
-                Ok(anew) => settle_anew(alloc, anew, store, numbers, living),
-                Err(why) => why.number(),
-            }
-        }
+    match snapshot.held() {
+        None => settle(snapshot.alloc(), no_handle(), store),
+        Some(held) => match renewed(snapshot.alloc(), config(limits), held) {
+            Ok(anew) => settle_anew(snapshot.alloc(), anew, store, numbers, living),
+            Err(why) => why.number(),
+        },
     }
 }

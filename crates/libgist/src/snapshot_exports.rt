@@ -1,15 +1,15 @@
-//! What C can ask of a snapshot, and the queries that it asks with.
-ghost use Rattle.std.specs.Prelude.{◌≡◌, ◌≢◌, None, Ok, length};
-ghost use Rattle.libgist.specs.Classes.{OnHandle, OnHandles, InSnapshot, InSnapshotBy, Reads, ReadsBy};
-ghost use Rattle.libgist.specs.Denials.{PassesOn};
+//! What C can ask of a snapshot, and the queries that it asks with. A function beside each export takes its pointers as loans.
+ghost use Rattle.std.specs.Prelude.{◌≡◌, ◌≢◌, None};
+ghost use Rattle.libgist.specs.Asked.{AnswersChanges, AnswersCommit, AnswersCommits, AnswersCount, AnswersFind, AnswersFindOfEach, AnswersRow};
+ghost use Rattle.std.specs.Borrow.{sem};
+ghost use Rattle.libgist.specs.Classes.{FromHandle, FromHandles};
+ghost use Rattle.libgist.specs.Loans.{Loan, is_lent, lasts, are_lent, both_last, state_of};
 ghost use Rattle.libgist.specs.Making.{Makes, IsTakenFrom, IsPrepared, asked_of};
-ghost use Rattle.libgist.specs.ManyFinds.{IsFindOfEach};
-ghost use Rattle.libgist.specs.Reading.{IsFind, IsCount, IsChanges, IsRowOf};
-ghost use Rattle.libgist.specs.Shown.{shown_commit};
 ghost use Rattle.libgist.specs.Told.{Tells, TellsFault};
 
 use crate::any_snapshot;
 use crate::handle::Handle;
+use crate::lent::Lent;
 use crate::making::{self, settle};
 use crate::telling::{no_handle, tell, tell_both, tell_fault};
 use crate::words::{KeyWords, ShownItem, ShownRow};
@@ -17,214 +17,238 @@ use std::alloc::Global;
 
 /// How many commits a snapshot has.
 #[unsafe(no_mangle)]
-pub extern "C" fn gist_commits(alloc: Global, snapshot: &mut Handle, commits: &mut u64) -> u32
-    ensures { Tells result commits.old commits.new (OnHandle
-        (Reads (InSnapshot (λ K A class commits answer. answer ≡ Ok (length commits))))
-        snapshot.old.inside.state snapshot.new.inside.state) }
+pub unsafe extern "C" fn gist_commits(snapshot: *const Handle, commits: &mut u64) -> u32
+    ghost loan: { Loan }
+    requires* { sem 𝓛 (is_lent snapshot loan) }
+    ensures* back { sem 𝓛 (lasts loan) }
+    ensures told { Tells result commits.old commits.new (FromHandle AnswersCommits (state_of loan)) }
 {
-    match snapshot.take(alloc) {
-        None => tell(no_handle(), commits),
-        Some(held) => {
-            let answer = any_snapshot::commits(&held);
-            snapshot.put(held);
-            tell(answer, commits)
-        }
-    }
+    tell_commits(&*(snapshot as *const Lent), commits)
+}
+
+fn tell_commits(snapshot: &Lent, commits: &mut u64) -> u32
+    ensures told { Tells result commits.old commits.new (FromHandle AnswersCommits
+        snapshot.now.inside.state) }
+{
+    tell(any_snapshot::commits(snapshot), commits)
 }
 
 /// Gives the row with a number, and tells whether it lives.
 #[unsafe(no_mangle)]
-pub extern "C" fn gist_row_of(
-    alloc: Global,
-    snapshot: &mut Handle,
+pub unsafe extern "C" fn gist_row_of(
+    snapshot: *const Handle,
     number: u64,
     row: &mut ShownRow,
     lives: &mut bool,
 ) -> u32
-    ensures { Tells result (row.old, lives.old) (row.new, lives.new) (OnHandle
-        (Reads (InSnapshot (λ K A class commits.
-        PassesOn (IsRowOf class.words_of commits number))))
-        snapshot.old.inside.state snapshot.new.inside.state) }
+    ghost loan: { Loan }
+    requires* { sem 𝓛 (is_lent snapshot loan) }
+    ensures* back { sem 𝓛 (lasts loan) }
+    ensures told { Tells result (row.old, lives.old) (row.new, lives.new) (FromHandle (AnswersRow
+        number) (state_of loan)) }
 {
-    match snapshot.take(alloc) {
-        None => tell_both(no_handle(), row, lives),
-        Some(held) => {
-            let answer = any_snapshot::row_of(&held, number);
-            snapshot.put(held);
-            tell_both(answer, row, lives)
-        }
-    }
+    tell_row(&*(snapshot as *const Lent), number, row, lives)
+}
+
+fn tell_row(snapshot: &Lent, number: u64, row: &mut ShownRow, lives: &mut bool) -> u32
+    ensures told { Tells result (row.old, lives.old) (row.new, lives.new) (FromHandle (AnswersRow
+        number) snapshot.now.inside.state) }
+{
+    tell_both(any_snapshot::row_of(snapshot, number), row, lives)
 }
 
 /// Tells the commit with a number, or that there is none.
 #[unsafe(no_mangle)]
-pub extern "C" fn gist_commit_of(
-    alloc: Global,
-    snapshot: &mut Handle,
+pub unsafe extern "C" fn gist_commit_of(
+    snapshot: *const Handle,
     number: u64,
     commit: &mut ShownItem,
 ) -> u32
-    ensures { Tells result commit.old commit.new (OnHandle
-        (Reads (InSnapshot (λ K A class commits answer.
-        answer ≡ Ok (shown_commit class.words_of commits number))))
-        snapshot.old.inside.state snapshot.new.inside.state) }
+    ghost loan: { Loan }
+    requires* { sem 𝓛 (is_lent snapshot loan) }
+    ensures* back { sem 𝓛 (lasts loan) }
+    ensures told { Tells result commit.old commit.new (FromHandle (AnswersCommit number) (state_of
+        loan)) }
 {
-    match snapshot.take(alloc) {
-        None => tell(no_handle(), commit),
-        Some(held) => {
-            let answer = any_snapshot::commit(&held, number);
-            snapshot.put(held);
-            tell(answer, commit)
-        }
-    }
+    tell_commit(&*(snapshot as *const Lent), number, commit)
+}
+
+fn tell_commit(snapshot: &Lent, number: u64, commit: &mut ShownItem) -> u32
+    ensures told { Tells result commit.old commit.new (FromHandle (AnswersCommit number)
+        snapshot.now.inside.state) }
+{
+    tell(any_snapshot::commit(snapshot, number), commit)
 }
 
 /// Puts the rows that live and have a relation to each of many keys into a buffer, those of one key behind those of the key
 /// before, as long as they fit, and tells how many keys were answered and where the rows of each end.
 #[unsafe(no_mangle)]
-pub extern "C" fn gist_find_each(
-    alloc: Global,
-    snapshot: &mut Handle,
+pub unsafe extern "C" fn gist_find_each(
+    snapshot: *const Handle,
     relation: u32,
     keys: &[KeyWords],
     rows: &mut [ShownRow],
     ends: &mut [u64],
     answered: &mut u64,
 ) -> u32
-    ensures found { Tells result answered.old answered.new (OnHandle
-        (Reads (InSnapshot (λ K A class commits. IsFindOfEach class.rules class.texts
-        class.key_of commits class.words_of relation keys.now
-        ends.old ends.new rows.old rows.new)))
-        snapshot.old.inside.state snapshot.new.inside.state) }
+    ghost loan: { Loan }
+    requires* { sem 𝓛 (is_lent snapshot loan) }
+    ensures* back { sem 𝓛 (lasts loan) }
+    ensures found { Tells result answered.old answered.new (FromHandle (AnswersFindOfEach relation
+        keys.now ends.old ends.new rows.old rows.new) (state_of loan)) }
     ensures unfilled { result ≢ 0 → (rows.new ≡ rows.old) × (ends.new ≡ ends.old) }
 {
-    match snapshot.take(alloc) {
-        None => tell(no_handle(), answered),
-        Some(held) => {
-            let answer = any_snapshot::find_each(&held, relation, keys, rows, ends);
-            snapshot.put(held);
-            tell(answer, answered)
-        }
-    }
+    find_each(
+        &*(snapshot as *const Lent),
+        relation,
+        keys,
+        rows,
+        ends,
+        answered,
+    )
+}
+
+fn find_each(
+    snapshot: &Lent,
+    relation: u32,
+    keys: &[KeyWords],
+    rows: &mut [ShownRow],
+    ends: &mut [u64],
+    answered: &mut u64,
+) -> u32
+    ensures found { Tells result answered.old answered.new (FromHandle (AnswersFindOfEach relation
+        keys.now ends.old ends.new rows.old rows.new) snapshot.now.inside.state) }
+    ensures unfilled { result ≢ 0 → (rows.new ≡ rows.old) × (ends.new ≡ ends.old) }
+{
+    tell(
+        any_snapshot::find_each(snapshot, relation, keys, rows, ends),
+        answered,
+    )
 }
 
 /// Puts the rows that live and match into a buffer, by rising number, as many as fit, and tells how many there are.
 #[unsafe(no_mangle)]
-pub extern "C" fn gist_find(
-    alloc: Global,
-    snapshot: &mut Handle,
-    query: &mut Handle,
+pub unsafe extern "C" fn gist_find(
+    snapshot: *const Handle,
+    query: *const Handle,
     rows: &mut [ShownRow],
     found: &mut u64,
 ) -> u32
-    ensures found { Tells result found.old found.new (OnHandles
-        (ReadsBy (InSnapshotBy (λ K A class query commits.
-        PassesOn (IsFind class.rules class.words_of query commits rows.old rows.new))))
-        query.old.inside.state query.new.inside.state
-        snapshot.old.inside.state snapshot.new.inside.state) }
+    ghost loans: { Loan × Loan }
+    requires* { sem 𝓛 (are_lent snapshot query loans) }
+    ensures* back { sem 𝓛 (both_last loans) }
+    ensures found { Tells result found.old found.new (FromHandles (AnswersFind rows.old rows.new)
+        (state_of loans.1) (state_of loans.0)) }
     ensures unfilled { result ≢ 0 → rows.new ≡ rows.old }
 {
-    match query.take(alloc) {
-        None => tell(no_handle(), found),
-        Some(asked) => {
-            let answer = match snapshot.take(alloc) {
-                None => no_handle(),
-                Some(held) => {
-                    let counted = any_snapshot::find(&asked, &held, rows);
-                    snapshot.put(held);
-                    counted
-                }
-            };
-            query.put(asked);
-            tell(answer, found)
-        }
-    }
+    find_rows(
+        &*(snapshot as *const Lent),
+        &*(query as *const Lent),
+        rows,
+        found,
+    )
+}
+
+fn find_rows(snapshot: &Lent, query: &Lent, rows: &mut [ShownRow], found: &mut u64) -> u32
+    ensures found { Tells result found.old found.new (FromHandles (AnswersFind rows.old rows.new)
+        query.now.inside.state snapshot.now.inside.state) }
+    ensures unfilled { result ≢ 0 → rows.new ≡ rows.old }
+{
+    tell(any_snapshot::find(query, snapshot, rows), found)
 }
 
 /// Tells how many rows live and match.
 #[unsafe(no_mangle)]
-pub extern "C" fn gist_count(
-    alloc: Global,
-    snapshot: &mut Handle,
-    query: &mut Handle,
+pub unsafe extern "C" fn gist_count(
+    snapshot: *const Handle,
+    query: *const Handle,
     count: &mut u64,
 ) -> u32
-    ensures { Tells result count.old count.new (OnHandles
-        (ReadsBy (InSnapshotBy (λ K A class query commits.
-        PassesOn (IsCount class.rules query commits))))
-        query.old.inside.state query.new.inside.state
-        snapshot.old.inside.state snapshot.new.inside.state) }
+    ghost loans: { Loan × Loan }
+    requires* { sem 𝓛 (are_lent snapshot query loans) }
+    ensures* back { sem 𝓛 (both_last loans) }
+    ensures counted { Tells result count.old count.new (FromHandles AnswersCount (state_of loans.1)
+        (state_of loans.0)) }
 {
-    match query.take(alloc) {
-        None => tell(no_handle(), count),
-        Some(asked) => {
-            let answer = match snapshot.take(alloc) {
-                None => no_handle(),
-                Some(held) => {
-                    let counted = any_snapshot::count(&asked, &held);
-                    snapshot.put(held);
-                    counted
-                }
-            };
-            query.put(asked);
-            tell(answer, count)
-        }
-    }
+    count_rows(&*(snapshot as *const Lent), &*(query as *const Lent), count)
+}
+
+fn count_rows(snapshot: &Lent, query: &Lent, count: &mut u64) -> u32
+    ensures counted { Tells result count.old count.new (FromHandles AnswersCount
+        query.now.inside.state snapshot.now.inside.state) }
+{
+    tell(any_snapshot::count(query, snapshot), count)
 }
 
 /// Puts the items of the commits after `from` that match into a buffer, until it is full, and tells how many they are and
 /// up to which commit all were given.
 #[unsafe(no_mangle)]
-pub extern "C" fn gist_changes(
-    alloc: Global,
-    snapshot: &mut Handle,
-    query: &mut Handle,
+pub unsafe extern "C" fn gist_changes(
+    snapshot: *const Handle,
+    query: *const Handle,
     from: u64,
     items: &mut [ShownItem],
     given: &mut u64,
     upto: &mut u64,
 ) -> u32
-    ensures given { Tells result (given.old, upto.old) (given.new, upto.new) (OnHandles
-        (ReadsBy (InSnapshotBy (λ K A class query commits. PassesOn
-        (IsChanges class.rules class.words_of query commits from items.old items.new))))
-        query.old.inside.state query.new.inside.state
-        snapshot.old.inside.state snapshot.new.inside.state) }
+    ghost loans: { Loan × Loan }
+    requires* { sem 𝓛 (are_lent snapshot query loans) }
+    ensures* back { sem 𝓛 (both_last loans) }
+    ensures given { Tells result (given.old, upto.old) (given.new, upto.new) (FromHandles
+        (AnswersChanges from items.old items.new) (state_of loans.1) (state_of loans.0)) }
     ensures unfilled { result ≢ 0 → items.new ≡ items.old }
 {
-    match query.take(alloc) {
-        None => tell_both(no_handle(), given, upto),
-        Some(asked) => {
-            let answer = match snapshot.take(alloc) {
-                None => no_handle(),
-                Some(held) => {
-                    let told = any_snapshot::changes(alloc, &asked, &held, from, items);
-                    snapshot.put(held);
-                    told
-                }
-            };
-            query.put(asked);
-            tell_both(answer, given, upto)
-        }
-    }
+    give_changes(
+        &*(snapshot as *const Lent),
+        &*(query as *const Lent),
+        from,
+        items,
+        given,
+        upto,
+    )
+}
+
+fn give_changes(
+    snapshot: &Lent,
+    query: &Lent,
+    from: u64,
+    items: &mut [ShownItem],
+    given: &mut u64,
+    upto: &mut u64,
+) -> u32
+    ensures given { Tells result (given.old, upto.old) (given.new, upto.new) (FromHandles
+        (AnswersChanges from items.old items.new) query.now.inside.state snapshot.now.inside.state) }
+    ensures unfilled { result ≢ 0 → items.new ≡ items.old }
+{
+    tell_both(
+        any_snapshot::changes(query.alloc(), query, snapshot, from, items),
+        given,
+        upto,
+    )
 }
 
 /// Takes a snapshot of a store, for a handle that has nothing.
 #[unsafe(no_mangle)]
-pub extern "C" fn gist_take(alloc: Global, store: &mut Handle, snapshot: &mut Handle) -> u32
-    ensures taken { Makes (IsTakenFrom store.old.inside.state)
+pub unsafe extern "C" fn gist_take(store: *const Handle, snapshot: &mut Handle) -> u32
+    ghost loan: { Loan }
+    requires* { sem 𝓛 (is_lent store loan) }
+    ensures* back { sem 𝓛 (lasts loan) }
+    ensures taken { Makes (IsTakenFrom (state_of loan))
         snapshot.old.inside.state snapshot.new.inside.state result }
-    ensures kept { store.new.inside.state ≡ store.old.inside.state }
+{
+    take_snapshot(&*(store as *const Lent), snapshot)
+}
+
+fn take_snapshot(store: &Lent, snapshot: &mut Handle) -> u32
+    ensures taken { Makes (IsTakenFrom store.now.inside.state)
+        snapshot.old.inside.state snapshot.new.inside.state result }
 {
     if snapshot.is_open() {
         return 2;
     }
-    match store.take(alloc) {
-        None => settle(alloc, no_handle(), snapshot),
-        Some(held) => {
-            let taken = making::snapshot(&held);
-            store.put(held);
-            settle(alloc, taken, snapshot)
-        }
+    match store.held() {
+        None => settle(store.alloc(), no_handle(), snapshot),
+        Some(held) => settle(store.alloc(), making::snapshot(held), snapshot),
     }
 }
 

@@ -1,14 +1,18 @@
 //! What C can ask of a store.
 ghost use Rattle.std.specs.Prelude.{◌≡◌, ◌≢◌, None};
-ghost use Rattle.libgist.specs.Calls.{Passing, IsInserting, IsDeleting, IsMovingTo, IsTaking, IsSweep, IsTelling, IsOpening, IsFollowing, IsAsking, IsClosing};
-ghost use Rattle.libgist.specs.Classes.{OnHandle, OnHandles, InStore, InStoreBy};
+ghost use Rattle.libgist.specs.Asked.{AnswersFollowing, AnswersOpening, AnswersStats};
+ghost use Rattle.libgist.specs.Calls.{Passing, IsInserting, IsDeleting, IsMovingTo, IsTaking, IsSweep, IsAsking, IsClosing};
+ghost use Rattle.std.specs.Borrow.{sem};
+ghost use Rattle.libgist.specs.Classes.{FromHandle, OnHandle, OnHandles, InStore};
 ghost use Rattle.libgist.specs.Configs.{config_of};
+ghost use Rattle.libgist.specs.Loans.{Loan, is_lent, lasts, state_of};
 ghost use Rattle.libgist.specs.Making.{Makes, IsCreation};
 ghost use Rattle.libgist.specs.Told.{TellsCode, Tells};
 
 use crate::any_store;
 use crate::figures::Figures;
 use crate::handle::Handle;
+use crate::lent::Lent;
 use crate::limits::{Limits, config};
 use crate::making::{self, settle};
 use crate::telling::{code, no_handle, tell};
@@ -43,9 +47,8 @@ pub extern "C" fn gist_insert(
     rows: &[NewRow],
     added: &mut u64,
 ) -> u32
-    ensures { Tells result added.old added.new (OnHandle
-        (InStore (λ K A class. IsInserting class.rules class.key_of rows.now))
-        store.old.inside.state store.new.inside.state) }
+    ensures { Tells result added.old added.new (OnHandle (InStore (λ K A class. IsInserting
+        class.rules class.key_of rows.now)) store.old.inside.state store.new.inside.state) }
 {
     match store.take(alloc) {
         None => tell(no_handle(), added),
@@ -66,9 +69,8 @@ pub extern "C" fn gist_move(
     key: KeyWords,
     moved: &mut u64,
 ) -> u32
-    ensures { Tells result moved.old moved.new (OnHandle
-        (InStore (λ K A class. IsMovingTo class.rules class.key_of row key))
-        store.old.inside.state store.new.inside.state) }
+    ensures { Tells result moved.old moved.new (OnHandle (InStore (λ K A class. IsMovingTo
+        class.rules class.key_of row key)) store.old.inside.state store.new.inside.state) }
 {
     match store.take(alloc) {
         None => tell(no_handle(), moved),
@@ -88,9 +90,8 @@ pub extern "C" fn gist_delete(
     rows: &[u64],
     deleted: &mut u64,
 ) -> u32
-    ensures { Tells result deleted.old deleted.new (OnHandle
-        (InStore (λ K A class. IsDeleting class.rules rows.now))
-        store.old.inside.state store.new.inside.state) }
+    ensures { Tells result deleted.old deleted.new (OnHandle (InStore (λ K A class. IsDeleting
+        class.rules rows.now)) store.old.inside.state store.new.inside.state) }
 {
     match store.take(alloc) {
         None => tell(no_handle(), deleted),
@@ -105,9 +106,8 @@ pub extern "C" fn gist_delete(
 /// Removes the dead rows that no scan needs, and tells how many they were.
 #[unsafe(no_mangle)]
 pub extern "C" fn gist_sweep(alloc: Global, store: &mut Handle, removed: &mut u64) -> u32
-    ensures { Tells result removed.old removed.new (OnHandle
-        (InStore (λ K A class. Passing (IsSweep class.rules)))
-        store.old.inside.state store.new.inside.state) }
+    ensures { Tells result removed.old removed.new (OnHandle (InStore (λ K A class. Passing (IsSweep
+        class.rules))) store.old.inside.state store.new.inside.state) }
 {
     match store.take(alloc) {
         None => tell(no_handle(), removed),
@@ -121,79 +121,89 @@ pub extern "C" fn gist_sweep(alloc: Global, store: &mut Handle, removed: &mut u6
 
 /// Tells how far a store has come.
 #[unsafe(no_mangle)]
-pub extern "C" fn gist_stats(alloc: Global, store: &mut Handle, figures: &mut Figures) -> u32
-    ensures { Tells result figures.old figures.new (OnHandle
-        (InStore (λ K A class. IsTelling))
-        store.old.inside.state store.new.inside.state) }
+pub unsafe extern "C" fn gist_stats(store: *const Handle, figures: &mut Figures) -> u32
+    ghost loan: { Loan }
+    requires* { sem 𝓛 (is_lent store loan) }
+    ensures* back { sem 𝓛 (lasts loan) }
+    ensures told { Tells result figures.old figures.new (FromHandle AnswersStats (state_of loan)) }
 {
-    match store.take(alloc) {
+    tell_stats(&*(store as *const Lent), figures)
+}
+
+fn tell_stats(store: &Lent, figures: &mut Figures) -> u32
+    ensures told { Tells result figures.old figures.new (FromHandle AnswersStats
+        store.now.inside.state) }
+{
+    match store.held() {
         None => tell(no_handle(), figures),
-        Some(held) => {
-            let answer = any_store::stats(&held);
-            store.put(held);
-            tell(answer, figures)
-        }
+        Some(held) => tell(any_store::stats(held), figures),
     }
 }
 
 /// Opens a cursor on a query, at the present commits.
 #[unsafe(no_mangle)]
-pub extern "C" fn gist_open(
-    alloc: Global,
+pub unsafe extern "C" fn gist_open(
     store: &mut Handle,
-    query: &mut Handle,
+    query: *const Handle,
     cursor: &mut u64,
 ) -> u32
-    ensures { Tells result cursor.old cursor.new (OnHandles
-        (InStoreBy (λ K A class query. Passing (IsOpening class.rules query)))
-        query.old.inside.state query.new.inside.state
+    ghost loan: { Loan }
+    requires* { sem 𝓛 (is_lent query loan) }
+    ensures* back { sem 𝓛 (lasts loan) }
+    ensures opened { Tells result cursor.old cursor.new (OnHandles AnswersOpening (state_of loan)
         store.old.inside.state store.new.inside.state) }
 {
-    match query.take(alloc) {
+    open_on(store, &*(query as *const Lent), cursor)
+}
+
+fn open_on(store: &mut Handle, query: &Lent, cursor: &mut u64) -> u32
+    ensures opened { Tells result cursor.old cursor.new (OnHandles AnswersOpening
+        query.now.inside.state store.old.inside.state store.new.inside.state) }
+{
+    match query.held() {
         None => tell(no_handle(), cursor),
-        Some(asked) => {
-            let answer = match store.take(alloc) {
-                None => no_handle(),
-                Some(mut held) => {
-                    let opened = any_store::open(alloc, &asked, &mut held);
-                    store.put(held);
-                    opened
-                }
-            };
-            query.put(asked);
-            tell(answer, cursor)
-        }
+        Some(asked) => match store.take(query.alloc()) {
+            None => tell(no_handle(), cursor),
+            Some(mut held) => {
+                let answer = any_store::open(query.alloc(), asked, &mut held);
+                store.put(held);
+                tell(answer, cursor)
+            }
+        },
     }
 }
 
 /// Opens a cursor on a query, which follows a commit.
 #[unsafe(no_mangle)]
-pub extern "C" fn gist_follow(
-    alloc: Global,
+pub unsafe extern "C" fn gist_follow(
     store: &mut Handle,
-    query: &mut Handle,
+    query: *const Handle,
     commit: u64,
     cursor: &mut u64,
 ) -> u32
-    ensures { Tells result cursor.old cursor.new (OnHandles
-        (InStoreBy (λ K A class query. Passing (IsFollowing class.rules query commit)))
-        query.old.inside.state query.new.inside.state
-        store.old.inside.state store.new.inside.state) }
+    ghost loan: { Loan }
+    requires* { sem 𝓛 (is_lent query loan) }
+    ensures* back { sem 𝓛 (lasts loan) }
+    ensures opened { Tells result cursor.old cursor.new (OnHandles (AnswersFollowing commit)
+        (state_of loan) store.old.inside.state store.new.inside.state) }
 {
-    match query.take(alloc) {
+    follow_on(store, &*(query as *const Lent), commit, cursor)
+}
+
+fn follow_on(store: &mut Handle, query: &Lent, commit: u64, cursor: &mut u64) -> u32
+    ensures opened { Tells result cursor.old cursor.new (OnHandles (AnswersFollowing commit)
+        query.now.inside.state store.old.inside.state store.new.inside.state) }
+{
+    match query.held() {
         None => tell(no_handle(), cursor),
-        Some(asked) => {
-            let answer = match store.take(alloc) {
-                None => no_handle(),
-                Some(mut held) => {
-                    let opened = any_store::follow(alloc, &asked, &mut held, commit);
-                    store.put(held);
-                    opened
-                }
-            };
-            query.put(asked);
-            tell(answer, cursor)
-        }
+        Some(asked) => match store.take(query.alloc()) {
+            None => tell(no_handle(), cursor),
+            Some(mut held) => {
+                let answer = any_store::follow(query.alloc(), asked, &mut held, commit);
+                store.put(held);
+                tell(answer, cursor)
+            }
+        },
     }
 }
 
@@ -207,9 +217,9 @@ pub extern "C" fn gist_next(
     items: &mut [ShownItem],
     given: &mut u64,
 ) -> u32
-    ensures given { Tells result given.old given.new (OnHandle (InStore (λ K A class.
-        Passing (IsTaking class.rules class.words_of cursor items.old items.new)))
-        store.old.inside.state store.new.inside.state) }
+    ensures given { Tells result given.old given.new (OnHandle (InStore (λ K A class. Passing
+        (IsTaking class.rules class.words_of cursor items.old items.new))) store.old.inside.state
+        store.new.inside.state) }
     ensures unfilled { result ≢ 0 → items.new ≡ items.old }
 {
     match store.take(alloc) {

@@ -1,0 +1,64 @@
+-- What is answered of what a handle has, whichever its class is.
+use Rattle.std.specs.Prelude.{◌≡◌, ℕ, Bool, List, length, Result, Ok}
+use Rattle.libgist.specs.Calls.{Passing, IsTelling, IsOpening, IsFollowing}
+use Rattle.libgist.specs.Classes.{InSnapshot, InSnapshotBy, InStore, InStoreBy}
+use Rattle.libgist.specs.Denials.{PassesOn}
+use Rattle.libgist.specs.Feeding.{InFeedBy, InFeedOver}
+use Rattle.libgist.specs.Following.{IsAdvancing, IsSubscribing}
+use Rattle.libgist.specs.ManyFinds.{IsFindOfEach}
+use Rattle.libgist.specs.Reading.{IsFind, IsCount, IsChanges, IsRowOf}
+use Rattle.libgist.specs.Shown.{shown_commit}
+use Rattle.libgist.specs.declared.denied.Denied.{Denied}
+use Rattle.libgist.specs.declared.figures.Figures.{Figures}
+use Rattle.libgist.specs.declared.held.Held.{Held}
+use Rattle.libgist.specs.declared.words.KeyWords.{KeyWords}
+use Rattle.libgist.specs.declared.words.ShownItem.{ShownItem}
+use Rattle.libgist.specs.declared.words.ShownRow.{ShownRow}
+use Rattle.libgist.specs.declared.words.ToldItem.{ToldItem}
+
+-- how many commits a snapshot has
+abbrev pub AnswersCommits : Held → Result ℕ Denied → Type 0
+AnswersCommits = InSnapshot (λ K A class commits answer. answer ≡ Ok (length commits))
+
+-- a snapshot's row with a number, and whether it lives
+abbrev pub AnswersRow : ℕ → Held → Result (ShownRow × Bool) Denied → Type 0
+AnswersRow number = InSnapshot (λ K A class commits. PassesOn (IsRowOf class.words_of commits number))
+
+-- a snapshot's commit with a number, or that there is none
+abbrev pub AnswersCommit : ℕ → Held → Result ShownItem Denied → Type 0
+AnswersCommit number = InSnapshot (λ K A class commits answer. answer ≡ Ok (shown_commit class.words_of commits number))
+
+-- the rows of each of many keys, and where those of each end
+abbrev pub AnswersFindOfEach : ℕ → List KeyWords → List ℕ → List ℕ → List ShownRow → List ShownRow → Held → Result ℕ Denied → Type 0
+AnswersFindOfEach relation keys ends_before ends_after before after =
+    InSnapshot (λ K A class commits. IsFindOfEach class.rules class.texts class.key_of commits class.words_of relation keys ends_before ends_after before after)
+
+-- the rows that live and that a query asks for
+abbrev pub AnswersFind : List ShownRow → List ShownRow → Held → Held → Result ℕ Denied → Type 0
+AnswersFind before after = InSnapshotBy (λ K A class query commits. PassesOn (IsFind class.rules class.words_of query commits before after))
+
+-- and how many they are
+abbrev pub AnswersCount : Held → Held → Result ℕ Denied → Type 0
+AnswersCount = InSnapshotBy (λ K A class query commits. PassesOn (IsCount class.rules query commits))
+
+-- the items of the commits after one that a query asks for
+abbrev pub AnswersChanges : ℕ → List ShownItem → List ShownItem → Held → Held → Result (ℕ × ℕ) Denied → Type 0
+AnswersChanges from before after = InSnapshotBy (λ K A class query commits. PassesOn (IsChanges class.rules class.words_of query commits from before after))
+
+-- how far a store has come
+abbrev pub AnswersStats : Held → Result Figures Denied → Type 0
+AnswersStats held answer = InStore (λ K A class. IsTelling) held answer held
+
+-- a cursor of a store is opened on a query, or so that it follows a commit
+abbrev pub AnswersOpening : Held → Held → Result ℕ Denied → Held → Type 0
+AnswersOpening = InStoreBy (λ K A class query. Passing (IsOpening class.rules query))
+
+abbrev pub AnswersFollowing : ℕ → Held → Held → Result ℕ Denied → Held → Type 0
+AnswersFollowing commit = InStoreBy (λ K A class query. Passing (IsFollowing class.rules query commit))
+
+-- a feed has a further subscription, or goes on over a snapshot
+abbrev pub AnswersSubscribing : ℕ → Held → Held → Result ℕ Denied → Held → Type 0
+AnswersSubscribing from = InFeedBy (λ K A class query. Passing (IsSubscribing query from))
+
+abbrev pub AnswersAdvancing : ℕ → List ToldItem → List ToldItem → Held → Held → Result (ℕ × ℕ) Denied → Held → Type 0
+AnswersAdvancing most before after = InFeedOver (λ K A class commits. Passing (IsAdvancing class.rules class.words_of most commits before after))
