@@ -35,7 +35,7 @@ use Rattle.std.specs.contracts.prelude.U64PartialEq.TheImpl as u64_eq
 use Rattle.std.specs.contracts.prelude.U64PartialOrd.TheImpl as u64_partial
 use Rattle.change_list.proofs.item.Item.TheSendSync as item
 use Rattle.feed.specs.contracts.listeners.Listeners as Listeners
-use Rattle.feed.specs.contracts.subscriber.Subscriber as Subscriber
+use Rattle.feed.specs.contracts.registration.Registration as Registration
 use Rattle.feed.specs.contracts.topics.Topic as Topic
 use Rattle.feed.specs.contracts.topics.Topics as Topics
 use Rattle.feed.specs.contracts.topics.Topics.TheInside as topics_inside
@@ -150,8 +150,8 @@ module _ (A : RattleType) where
         ),
       ))
 
-  subscriber_sync : IsSend A → IsSync A → IsSync (Subscriber.the_row A)
-  subscriber_sync sa ya = search (pred.crosses, pred.crosses_both, crosses, sendable) depth 30
+  registration_sync : IsSend A → IsSync A → IsSync (Registration.the_row A)
+  registration_sync sa ya = search (pred.crosses, pred.crosses_both, crosses, sendable) depth 30
 
 slab_sync : (T : RattleType) → IsSync T → IsSync (Slab.the_field T Heap.the_row ghosts).row
 slab_sync T yt =
@@ -205,7 +205,7 @@ module _ (C K A : RattleType) (r : reach.Ghosts C.Denot K.Denot A.Denot) (c : cl
             (
               search sendable depth 20,
               (
-                BTreeMap-sync u64 (Subscriber.the_row A) u64_ord.ghosts u64_eq.ghosts u64_partial.ghosts (search sendable depth 10) (subscriber_sync A sa ya),
+                BTreeMap-sync u64 (Registration.the_row A) u64_ord.ghosts u64_eq.ghosts u64_partial.ghosts (search sendable depth 10) (registration_sync A sa ya),
                 (
                   search (topics, crosses, sendable) depth 20,
                   tt,
