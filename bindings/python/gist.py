@@ -15,8 +15,8 @@ is a commit with the next number: 1, 2, 3 and so on; a row's number is that of t
 commits as they stood when it was taken. A cursor gives the rows that match and then each later change, without a gap and
 without a repetition; a feed does that for many queries at once.
 
-Any thread may call any object: the calls of one object take turns, and those of two run at once. Each object is closed by
-`close`, by `with`, or once nothing refers to it. A call that is refused raises `Error`, and changes nothing.
+Any thread may call any object. Those that read snapshots and queries run at once, and so do the calls of two objects; the
+calls of a store or of a feed take turns. Each object is closed by `close`, by `with`, or once nothing refers to it. A call that is refused raises `Error`, and changes nothing.
 
 The module calls libgist.so, out of the folder that the variable GIST_LIB_DIR names, or else beside this file, or else
 where the system looks.
@@ -435,12 +435,37 @@ def _words(count: int) -> Any:
     return (_u64 * max(count, 1))()
 
 
+class _Readers:
+    """Lets any number of threads read, and closes what they read once none does."""
+
+    def __init__(self) -> None:
+        self._changed = threading.Condition(threading.Lock())
+        self._count = 0
+
+    def __enter__(self) -> None:
+        with self._changed:
+            self._count += 1
+
+    def __exit__(self, *_: Any) -> None:
+        with self._changed:
+            self._count -= 1
+            if not self._count:
+                self._changed.notify_all()
+
+    def close(self, finalizer: Callable[[], Any]) -> None:
+        """Waits until nobody reads, and closes."""
+        with self._changed:
+            self._changed.wait_for(lambda: not self._count)
+            finalizer()
+
+
 class _Owner:
-    """What has a handle. Its calls take turns, and it is closed once."""
+    """What has a handle, and closes it once. The calls that change what it has take turns."""
 
     def __init__(self, drop: str) -> None:
         self._handle = _Handle(False, None)
         self._turn = threading.RLock()
+        self._readers = _Readers()
         self._at = ctypes.addressof(self._handle)
         # the finalizer keeps the handle, and runs once: at close, or once nothing refers to this object
         self._finalizer = weakref.finalize(self, _drop_handle, _drop[drop], self._handle)
@@ -448,7 +473,7 @@ class _Owner:
     def close(self) -> None:
         """Gives up what it has. A later call is refused as NoHandle."""
         with self._turn:
-            self._finalizer()
+            self._readers.close(self._finalizer)
 
     def __enter__(self) -> Any:
         return self
@@ -565,7 +590,7 @@ class Snapshot(_Owner, Generic[K]):
     def commits(self) -> int:
         """How many commits there were."""
         commits = _u64()
-        with self._turn:
+        with self._readers:
             _need(_call["commits"](self._at, ctypes.addressof(commits)))
         return commits.value
 
@@ -600,14 +625,14 @@ class Snapshot(_Owner, Generic[K]):
     def known(self, number: int) -> Known:
         """The row with a number, and whether it lived. Raises Error: NoSuchRow where no insert or move has the number."""
         row, lives = _words(4), ctypes.c_bool()
-        with self._turn:
+        with self._readers:
             _need(_call["row_of"](self._at, _number(number), ctypes.addressof(row), ctypes.addressof(lives)))
         return Known(self._class.rows(row, 0, 1)[0], lives.value)
 
     def commit(self, number: int) -> Optional[Item]:
         """The commit with a number, as an item of the kind INSERTED, DELETED or MOVED, or None."""
         item = _words(6)
-        with self._turn:
+        with self._readers:
             _need(_call["commit_of"](self._at, _number(number), ctypes.addressof(item)))
         return self._class.item(*self._class.item_form.unpack(item))
 
@@ -616,7 +641,7 @@ class Snapshot(_Owner, Generic[K]):
         asked, found, room = _asked(self.key_class, query), _u64(), _ROOM
         while True:
             rows = _words(4 * room)
-            with self._turn, asked._turn:
+            with self._readers, asked._readers:
                 _need(_call["find"](self._at, asked._at, ctypes.addressof(rows), room, ctypes.addressof(found)))
             if found.value <= room:
                 return self._class.rows(rows, 0, found.value)
@@ -625,7 +650,7 @@ class Snapshot(_Owner, Generic[K]):
     def count(self, query: Union[Query[K], str]) -> int:
         """How many rows lived that a query asks for."""
         asked, count = _asked(self.key_class, query), _u64()
-        with self._turn, asked._turn:
+        with self._readers, asked._readers:
             _need(_call["count"](self._at, asked._at, ctypes.addressof(count)))
         return count.value
 
@@ -641,7 +666,7 @@ class Snapshot(_Owner, Generic[K]):
             rest = b"".join(packed[len(found):len(found) + _MOST_ROOM])
             asked = len(rest) // 16
             rows, ends = _words(4 * room), _words(asked)
-            with self._turn:
+            with self._readers:
                 answer = _call["find_each"](
                     self._at, relation, rest, asked, ctypes.addressof(rows), room, ctypes.addressof(ends), asked, ctypes.addressof(answered)
                 )
@@ -665,7 +690,7 @@ class Snapshot(_Owner, Generic[K]):
         given, upto = _u64(), _u64(_number(since))
         while True:
             room = _MOST_ROOM if most is None else min(most - len(items), _MOST_ROOM)
-            with self._turn, asked._turn:
+            with self._readers, asked._readers:
                 answer = _call["changes"](
                     self._at, asked._at, upto.value, ctypes.addressof(buffer), room, ctypes.addressof(given), ctypes.addressof(upto)
                 )
@@ -682,8 +707,8 @@ class Snapshot(_Owner, Generic[K]):
         store: Store[K] = Store.__new__(Store)
         _Owner.__init__(store, "destroy")
         store._prepare(self.key_class)
-        with self._turn:
-            living = len(self)
+        living = len(self)
+        with self._readers:
             numbers, told = _words(living), _u64()
             answer = _call["renew"](
                 self._at, ctypes.byref(_limits(limits)), store._at, ctypes.addressof(numbers), living, ctypes.addressof(told)
@@ -819,7 +844,7 @@ class Store(_Owner, Generic[K]):
         Raises Error: CursorsFull.
         """
         asked, number = _asked(self.key_class, query), _u64()
-        with self._turn, asked._turn:
+        with self._turn, asked._readers:
             self._close_left()
             _need(_call["open"](self._at, asked._at, ctypes.addressof(number)))
         return Cursor(self, number.value)
@@ -831,7 +856,7 @@ class Store(_Owner, Generic[K]):
         Raises Error: FromFuture where there are fewer commits, CursorsFull.
         """
         asked, number = _asked(self.key_class, query), _u64()
-        with self._turn, asked._turn:
+        with self._turn, asked._readers:
             self._close_left()
             _need(_call["follow"](self._at, asked._at, _number(commit), ctypes.addressof(number)))
         return Cursor(self, number.value)
@@ -934,7 +959,7 @@ class Feed(_Owner, Generic[K]):
         Who found the rows in a snapshot of n commits subscribes from n. Raises Error: FeedFull.
         """
         asked, number = _asked(self.key_class, query), _u64()
-        with self._turn, asked._turn:
+        with self._turn, asked._readers:
             _need(_call["subscribe"](self._at, asked._at, _number(since), ctypes.addressof(number)))
         return number.value
 
@@ -952,7 +977,7 @@ class Feed(_Owner, Generic[K]):
         buffer, given, upto = _words(7 * _MOST_ROOM), _u64(_MOST_ROOM), _u64()
         with self._turn:
             while given.value == _MOST_ROOM:
-                with snapshot._turn:
+                with snapshot._readers:
                     answer = _call["advance"](
                         self._at, snapshot._at, further, ctypes.addressof(buffer), _MOST_ROOM, ctypes.addressof(given), ctypes.addressof(upto)
                     )

@@ -357,6 +357,27 @@ class Threads(Case):
             thread.join()
         self.assertEqual((wrong, store.commits()), ([], 4000))
 
+    def test_who_closes_waits_for_those_who_read(self) -> None:
+        store: Any = Store(Interval)
+        store.insert_all([((n, n), n) for n in range(2000)])
+        now, query, ends = store.snapshot(), overlaps(Interval(0, 2000)), []
+
+        def read() -> None:
+            try:
+                while True:
+                    self.assertEqual(len(now.find(query)), 2000)
+            except Error as error:
+                ends.append(error.refusal)
+
+        threads = [threading.Thread(target=read) for _ in range(3)]
+        for thread in threads:
+            thread.start()
+        time.sleep(0.05)
+        now.close()
+        for thread in threads:
+            thread.join()
+        self.assertEqual(ends, [Refusal.NoHandle] * 3)
+
     def test_who_waits_is_woken(self) -> None:
         store: Any = Store(Interval)
         self.assertIsNone(store.wait_past(0, 0.01))

@@ -2,7 +2,6 @@
 
 use crate::ffi::Handle;
 use std::cell::UnsafeCell;
-use std::sync::{Mutex, PoisonError};
 
 /// A handle with one owner, for calls that change what it has. It may go to another thread, and isn't shared by two.
 pub(crate) struct Owned<H: Handle>(UnsafeCell<H>);
@@ -30,21 +29,21 @@ impl<H: Handle> Drop for Owned<H> {
     }
 }
 
-/// A handle for calls that only read what it has. Threads share it.
-///
-/// A call of the library has a handle to itself for now, so those of one handle wait for each other here. Who wants
-/// readers that never wait gives each thread a snapshot of its own.
-pub(crate) struct Shared<H: Handle>(Mutex<Owned<H>>);
+/// A handle for calls that only read what it has: any number of threads make them at once.
+pub(crate) struct Shared<H: Handle>(Owned<H>);
+
+// SAFETY: `read` is all that can be done with it, and the library lets any number of calls read a handle at once, on any
+// threads. Its drop has it alone.
+unsafe impl<H: Handle> Sync for Shared<H> {}
 
 impl<H: Handle> Shared<H> {
     /// Shares what a handle has.
     pub fn new(handle: Owned<H>) -> Shared<H> {
-        Shared(Mutex::new(handle))
+        Shared(handle)
     }
 
-    /// Makes a call that reads.
+    /// Makes a call that reads, behind a const pointer.
     pub fn read<R>(&self, call: impl FnOnce(*const H) -> R) -> R {
-        let handle = self.0.lock().unwrap_or_else(PoisonError::into_inner);
-        call(handle.get())
+        call(self.0.get())
     }
 }

@@ -51,8 +51,9 @@ pub struct Changes<K> {
     pub upto: u64,
 }
 
-// SAFETY of each call below: the handle has a snapshot, and was never copied; `Shared` keeps every other call of it away,
-// and each pointer is that of a value that lives through the call.
+// SAFETY of each call below: the handle has a snapshot, and was never copied; each call takes it, and a query, behind a
+// const pointer, and nothing changes either before the last of its owners drops it. Each other pointer is that of a value
+// that lives through the call.
 impl<K: Key> Snapshot<K> {
     /// How many rows a search has room for at first.
     const ROOM: usize = 64;
