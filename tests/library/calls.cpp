@@ -9,6 +9,7 @@
 
 #include <cstdlib>
 #include <iostream>
+#include <thread>
 #include <type_traits>
 
 using gist::Box, gist::Error, gist::Feed, gist::Interval, gist::Kind, gist::Limits, gist::Query, gist::Relation, gist::Set, gist::Store;
@@ -223,6 +224,28 @@ void keys_and_texts() {
         HOLDS(each[i].size() == now.count(gist::overlaps(asked[i])));
 }
 
+/* Threads read one snapshot and one query at once, while rows are added. */
+void readers() {
+    Store<Interval> store;
+    for (int64_t n = 0; n < 500; n++)
+        store.insert({n, n + 5}, uint64_t(n));
+    const auto now = store.snapshot();
+    const auto query = gist::overlaps(Interval{100, 199});
+    std::vector<uint64_t> counts(4);
+    std::vector<std::thread> threads;
+    for (auto &count : counts)
+        threads.emplace_back([&] {
+            for (int i = 0; i < 50; i++)
+                count += now.count(query) + now.find(query).size() + now.row(1).row.row;
+        });
+    for (int64_t n = 0; n < 500; n++)
+        store.insert({n, n}, 0);
+    for (auto &thread : threads)
+        thread.join();
+    for (const auto count : counts)
+        HOLDS(count == 50 * (105 + 105 + 1));
+}
+
 void names() {
     const char *const all[] = {"OutOfMemory", "BadConfig", "PagesFull", "CommitsFull", "CursorsFull", "FindersFull", "NoSuchRow",
                                "AlreadyDeleted", "NoSuchCursor", "CursorClosed", "QueryText", "FromFuture", "FeedFull",
@@ -253,6 +276,7 @@ int main() {
     all_of(Keys<Set>{{1, 2}, {2, 64}, {127}, "overlaps {1 2}"});
     limits();
     keys_and_texts();
+    readers();
     names();
     return 0;
 }
