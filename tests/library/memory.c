@@ -87,15 +87,15 @@ static void ask(const gist_snapshot *snapshot, const gist_query *every, uint32_t
     uint64_t n, upto, ends[2];
     bool lives;
 
-    NEED(gist_find((gist_snapshot *)snapshot, (gist_query *)every, rows, ROWS, &n));
+    NEED(gist_find(snapshot, every, rows, ROWS, &n));
     IS(n, ROWS - 2);
-    NEED(gist_count((gist_snapshot *)snapshot, (gist_query *)every, &n));
+    NEED(gist_count(snapshot, every, &n));
     IS(n, ROWS - 2);
-    NEED(gist_row_of((gist_snapshot *)snapshot, 6, &row, &lives));
+    NEED(gist_row_of(snapshot, 6, &row, &lives));
     IS(row.tag == 5 && lives, true);
     for (uint64_t answered = 0; answered < 2; answered += n)
-        NEED(gist_find_each((gist_snapshot *)snapshot, GIST_SAME, keys + answered, 2 - answered, rows, ROWS, ends, 2, &n));
-    NEED(gist_changes((gist_snapshot *)snapshot, (gist_query *)every, 0, items, ROWS + 3, &n, &upto));
+        NEED(gist_find_each(snapshot, GIST_SAME, keys + answered, 2 - answered, rows, ROWS, ends, 2, &n));
+    NEED(gist_changes(snapshot, every, 0, items, ROWS + 3, &n, &upto));
     IS(n == ROWS + 3 && upto == ROWS + 3, true);
 }
 
