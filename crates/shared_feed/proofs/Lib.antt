@@ -3,6 +3,6 @@ mod Cutting
 mod Draining
 mod Dues
 pub mod Passing
-mod Sharing
+pub mod Sharing
 mod Subscriptions
 mod Supplies
