@@ -57,7 +57,7 @@ static void pages(void) {
         rows++;
     IS(answer, GIST_PAGES_FULL);
     IS(rows >= 4 && commits_of(&store) == rows, true);
-    IS(gist_move(&store, 1, gist_interval(1, 1), &deleted), GIST_PAGES_FULL);
+    IS(gist_move(&store, 1, gist_interval((int64_t)rows, (int64_t)rows), &deleted), GIST_PAGES_FULL);
     IS(commits_of(&store) == rows, true);
     for (uint64_t row = 1; row <= rows; row++)
         IS(gist_delete(&store, &row, 1, &deleted), GIST_OK);
