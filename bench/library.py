@@ -35,7 +35,7 @@ def build():
     boost = ["-DWITH_BOOST"] if has_header(compiler, PEER_HEADER) else []
     if not boost:
         print("Boost's headers are missing: gist is measured alone")
-    words = [compiler, *PEER_FLAGS, *boost, f"-I{LIBRARY}", SOURCE, f"-L{LIBRARY}", "-lgist", "-o", PROGRAM]
+    words = [compiler, *PEER_FLAGS, *boost, f"-I{LIBRARY}", SOURCE, f"{LIBRARY}/libgist.a", "-o", PROGRAM]
     if subprocess.run(words).returncode != 0:
         raise SystemExit("library: the program can't be built")
 
@@ -49,7 +49,7 @@ def measured(program, words, turns):
 def print_threads(options):
     """Finds a second of threads beside one that inserts, and what Boost's tree under a shared mutex does."""
     flags = ["-O2", "-std=c11", "-D_GNU_SOURCE", "-pthread", f"-I{LIBRARY}"]
-    if subprocess.run(["cc", *flags, THREADS_SOURCE, f"-L{LIBRARY}", "-lgist", "-o", THREADS]).returncode != 0:
+    if subprocess.run(["cc", *flags, THREADS_SOURCE, f"{LIBRARY}/libgist.a", "-o", THREADS]).returncode != 0:
         raise SystemExit("library: the program with threads can't be built")
     desks.build_peer()
     for rows in options.rows or [100_000]:

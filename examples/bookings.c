@@ -2,7 +2,7 @@
  * A room is booked by the hour. A booking that overlaps another is refused. A display shows one day: it follows the day
  * with a cursor, goes away after a mark, and comes back to the changes after the mark's commit alone.
  *
- *     cc bookings.c -IFOLDER -LFOLDER -lgist -o bookings
+ *     cc bookings.c -IFOLDER FOLDER/libgist.a -o bookings
  */
 #include "gist.h"
 

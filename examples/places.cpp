@@ -2,7 +2,7 @@
  * Places on a map are read from a CSV file, and the one that is nearest to a point is asked for by four threads, while a
  * writer moves places. A reader takes a snapshot under the lock, and searches it without.
  *
- *     c++ -std=c++17 places.cpp -IFOLDER -LFOLDER -lgist -pthread -o places && ./places
+ *     c++ -std=c++17 places.cpp -IFOLDER FOLDER/libgist.a -pthread -o places && ./places
  *
  * It ends with status 0 only where each answer is that of a look at all places of the snapshot.
  */

@@ -30,7 +30,7 @@ def main():
     with tempfile.TemporaryDirectory() as folder:
         subprocess.run([f"{HERE}/../../tools/library", folder], check=True, stdout=subprocess.DEVNULL)
         program = f"{folder}/price"
-        subprocess.run(["cc", "-O2", "-I", folder, f"{HERE}/price.c", "-L", folder, "-lgist", "-o", program], check=True)
+        subprocess.run(["cc", "-O2", "-I", folder, f"{HERE}/price.c", f"{folder}/libgist.a", "-o", program], check=True)
         a_row = lambda what: (instructions(program, what, MANY, folder) - instructions(program, what, FEW, folder)) / (MANY - FEW)
         filled = a_row("insert_all")
         print(f"a row more by insert of all: {filled:.0f}, its key and tag included")

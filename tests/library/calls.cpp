@@ -1,7 +1,7 @@
 /*
  * gist.hpp: each call, refusal, relation, kind, field and limit by its name, for each class of keys.
  *
- *     c++ -std=c++17 -Wall -Wextra -pedantic tests/library/calls.cpp -IFOLDER -LFOLDER -lgist && ./a.out
+ *     c++ -std=c++17 -Wall -Wextra -pedantic tests/library/calls.cpp -IFOLDER FOLDER/libgist.a && ./a.out
  *
  * It prints nothing, and ends with status 0, or tells the line of the first thing that isn't as it is to be.
  */

@@ -2,7 +2,7 @@
  * One thread adds rows under a lock for readers and writers. Others take snapshots as readers, and search them without it,
  * all at once; and others share one snapshot and one query, which they all read through the same two handles meanwhile.
  *
- *     cc -std=c11 -Wall -Wextra -pedantic -pthread tests/library/threads.c -IFOLDER -LFOLDER -lgist && ./a.out
+ *     cc -std=c11 -Wall -Wextra -pedantic -pthread tests/library/threads.c -IFOLDER FOLDER/libgist.a && ./a.out
  *
  * It prints nothing, and ends with status 0, or tells the line of the first thing that isn't as it is to be.
  */
