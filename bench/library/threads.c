@@ -17,7 +17,7 @@
 #include <string.h>
 #include <time.h>
 
-enum { TAKEN = 64, ROOM = 1024, MOST_READERS = 64 };
+enum { TAKEN = 1024, ROOM = 1024, MOST_READERS = 64 };
 
 typedef struct part {
     _Alignas(64) uint64_t wall;
