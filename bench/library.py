@@ -6,7 +6,8 @@
 
 It builds bench/library/library.cpp over the library that tools/library makes, and runs it. Each find must give the same rows by
 every tree, or the run ends with status 1. By the second, 1, 2 and 4 threads find in snapshots beside one that inserts
-(bench/library/threads.c), and beside that as many find in Boost's tree under a std::shared_mutex.
+10,000 times a second, and as often as it can (bench/library/threads.c), and beside that as many find in Boost's tree under a
+std::shared_mutex.
 """
 import argparse
 import os
@@ -53,13 +54,14 @@ def print_threads(options):
         raise SystemExit("library: the program with threads can't be built")
     desks.build_peer()
     for rows in options.rows or [100_000]:
-        print(f"Finds of ten rows a second beside one thread that inserts, {rows:,} intervals")
-        print("  threads     gist  in snapshots   boost, shared mutex   times   inserts a second: gist, boost")
-        for count in (1, 2, 4):
-            own, peer = (measured(program, [count, rows, options.finds * count, 1], options.turns) for program in (THREADS, desks.PEER))
-            finds = [desks.a_second(it[1]) for it in (own, peer)]
-            inserts = [desks.a_second(it[0]) for it in (own, peer)]
-            print(f"  {count:>7}  {finds[0]:>22,.0f}  {finds[1]:>20,.0f}  {finds[0] / finds[1]:>6.2f}   {inserts[0]:>12,.0f} {inserts[1]:>12,.0f}", flush=True)
+        for inserts, told in ((10_000, "10,000 times a second"), (1, "as often as it can")):
+            print(f"Finds of ten rows a second beside one thread that inserts {told}, {rows:,} intervals")
+            print("  threads     gist  in snapshots   boost, shared mutex   times   inserts a second: gist, boost")
+            for count in (1, 2, 4):
+                words = [count, rows, options.finds * count, inserts]
+                own, peer = (measured(program, words, options.turns) for program in (THREADS, desks.PEER))
+                finds, written = ([desks.a_second(it[part]) for it in (own, peer)] for part in (1, 0))
+                print(f"  {count:>7}  {finds[0]:>22,.0f}  {finds[1]:>20,.0f}  {finds[0] / finds[1]:>6.2f}   {written[0]:>12,.0f} {written[1]:>12,.0f}", flush=True)
 
 
 def main():

@@ -1,8 +1,8 @@
 /*
  * Threads that find in snapshots of one store beside one that writes: `threads READERS ROWS FINDS INSERTS`.
  *
- * It fills a store with ROWS intervals, and lets READERS threads find FINDS times in all; where INSERTS is 1, one more
- * thread inserts until the last reader has ended. A reader takes a snapshot under the lock once in TAKEN finds, and
+ * It fills a store with ROWS intervals, and lets READERS threads find FINDS times in all; where INSERTS isn't 0, one more
+ * thread inserts until the last reader has ended: so many times a second, or where it is 1 as often as it can. A reader takes a snapshot under the lock once in TAKEN finds, and
  * finds without it. The keys and queries are those of bench/peer/threads.cpp, and so are the two lines that it prints:
  * one of the inserting thread, one of the readers, each with nanoseconds by the clock, in the threads, and of their
  * processor time, then calls, 0, and rows found.
@@ -68,6 +68,13 @@ static void insert(uint64_t *state, uint64_t rows) {
     need(gist_insert(&store, &entry, 1, &added));
 }
 
+/* Waits until a thread that began at a time may do its next piece of work, of so many a second; of 1 it never waits. */
+static void keep_pace(uint64_t since, uint64_t done, uint64_t a_second) {
+    const uint64_t due = a_second == 1 ? 0 : since + done * 1000000000u / a_second;
+    while (nanoseconds(CLOCK_MONOTONIC) < due)
+        nanosleep(&(struct timespec){0, 20000}, NULL);
+}
+
 static void begin(part *of) {
     of->threads_wall = nanoseconds(CLOCK_MONOTONIC);
     of->threads_cpu = nanoseconds(CLOCK_THREAD_CPUTIME_ID);
@@ -114,7 +121,7 @@ static void print(const part *of) {
 int main(int count, char **words) {
     static reader readers[MOST_READERS];
     const gist_limits limits = GIST_LIMITS;
-    uint64_t threads, rows, finds, state = 1, since;
+    uint64_t threads, rows, finds, inserts, state = 1, since;
     part writing = {0}, found = {0};
 
     if (count != 5)
@@ -122,6 +129,7 @@ int main(int count, char **words) {
     threads = strtoull(words[1], NULL, 10);
     rows = strtoull(words[2], NULL, 10);
     finds = strtoull(words[3], NULL, 10);
+    inserts = strtoull(words[4], NULL, 10);
     if (threads == 0 || threads > MOST_READERS)
         return 2;
     need(gist_create(&store, GIST_INTERVALS, &limits));
@@ -137,11 +145,12 @@ int main(int count, char **words) {
     }
     state = 2;
     begin(&writing);
-    while (words[4][0] == '1' && reading != 0) {
+    while (inserts != 0 && reading != 0) {
         pthread_mutex_lock(&lock);
         insert(&state, rows);
         pthread_mutex_unlock(&lock);
         writing.calls++;
+        keep_pace(since, writing.calls, inserts);
     }
     end(&writing);
     writing.wall = writing.threads_wall;

@@ -3,8 +3,8 @@
 //
 //   threads READERS ROWS FINDS INSERTS
 //
-// It fills the tree with ROWS rows, and lets READERS threads find FINDS times in all; where INSERTS is 1, one more thread
-// inserts until the last reader has ended. It prints the lines that desk_bench prints: one of the inserting thread, one of the readers.
+// It fills the tree with ROWS rows, and lets READERS threads find FINDS times in all; where INSERTS isn't 0, one more thread
+// inserts until the last reader has ended: so many times a second, or where it is 1 as often as it can. It prints the lines that desk_bench prints: one of the inserting thread, one of the readers.
 #include <atomic>
 #include <cstdint>
 #include <cstdio>
@@ -74,6 +74,13 @@ std::uint64_t nanoseconds(clockid_t clock) {
     return static_cast<std::uint64_t>(time.tv_sec) * 1000000000u + static_cast<std::uint64_t>(time.tv_nsec);
 }
 
+// Waits until a thread that began at a time may do its next piece of work, of so many a second; of 1 it never waits.
+void keep_pace(std::uint64_t since, std::uint64_t done, std::uint64_t a_second) {
+    const std::uint64_t due = a_second == 1 ? 0 : since + done * 1000000000u / a_second;
+    const timespec moment{0, 20000};
+    while (nanoseconds(CLOCK_MONOTONIC) < due) nanosleep(&moment, nullptr);
+}
+
 // What is told of a part of a measurement; a cache line of its own for each thread.
 struct alignas(64) Part {
     std::uint64_t wall = 0;
@@ -101,7 +108,7 @@ int main(int count, char** words) {
     if (count != 5) return 2;
     const std::uint64_t readers = std::strtoull(words[1], nullptr, 10), rows = std::strtoull(words[2], nullptr, 10);
     const std::uint64_t finds = std::strtoull(words[3], nullptr, 10);
-    const bool inserts = words[4][0] == '1';
+    const std::uint64_t inserts = std::strtoull(words[4], nullptr, 10);
     if (readers == 0) return 2;
     Tree tree;
     std::shared_mutex lock;
@@ -131,7 +138,7 @@ int main(int count, char** words) {
             reading--;
         });
     }
-    if (inserts) {
+    if (inserts != 0) {
         writing = measured([&](Part& part) {
             Numbers numbers(2, rows);
             while (reading.load(std::memory_order_relaxed) != 0) {
@@ -140,6 +147,7 @@ int main(int count, char** words) {
                 tree.insert(row);
                 alone.unlock();
                 part.calls++;
+                keep_pace(since, part.calls, inserts);
             }
         });
     }
