@@ -1,4 +1,3 @@
-pub mod Hearing
 pub mod Judging
 pub mod Looking
 pub mod Outcomes

@@ -10,15 +10,14 @@ use key_class::{KeyClass, Pred, Refusal};
 use listing::is_delivered;
 use std::alloc::Global;
 
-/// How a reader, a looker or a subscriber fared.
+/// How a reader or a looker fared.
 #[derive(Clone, Copy, Debug, PartialEq, Eq)]
 pub enum Verdict {
-    /// A reader took a listing of all commits, and a mark of them. A looker found what there was, up to all commits. A
-    /// subscriber was given all changes.
+    /// A reader took a listing of all commits, and a mark of them. A looker found what there was, up to all commits.
     Whole,
-    /// It took, found or was given something else.
+    /// It took or found something else.
     NotWhole,
-    /// A reader's cursor or a subscription was closed without a receipt. A looker got no snapshot.
+    /// A reader's cursor was closed without a receipt. A looker got no snapshot.
     Missing,
 }
 
