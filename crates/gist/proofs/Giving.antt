@@ -63,6 +63,7 @@ limits_given names given limits taken read = record {
   deletes = number_from names storm_table (codes "deletes") given 0 limits.deletes (λ value. refl) refl taken read.deletes;
   readers = number_from names storm_table (codes "readers") given 2 limits.readers (λ value. refl) refl taken read.readers;
   lookers = number_from names storm_table (codes "lookers") given 0 limits.lookers (λ value. refl) refl taken read.lookers;
+  subscribers = number_from names storm_table (codes "subscribers") given 0 limits.subscribers (λ value. refl) refl taken read.subscribers;
   room = number_from names storm_table (codes "room") given 2 limits.room (λ value. refl) refl taken read.room;
   pumps = number_from names storm_table (codes "pumps") given 2 limits.pumps (λ value. refl) refl taken read.pumps;
   sweeps = number_from names storm_table (codes "sweeps") given 0 limits.sweeps (λ value. refl) refl taken read.sweeps;

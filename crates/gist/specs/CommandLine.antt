@@ -93,6 +93,7 @@ pub record LimitsRead (rows : List Row) (limits : Limits) : Type 0 where
   pub deletes : NumberRead (one_of (codes "deletes") rows) 0 limits.deletes
   pub readers : NumberRead (one_of (codes "readers") rows) 2 limits.readers
   pub lookers : NumberRead (one_of (codes "lookers") rows) 0 limits.lookers
+  pub subscribers : NumberRead (one_of (codes "subscribers") rows) 0 limits.subscribers
   pub room : NumberRead (one_of (codes "room") rows) 2 limits.room
   pub pumps : NumberRead (one_of (codes "pumps") rows) 2 limits.pumps
   pub sweeps : NumberRead (one_of (codes "sweeps") rows) 0 limits.sweeps
@@ -122,6 +123,7 @@ pub record LimitsGiven (given : List (Text × Text)) (limits : Limits) : Type 0 
   pub deletes : NumberGiven (value_of (codes "deletes") given) 0 limits.deletes
   pub readers : NumberGiven (value_of (codes "readers") given) 2 limits.readers
   pub lookers : NumberGiven (value_of (codes "lookers") given) 0 limits.lookers
+  pub subscribers : NumberGiven (value_of (codes "subscribers") given) 0 limits.subscribers
   pub room : NumberGiven (value_of (codes "room") given) 2 limits.room
   pub pumps : NumberGiven (value_of (codes "pumps") given) 2 limits.pumps
   pub sweeps : NumberGiven (value_of (codes "sweeps") given) 0 limits.sweeps

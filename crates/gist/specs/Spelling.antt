@@ -49,7 +49,7 @@ store_table = (codes "class", a_class) ∷ (codes "fan", a_number) ∷ (codes "l
 abbrev pub storm_table : List (Text × OptionKind)
 storm_table =
     (codes "writers", a_number) ∷ (codes "inserts", a_number) ∷ (codes "deletes", a_number) ∷ (codes "readers", a_number)
-    ∷ (codes "lookers", a_number) ∷ (codes "room", a_number) ∷ (codes "pumps", a_number) ∷ (codes "sweeps", a_number) ∷ (codes "seed", a_number) ∷ []
+    ∷ (codes "lookers", a_number) ∷ (codes "subscribers", a_number) ∷ (codes "room", a_number) ∷ (codes "pumps", a_number) ∷ (codes "sweeps", a_number) ∷ (codes "seed", a_number) ∷ []
 
 -- the options of a command
 abbrev pub table_of : Text → List (Text × OptionKind)

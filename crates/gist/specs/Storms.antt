@@ -1,4 +1,4 @@
--- What a storm tells of its readers and lookers.
+-- What a storm tells of its readers, lookers and subscribers.
 use Rattle.std.specs.Prelude.{ℕ, ◌+◌, List, [], ◌∷◌, ◌++◌, Option, Result, OnOk, codes}
 use Rattle.std.specs.Fmt.{decimal}
 use Rattle.std.specs.Io.KnownBytes.{Appends}
@@ -18,10 +18,12 @@ Outputs contents old new text returned = OnOk returned (Appends (contents old) (
 abbrev pub role_text : Role → List ℕ
 role_text role.Reader = codes "reader "
 role_text role.Looker = codes "looker "
+role_text role.Subscriber = codes "subscriber "
 
 abbrev pub missing_text : Role → List ℕ
 missing_text role.Reader = codes " no receipt"
 missing_text role.Looker = codes " no snapshot"
+missing_text role.Subscriber = codes " no receipt"
 
 -- how a client fared, of a storm of so many commits
 abbrev pub verdict_text : Role → ℕ → Verdict → List ℕ
@@ -41,11 +43,13 @@ client_lines client commits before (told ∷ verdicts) = client_line client comm
 abbrev pub count_line : ℕ → List ℕ
 count_line commits = codes "commits " ++ (decimal commits ++ codes "\n")
 
--- a line with the number of commits, one for each reader, and one for each looker
+-- a line with the number of commits, one for each reader, one for each looker, and one for each subscriber
 abbrev pub storm_text : Outcome → List ℕ
-storm_text o = count_line o.commits ++ (client_lines role.Reader o.commits 0 o.readers.items ++ client_lines role.Looker o.commits 0 o.lookers.items)
+storm_text o =
+    count_line o.commits ++ (client_lines role.Reader o.commits 0 o.readers.items ++ (client_lines role.Looker o.commits 0 o.lookers.items ++ client_lines role.Subscriber o.commits 0 o.subscribers.items))
 
--- A storm passed: all rows were written, each reader and each looker is whole as the commits tell, and that was written.
+-- A storm passed: all rows were written, each reader, each looker and each subscriber is whole as the commits tell, and that
+-- was written.
 pub record TellsStorm (held written : Option (List ℕ)) (limits : Limits) : Type 0 where
   pub outcome : Outcome
   pub within : IsStorm limits

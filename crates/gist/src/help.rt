@@ -117,7 +117,10 @@ a cursor on overlaps(0 499). Each looker takes one snapshot after the other,
 finds overlaps(0 499) in each, and takes the changes since the one before. Pumps
 do the cursors' work, and one thread more sweeps leaves. Each is a thread of its
 own, and all work at one tree. At the end what each reader took and each looker
-found is compared with the commits.
+found is compared with the commits. A feed that all subscribers share gives each
+of them the changes of its query: subscriber K asks for overlaps with the ten
+numbers from K mod 600 on. Up to four threads advance the feed and serve all
+subscribers; what these were given is compared too.
 
   commits N             how many changes were made: W times I and D together
   reader K whole at N   reader K took each row of its opening once, then each
@@ -128,15 +131,22 @@ found is compared with the commits.
                         and the changes in between, up to all N commits
   looker K not whole    it found something else
   looker K no snapshot  it got no snapshot
-Where a row was refused, or a reader or looker isn't whole, the status is 1.
+  subscriber K whole at N
+                        subscriber K was given each change of its query once, in
+                        order, up to all N commits
+  subscriber K not whole
+                        it was given something else
+  subscriber K no receipt
+                        its subscription was closed without a receipt
+Where a row was refused, or one of these isn't whole, the status is 1.
 
 What is proved of each call holds for every order of the threads. A storm shows
 the whole program at work in some of these orders. It doesn't try all of them,
 and what it trusts (the machine's threads, its memory) it can't show.
 
-There are at most 64 writers, readers and lookers. Each of them and each pump
-costs a thread, each row some 100 bytes, and each row or change that a looker
-gets some 40 more.
+There are at most 64 writers, readers, lookers and threads that serve
+subscribers. Each of them and each pump costs a thread, each row some 100 bytes,
+and each row or change that a looker or a subscriber gets some 40 more.
 
 A storm:
   $ gist storm --writers 4 --inserts 250 --readers 2 --lookers 1 --room 2
@@ -154,6 +164,8 @@ pub const DELETES_HELP: &str = "How many of them it deletes, 0 to I [default: 0]
 pub const READERS_HELP: &str = "How many threads follow a cursor, 0 to 32 [default: 2]";
 
 pub const LOOKERS_HELP: &str = "How many threads look at snapshots, 0 to 32 [default: 0]";
+
+pub const SUBSCRIBERS_HELP: &str = "How many subscribers a feed has, 0 to 1000 [default: 0]";
 
 pub const ROOM_HELP: &str = "How many items a mailbox holds, 1 to 4096 [default: 2]";
 

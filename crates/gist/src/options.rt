@@ -36,12 +36,14 @@ pub enum Role {
     Reader,
     /// It looks at snapshots.
     Looker,
+    /// It is given the changes of its query by a feed.
+    Subscriber,
 }
 
 /// How a command ended.
 #[derive(Clone, Copy, Debug, PartialEq, Eq)]
 pub enum Ending {
     Well,
-    /// Rows of a storm were refused, or a reader or a looker isn't whole.
+    /// Rows of a storm were refused, or a reader, a looker or a subscriber isn't whole.
     StormFailed,
 }

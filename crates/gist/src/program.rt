@@ -136,7 +136,7 @@ fn replay<R: Read, W: Write>(
     }
 }
 
-/// Writes the line of a reader or a looker.
+/// Writes the line of a reader, a looker or a subscriber.
 fn tell_client<W: Write>(
     writer: &mut W,
     role: Role,
@@ -151,6 +151,7 @@ fn tell_client<W: Write>(
     match role {
         Role::Reader => append(&mut line, b"reader "),
         Role::Looker => append(&mut line, b"looker "),
+        Role::Subscriber => append(&mut line, b"subscriber "),
     }
     append_number(&mut line, number);
     match (verdict, role) {
@@ -159,8 +160,8 @@ fn tell_client<W: Write>(
             append_number(&mut line, commits);
         }
         (Verdict::NotWhole, _) => append(&mut line, b" not whole"),
-        (Verdict::Missing, Role::Reader) => append(&mut line, b" no receipt"),
         (Verdict::Missing, Role::Looker) => append(&mut line, b" no snapshot"),
+        (Verdict::Missing, _) => append(&mut line, b" no receipt"),
     }
     append(&mut line, b"\n");
     writer.write_all(line.as_slice())
@@ -193,17 +194,19 @@ fn tell_count<W: Write>(writer: &mut W, commits: u64) -> io::Result<()>
     writer.write_all(line.as_slice())
 }
 
-/// Writes the number of commits, and how each reader and each looker fared.
+/// Writes the number of commits, and how each reader, each looker and each subscriber fared.
 fn tell_storm<W: Write>(writer: &mut W, outcome: &Outcome) -> io::Result<()>
     ensures { Outputs W.contents writer.old writer.new (storm_text outcome.now) result }
 {
     let commits = outcome.commits;
     tell_count(writer, commits)?;
     tell_clients(writer, Role::Reader, commits, outcome.readers.as_slice())?;
-    tell_clients(writer, Role::Looker, commits, outcome.lookers.as_slice())
+    tell_clients(writer, Role::Looker, commits, outcome.lookers.as_slice())?;
+    let subscribers = outcome.subscribers.as_slice();
+    tell_clients(writer, Role::Subscriber, commits, subscribers)
 }
 
-/// Lets the clients of a storm work at once, and tells how each reader and each looker fared.
+/// Lets the clients of a storm work at once, and tells how each reader, each looker and each subscriber fared.
 ///
 /// # Errors
 /// `Refused` with `BadConfig` where a number is out of its range, and else want of memory, or `Write`.

@@ -7,7 +7,7 @@ ghost use Rattle.gist.specs.CommandLine.{AreClassNames, IsGistLine, IsStormComma
 use crate::help::{
     ABOUT, DELETES_HELP, FAN_HELP, FIRST_SESSION, INSERTS_HELP, LEAST_HELP, LOOKERS_HELP,
     PUMPS_HELP, READERS_HELP, REPLAY_ABOUT, REPLAY_GUIDE, ROOM_HELP, SEED_HELP, SERVE_ABOUT,
-    SERVE_GUIDE, STORM_ABOUT, STORM_GUIDE, SWEEPS_HELP, VERSION, WRITERS_HELP,
+    SERVE_GUIDE, STORM_ABOUT, STORM_GUIDE, SUBSCRIBERS_HELP, SWEEPS_HELP, VERSION, WRITERS_HELP,
 };
 use crate::options::{Class, Settings, StoreOptions};
 use clap::{Arg, ArgMatches, Command, Error, value_parser};
@@ -34,6 +34,7 @@ const DEFAULT_STORM: Limits = Limits {
     deletes: 0,
     readers: 2,
     lookers: 0,
+    subscribers: 0,
     room: 2,
     pumps: 2,
     sweeps: 0,
@@ -88,6 +89,7 @@ fn storm_command<'a>(alloc: Global) -> Result<Command<'a>, AllocError>
         .arg(number_arg(alloc, "deletes", "D", DELETES_HELP))?
         .arg(number_arg(alloc, "readers", "R", READERS_HELP))?
         .arg(number_arg(alloc, "lookers", "L", LOOKERS_HELP))?
+        .arg(number_arg(alloc, "subscribers", "N", SUBSCRIBERS_HELP))?
         .arg(number_arg(alloc, "room", "S", ROOM_HELP))?
         .arg(number_arg(alloc, "pumps", "P", PUMPS_HELP))?
         .arg(number_arg(alloc, "sweeps", "K", SWEEPS_HELP))?
@@ -152,6 +154,9 @@ fn storm_limits(options: &ArgMatches<'_>) -> Limits
         deletes: options.get_one::<u32>("deletes").unwrap_or(usual.deletes),
         readers: options.get_one::<u32>("readers").unwrap_or(usual.readers),
         lookers: options.get_one::<u32>("lookers").unwrap_or(usual.lookers),
+        subscribers: options
+            .get_one::<u32>("subscribers")
+            .unwrap_or(usual.subscribers),
         room: options.get_one::<u32>("room").unwrap_or(usual.room),
         pumps: options.get_one::<u32>("pumps").unwrap_or(usual.pumps),
         sweeps: options.get_one::<u32>("sweeps").unwrap_or(usual.sweeps),

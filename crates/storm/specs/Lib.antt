@@ -1,3 +1,4 @@
+pub mod Hearing
 pub mod Judging
 pub mod Looking
 pub mod Outcomes

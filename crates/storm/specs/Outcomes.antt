@@ -11,8 +11,10 @@ use Rattle.change_list.specs.declared.write.Write.{Write}
 use Rattle.world.specs.Stamps.{Stamp}
 use Rattle.desk.specs.Seats.{Seated}
 use Rattle.desk.specs.Weaving.{Woven}
+use Rattle.storm.specs.Hearing.{TellsHearings}
 use Rattle.storm.specs.Judging.{TellsFates, is_whole}
 use Rattle.storm.specs.Looking.{TellsSights}
+use Rattle.storm.specs.declared.hearings.Hearing.{Hearing}
 use Rattle.storm.specs.declared.judge.Reading.{Reading}
 use Rattle.storm.specs.declared.judge.Verdict.{Verdict}
 use Rattle.storm.specs.declared.limits.Limits.{Limits}
@@ -34,12 +36,16 @@ TellsReaders query commits readings told = TellsFates interval_rules (query_of q
 abbrev pub TellsLookers : {Z Y : Type 0} → Pred Atom → List (Write Interval) → List (Vec (Look Interval) Z) → Vec Verdict Y → Type 0
 TellsLookers query commits looks told = TellsSights interval_rules (query_of query) commits looks told.items
 
+-- each verdict tells how the subscriber in its place fared, by these commits
+abbrev pub TellsSubscribers : {Z : Type 0} → List (Write Interval) → List (Hearing Interval) → Vec Verdict Z → Type 0
+TellsSubscribers commits hearings told = TellsHearings commits hearings told.items
+
 -- each list is the stamps of the seat in its place
 abbrev pub AreStampsOf : {K Z : Type 0} → List (Seated K) → List (Vec (Stamp K) Z) → Type 0
 AreStampsOf seats stamps = map (λ list. list.items) stamps ≡ map (λ seat. seat.stamps) seats
 
--- There is a list of so many commits, and each verdict tells how the reader or the looker in its place fared by them. The
--- stamps of the seats are told to be the commits of that list exactly where they are.
+-- There is a list of so many commits, and each verdict tells how the reader, the looker or the subscriber in its place fared by
+-- them. The stamps of the seats are told to be the commits of that list exactly where they are.
 pub record IsTrueOutcome (o : Outcome) : Type 0 where
   pub query : Query Atom
   pub commits : List (Write Interval)
@@ -47,15 +53,18 @@ pub record IsTrueOutcome (o : Outcome) : Type 0 where
   pub count : o.commits ≡ length commits
   pub readers : TellsFates interval_rules query commits o.readings.items o.readers.items
   pub lookers : TellsSights interval_rules query commits o.looks.items o.lookers.items
+  pub subscribers : TellsHearings commits o.hearings.items o.subscribers.items
   pub seats : List (Seated Interval)
   pub stamps : AreStampsOf seats o.stamps.items
   pub woven : IsTrue o.is_woven ↔ Woven commits seats
 
--- all rows were written and deleted, and each of all readers and lookers is whole
+-- all rows were written and deleted, and each of all readers, lookers and subscribers is whole
 pub record IsWholeStorm (limits : Limits) (o : Outcome) : Type 0 where
   pub woven : IsTrue o.is_woven
   pub commits : o.commits ≡ limits.writers * (limits.inserts + limits.deletes)
   pub readers : length o.readers.items ≡ limits.readers
   pub lookers : length o.lookers.items ≡ limits.lookers
+  pub subscribers : length o.subscribers.items ≡ limits.subscribers
   pub whole_readers : IsTrue (list_all is_whole o.readers.items)
   pub whole_lookers : IsTrue (list_all is_whole o.lookers.items)
+  pub whole_subscribers : IsTrue (list_all is_whole o.subscribers.items)

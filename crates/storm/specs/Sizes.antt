@@ -1,7 +1,11 @@
 -- How large a storm may be.
-use Rattle.std.specs.Prelude.{◌+◌, ◌≤◌}
+use Rattle.std.specs.Prelude.{ℕ, ◌+◌, ◌≤◌, min}
 use Rattle.key_class.specs.Limits.{most_room, most_seats}
 use Rattle.storm.specs.declared.limits.Limits.{Limits}
+
+-- how many threads serve the subscribers, each with a seat
+abbrev pub hosts_of : Limits → ℕ
+hosts_of s = min s.subscribers 4
 
 pub record IsStorm (s : Limits) : Type 0 where
   pub some_writer : 1 ≤ s.writers
@@ -10,7 +14,8 @@ pub record IsStorm (s : Limits) : Type 0 where
   pub deletes : s.deletes ≤ s.inserts
   pub readers : s.readers ≤ 32
   pub lookers : s.lookers ≤ 32
-  pub seats : s.writers + s.readers + s.lookers ≤ most_seats
+  pub subscribers : s.subscribers ≤ 1000
+  pub seats : s.writers + s.readers + s.lookers + hosts_of s ≤ most_seats
   pub some_room : 1 ≤ s.room
   pub room : s.room ≤ most_room
   pub some_pump : 1 ≤ s.pumps

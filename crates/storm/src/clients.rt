@@ -3,6 +3,7 @@ ghost use Rattle.key_class.specs.Queries.{query_of};
 ghost use Rattle.storm.specs.Outcomes.{AsksFirst500};
 ghost use Rattle.storm.specs.Sizes.{IsStorm};
 
+use crate::hearings::{Hearing, asked_by};
 use crate::judge::Reading;
 use crate::limits::Limits;
 use crate::looks::Look;
@@ -15,6 +16,7 @@ use key_class::{Pred, Refusal, Rel};
 use pumps::Order;
 use rand_core::Rng;
 use rand_pcg::Pcg32;
+use shared_feed::{SharedFeed, Subscriber};
 use std::alloc::Global;
 use std::rt::Clock;
 use std::sync::Wait;
@@ -36,7 +38,7 @@ const PAUSE: u64 = 200;
 /// After how many such pauses without an item a reader gives up: a minute.
 const PAUSES: u32 = 300_000;
 
-/// A looker looks again when more commits have come than one of so many parts of all.
+/// A looker looks again when more commits have come than one of so many parts of all, and so does a host of subscribers.
 const PARTS: u64 = 16;
 
 /// The query of all readers and lookers.
@@ -72,7 +74,21 @@ pub struct Looker<L: Ledger + Naming> {
     pub looks: Vec<Look<Interval>>,
 }
 
-/// What a storm tells its readers and lookers.
+/// A host of subscribers: its seat, and what each subscriber that it serves was given.
+#[derive(Drop)]
+pub struct Host<L: Ledger + Naming> {
+    pub seat: Seat<Intervals, L>,
+    pub hearings: Vec<Hearing<Interval>>,
+}
+
+/// Where clients of a storm work: a desk, and a feed of it.
+#[derive(Drop)]
+pub struct Place<'s, L: Ledger + Naming> {
+    pub desk: &'s Desk<Intervals, L>,
+    pub feed: &'s SharedFeed<Intervals, L>,
+}
+
+/// What a storm tells its readers, lookers and hosts.
 #[derive(Drop)]
 pub struct Told<'s> {
     pub limits: Limits,
@@ -81,12 +97,12 @@ pub struct Told<'s> {
     pub commits: &'s AtomicU64,
     /// Raised once all rows were written.
     pub is_over: &'s AtomicBool,
-    /// A looker looks again when more than so many commits have come, or the flag is raised.
+    /// A looker or a host looks again when more than so many commits have come, or the flag is raised.
     pub pace: u64,
 }
 
-/// Where clients of a storm work: writers `W`, readers `V` and lookers `X`.
-pub trait Clients<W, V, X> {
+/// Where clients of a storm work: writers `W`, readers `V`, lookers `X` and hosts `Y`.
+pub trait Clients<W, V, X, Y> {
     /// Inserts rows and deletes the first of them, up to the first refusal.
     fn write<R: Wait>(&self, rt: &R, limits: Limits, writer: &mut W);
 
@@ -99,8 +115,11 @@ pub trait Clients<W, V, X> {
     /// Looks at snapshots, one after the other, up to one of all commits.
     fn look<R: Wait>(&self, rt: &R, alloc: Global, told: &Told<'_>, looker: &mut X);
 
-    /// Wakes lookers, to see that all rows were written.
-    fn wake_lookers<R: Wait>(&self, rt: &R);
+    /// Advances the feed and lets subscribers catch up, again and again, until they were given the changes of all commits.
+    fn serve<R: Wait>(&self, rt: &R, alloc: Global, told: &Told<'_>, host: &mut Y);
+
+    /// Wakes lookers and hosts, to see that all rows were written.
+    fn wake_all<R: Wait>(&self, rt: &R);
 
     /// Sweeps pages 0 to 63 in turn, and passes over refusals.
     fn sweep_pages<R: Wait>(&self, rt: &R, times: u32);
@@ -178,7 +197,50 @@ fn look_behind<L: Ledger + Naming, R: Wait>(
     Some(commits)
 }
 
-impl<L: Ledger + Naming> Clients<Seat<Intervals, L>, Reader<L>, Looker<L>> for Desk<Intervals, L> {
+/// Subscribes for each subscriber of a host to the changes of its query from the first commit on.
+fn subscribe_all<'f, L: Ledger + Naming, R: Wait>(
+    rt: &R,
+    alloc: Global,
+    feed: &'f SharedFeed<Intervals, L>,
+    host: &Host<L>,
+    room: u32,
+) -> Result<Vec<Subscriber<'f, Intervals, L>>, Refusal> {
+    let mut subscribers = Vec::with_capacity(alloc, host.hearings.len())?;
+    for hearing in host.hearings.as_slice() {
+        let query = asked_by(hearing.number);
+        let subscriber = feed.subscribe(rt, &host.seat, query, 0, u64::from(room))?;
+        subscribers.push(subscriber)?;
+    }
+    Ok(subscribers)
+}
+
+/// Lets each subscriber take what stands in its ring, and what it missed where the ring was full.
+fn catch_up_all<L: Ledger + Naming, R: Wait>(
+    rt: &R,
+    desk: &Desk<Intervals, L>,
+    host: &mut Host<L>,
+    subscribers: &mut [Subscriber<'_, Intervals, L>],
+) {
+    for (subscriber, hearing) in subscribers.iter_mut().zip(host.hearings.iter_mut()) {
+        let _was_aside = subscriber.catch_up(rt, desk, &mut host.seat, &mut hearing.items);
+    }
+}
+
+/// Closes each subscription.
+fn close_all<L: Ledger + Naming, R: Wait>(
+    rt: &R,
+    desk: &Desk<Intervals, L>,
+    host: &mut Host<L>,
+    subscribers: Vec<Subscriber<'_, Intervals, L>>,
+) {
+    for (subscriber, hearing) in subscribers.into_iter().zip(host.hearings.iter_mut()) {
+        let receipt = subscriber.close(rt, desk, &mut host.seat, hearing.items.as_slice());
+        hearing.has_receipt = receipt.is_some();
+    }
+}
+
+impl<L: Ledger + Naming> Clients<Seat<Intervals, L>, Reader<L>, Looker<L>, Host<L>>
+    for Place<'_, L> {
     fn write<R: Wait>(&self, rt: &R, limits: Limits, seat: &mut Seat<Intervals, L>) {
         let state = u64::from(limits.seed) + u64::from(seat.number());
         let mut generator = Pcg32::new(state, 0);
@@ -186,7 +248,7 @@ impl<L: Ledger + Naming> Clients<Seat<Intervals, L>, Reader<L>, Looker<L>> for D
             let Ok(key) = small_interval(&mut generator) else {
                 return;
             };
-            if self.insert(rt, seat, key, 0).is_err() {
+            if self.desk.insert(rt, seat, key, 0).is_err() {
                 return;
             }
         }
@@ -194,7 +256,7 @@ impl<L: Ledger + Naming> Clients<Seat<Intervals, L>, Reader<L>, Looker<L>> for D
             let Some(row) = seat.stamps().get(place).map(|stamp| stamp.number()) else {
                 return;
             };
-            if self.delete(rt, seat, row).is_err() {
+            if self.desk.delete(rt, seat, row).is_err() {
                 return;
             }
         }
@@ -212,12 +274,12 @@ impl<L: Ledger + Naming> Clients<Seat<Intervals, L>, Reader<L>, Looker<L>> for D
         reader: &mut Reader<L>,
     ) {
         let room = u64::from(told.limits.room);
-        let Ok(mut taker) = self.open_cursor(rt, &mut reader.seat, asked(), room) else {
+        let Ok(mut taker) = self.desk.open_cursor(rt, &mut reader.seat, asked(), room) else {
             return;
         };
         let opened = taker.opened();
         let mut items = Vec::new(alloc);
-        follow(rt, self, &mut taker, told, &mut items);
+        follow(rt, self.desk, &mut taker, told, &mut items);
         let ended = taker.close(rt, &mut reader.seat, items.as_slice());
         reader.reading = Some(Reading {
             opened,
@@ -231,32 +293,57 @@ impl<L: Ledger + Naming> Clients<Seat<Intervals, L>, Reader<L>, Looker<L>> for D
         for _ in rt.forever() {
             // read before the snapshot is made: where the flag is raised, that has all commits
             let is_last = told.is_over.load(Ordering::SeqCst);
-            let Some(commits) = look_behind(rt, alloc, self, looker, from) else {
+            let Some(commits) = look_behind(rt, alloc, self.desk, looker, from) else {
                 return;
             };
             if is_last {
                 return;
             }
             from = commits;
-            let _count = self.wait_past_unless(rt, from.saturating_add(told.pace), told.is_over);
+            let _count = self
+                .desk
+                .wait_past_unless(rt, from.saturating_add(told.pace), told.is_over);
         }
     }
 
-    fn wake_lookers<R: Wait>(&self, rt: &R) {
-        self.wake(rt);
+    fn serve<R: Wait>(&self, rt: &R, alloc: Global, told: &Told<'_>, host: &mut Host<L>) {
+        let room = told.limits.room;
+        let Ok(mut subscribers) = subscribe_all(rt, alloc, self.feed, host, room) else {
+            return;
+        };
+        'serving: for _ in rt.forever() {
+            // read before the feed is advanced: where the flag is raised, that goes over all commits
+            let is_last = told.is_over.load(Ordering::SeqCst);
+            let advanced = self.feed.advance(rt, self.desk, &mut host.seat, u64::MAX);
+            let Ok(upto) = advanced else {
+                break 'serving;
+            };
+            catch_up_all(rt, self.desk, host, subscribers.as_mut_slice());
+            if is_last {
+                break 'serving;
+            }
+            let _count = self
+                .desk
+                .wait_past_unless(rt, upto.saturating_add(told.pace), told.is_over);
+        }
+        close_all(rt, self.desk, host, subscribers);
+    }
+
+    fn wake_all<R: Wait>(&self, rt: &R) {
+        self.desk.wake(rt);
     }
 
     fn sweep_pages<R: Wait>(&self, rt: &R, times: u32) {
         for time in 0..times {
-            let _reply = self.sweep(rt, u64::from(time % 64));
+            let _reply = self.desk.sweep(rt, u64::from(time % 64));
         }
     }
 }
 
 /// Lets all writers write, each in a thread of its own.
-fn write_all<D, W, V, X, R>(rt: &R, desk: &D, limits: Limits, writers: &mut [W])
+fn write_all<D, W, V, X, Y, R>(rt: &R, desk: &D, limits: Limits, writers: &mut [W])
 where
-    D: Clients<W, V, X> + Sync,
+    D: Clients<W, V, X, Y> + Sync,
     W: Send,
     R: Threads + Wait + Sync,
 {
@@ -270,9 +357,9 @@ where
 }
 
 /// Lets all readers read, each in a thread of its own.
-fn read_all<D, W, V, X, R>(rt: &R, alloc: Global, desk: &D, told: &Told<'_>, readers: &mut [V])
+fn read_all<D, W, V, X, Y, R>(rt: &R, alloc: Global, desk: &D, told: &Told<'_>, readers: &mut [V])
 where
-    D: Clients<W, V, X> + Sync,
+    D: Clients<W, V, X, Y> + Sync,
     V: Send,
     R: Threads + Wait + Clock + Sync,
 {
@@ -286,9 +373,9 @@ where
 }
 
 /// Lets all lookers look, each in a thread of its own.
-fn look_all<D, W, V, X, R>(rt: &R, alloc: Global, desk: &D, told: &Told<'_>, lookers: &mut [X])
+fn look_all<D, W, V, X, Y, R>(rt: &R, alloc: Global, desk: &D, told: &Told<'_>, lookers: &mut [X])
 where
-    D: Clients<W, V, X> + Sync,
+    D: Clients<W, V, X, Y> + Sync,
     X: Send,
     R: Threads + Wait + Sync,
 {
@@ -301,11 +388,27 @@ where
     )
 }
 
-/// Lets all writers write while another thread sweeps, and then tells readers how many commits were made, and lookers that
-/// no more come.
-fn write_and_sweep<D, W, V, X, R>(rt: &R, desk: &D, told: &Told<'_>, writers: &mut [W])
+/// Lets all hosts serve their subscribers, each in a thread of its own.
+fn serve_all<D, W, V, X, Y, R>(rt: &R, alloc: Global, desk: &D, told: &Told<'_>, hosts: &mut [Y])
 where
-    D: Clients<W, V, X> + Sync,
+    D: Clients<W, V, X, Y> + Sync,
+    Y: Send,
+    R: Threads + Wait + Sync,
+{
+    let threads = hosts.len().max(1);
+    thread::for_each_mut(
+        rt,
+        hosts,
+        threads,
+        &|_, host| desk.serve(rt, alloc, told, host),
+    )
+}
+
+/// Lets all writers write while another thread sweeps, and then tells readers how many commits were made, and lookers and
+/// hosts that no more come.
+fn write_and_sweep<D, W, V, X, Y, R>(rt: &R, desk: &D, told: &Told<'_>, writers: &mut [W])
+where
+    D: Clients<W, V, X, Y> + Sync,
     W: Send,
     R: Threads + Wait + Sync,
 {
@@ -314,7 +417,7 @@ where
     thread::join(
         rt,
         sweep,
-        || write_all::<D, W, V, X, R>(rt, desk, limits, writers),
+        || write_all::<D, W, V, X, Y, R>(rt, desk, limits, writers),
     );
     let mut commits: u64 = 0;
     for writer in writers {
@@ -322,11 +425,11 @@ where
     }
     told.commits.store(commits, Ordering::SeqCst);
     told.is_over.store(true, Ordering::SeqCst);
-    desk.wake_lookers(rt);
+    desk.wake_all(rt);
 }
 
 /// Lets writers and readers work at once, until the last of them has ended.
-fn write_and_read<D, W, V, X, R>(
+fn write_and_read<D, W, V, X, Y, R>(
     rt: &R,
     alloc: Global,
     desk: &D,
@@ -335,22 +438,22 @@ fn write_and_read<D, W, V, X, R>(
     readers: &mut [V],
 )
 where
-    D: Clients<W, V, X> + Sync,
+    D: Clients<W, V, X, Y> + Sync,
     W: Send,
     V: Send,
     R: Threads + Wait + Clock + Sync,
 {
-    let read = || read_all::<D, W, V, X, R>(rt, alloc, desk, told, readers);
+    let read = || read_all::<D, W, V, X, Y, R>(rt, alloc, desk, told, readers);
     thread::join(
         rt,
         read,
-        || write_and_sweep::<D, W, V, X, R>(rt, desk, told, writers),
+        || write_and_sweep::<D, W, V, X, Y, R>(rt, desk, told, writers),
     );
 }
 
-/// Lets all clients work at once, until the last of them has ended. Where there is no thread for lookers they come last, and
-/// find all rows written.
-fn work_at_once<D, W, V, X, R>(
+/// Lets writers, readers and lookers work at once, until the last of them has ended. Where there is no thread for lookers they come
+/// last, and find all rows written.
+fn write_read_and_look<D, W, V, X, Y, R>(
     rt: &R,
     alloc: Global,
     desk: &D,
@@ -360,22 +463,52 @@ fn work_at_once<D, W, V, X, R>(
     lookers: &mut [X],
 )
 where
-    D: Clients<W, V, X> + Sync,
+    D: Clients<W, V, X, Y> + Sync,
     W: Send,
     V: Send,
     X: Send,
     R: Threads + Wait + Clock + Sync,
 {
-    let look = || look_all::<D, W, V, X, R>(rt, alloc, desk, told, lookers);
+    let look = || look_all::<D, W, V, X, Y, R>(rt, alloc, desk, told, lookers);
     thread::join(
         rt,
         look,
-        || write_and_read::<D, W, V, X, R>(rt, alloc, desk, told, writers, readers),
+        || write_and_read::<D, W, V, X, Y, R>(rt, alloc, desk, told, writers, readers),
+    );
+}
+
+/// Lets all clients work at once, until the last of them has ended. Where there is no thread for hosts they come last, and find all
+/// rows written.
+fn work_at_once<D, W, V, X, Y, R>(
+    rt: &R,
+    alloc: Global,
+    desk: &D,
+    told: &Told<'_>,
+    writers: &mut [W],
+    readers: &mut [V],
+    lookers: &mut [X],
+    hosts: &mut [Y],
+)
+where
+    D: Clients<W, V, X, Y> + Sync,
+    W: Send,
+    V: Send,
+    X: Send,
+    Y: Send,
+    R: Threads + Wait + Clock + Sync,
+{
+    let serve = || serve_all::<D, W, V, X, Y, R>(rt, alloc, desk, told, hosts);
+    thread::join(
+        rt,
+        serve,
+        || write_read_and_look::<D, W, V, X, Y, R>(
+            rt, alloc, desk, told, writers, readers, lookers,
+        ),
     );
 }
 
 /// Lets all clients work beside what pumps, whose orders end with the last client.
-pub fn work_beside<D, W, V, X, R, P>(
+pub fn work_beside<D, W, V, X, Y, R, P>(
     rt: &R,
     alloc: Global,
     desk: &D,
@@ -383,14 +516,16 @@ pub fn work_beside<D, W, V, X, R, P>(
     writers: &mut [W],
     readers: &mut [V],
     lookers: &mut [X],
+    hosts: &mut [Y],
     orders: Sender<Order>,
     pump: P,
 )
 where
-    D: Clients<W, V, X> + Sync,
+    D: Clients<W, V, X, Y> + Sync,
     W: Send,
     V: Send,
     X: Send,
+    Y: Send,
     R: Threads + Wait + Clock + Sync,
     P: FnOnce(),
     requires limits { IsStorm limits }
@@ -407,7 +542,7 @@ where
             is_over: &is_over,
             pace,
         };
-        work_at_once(rt, alloc, desk, &told, writers, readers, lookers);
+        work_at_once(rt, alloc, desk, &told, writers, readers, lookers, hosts);
     };
     thread::join(rt, clients, pump);
 }

@@ -10,14 +10,15 @@ use key_class::{KeyClass, Pred, Refusal};
 use listing::is_delivered;
 use std::alloc::Global;
 
-/// How a reader or a looker fared.
+/// How a reader, a looker or a subscriber fared.
 #[derive(Clone, Copy, Debug, PartialEq, Eq)]
 pub enum Verdict {
-    /// A reader took a listing of all commits, and a mark of them. A looker found what there was, up to all commits.
+    /// A reader took a listing of all commits, and a mark of them. A looker found what there was, up to all commits. A
+    /// subscriber was given all changes.
     Whole,
-    /// It took or found something else.
+    /// It took, found or was given something else.
     NotWhole,
-    /// A reader's cursor was closed without a receipt. A looker got no snapshot.
+    /// A reader's cursor or a subscription was closed without a receipt. A looker got no snapshot.
     Missing,
 }
 

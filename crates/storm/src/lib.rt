@@ -1,13 +1,15 @@
-//! A storm: many clients of one desk at once. What each reader took, and what each looker found in its snapshots, is compared
-//! with the commits when all is over.
+//! A storm: many clients of one desk at once. What each reader took, what each looker found in its snapshots, and what each
+//! subscriber to a feed was given, is compared with the commits when all is over.
 #![tactic(auto)]
 
 mod clients;
+mod hearings;
 mod judge;
 mod limits;
 mod looks;
 mod outcome;
 
+pub use hearings::{Hearing, subscriber_judged};
 pub use judge::{Reading, Verdict, begins, is_listing, judged};
 pub use limits::Limits;
 pub use looks::{Look, looker_judged};

@@ -1,8 +1,11 @@
 //! How large a storm is.
 ghost use Rattle.std.specs.Prelude.{◌≡◌, ◌↔◌, ◌+◌, ◌*◌, IsTrue};
-ghost use Rattle.storm.specs.Sizes.{IsStorm};
+ghost use Rattle.storm.specs.Sizes.{IsStorm, hosts_of};
 
 use key_class::limits::{MAX_ROOM, MAX_SEATS};
+
+/// How many threads serve subscribers at most.
+pub(crate) const MAX_HOSTS: u32 = 4;
 
 /// How many clients a storm has, and what they do.
 #[derive(Clone, Copy, Debug, PartialEq, Eq)]
@@ -15,8 +18,10 @@ pub struct Limits {
     pub deletes: u32,
     /// How many threads follow a cursor: 0 to 32.
     pub readers: u32,
-    /// How many threads look at snapshots: 0 to 32. There are at most 64 writers, readers and lookers.
+    /// How many threads look at snapshots: 0 to 32. There are at most 64 writers, readers, lookers and hosts.
     pub lookers: u32,
+    /// How many subscribers the feed has: 0 to 1,000. Each of up to four has a host, a thread with a seat; more share four.
+    pub subscribers: u32,
     /// How many items a cursor's mailbox holds: 1 to 4,096.
     pub room: u32,
     /// How many threads turn cursors: 1 to 8.
@@ -38,7 +43,8 @@ impl Limits {
             && self.deletes <= self.inserts
             && self.readers <= 32
             && self.lookers <= 32
-            && (self.writers + self.readers + self.lookers) as usize <= MAX_SEATS
+            && self.subscribers <= 1_000
+            && (self.writers + self.readers + self.lookers + self.hosts()) as usize <= MAX_SEATS
             && self.room >= 1
             && u64::from(self.room) <= MAX_ROOM
             && self.pumps >= 1
@@ -46,12 +52,20 @@ impl Limits {
             && self.sweeps <= 1_000
     }
 
+    /// How many threads serve subscribers, each with a seat.
+    pub fn hosts(&self) -> u32
+        ensures { result ≡ hosts_of self.now }
+    {
+        self.subscribers.min(MAX_HOSTS)
+    }
+
     /// How many seats it takes.
     pub fn seats(&self) -> usize
         requires { IsStorm self.now }
-        ensures { result ≡ self.now.writers + self.now.readers + self.now.lookers }
+        ensures { result ≡ self.now.writers + self.now.readers + self.now.lookers
+            + hosts_of self.now }
     {
-        (self.writers + self.readers + self.lookers) as usize
+        (self.writers + self.readers + self.lookers + self.hosts()) as usize
     }
 
     /// How many commits it makes where nothing is refused.

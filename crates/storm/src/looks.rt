@@ -82,7 +82,7 @@ fn are_found<C: KeyClass>(
 }
 
 /// Whether items are the changes after one commit up to another.
-fn are_changes<C: KeyClass>(
+pub(crate) fn are_changes<C: KeyClass>(
     alloc: Global,
     commits: &View<C::Key>,
     query: &Pred<C::Atom>,

@@ -2,12 +2,13 @@
 ghost use Rattle.std.specs.Prelude.{◌≡◌, ◌↔◌, ◌+◌, Err, IfErr, IfOk, IsTrue, OnOk, length};
 ghost use Rattle.desk.specs.Weaving.{Woven};
 ghost use Rattle.key_class.specs.Refusals.{IsEither};
-ghost use Rattle.storm.specs.Outcomes.{AreStampsOf, IsTrueOutcome, IsWholeStorm, TellsLookers, TellsReaders};
-ghost use Rattle.storm.specs.Sizes.{IsStorm};
+ghost use Rattle.storm.specs.Outcomes.{AreStampsOf, IsTrueOutcome, IsWholeStorm, TellsLookers, TellsReaders, TellsSubscribers};
+ghost use Rattle.storm.specs.Sizes.{IsStorm, hosts_of};
 
-use crate::clients::{Looker, Reader, asked, work_beside};
+use crate::clients::{Host, Looker, Place, Reader, asked, work_beside};
+use crate::hearings::{Hearing, hearing_judged, hearings_from};
 use crate::judge::{Reading, Verdict, are_whole, judged};
-use crate::limits::Limits;
+use crate::limits::{Limits, MAX_HOSTS};
 use crate::looks::{Look, looker_judged};
 use change_list::{ChangeList, Config, Write};
 use crossbeam_channel::bounded;
@@ -17,6 +18,7 @@ use interval_class::{Atom, Interval, Intervals};
 use key_class::limits::{MAX_COMMITS, MAX_PAGES};
 use key_class::{Pred, Refusal};
 use pumps::{Gate, Pumps};
+use shared_feed::SharedFeed;
 use std::alloc::{AllocError, Global};
 use std::rt::Clock;
 use std::sync::Wait;
@@ -57,6 +59,10 @@ pub struct Outcome {
     pub looks: Vec<Vec<Look<Interval>>>,
     /// How each looker fared, in the same order.
     pub lookers: Vec<Verdict>,
+    /// What each subscriber was given, by their numbers.
+    pub hearings: Vec<Hearing<Interval>>,
+    /// How each subscriber fared, in the same order.
+    pub subscribers: Vec<Verdict>,
     /// What each seat was answered.
     pub stamps: Vec<Vec<Stamped<Interval>>>,
     /// Whether the stamps of all seats are the commits.
@@ -64,7 +70,7 @@ pub struct Outcome {
 }
 
 impl Outcome {
-    /// Whether all rows of a storm were written and deleted, and each of its readers and lookers is whole.
+    /// Whether all rows of a storm were written and deleted, and each of its readers, lookers and subscribers is whole.
     pub fn is_whole(&self, limits: Limits) -> bool
         requires { IsStorm limits }
         ensures { IsTrue result ↔ IsWholeStorm limits self.now }
@@ -73,8 +79,10 @@ impl Outcome {
             && self.commits == limits.commits()
             && self.readers.len() == limits.readers as usize
             && self.lookers.len() == limits.lookers as usize
+            && self.subscribers.len() == limits.subscribers as usize
             && are_whole(self.readers.as_slice())
             && are_whole(self.lookers.as_slice())
+            && are_whole(self.subscribers.as_slice())
     }
 }
 
@@ -83,11 +91,13 @@ fn run_all<L, R>(
     rt: &R,
     alloc: Global,
     desk: &Desk<Intervals, L>,
+    feed: &SharedFeed<Intervals, L>,
     pumps: &Pumps<Open>,
     limits: Limits,
     writers: &mut [Seat<Intervals, L>],
     readers: &mut [Reader<L>],
     lookers: &mut [Looker<L>],
+    hosts: &mut [Host<L>],
 ) -> Result<(), Refusal>
 where
     L: Ledger + Naming + Send + Sync,
@@ -101,8 +111,9 @@ where
     let pump = move || {
         let _pumped = pumps.run(rt, alloc, desk, &told);
     };
+    let place = Place { desk, feed };
     work_beside(
-        rt, alloc, desk, limits, writers, readers, lookers, orders, pump,
+        rt, alloc, &place, limits, writers, readers, lookers, hosts, orders, pump,
     );
     Ok(())
 }
@@ -137,6 +148,28 @@ fn lookers_of<L: Ledger + Naming>(
         lookers.push(Looker { seat, looks })?;
     }
     Ok(lookers)
+}
+
+/// Some seats as hosts of so many subscribers, which are numbered from 1 and shared out evenly.
+fn hosts_over<L: Ledger + Naming>(
+    alloc: Global,
+    seats: Vec<Seat<Intervals, L>>,
+    subscribers: u32,
+) -> Result<Vec<Host<L>>, AllocError>
+    ensures { IfOk result (λ hosts. length hosts.items ≡ length seats.items) }
+{
+    let mut first: u32 = 1;
+    let mut left_over = subscribers % MAX_HOSTS;
+    let mut hosts = Vec::with_capacity(alloc, seats.len())?;
+    for seat in seats {
+        let one_more = left_over.min(1);
+        let count = subscribers / MAX_HOSTS + one_more;
+        let hearings = hearings_from(alloc, first, count)?;
+        hosts.push(Host { seat, hearings })?;
+        first = first.saturating_add(count);
+        left_over -= one_more;
+    }
+    Ok(hosts)
 }
 
 /// How readers of a query fared, told by the commits.
@@ -187,6 +220,25 @@ fn sights_of(
     Ok(verdicts)
 }
 
+/// How subscribers fared, told by the commits.
+fn hearings_judged(
+    alloc: Global,
+    commits: &ChangeList<Interval>,
+    hearings: &[Hearing<Interval>],
+) -> Result<Vec<Verdict>, Refusal>
+    ensures told { IfOk result (TellsSubscribers commits.now hearings.now) }
+    ensures refusals { IfErr result (λ why. why ≡ Refusal.OutOfMemory) }
+{
+    let mut verdicts = Vec::new(alloc);
+    for hearing in hearings {
+        let verdict = hearing_judged(alloc, commits.as_view(), hearing)?;
+        if verdicts.push(verdict).is_err() {
+            return Err(Refusal::OutOfMemory);
+        }
+    }
+    Ok(verdicts)
+}
+
 /// What seats were answered.
 fn stamps_of<L: Ledger + Naming>(
     alloc: Global,
@@ -202,14 +254,15 @@ fn stamps_of<L: Ledger + Naming>(
     Ok(stamps)
 }
 
-/// What the readers of a storm took, and what its lookers found.
+/// What the readers of a storm took, what its lookers found, and what its subscribers were given.
 #[derive(Drop)]
 struct Gathered {
     readings: Vec<Option<Reading<Interval>>>,
     looks: Vec<Vec<Look<Interval>>>,
+    hearings: Vec<Hearing<Interval>>,
 }
 
-/// What came of a storm of these commits, by which readers and lookers are judged.
+/// What came of a storm of these commits, by which readers, lookers and subscribers are judged.
 fn outcome_by<L: Ledger + Naming>(
     alloc: Global,
     commits: ChangeList<Interval>,
@@ -222,10 +275,15 @@ fn outcome_by<L: Ledger + Naming>(
     ensures seats { IfOk result (λ o. length o.stamps.items ≡ length seats.items) }
     ensures refusals { IfErr result (λ why. why ≡ Refusal.OutOfMemory) }
 {
-    let Gathered { readings, looks } = gathered;
+    let Gathered {
+        readings,
+        looks,
+        hearings,
+    } = gathered;
     let query = asked();
     let readers = verdicts_of(alloc, &commits, &query, readings.as_slice())?;
     let lookers = sights_of(alloc, &commits, &query, looks.as_slice())?;
+    let subscribers = hearings_judged(alloc, &commits, hearings.as_slice())?;
     let Ok(stamps) = stamps_of(alloc, seats) else {
         return Err(Refusal::OutOfMemory);
     };
@@ -235,6 +293,8 @@ fn outcome_by<L: Ledger + Naming>(
         readers,
         looks,
         lookers,
+        hearings,
+        subscribers,
         stamps,
         is_woven,
     })
@@ -266,10 +326,12 @@ fn outcome_of<L: Ledger + Naming, R: Wait>(
     }
 }
 
-/// Writers, readers, lookers, pumps and a sweeper at one desk of intervals, each in a thread of its own. Each writer inserts
-/// rows with small keys and deletes the first of them. Each reader follows a cursor up to a mark of all commits. Each looker
-/// takes snapshots, finds in each what readers ask for, and takes the changes after the one before, up to a snapshot of all
-/// commits. Then the desk is finished, and what each reader took and each looker found is compared with the commits.
+/// Writers, readers, lookers, hosts of subscribers, pumps and a sweeper at one desk of intervals, each in a thread of its own. Each
+/// writer inserts rows with small keys and deletes the first of them. Each reader follows a cursor up to a mark of all commits.
+/// Each looker takes snapshots, finds in each what readers ask for, and takes the changes after the one before, up to a
+/// snapshot of all commits. Each host advances a feed that all of them share, and lets its subscribers catch up, until all
+/// commits are gone over. Then the desk is finished, and what each reader took, each looker found and each subscriber was
+/// given is compared with the commits.
 ///
 /// # Errors
 /// `BadConfig` where a number lies out of its range, or want of memory.
@@ -286,10 +348,12 @@ where
     requires name { blank.name ≡ L.name }
     requires parts { blank.parts ≡ L.parts }
     requires history { history ≡ L.history }
-    requires one_each { blank.parts ≡ limits.writers + limits.readers + limits.lookers }
+    requires one_each { blank.parts ≡ limits.writers + limits.readers + limits.lookers
+        + hosts_of limits }
     ensures told { IfOk result IsTrueOutcome }
     ensures seats { IfOk result
-        (λ o. length o.stamps.items ≡ limits.writers + limits.readers + limits.lookers) }
+        (λ o. length o.stamps.items
+        ≡ limits.writers + limits.readers + limits.lookers + hosts_of limits) }
     ensures within { OnOk result (IsStorm limits) }
     ensures bad { (result ≡ Err Refusal.BadConfig) ↔ (¬ IsStorm limits) }
     ensures refusals { IfErr result (IsEither Refusal.BadConfig Refusal.OutOfMemory) }
@@ -307,13 +371,20 @@ where
     let Ok(mut rest) = writers.split_off(limits.writers as usize) else {
         return Err(Refusal::OutOfMemory);
     };
-    let Ok(last) = rest.split_off(limits.readers as usize) else {
+    let Ok(mut others) = rest.split_off(limits.readers as usize) else {
         return Err(Refusal::OutOfMemory);
     };
+    let Ok(last) = others.split_off(limits.lookers as usize) else {
+        return Err(Refusal::OutOfMemory);
+    };
+    let feed = SharedFeed::new(alloc, &writers[0])?;
     let Ok(mut readers) = readers_of(alloc, rest) else {
         return Err(Refusal::OutOfMemory);
     };
-    let Ok(mut lookers) = lookers_of(alloc, last) else {
+    let Ok(mut lookers) = lookers_of(alloc, others) else {
+        return Err(Refusal::OutOfMemory);
+    };
+    let Ok(mut hosts) = hosts_over(alloc, last, limits.subscribers) else {
         return Err(Refusal::OutOfMemory);
     };
     let pumps = Pumps::new(limits.pumps as usize, Open)?;
@@ -321,31 +392,62 @@ where
         rt,
         alloc,
         &desk,
+        &feed,
         &pumps,
         limits,
         writers.as_mut_slice(),
         readers.as_mut_slice(),
         lookers.as_mut_slice(),
+        hosts.as_mut_slice(),
     )?;
-    let Ok(gathered) = take_back(alloc, &mut writers, readers, lookers) else {
+    let Ok(gathered) = take_back(alloc, &mut writers, readers, lookers, hosts) else {
         return Err(Refusal::OutOfMemory);
     };
     outcome_of(rt, alloc, desk, writers, gathered)
 }
 
-/// Puts the seats of readers and lookers behind those of writers, and gives what these took and found.
+/// Puts the seats of readers, lookers and hosts behind those of writers, and gives what these took and found, and what subscribers
+/// were given.
 fn take_back<L: Ledger + Naming>(
     alloc: Global,
     seats: &mut Vec<Seat<Intervals, L>>,
     readers: Vec<Reader<L>>,
     lookers: Vec<Looker<L>>,
+    hosts: Vec<Host<L>>,
 ) -> Result<Gathered, AllocError>
-    ensures { OnOk result (length seats.new.items
-        ≡ length seats.old.items + length readers.items + length lookers.items) }
+    ensures { OnOk result (length seats.new.items ≡ length seats.old.items
+        + length readers.items + length lookers.items + length hosts.items) }
 {
     let readings = take_readings(alloc, seats, readers)?;
     let looks = take_looks(alloc, seats, lookers)?;
-    Ok(Gathered { readings, looks })
+    let hearings = take_hearings(alloc, seats, hosts)?;
+    Ok(Gathered {
+        readings,
+        looks,
+        hearings,
+    })
+}
+
+/// Puts the seats of hosts behind others, and gives what their subscribers were given.
+fn take_hearings<L: Ledger + Naming>(
+    alloc: Global,
+    seats: &mut Vec<Seat<Intervals, L>>,
+    hosts: Vec<Host<L>>,
+) -> Result<Vec<Hearing<Interval>>, AllocError>
+    ensures { OnOk result
+        (length seats.new.items ≡ length seats.old.items + length hosts.items) }
+{
+    let mut hearings = Vec::new(alloc);
+    for host in hosts {
+        let Host {
+            seat,
+            hearings: given,
+        } = host;
+        let mut given = given;
+        seats.push(seat)?;
+        hearings.append(&mut given)?;
+    }
+    Ok(hearings)
 }
 
 /// Puts the seats of readers behind others, and gives what the readers read.

@@ -13,4 +13,5 @@ returns c =
     let six = c.in_ok-arg-6.ensures.shape c.number_arg-6.ensures.local ∙ ap₂ with_rule five c.number_arg-6.ensures.rule in
     let seven = c.in_ok-arg-7.ensures.shape c.number_arg-7.ensures.local ∙ ap₂ with_rule six c.number_arg-7.ensures.rule in
     let eight = c.in_ok-arg-8.ensures.shape c.number_arg-8.ensures.local ∙ ap₂ with_rule seven c.number_arg-8.ensures.rule in
-    IfOk-weaker c.arg-9.result _ _ (λ command added. λ names. added.shape c.number_arg-9.ensures.local ∙ ap₂ with_rule eight c.number_arg-9.ensures.rule) c.arg-9.ensures
+    let nine = c.in_ok-arg-9.ensures.shape c.number_arg-9.ensures.local ∙ ap₂ with_rule eight c.number_arg-9.ensures.rule in
+    IfOk-weaker c.arg-10.result _ _ (λ command added. λ names. added.shape c.number_arg-10.ensures.local ∙ ap₂ with_rule nine c.number_arg-10.ensures.rule) c.arg-10.ensures

@@ -16,8 +16,10 @@ outcome_of-requires g c =
     let grown = c.in-Ok-take_back.ensures in
     let first = c.in-Ok.ensures in
     let second = c.in-Ok-split_off.ensures in
+    let third = c.in-Ok-split_off-2.ensures in
     let desk = c.in_ok-desk.ensures in
     let writers = back c.split_off.new.self.len c.run_all.new.writers c.split_off.new.self.items (omega (arith, c.run_all.auto.writers, c.as_mut_slice.ensures.len)) (omega arith) in
     let readers = back c.in-Ok-readers_of.readers.len c.run_all.new.readers c.in-Ok-readers_of.readers.items (omega (arith, c.run_all.auto.readers, c.as_mut_slice-2.ensures.len)) (omega arith) in
     let lookers = back c.in-Ok-lookers_of.lookers.len c.run_all.new.lookers c.in-Ok-lookers_of.lookers.items (omega (arith, c.run_all.auto.lookers, c.as_mut_slice-3.ensures.len)) (omega arith) in
-    omega (arith, grown, writers, readers, lookers, first.len, first.tail_len, second.len, second.tail_len, c.in-Ok-readers_of.ensures, c.in-Ok-lookers_of.ensures, desk.desk, desk.seats, c.seats.ensures)
+    let hosts = back c.in-Ok-hosts_over.hosts.len c.run_all.new.hosts c.in-Ok-hosts_over.hosts.items (omega (arith, c.run_all.auto.hosts, c.as_mut_slice-4.ensures.len)) (omega arith) in
+    omega (arith, grown, writers, readers, lookers, hosts, first.len, first.tail_len, second.len, second.tail_len, third.len, third.tail_len, c.in-Ok-readers_of.ensures, c.in-Ok-lookers_of.ensures, c.in-Ok-hosts_over.ensures, desk.desk, desk.seats, c.seats.ensures)
