@@ -2,7 +2,7 @@
 -- has many has its own.
 use denote.RattleType.{RattleType}
 use denote.Struct.Declared.{shape}
-use denote.Param.Send.{IsSend, IsSync, sendable, view_send, recorded_send, struct_send}
+use denote.Param.Send.{IsSend, IsSync, sendable, view_send, recorded_send, struct_send, recorded_sync, struct_sync}
 use Rattle.std.proofs.Crossing.{crosses}
 use Rattle.std.proofs.alloc.Global.TheSendSync as heap
 use Rattle.std.specs.declared.clone.Clone as clone
@@ -29,6 +29,7 @@ use Rattle.shared_feed.specs.contracts.supply.Supply as Supply
 use Rattle.shared_feed.specs.contracts.supply.Supply.TheInside as supply
 use Rattle.shared_feed.specs.contracts.board.Board as Board
 use Rattle.shared_feed.specs.contracts.board.Board.TheInside as board
+use Rattle.shared_feed.specs.contracts.shared.SharedFeed as SharedFeed
 use Rattle.store.specs.contracts.store.Store as Store
 use Rattle.store.specs.contracts.store.Store.TheInside as store
 
@@ -132,3 +133,15 @@ module _ (C L K A : RattleType) (r : reach.Ghosts C.Denot K.Denot A.Denot) (c : 
           ),
         ),
       )))
+
+  pub shared_feed_sync : IsSend K → IsSync K → IsSend A → IsSync A → IsSend L → IsSync L → IsSync (SharedFeed.the_row C L K A r c kc kp ap l n)
+  shared_feed_sync sk yk sa ya sl yl =
+      let board = board_send sk yk sa ya sl yl in
+      recorded_sync (SharedFeed.the_field C L K A r c kc kp ap l n).row _ _ (SharedFeed.the_type C L K A r c kc kp ap l n).to_one
+      (struct_sync (shape (SharedFeed.the_type C L K A r c kc kp ap l n)) (
+        search (heap.the_field_sync, crosses, sendable) depth 20,
+        (
+          search (board, crosses, sendable) depth 20,
+          tt,
+        ),
+      ))
