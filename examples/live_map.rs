@@ -1,12 +1,14 @@
 //! A live map: 100,000 vehicles move, two readers count in windows of their own, and 2,000 viewers are told by a feed
 //! what comes into their windows, moves in them and leaves them. The store is renewed before its commits are used up,
-//! while all of them go on.
+//! by a thread of its own, while all of them go on.
 //!
 //!     GIST_LIB_DIR=FOLDER cargo run --release --example live_map [VEHICLES]
 //!
 //! With another number of vehicles there are viewers and moves in proportion. It ends with status 0 only where each viewer, at the end, has exactly the vehicles that stand in its window.
 
-use gist::{BoxKey, Change, Error, Feed, Limits, Query, Row, Snapshot, Store, Subscription};
+use gist::{
+    BoxKey, Change, Error, Feed, Limits, Query, Renewal, Row, Snapshot, Store, Subscription,
+};
 use std::collections::HashMap;
 use std::sync::atomic::{AtomicBool, Ordering};
 use std::sync::mpsc::{sync_channel, Receiver, SyncSender};
@@ -28,7 +30,7 @@ struct Size {
 }
 
 impl Size {
-    /// After the vehicles came there are commits for five rounds; then the store is renewed.
+    /// After the vehicles came there are commits for five rounds; by the fifth the store is renewed.
     fn of(vehicles: usize) -> Size {
         let limits = Limits {
             commits: 2 * vehicles as u32,
@@ -102,22 +104,27 @@ impl Fleet {
         self.store.sweep().map(|_swept| ())
     }
 
-    /// Whether another round would not find commits enough.
+    /// Whether there are commits for no more than the next round.
     fn is_nearly_full(&self) -> bool {
         let figures = self.store.figures();
-        figures.commits + self.size.moves_a_round as u64 > figures.commit_limit
+        figures.commits + 2 * self.size.moves_a_round as u64 > figures.commit_limit
     }
 
-    /// Goes on with a store of the rows that live. Others go on with snapshots of the one before.
-    fn renew(&mut self) -> Result<(), Error> {
-        let last = self.store.snapshot()?;
-        let renewed = last.renew(self.size.limits)?;
-        self.store = renewed.store;
-        for row in self.store.snapshot()?.iter()? {
-            self.rows[row.tag as usize] = row.number;
+    /// Moves some vehicles while another thread makes a store of the rows that live, which then takes the place of this
+    /// one. Gives all commits of the store before.
+    fn drive_and_renew(&mut self, dice: &mut Dice) -> Result<Snapshot<BoxKey>, Error> {
+        let (now, limits) = (self.store.snapshot()?, self.size.limits);
+        let renewal = thread::scope(|scope| {
+            let renewing = scope.spawn(|| Renewal::begin(&now, limits));
+            self.drive(dice)?;
+            renewing.join().expect("a renewal doesn't panic")
+        })?;
+        let replaced = renewal.finish(&mut self.store)?;
+        for row in &mut self.rows {
+            *row = replaced.numbers[row];
         }
         self.renewals += 1;
-        Ok(())
+        replaced.before.snapshot()
     }
 }
 
@@ -131,19 +138,23 @@ fn write(
     let publish = |snapshot: &Snapshot<BoxKey>| {
         *latest.lock().unwrap_or_else(PoisonError::into_inner) = snapshot.clone();
     };
+    let tell = |it| {
+        news.send(it)
+            .expect("the feed's thread goes on until the end");
+    };
     for _ in 0..ROUNDS {
         if fleet.is_nearly_full() {
-            fleet.renew()?;
+            let last = fleet.drive_and_renew(dice)?;
             let first = fleet.store.snapshot()?;
             publish(&first);
-            news.send(News::Renewed(first))
-                .expect("the feed's thread goes on until the end");
+            tell(News::Grown(last));
+            tell(News::Renewed(first));
+        } else {
+            fleet.drive(dice)?;
+            let now = fleet.store.snapshot()?;
+            publish(&now);
+            tell(News::Grown(now));
         }
-        fleet.drive(dice)?;
-        let now = fleet.store.snapshot()?;
-        publish(&now);
-        news.send(News::Grown(now))
-            .expect("the feed's thread goes on until the end");
     }
     Ok(())
 }

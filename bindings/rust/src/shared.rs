@@ -63,7 +63,7 @@ impl<K: Key> SharedStore<K> {
     /// Does some work on the store, which no other thread has meanwhile, and then wakes those who wait for commits.
     /// Within the work no other call of this shared store may be made: it would wait for ever, or panic.
     ///
-    /// The store may be replaced, by one that was [renewed](Snapshot::renew): the numbers of commits begin anew then.
+    /// The store may be replaced, as [`Renewal::finish`](crate::Renewal::finish) does: the numbers of commits begin anew then.
     ///
     /// ```
     /// use gist::{Interval, Query, SharedStore, Store};

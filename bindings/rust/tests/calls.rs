@@ -1,8 +1,8 @@
 //! Each call, refusal, relation, field and limit by its name, for each class of keys.
 
 use gist::{
-    BoxKey, Change, Error, Feed, Interval, Item, Key, Limits, Query, Relation, Row, Set, Snapshot,
-    Stopped, Store,
+    BoxKey, Change, Error, Feed, Interval, Item, Key, Limits, Query, Relation, Renewal, Row, Set,
+    Snapshot, Stopped, Store,
 };
 use std::error::Error as _;
 
@@ -82,7 +82,7 @@ macro_rules! for_each_class {
     };
 }
 
-for_each_class! { rows commits_and_changes cursors refusals renewals feeds }
+for_each_class! { rows commits_and_changes cursors refusals renewals renewals_beside feeds }
 
 fn small() -> Limits {
     Limits {
@@ -304,6 +304,44 @@ fn renewals<K: Key>(keys: Keys<K>) -> Tried {
         .renew(two)?
         .numbers
         .is_empty());
+    Ok(())
+}
+
+/// A store is renewed while rows come, move and go.
+fn renewals_beside<K: Key>(keys: Keys<K>) -> Tried {
+    let mut store = three(&keys)?;
+    store.delete(2)?;
+    let begun = store.snapshot()?;
+    let mut renewal = Renewal::begin(&begun, small())?;
+    assert_eq!(renewal.catch_up(&begun)?, 0);
+
+    store.insert(keys.two, 40)?;
+    store.move_to(1, keys.two)?;
+    assert_eq!(renewal.catch_up(&store.snapshot()?)?, 2);
+    assert_eq!(renewal.catch_up(&begun)?, 0);
+    store.delete(5)?;
+    store.move_to(6, keys.one)?;
+    let replaced = renewal.finish(&mut store)?;
+
+    assert_eq!(replaced.before.commits(), 8);
+    let numbers = [(3, 2), (8, 6)];
+    assert_eq!(replaced.numbers, numbers.into_iter().collect());
+    let rows = [row(2, keys.far, 30), row(6, keys.one, 10)];
+    assert!(store.snapshot()?.iter()?.eq(rows));
+    assert_eq!(store.commits(), 6);
+
+    let few = Limits {
+        commits: 2,
+        ..small()
+    };
+    let mut renewal = Renewal::begin(&store.snapshot()?, few)?;
+    store.delete(2)?;
+    assert_eq!(
+        renewal.catch_up(&store.snapshot()?),
+        Err(Error::CommitsFull)
+    );
+    assert_eq!(renewal.finish(&mut store).err(), Some(Error::CommitsFull));
+    assert_eq!(store.commits(), 7);
     Ok(())
 }
 

@@ -1,7 +1,8 @@
 //! Threads that share a store, a snapshot and a query.
 
-use gist::{Error, Feed, Interval, Query, SharedStore, Snapshot, Store};
+use gist::{Error, Feed, Interval, Limits, Query, Renewal, SharedStore, Snapshot, Store};
 use std::panic::{catch_unwind, AssertUnwindSafe};
+use std::sync::Mutex;
 use std::thread;
 use std::time::Duration;
 
@@ -93,15 +94,43 @@ fn a_store_stays_good_where_work_on_it_panics() -> Result<(), Error> {
     Ok(())
 }
 
+/// A writer moves a row on and on, and another thread renews the store meanwhile: no move is lost or made twice.
 #[test]
-fn a_store_is_replaced_by_one_that_is_renewed() -> Result<(), Error> {
+fn a_store_is_renewed_beside_a_writer() -> Result<(), Error> {
+    const MOVES: i64 = 2_000;
     let rooms = SharedStore::new(Store::<Interval>::new()?);
-    rooms.write(|store| store.insert_all((0..9).map(|n| (n, 0))))?;
-    rooms.write(|store| store.delete_all(&[1, 2, 3]))?;
-    rooms.write(|store| -> Result<(), Error> {
-        *store = store.snapshot()?.renew(gist::Limits::default())?.store;
-        Ok(())
+    let mine = Mutex::new(rooms.write(|store| store.insert(0, 71))?);
+    rooms.write(|store| store.insert_all((0..ROWS).map(|n| (n, 0))))?;
+    let replaced = thread::scope(|scope| {
+        let writer = scope.spawn(|| {
+            for n in 1..=MOVES {
+                rooms.write(|store| {
+                    let mut mine = mine.lock().expect("nobody panics");
+                    *mine = store.move_to(*mine, n)?;
+                    Ok::<(), Error>(())
+                })?;
+            }
+            Ok::<(), Error>(())
+        });
+        let mut renewal = Renewal::begin(&rooms.snapshot()?, Limits::default())?;
+        renewal.catch_up(&rooms.snapshot()?)?;
+        let replaced = rooms.write(|store| {
+            let replaced = renewal.finish(store)?;
+            let mut mine = mine.lock().expect("nobody panics");
+            *mine = replaced.numbers[&mine];
+            Ok::<_, Error>(replaced)
+        })?;
+        writer.join().expect("a writer doesn't panic")?;
+        Ok::<_, Error>(replaced)
     })?;
-    assert_eq!(rooms.snapshot()?.commits(), 6);
+    let (now, mine) = (rooms.snapshot()?, *mine.lock().expect("nobody panics"));
+    assert_eq!(replaced.numbers.len() as i64, ROWS + 1);
+    assert_eq!(
+        now.get(mine)?.map(|row| (row.key, row.tag)),
+        Some((MOVES.into(), 71))
+    );
+    assert_eq!(now.len()? as i64, ROWS + 1);
+    let moves_before = replaced.before.commits() as i64 - ROWS - 1;
+    assert!(now.commits() as i64 >= ROWS + 1 + MOVES - moves_before);
     Ok(())
 }
