@@ -112,27 +112,19 @@ pub fn query<C: Drawn>(
     source: &mut Source,
     depth: u32,
 ) -> Result<Pred<C::Atom>, Refusal> {
-    if depth <= 1 {
+    let kind = source.below(6);
+    if depth <= 1 || kind > 2 {
         return Ok(Pred::Atom(C::atom(source)?));
     }
-    match source.below(6) {
-        0 => {
-            let part = query::<C>(alloc, source, depth - 1)?;
-            Ok(Pred::Not(Box::new(alloc, part)?))
-        }
-        1 => {
-            let left = query::<C>(alloc, source, depth - 1)?;
-            let right = query::<C>(alloc, source, depth - 1)?;
-            let left = Box::new(alloc, left)?;
-            Ok(Pred::And(left, Box::new(alloc, right)?))
-        }
-        2 => {
-            let left = query::<C>(alloc, source, depth - 1)?;
-            let right = query::<C>(alloc, source, depth - 1)?;
-            let left = Box::new(alloc, left)?;
-            Ok(Pred::Or(left, Box::new(alloc, right)?))
-        }
-        _ => Ok(Pred::Atom(C::atom(source)?)),
+    let left = Box::new(alloc, query::<C>(alloc, source, depth - 1)?)?;
+    if kind == 0 {
+        return Ok(Pred::Not(left));
+    }
+    let right = Box::new(alloc, query::<C>(alloc, source, depth - 1)?)?;
+    if kind == 1 {
+        Ok(Pred::And(left, right))
+    } else {
+        Ok(Pred::Or(left, right))
     }
 }
 

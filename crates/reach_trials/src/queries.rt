@@ -53,29 +53,51 @@ fn an_atom_is_looked_for_under_its_operand(rt: HostRuntime) -> Result<(), Fail> 
     Ok(())
 }
 
+/// Whether a query with both parts is looked for under the intervals with these ends.
+fn and_has_ends(
+    alloc: Global,
+    left: Pred<Atom>,
+    right: Pred<Atom>,
+    wanted: &[(i64, i64)],
+) -> Result<bool, Refusal> {
+    has_ends(alloc, &both(alloc, left, right)?, wanted)
+}
+
 #[test]
 fn an_or_is_looked_for_under_both_parts(rt: HostRuntime) -> Result<(), Fail> {
     let query = either(rt.alloc(), overlapping(1, 5)?, overlapping(7, 8)?)?;
     assert!(rt; has_ends(rt.alloc(), &query, &[(1, 5), (7, 8)])?);
+    Ok(())
+}
+
+#[test]
+fn an_or_with_a_not_is_looked_for_everywhere(rt: HostRuntime) -> Result<(), Fail> {
     let any = negated(rt.alloc(), overlapping(2, 2)?)?;
-    let query = either(rt.alloc(), query, any)?;
+    let query = either(rt.alloc(), overlapping(1, 5)?, any)?;
     assert!(rt; ends(rt.alloc(), &query)?.is_none());
     Ok(())
 }
 
 #[test]
 fn an_and_is_looked_for_under_its_narrower_part(rt: HostRuntime) -> Result<(), Fail> {
-    let alloc = rt.alloc();
-    let query = both(alloc, overlapping(1, 5)?, overlapping(4, 7)?)?;
-    assert!(rt; has_ends(alloc, &query, &[(4, 7)])?);
-    let query = both(alloc, overlapping(0, 3)?, overlapping(4, 7)?)?;
-    assert!(rt; has_ends(alloc, &query, &[(0, 3)])?);
-    let ends = either(alloc, overlapping(0, 0)?, overlapping(9, 9)?)?;
-    let query = both(alloc, query, ends)?;
-    assert!(rt; has_ends(alloc, &query, &[(0, 0), (9, 9)])?);
-    let any = negated(alloc, overlapping(2, 2)?)?;
-    let query = both(alloc, any, query)?;
-    assert!(rt; has_ends(alloc, &query, &[(0, 0), (9, 9)])?);
+    let (one, other) = (overlapping(1, 5)?, overlapping(4, 7)?);
+    assert!(rt; and_has_ends(rt.alloc(), one, other, &[(4, 7)])?);
+    let (one, other) = (overlapping(0, 3)?, overlapping(4, 7)?);
+    assert!(rt; and_has_ends(rt.alloc(), one, other, &[(0, 3)])?);
+    Ok(())
+}
+
+#[test]
+fn an_or_may_be_the_narrower_part(rt: HostRuntime) -> Result<(), Fail> {
+    let ends = either(rt.alloc(), overlapping(0, 0)?, overlapping(9, 9)?)?;
+    assert!(rt; and_has_ends(rt.alloc(), overlapping(0, 3)?, ends, &[(0, 0), (9, 9)])?);
+    Ok(())
+}
+
+#[test]
+fn an_and_with_a_not_is_looked_for_under_its_other_part(rt: HostRuntime) -> Result<(), Fail> {
+    let any = negated(rt.alloc(), overlapping(2, 2)?)?;
+    assert!(rt; and_has_ends(rt.alloc(), any, overlapping(0, 3)?, &[(0, 3)])?);
     Ok(())
 }
 
@@ -93,13 +115,24 @@ fn set_query(rel: Rel, mask: u128) -> Pred<set_class::Atom> {
     })
 }
 
+/// The sets under which a query is looked for that asks for what is within a set and holds another.
+fn within_and_holding(
+    alloc: Global,
+    within: u128,
+    held: u128,
+) -> Result<Option<Vec<Elements>>, Refusal> {
+    let query = both(
+        alloc,
+        set_query(Rel::Within, within),
+        set_query(Rel::Holds, held),
+    )?;
+    Ok(reaches::<Sets>(alloc, &query)?)
+}
+
 #[test]
 fn a_query_of_sets_needs_an_element(rt: HostRuntime) -> Result<(), Fail> {
-    let alloc = rt.alloc();
-    let query = both(alloc, set_query(Rel::Within, 7), set_query(Rel::Holds, 2))?;
-    let keys = reaches::<Sets>(alloc, &query)?;
+    let keys = within_and_holding(rt.alloc(), 7, 2)?;
     assert!(rt; keys.is_some_and(|found| found.as_slice() == [Elements { mask: 2 }].as_slice()));
-    let query = both(alloc, set_query(Rel::Within, 7), set_query(Rel::Holds, 0))?;
-    assert!(rt; reaches::<Sets>(alloc, &query)?.is_none());
+    assert!(rt; within_and_holding(rt.alloc(), 7, 0)?.is_none());
     Ok(())
 }

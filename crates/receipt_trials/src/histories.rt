@@ -61,6 +61,52 @@ fn told<L: Ledger + Naming>(first: &Seat<Intervals, L>, second: &Seat<Intervals,
     [first.told(), second.told()]
 }
 
+/// What a seat did is told to itself, and to another that learns of it.
+fn learn<L: Ledger + Naming, R: Wait + Abort>(
+    rt: &R,
+    desk: &Desk<Intervals, L>,
+    first: &mut Seat<Intervals, L>,
+    second: &mut Seat<Intervals, L>,
+) -> Result<(), Fail> {
+    assert!(rt; told(first, second) == [0, 0]);
+    let _stamped = desk.insert(rt, first, KEY, 7)?;
+    assert!(rt; told(first, second) == [1, 0]);
+    assert!(rt; second.told_no_more_than(first) && !first.told_no_more_than(second));
+    second.learn(first);
+    assert!(rt; told(first, second) == [1, 1] && first.told_no_more_than(second));
+    Ok(())
+}
+
+/// A refusal that tells what another seat did.
+fn refused<L: Ledger + Naming, R: Wait + Abort>(
+    rt: &R,
+    desk: &Desk<Intervals, L>,
+    first: &mut Seat<Intervals, L>,
+    second: &mut Seat<Intervals, L>,
+) -> Result<(), Fail> {
+    let _stamped = desk.move_row(rt, second, 1, KEY)?;
+    assert!(rt; told(first, second) == [1, 2]);
+    assert!(rt; desk.delete(rt, first, 1).err() == Some(Refusal::AlreadyDeleted));
+    assert!(rt; told(first, second) == [2, 2]);
+    let _stamped = desk.delete(rt, first, 2)?;
+    assert!(rt; desk.insert(rt, second, KEY, 8).err() == Some(Refusal::CommitsFull));
+    assert!(rt; told(first, second) == [3, 3]);
+    Ok(())
+}
+
+fn snapshots<L: Ledger + Naming, R: Wait + Abort>(
+    rt: &R,
+    desk: &Desk<Intervals, L>,
+    first: &mut Seat<Intervals, L>,
+    second: &mut Seat<Intervals, L>,
+) -> Result<(), Fail> {
+    let (earlier, later) = snapshots_in_turn(rt, desk, first)?;
+    assert!(rt; earlier.commits() == 3 && later.commits() == 3);
+    let (_, learned) = snapshots_by_message(rt, desk, first, second)?;
+    assert!(rt; learned.find(&all()?)?.len() == 0);
+    Ok(())
+}
+
 fn two_seats<L: Ledger + Naming, R: Wait + Abort>(
     rt: &R,
     alloc: Global,
@@ -75,24 +121,9 @@ fn two_seats<L: Ledger + Naming, R: Wait + Abort>(
     let (desk, mut seats) = Desk::<Intervals, L>::new(alloc, blank, history, CONFIG, 2)?;
     let (firsts, seconds) = seats.split_at_mut(1);
     let (first, second) = (&mut firsts[0], &mut seconds[0]);
-    assert!(rt; told(first, second) == [0, 0]);
-    let _stamped = desk.insert(rt, first, KEY, 7)?;
-    assert!(rt; told(first, second) == [1, 0]);
-    assert!(rt; second.told_no_more_than(first) && !first.told_no_more_than(second));
-    second.learn(first);
-    assert!(rt; told(first, second) == [1, 1] && first.told_no_more_than(second));
-    let _stamped = desk.move_row(rt, second, 1, KEY)?;
-    assert!(rt; told(first, second) == [1, 2]);
-    assert!(rt; desk.delete(rt, first, 1).err() == Some(Refusal::AlreadyDeleted));
-    assert!(rt; told(first, second) == [2, 2]);
-    let _stamped = desk.delete(rt, first, 2)?;
-    assert!(rt; desk.insert(rt, second, KEY, 8).err() == Some(Refusal::CommitsFull));
-    assert!(rt; told(first, second) == [3, 3]);
-    let (earlier, later) = snapshots_in_turn(rt, &desk, first)?;
-    assert!(rt; earlier.commits() == 3 && later.commits() == 3);
-    let (_, learned) = snapshots_by_message(rt, &desk, first, second)?;
-    assert!(rt; learned.find(&all()?)?.len() == 0);
-    Ok(())
+    learn(rt, &desk, first, second)?;
+    refused(rt, &desk, first, second)?;
+    snapshots(rt, &desk, first, second)
 }
 
 #[test]

@@ -1,7 +1,7 @@
 ghost use Rattle.std.specs.Prelude.{◌≡◌};
 
 use change_list::{Config, Item, Write};
-use crossbeam_channel::{Receiver, unbounded};
+use crossbeam_channel::{Receiver, Sender, unbounded};
 use desk::{Desk, Taker};
 use history::{BlankHistory, Naming};
 use interval_class::{Interval, Intervals};
@@ -99,7 +99,45 @@ where
     )
 }
 
+/// Orders two turns of each of two cursors, and then the end for each of two pumps. Whether all were taken.
+fn order_all<R: Wait>(rt: &R, orders: &Sender<Order>) -> bool {
+    for order in [
+        Order::Turn(1, 2),
+        Order::Turn(2, 2),
+        Order::Stop,
+        Order::Stop,
+    ] {
+        if orders.send(rt, order).is_err() {
+            return false;
+        }
+    }
+    true
+}
+
 /// Two pumps, of which one waits at the gate while the other serves what opens it.
+fn pump_two<L: Ledger + Naming + Send + Sync, R: Threads + Wait + Clock + Abort + Sync>(
+    rt: &R,
+    alloc: Global,
+    desk: &Desk<Intervals, L>,
+    first: Taker<'_, Intervals, L>,
+    second: Taker<'_, Intervals, L>,
+) -> Result<(), Fail> {
+    let is_open = AtomicBool::new(false);
+    let pumps = Pumps::new(2, Held { is_open })?;
+    let (to, from) = unbounded(alloc)?;
+    assert!(rt; order_all(rt, &to));
+    let (taken, pumped) = pump_and_take(rt, alloc, desk, &pumps, &from, first, second);
+    assert_eq!(rt;
+        pumped,
+        Ok(Pumped {
+            turns: 4,
+            skipped: 0
+        })
+    );
+    assert_eq!(rt; taken, (Some(1), Some(1)));
+    Ok(())
+}
+
 fn two_pumps<L: Ledger + Naming + Send + Sync, R: Threads + Wait + Clock + Abort + Sync>(
     rt: &R,
     alloc: Global,
@@ -113,35 +151,10 @@ fn two_pumps<L: Ledger + Naming + Send + Sync, R: Threads + Wait + Clock + Abort
 {
     let (desk, mut seats) = Desk::<Intervals, L>::new(alloc, blank, history, CONFIG, 1)?;
     let seat = &mut seats[0];
-    let inserted = desk.insert(rt, seat, Interval::new(5, 5)?, 0)?;
-    assert_eq!(rt; inserted.number(), 1);
+    let _stamped = desk.insert(rt, seat, Interval::new(5, 5)?, 0)?;
     let first = desk.open_cursor(rt, seat, all()?, 1)?;
     let second = desk.open_cursor(rt, seat, all()?, 1)?;
-    let pumps = Pumps::new(
-        2,
-        Held {
-            is_open: AtomicBool::new(false),
-        },
-    )?;
-    let (to, from) = unbounded(alloc)?;
-    for order in [
-        Order::Turn(1, 2),
-        Order::Turn(2, 2),
-        Order::Stop,
-        Order::Stop,
-    ] {
-        assert!(rt; to.send(rt, order).is_ok());
-    }
-    let (taken, pumped) = pump_and_take(rt, alloc, &desk, &pumps, &from, first, second);
-    assert_eq!(rt;
-        pumped,
-        Ok(Pumped {
-            turns: 4,
-            skipped: 0
-        })
-    );
-    assert_eq!(rt; taken, (Some(1), Some(1)));
-    Ok(())
+    pump_two(rt, alloc, &desk, first, second)
 }
 
 #[test]

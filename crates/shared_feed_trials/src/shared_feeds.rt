@@ -7,7 +7,7 @@ use history::{BlankHistory, Naming};
 use interval_class::{Atom, Interval, Intervals};
 use interval_queries::{all, overlapping};
 use key_class::{Pred, Refusal};
-use shared_feed::SharedFeed;
+use shared_feed::{SharedFeed, Subscriber};
 use std::alloc::Global;
 use std::marker::Brand;
 use std::process::Abort;
@@ -60,17 +60,109 @@ fn refusals<L: Ledger + Naming, R: Wait + Abort>(
     seat: &Seat<Intervals, L>,
 ) -> Result<(), Fail> {
     let told = seat.told();
-    let bad = Some(Refusal::BadConfig);
-    assert!(rt; refusal(rt, feed, seat, all()?, 0, 0) == bad);
-    assert!(rt; refusal(rt, feed, seat, all()?, 0, 4_097) == bad);
-    assert!(rt; refusal(rt, feed, seat, too_deep(alloc)?, 0, 1) == bad);
-    let future = Some(Refusal::FromFuture);
-    assert!(rt; refusal(rt, feed, seat, all()?, told.saturating_add(1), 1) == future);
-    assert!(rt; refusal(rt, feed, seat, all()?, told, 4_096).is_none());
+    for (from, room, wanted) in [
+        (0, 0, Some(Refusal::BadConfig)),
+        (0, 4_097, Some(Refusal::BadConfig)),
+        (told.saturating_add(1), 1, Some(Refusal::FromFuture)),
+        (told, 4_096, None),
+    ] {
+        assert!(rt; refusal(rt, feed, seat, all()?, from, room) == wanted);
+    }
+    assert!(rt; refusal(rt, feed, seat, too_deep(alloc)?, 0, 1) == Some(Refusal::BadConfig));
     Ok(())
 }
 
-/// A ring of two places is full at the third item. It loses nothing, and neither does one beside it.
+/// Four commits: three rows at one place, and the second at another.
+fn four_rows<L: Ledger + Naming, R: Wait>(
+    rt: &R,
+    desk: &Desk<Intervals, L>,
+    writer: &mut Seat<Intervals, L>,
+) -> Result<(), Refusal> {
+    for key in [LOW, HIGH, LOW, LOW] {
+        let _stamped = desk.insert(rt, writer, key, 0)?;
+    }
+    Ok(())
+}
+
+/// Two more: the row at the other place comes to the first, and is deleted.
+fn two_changes<L: Ledger + Naming, R: Wait>(
+    rt: &R,
+    desk: &Desk<Intervals, L>,
+    writer: &mut Seat<Intervals, L>,
+) -> Result<(), Refusal> {
+    let _stamped = desk.move_row(rt, writer, 2, LOW)?;
+    let _stamped = desk.delete(rt, writer, 5)?;
+    Ok(())
+}
+
+/// The first commit alone, and then all: a ring of two places is full at the third item.
+fn take_four<L: Ledger + Naming, R: Wait + Abort>(
+    rt: &R,
+    desk: &Desk<Intervals, L>,
+    seat: &mut Seat<Intervals, L>,
+    feed: &SharedFeed<Intervals, L>,
+    narrow: &mut Subscriber<'_, Intervals, L>,
+    taken: &mut Vec<Item<Interval>>,
+) -> Result<(), Fail> {
+    assert!(rt; feed.advance(rt, desk, seat, 1)? == 1);
+    assert!(rt; narrow.take() == Some(inserted(1, LOW)) && narrow.take().is_none());
+    taken.push(inserted(1, LOW))?;
+    assert!(rt; feed.advance(rt, desk, seat, 9)? == 4);
+    assert!(rt; narrow.catch_up(rt, desk, seat, taken)?);
+    assert!(rt; taken.len() == 4 && taken[3] == inserted(4, LOW));
+    Ok(())
+}
+
+fn take_two_more<L: Ledger + Naming, R: Wait + Abort>(
+    rt: &R,
+    desk: &Desk<Intervals, L>,
+    seat: &mut Seat<Intervals, L>,
+    feed: &SharedFeed<Intervals, L>,
+    narrow: &mut Subscriber<'_, Intervals, L>,
+    taken: &mut Vec<Item<Interval>>,
+) -> Result<(), Fail> {
+    assert!(rt; feed.advance(rt, desk, seat, 9)? == 6);
+    assert!(rt; !narrow.catch_up(rt, desk, seat, taken)?);
+    assert!(rt; taken.len() == 6 && taken[5] == Item::Deleted(6, 5));
+    Ok(())
+}
+
+/// A subscriber with a ring of two places is told of all six commits. What it was given.
+fn all_commits<L: Ledger + Naming, R: Wait + Abort>(
+    rt: &R,
+    alloc: Global,
+    desk: &Desk<Intervals, L>,
+    writer: &mut Seat<Intervals, L>,
+    seat: &mut Seat<Intervals, L>,
+    feed: &SharedFeed<Intervals, L>,
+) -> Result<Vec<Item<Interval>>, Fail> {
+    let mut narrow = feed.subscribe(rt, seat, all()?, 0, 2)?;
+    assert!(rt; feed.advance(rt, desk, seat, 9)? == 0 && narrow.take().is_none());
+    four_rows(rt, desk, writer)?;
+    let mut taken = Vec::new(alloc);
+    take_four(rt, desk, seat, feed, &mut narrow, &mut taken)?;
+    two_changes(rt, desk, writer)?;
+    take_two_more(rt, desk, seat, feed, &mut narrow, &mut taken)?;
+    let receipt = narrow.close(rt, desk, seat, taken.as_slice());
+    assert!(rt; receipt.is_some_and(|receipt| receipt.commits() == 6) && seat.told() == 6);
+    Ok(taken)
+}
+
+/// What a subscriber to the other place hears of: the row that came there and went.
+fn hear<L: Ledger + Naming, R: Wait + Abort>(
+    rt: &R,
+    alloc: Global,
+    desk: &Desk<Intervals, L>,
+    seat: &mut Seat<Intervals, L>,
+    high: &mut Subscriber<'_, Intervals, L>,
+) -> Result<(), Fail> {
+    let mut heard = Vec::new(alloc);
+    assert!(rt; !high.catch_up(rt, desk, seat, &mut heard)?);
+    assert!(rt; heard.as_slice() == [inserted(2, HIGH), Item::Deleted(5, 2)].as_slice());
+    Ok(())
+}
+
+/// A subscriber whose ring gets full loses nothing, and neither does one beside it.
 fn two_subscribers<L: Ledger + Naming, R: Wait + Abort>(
     rt: &R,
     alloc: Global,
@@ -79,37 +171,26 @@ fn two_subscribers<L: Ledger + Naming, R: Wait + Abort>(
     seat: &mut Seat<Intervals, L>,
 ) -> Result<(), Fail> {
     let feed = SharedFeed::new(alloc, seat)?;
-    let mut narrow = feed.subscribe(rt, seat, all()?, 0, 2)?;
     let mut high = feed.subscribe(rt, seat, overlapping(100, 199)?, 0, 9)?;
-    assert!(rt; feed.advance(rt, desk, seat, 9)? == 0 && narrow.take().is_none());
-    for key in [LOW, HIGH, LOW, LOW] {
-        let _stamped = desk.insert(rt, writer, key, 0)?;
-    }
+    let taken = all_commits(rt, alloc, desk, writer, seat, &feed)?;
+    hear(rt, alloc, desk, seat, &mut high)?;
     refusals(rt, alloc, &feed, seat)?;
-    // the first commit alone, then all
-    assert!(rt; feed.advance(rt, desk, seat, 1)? == 1);
-    assert!(rt; narrow.take() == Some(inserted(1, LOW)) && narrow.take().is_none());
-    assert!(rt; feed.advance(rt, desk, seat, 9)? == 4);
-    let mut taken = Vec::new(alloc);
-    taken.push(inserted(1, LOW))?;
-    assert!(rt; narrow.catch_up(rt, desk, seat, &mut taken)?);
-    assert!(rt; taken.len() == 4 && taken[3] == inserted(4, LOW));
-    let _stamped = desk.move_row(rt, writer, 2, LOW)?;
-    let _stamped = desk.delete(rt, writer, 5)?;
-    assert!(rt; feed.advance(rt, desk, seat, 9)? == 6);
-    assert!(rt; !narrow.catch_up(rt, desk, seat, &mut taken)?);
-    assert!(rt; taken.len() == 6 && taken[5] == Item::Deleted(6, 5));
-    let Some(receipt) = narrow.close(rt, desk, seat, taken.as_slice()) else {
-        return Err(Refusal::BadConfig.into());
-    };
-    assert!(rt; receipt.commits() == 6 && seat.told() == 6);
-    let mut heard = Vec::new(alloc);
-    assert!(rt; !high.catch_up(rt, desk, seat, &mut heard)?);
-    assert!(rt;
-        heard.len() == 2 && heard[0] == inserted(2, HIGH) && heard[1] == Item::Deleted(5, 2)
-    );
     // what somebody else took is nothing that it was given
     assert!(rt; high.close(rt, desk, seat, taken.as_slice()).is_none());
+    Ok(())
+}
+
+/// One that begins earlier than the feed stands.
+fn begin_earlier<L: Ledger + Naming, R: Wait + Abort>(
+    rt: &R,
+    desk: &Desk<Intervals, L>,
+    seat: &mut Seat<Intervals, L>,
+    feed: &SharedFeed<Intervals, L>,
+) -> Result<(), Fail> {
+    let mut early = feed.subscribe(rt, seat, all()?, 1, 9)?;
+    assert!(rt; feed.advance(rt, desk, seat, 2)? == 4);
+    assert!(rt; early.take() == Some(inserted(2, HIGH)));
+    early.give_up(rt);
     Ok(())
 }
 
@@ -123,12 +204,9 @@ fn late_and_early<L: Ledger + Naming, R: Wait + Abort>(
     let feed = SharedFeed::new(alloc, seat)?;
     let mut late = feed.subscribe(rt, seat, all()?, 3, 9)?;
     assert!(rt; feed.advance(rt, desk, seat, 2)? == 2 && late.take().is_none());
-    let mut early = feed.subscribe(rt, seat, all()?, 1, 9)?;
-    assert!(rt; feed.advance(rt, desk, seat, 2)? == 4);
+    begin_earlier(rt, desk, seat, &feed)?;
     assert!(rt; late.take() == Some(inserted(4, LOW)) && late.take().is_none());
-    assert!(rt; early.take() == Some(inserted(2, HIGH)));
     late.give_up(rt);
-    early.give_up(rt);
     assert!(rt; feed.advance(rt, desk, seat, 9)? == 6);
     Ok(())
 }
