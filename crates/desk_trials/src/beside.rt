@@ -78,8 +78,8 @@ fn one_after_the_other<L: Ledger + Naming, R: Wait + Abort>(
     desk: &Desk<Intervals, L>,
     seat: &mut Seat<Intervals, L>,
 ) -> Result<(), Fail> {
-    let mut first = desk.open_cursor(rt, seat, all()?, ROOM)?;
-    let mut second = desk.open_cursor(rt, seat, all()?, ROOM)?;
+    let mut first = desk.open_cursor(rt, seat, all(), ROOM)?;
+    let mut second = desk.open_cursor(rt, seat, all(), ROOM)?;
     assert!(rt; sends_all(rt, desk, &first) && taken(&mut first) == (3, 0));
     assert!(rt; sends_mark(rt, desk, &mut first));
     assert!(rt; second.take().is_none(), "the second cursor was turned");

@@ -99,8 +99,8 @@ fn open<'d, L: Ledger + Naming, R: Wait>(
     seat: &mut Seat<Intervals, L>,
     refusals: &mut Refusals,
 ) -> Result<Taker<'d, Intervals, L>, Refusal> {
-    match desk.open_cursor(rt, seat, all()?, 2) {
-        Err(why) if refusals.notes(Some(why)) => desk.open_cursor(rt, seat, all()?, 2),
+    match desk.open_cursor(rt, seat, all(), 2) {
+        Err(why) if refusals.notes(Some(why)) => desk.open_cursor(rt, seat, all(), 2),
         opened => opened,
     }
 }
@@ -112,8 +112,8 @@ fn open_from<'d, L: Ledger + Naming, R: Wait>(
     refusals: &mut Refusals,
     commit: u64,
 ) -> Result<Taker<'d, Intervals, L>, Refusal> {
-    match desk.open_from(rt, seat, all()?, 2, commit) {
-        Err(why) if refusals.notes(Some(why)) => desk.open_from(rt, seat, all()?, 2, commit),
+    match desk.open_from(rt, seat, all(), 2, commit) {
+        Err(why) if refusals.notes(Some(why)) => desk.open_from(rt, seat, all(), 2, commit),
         opened => opened,
     }
 }

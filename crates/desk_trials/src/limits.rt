@@ -27,7 +27,7 @@ fn open<L: Ledger + Naming, R: Wait>(
     seat: &mut Seat<Intervals, L>,
     room: u64,
 ) -> Result<u64, Refusal> {
-    Ok(desk.open_cursor(rt, seat, all()?, room)?.opened())
+    Ok(desk.open_cursor(rt, seat, all(), room)?.opened())
 }
 
 /// 64 seats, and a cursor's room and number at their limits.

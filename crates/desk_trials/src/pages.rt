@@ -66,7 +66,7 @@ fn read<L: Ledger + Naming, R: Wait>(
     desk: &Desk<Intervals, L>,
     seat: &mut Seat<Intervals, L>,
 ) -> Result<u64, Refusal> {
-    let mut taker = desk.open_cursor(rt, seat, all()?, 4)?;
+    let mut taker = desk.open_cursor(rt, seat, all(), 4)?;
     let items = sent(rt, alloc, desk, &mut taker)?;
     match taker.close(rt, seat, items.as_slice()) {
         Ended::Receipt(_) => Ok(items.len() as u64),

@@ -32,7 +32,7 @@ fn told<L: Ledger + Naming, R: Wait>(
     let Ok(snapshot) = desk.snapshot(rt, seat) else {
         return Ok(None);
     };
-    let rows = snapshot.find(&all()?)?;
+    let rows = snapshot.find(&all())?;
     Ok(Some((snapshot.commits(), rows.len(), snapshot.status(1)?)))
 }
 

@@ -91,7 +91,7 @@ fn turns_come_to_that<L: Ledger + Naming, R: Wait + Abort>(
     desk: &Desk<Intervals, L>,
     seat: &mut Seat<Intervals, L>,
 ) -> Result<(), Fail> {
-    let mut taker = desk.open_cursor(rt, seat, all()?, ROOM)?;
+    let mut taker = desk.open_cursor(rt, seat, all(), ROOM)?;
     let wrong = first_wrong(rt, desk, &taker);
     assert!(rt; wrong.is_none(), "{wrong:?}");
     for _ in 0..ROOM {

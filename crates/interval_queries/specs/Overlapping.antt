@@ -1,4 +1,4 @@
-use Rattle.std.specs.Prelude.{ℤ, ◌≡◌}
+use Rattle.std.specs.Prelude.{ℤ, ◌≡◌, negsuc, pos}
 use Rattle.key_class.specs.declared.pred.Pred.{Pred}
 use Rattle.key_class.specs.declared.pred.Pred.TheVariants.{Atom}
 use Rattle.key_class.specs.declared.sides.Rel.TheVariants.{Overlaps}
@@ -11,3 +11,10 @@ pub record AsksForOverlaps (lo hi : ℤ) (query : Pred asked.Atom) : Type 0 wher
   pub overlaps : atom.rel ≡ Overlaps
   pub low : atom.operand.lo ≡ lo
   pub high : atom.operand.hi ≡ hi
+
+-- the least and the greatest end that an interval can have
+abbrev pub lowest : ℤ
+lowest = negsuc 9223372036854775807
+
+abbrev pub highest : ℤ
+highest = pos 9223372036854775807

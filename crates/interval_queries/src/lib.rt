@@ -1,9 +1,9 @@
 //! Queries of intervals that tests ask.
 #![tactic(auto)]
 
-ghost use Rattle.std.specs.Prelude.{◌≡◌, ◌<ℤ◌, IfErr, IfOk, negsuc, pos};
+ghost use Rattle.std.specs.Prelude.{◌≡◌, ◌<ℤ◌, IfErr, IfOk};
 ghost use Rattle.key_class.specs.declared.refusal.Refusal.TheVariants.{BadConfig};
-ghost use Rattle.interval_queries.specs.Overlapping.{AsksForOverlaps};
+ghost use Rattle.interval_queries.specs.Overlapping.{AsksForOverlaps, highest, lowest};
 
 use interval_class::{Atom, Interval};
 use key_class::{Pred, Refusal, Rel};
@@ -24,11 +24,14 @@ pub fn overlapping(lo: i64, hi: i64) -> Result<Pred<Atom>, Refusal>
 }
 
 /// What overlaps any interval: every row.
-///
-/// # Errors
-/// As `overlapping`.
-pub fn all() -> Result<Pred<Atom>, Refusal>
-    ensures asks { IfOk result (AsksForOverlaps (negsuc 9223372036854775807) (pos 9223372036854775807)) }
+pub fn all() -> Pred<Atom>
+    ensures asks { AsksForOverlaps lowest highest result }
 {
-    overlapping(i64::MIN, i64::MAX)
+    Pred::Atom(Atom {
+        rel: Rel::Overlaps,
+        operand: Interval {
+            lo: i64::MIN,
+            hi: i64::MAX,
+        },
+    })
 }

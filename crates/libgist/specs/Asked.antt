@@ -1,6 +1,6 @@
 -- What is answered of what a handle has, whichever its class is.
 use Rattle.std.specs.Prelude.{◌≡◌, ℕ, Bool, List, length, Result, Ok}
-use Rattle.libgist.specs.Calls.{Passing, IsTelling, IsOpening, IsFollowing}
+use Rattle.libgist.specs.Calls.{Passing, IsTelling, IsTellingStanding, IsOpening, IsFollowing}
 use Rattle.libgist.specs.Classes.{InSnapshot, InSnapshotBy, InStore, InStoreBy}
 use Rattle.libgist.specs.Denials.{PassesOn}
 use Rattle.libgist.specs.Feeding.{InFeedBy, InFeedOver}
@@ -10,6 +10,7 @@ use Rattle.libgist.specs.Reading.{IsFind, IsCount, IsChanges, IsRowOf}
 use Rattle.libgist.specs.Shown.{shown_commit}
 use Rattle.libgist.specs.declared.denied.Denied.{Denied}
 use Rattle.libgist.specs.declared.figures.Figures.{Figures}
+use Rattle.libgist.specs.declared.figures.ShownStanding.{ShownStanding}
 use Rattle.libgist.specs.declared.held.Held.{Held}
 use Rattle.libgist.specs.declared.words.KeyWords.{KeyWords}
 use Rattle.libgist.specs.declared.words.ShownItem.{ShownItem}
@@ -48,6 +49,10 @@ AnswersChanges from before after = InSnapshotBy (λ K A class query commits. Pas
 -- how far a store has come
 abbrev pub AnswersStats : Held → Result Figures Denied → Type 0
 AnswersStats held answer = InStore (λ K A class. IsTelling) held answer held
+
+-- where the open cursor at a place stands
+abbrev pub AnswersStanding : ℕ → Held → Result ShownStanding Denied → Type 0
+AnswersStanding place held answer = InStore (λ K A class. IsTellingStanding place) held answer held
 
 -- a cursor of a store is opened on a query, or so that it follows a commit
 abbrev pub AnswersOpening : Held → Held → Result ℕ Denied → Held → Type 0

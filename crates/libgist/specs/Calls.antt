@@ -1,5 +1,5 @@
 -- What the calls of a store answer and leave, clause by clause.
-use Rattle.std.specs.Prelude.{◌≡◌, ◌≢◌, ◌↔◌, ℕ, ◌+◌, ◌≤◌, ◌<◌, ◌⊎◌, List, length, map, Option, Some, None, Result, Ok, Err, IfOk, IfErr, OnOk, OnErr, IsPermutation}
+use Rattle.std.specs.Prelude.{◌≡◌, ◌≢◌, ◌↔◌, ℕ, ◌+◌, ◌≤◌, ◌<◌, ◌⊎◌, false, List, length, map, option_map, slice_get, Option, Some, None, Result, Ok, Err, IfOk, IfErr, OnOk, OnErr, IsPermutation}
 use Rattle.key_class.specs.declared.refusal.Refusal.{Refusal}
 use Rattle.key_class.specs.declared.refusal.Refusal.TheVariants.{BadConfig, OutOfMemory, CommitsFull, NoSuchRow, AlreadyDeleted, FindersFull, CursorsFull, FromFuture}
 use Rattle.key_class.specs.declared.pred.Pred.{Pred}
@@ -10,11 +10,13 @@ use Rattle.change_list.specs.declared.item.Item.{Item}
 use Rattle.change_list.specs.Changes.{IsLegal, NamesNoRow, NamesDead}
 use Rattle.relocation.specs.Moves.{IsToldFirst}
 use Rattle.store.specs.declared.stats.Stats.{Stats}
-use Rattle.store.specs.Stats.{TellsOf}
+use Rattle.store.specs.declared.stats.Standing.{Standing}
+use Rattle.store.specs.Stats.{TellsOf, standing_of}
 use Rattle.store.specs.States.{StoreState, Commits, Keeps, IsBadOpening, IsFromFuture, IsOpenedFor, IsFollowerFor, IsFullOf, HasFewPages, HasNoCommitLeft, HasNoCommitFor, HasNoFinderFor, HasNoCursorFor, HasNoFollowerFor, RefusesRow, RefusesCursor, RefusesFollower, RefusesNext, Gave, AddsDead, MayRefuseDelete, MayRefuseMove, LacksCursor, Closes, SweepsStore, SweepsStorePart, Nexts, ChangesCursor, with_asking}
 use Rattle.libgist.specs.declared.words.KeyWords.{KeyWords}
 use Rattle.libgist.specs.declared.words.NewRow.{NewRow}
 use Rattle.libgist.specs.declared.figures.Figures.{Figures}
+use Rattle.libgist.specs.declared.figures.ShownStanding.{ShownStanding}
 use Rattle.libgist.specs.declared.words.ShownItem.{ShownItem}
 use Rattle.libgist.specs.declared.denied.Denied.{Denied}
 use Rattle.libgist.specs.declared.denied.Denied.TheVariants.{BadEnds}
@@ -26,6 +28,11 @@ use Rattle.libgist.specs.Shown.{shown_item}
 -- the numbers of a store, as C is given them
 abbrev pub figures_of : Stats → Figures
 figures_of stats = record { commits = stats.commits; commit_limit = stats.commit_limit; pages = stats.pages; page_limit = stats.page_limit; cursors = stats.cursors; horizon = stats.horizon }
+
+-- where a cursor stands, as C is given it, or that there is none
+abbrev pub shown_standing : Option Standing → ShownStanding
+shown_standing (Some standing) = record { cursor = standing.serial; opened = standing.opened; lag = standing.lag; is_scanning = standing.is_scanning }
+shown_standing None = record { cursor = 0; opened = 0; lag = 0; is_scanning = false }
 
 -- a call that passes on what one below it answers
 abbrev pub Passing : {S V : Type 0} → (S → Result V Refusal → S → Type 0) → S → Result V Denied → S → Type 0
@@ -156,4 +163,9 @@ module _ {K A : Type 0} where
     pub stats : Stats
     pub tells : TellsOf old stats
     pub told : answer ≡ Ok (figures_of stats)
+    pub same : new ≡ old
+
+  -- where the open cursor at a place stands is told, and the store stays
+  pub record IsTellingStanding (place : ℕ) (old : StoreState K A) (answer : Result ShownStanding Denied) (new : StoreState K A) : Type 0 where
+    pub told : answer ≡ Ok (shown_standing (option_map (standing_of (length old.commits)) (slice_get old.cursors place)))
     pub same : new ≡ old

@@ -1,12 +1,12 @@
 //! The calls of a store that a handle has, whichever its class is.
 ghost use Rattle.std.specs.Prelude.{◌≡◌, OnErr};
-ghost use Rattle.libgist.specs.Asked.{AnswersFollowing, AnswersOpening, AnswersStats};
+ghost use Rattle.libgist.specs.Asked.{AnswersFollowing, AnswersOpening, AnswersStanding, AnswersStats};
 ghost use Rattle.libgist.specs.Calls.{Passing, IsInserting, IsDeleting, IsMovingTo, IsTaking, IsSweep, IsAsking, IsClosing};
 ghost use Rattle.libgist.specs.Classes.{InStore};
 
 use crate::by_class::{in_store, in_store_by, of_class, of_one_class};
 use crate::denied::{Denied, passed_on};
-use crate::figures::Figures;
+use crate::figures::{Figures, ShownStanding};
 use crate::held::{AnyQuery, AnyStore, Held};
 use crate::stores;
 use crate::words::{KeyWords, NewRow, ShownItem};
@@ -47,6 +47,13 @@ pub fn stats(held: &Held) -> Result<Figures, Denied>
     ensures { AnswersStats held.now result }
 {
     in_store!(held, store => stores::stats(store))
+}
+
+/// Tells where the open cursor at a place stands.
+pub fn standing(held: &Held, place: u64) -> Result<ShownStanding, Denied>
+    ensures { AnswersStanding place held.now result }
+{
+    in_store!(held, store => stores::standing(store, place))
 }
 
 /// Gives a cursor's next items.

@@ -11,3 +11,16 @@ pub struct Figures {
     /// The commit from which on no open scan needs the dead.
     pub horizon: u64,
 }
+
+/// Where an open cursor stands, as C is given it. All is 0 where no such cursor is open.
+#[repr(C)]
+#[derive(Clone, Copy)]
+pub struct ShownStanding {
+    pub cursor: u64,
+    /// The number of commits at its opening, or of the commit that it follows.
+    pub opened: u64,
+    /// How many commits it hasn't passed yet.
+    pub lag: u64,
+    /// Whether it has pages left to visit.
+    pub is_scanning: bool,
+}

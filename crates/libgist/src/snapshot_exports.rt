@@ -21,7 +21,8 @@ pub unsafe extern "C" fn gist_commits(snapshot: *const Handle, commits: &mut u64
     ghost loan: { Loan }
     requires* { sem 𝓛 (is_lent snapshot loan) }
     ensures* back { sem 𝓛 (lasts loan) }
-    ensures told { Tells result commits.old commits.new (FromHandle AnswersCommits (state_of loan)) }
+    ensures told { Tells result commits.old commits.new
+        (FromHandle AnswersCommits (state_of loan)) }
 {
     tell_commits(&*(snapshot as *const Lent), commits)
 }

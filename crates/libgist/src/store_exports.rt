@@ -1,6 +1,6 @@
 //! What C can ask of a store.
 ghost use Rattle.std.specs.Prelude.{◌≡◌, ◌≢◌, None};
-ghost use Rattle.libgist.specs.Asked.{AnswersFollowing, AnswersOpening, AnswersStats};
+ghost use Rattle.libgist.specs.Asked.{AnswersFollowing, AnswersOpening, AnswersStanding, AnswersStats};
 ghost use Rattle.libgist.specs.Calls.{Passing, IsInserting, IsDeleting, IsMovingTo, IsTaking, IsSweep, IsAsking, IsClosing};
 ghost use Rattle.std.specs.Borrow.{sem};
 ghost use Rattle.libgist.specs.Classes.{FromHandle, OnHandle, OnHandles, InStore};
@@ -10,7 +10,7 @@ ghost use Rattle.libgist.specs.Making.{Makes, IsCreation};
 ghost use Rattle.libgist.specs.Told.{TellsCode, Tells};
 
 use crate::any_store;
-use crate::figures::Figures;
+use crate::figures::{Figures, ShownStanding};
 use crate::handle::Handle;
 use crate::lent::Lent;
 use crate::limits::{Limits, config};
@@ -106,8 +106,9 @@ pub extern "C" fn gist_delete(
 /// Removes the dead rows that no scan needs, and tells how many they were.
 #[unsafe(no_mangle)]
 pub extern "C" fn gist_sweep(alloc: Global, store: &mut Handle, removed: &mut u64) -> u32
-    ensures { Tells result removed.old removed.new (OnHandle (InStore (λ K A class. Passing (IsSweep
-        class.rules))) store.old.inside.state store.new.inside.state) }
+    ensures { Tells result removed.old removed.new
+        (OnHandle (InStore (λ K A class. Passing (IsSweep class.rules)))
+        store.old.inside.state store.new.inside.state) }
 {
     match store.take(alloc) {
         None => tell(no_handle(), removed),
@@ -137,6 +138,32 @@ fn tell_stats(store: &Lent, figures: &mut Figures) -> u32
     match store.held() {
         None => tell(no_handle(), figures),
         Some(held) => tell(any_store::stats(held), figures),
+    }
+}
+
+/// Tells where the open cursor at a place stands, or that fewer are open.
+#[unsafe(no_mangle)]
+pub unsafe extern "C" fn gist_standing_of(
+    store: *const Handle,
+    place: u64,
+    standing: &mut ShownStanding,
+) -> u32
+    ghost loan: { Loan }
+    requires* { sem 𝓛 (is_lent store loan) }
+    ensures* back { sem 𝓛 (lasts loan) }
+    ensures told { Tells result standing.old standing.new (FromHandle (AnswersStanding place)
+        (state_of loan)) }
+{
+    tell_standing(&*(store as *const Lent), place, standing)
+}
+
+fn tell_standing(store: &Lent, place: u64, standing: &mut ShownStanding) -> u32
+    ensures told { Tells result standing.old standing.new (FromHandle (AnswersStanding place)
+        store.now.inside.state) }
+{
+    match store.held() {
+        None => tell(no_handle(), standing),
+        Some(held) => tell(any_store::standing(held, place), standing),
     }
 }
 

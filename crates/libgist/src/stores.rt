@@ -1,11 +1,11 @@
 //! The calls of a store of any class, with what they promise in one word each.
 ghost use Rattle.std.specs.Prelude.{◌≡◌};
-ghost use Rattle.libgist.specs.Calls.{IsInserting, InsertsOne, IsDeleting, IsMovingTo, IsTaking, IsSweep, IsTelling, IsOpening, IsFollowing, IsAsking, IsClosing};
+ghost use Rattle.libgist.specs.Calls.{IsInserting, InsertsOne, IsDeleting, IsMovingTo, IsTaking, IsSweep, IsTelling, IsTellingStanding, IsOpening, IsFollowing, IsAsking, IsClosing};
 ghost use Rattle.libgist.specs.Shown.{shown_item};
 
 use crate::crossing::Crossing;
 use crate::denied::{Denied, passed_on};
-use crate::figures::Figures;
+use crate::figures::{Figures, ShownStanding};
 use crate::shown;
 use crate::words::{KeyWords, NewRow, ShownItem};
 use change_list::Item;
@@ -83,6 +83,26 @@ pub fn stats<C: KeyClass>(store: &Store<C>) -> Result<Figures, Denied>
         page_limit: stats.page_limit,
         cursors: stats.cursors,
         horizon: stats.horizon,
+    })
+}
+
+/// Tells where the open cursor at a place stands, by rising number, the first at place 0.
+pub fn standing<C: KeyClass>(store: &Store<C>, place: u64) -> Result<ShownStanding, Denied>
+    ensures { IsTellingStanding place store.now result store.now }
+{
+    let Some(standing) = store.standing(place) else {
+        return Ok(ShownStanding {
+            cursor: 0,
+            opened: 0,
+            lag: 0,
+            is_scanning: false,
+        });
+    };
+    Ok(ShownStanding {
+        cursor: standing.serial,
+        opened: standing.opened,
+        lag: standing.lag,
+        is_scanning: standing.is_scanning,
     })
 }
 

@@ -103,7 +103,7 @@ fn snapshots<L: Ledger + Naming, R: Wait + Abort>(
     let (earlier, later) = snapshots_in_turn(rt, desk, first)?;
     assert!(rt; earlier.commits() == 3 && later.commits() == 3);
     let (_, learned) = snapshots_by_message(rt, desk, first, second)?;
-    assert!(rt; learned.find(&all()?)?.len() == 0);
+    assert!(rt; learned.find(&all())?.len() == 0);
     Ok(())
 }
 

@@ -89,7 +89,7 @@ fn items(alloc: Global, letters: &[u8]) -> Result<Vec<Item<Interval>>, Refusal> 
 fn judges(alloc: Global, letters: &str) -> Result<bool, Refusal> {
     let commits = commits(alloc)?;
     let items = items(alloc, letters.as_bytes())?;
-    is_listing::<Intervals>(alloc, commits.as_view(), &all()?, 2, items.as_slice())
+    is_listing::<Intervals>(alloc, commits.as_view(), &all(), 2, items.as_slice())
 }
 
 #[test]

@@ -211,9 +211,9 @@ fn prepare<L: Ledger + Naming, R: Wait>(
         let _stamped = desk.insert(rt, seat, Interval::new(low, low)?, 0)?;
     }
     for room in [16, 16, 16, 16, 16, 16, 2] {
-        let _taker = desk.open_cursor(rt, seat, all()?, room)?;
+        let _taker = desk.open_cursor(rt, seat, all(), room)?;
     }
-    let _reply = desk.open_cursor(rt, seat, all()?, 16)?.give_up(rt);
+    let _reply = desk.open_cursor(rt, seat, all(), 16)?.give_up(rt);
     Ok(())
 }
 

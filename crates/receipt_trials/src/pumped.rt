@@ -152,8 +152,8 @@ fn two_pumps<L: Ledger + Naming + Send + Sync, R: Threads + Wait + Clock + Abort
     let (desk, mut seats) = Desk::<Intervals, L>::new(alloc, blank, history, CONFIG, 1)?;
     let seat = &mut seats[0];
     let _stamped = desk.insert(rt, seat, Interval::new(5, 5)?, 0)?;
-    let first = desk.open_cursor(rt, seat, all()?, 1)?;
-    let second = desk.open_cursor(rt, seat, all()?, 1)?;
+    let first = desk.open_cursor(rt, seat, all(), 1)?;
+    let second = desk.open_cursor(rt, seat, all(), 1)?;
     pump_two(rt, alloc, &desk, first, second)
 }
 

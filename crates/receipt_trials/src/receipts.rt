@@ -142,7 +142,7 @@ fn closed_with<L: Ledger + Naming, R: Wait>(
     damage: Damage,
 ) -> Result<Option<(u64, u64)>, Fail> {
     insert_all(rt, desk, seat, &[1, 2, 3])?;
-    let mut taker = desk.open_cursor(rt, seat, all()?, 16)?;
+    let mut taker = desk.open_cursor(rt, seat, all(), 16)?;
     let mut items = followed(rt, alloc, desk, seat, &mut taker)?;
     damaged(&mut items, damage)?;
     Ok(told(taker.close(rt, seat, items.as_slice())))
@@ -155,7 +155,7 @@ fn sent_of_all<L: Ledger + Naming, R: Wait>(
     desk: &Desk<Intervals, L>,
     seat: &mut Seat<Intervals, L>,
 ) -> Result<Vec<Item<Interval>>, Refusal> {
-    let mut taker = desk.open_cursor(rt, seat, all()?, 16)?;
+    let mut taker = desk.open_cursor(rt, seat, all(), 16)?;
     followed(rt, alloc, desk, seat, &mut taker)
 }
 
@@ -236,7 +236,7 @@ fn is_closed<L: Ledger + Naming, R: Wait>(
     desk: &Desk<Intervals, L>,
     seat: &mut Seat<Intervals, L>,
 ) -> Result<bool, Refusal> {
-    let taker = desk.open_cursor(rt, seat, all()?, 1)?;
+    let taker = desk.open_cursor(rt, seat, all(), 1)?;
     let cursor = taker.cursor();
     let _ended = taker.close(rt, seat, &[]);
     Ok(matches!(desk.turn(rt, cursor), Reply::Refused(Refusal::CursorClosed)))
@@ -270,11 +270,7 @@ fn is_received<L: Ledger + Naming, R: Wait>(
     desk: &Desk<Intervals, L>,
     seat: &mut Seat<Intervals, L>,
 ) -> bool {
-    let taker = match all() {
-        Ok(all) => desk.open_cursor(rt, seat, all, 4),
-        Err(why) => Err(why),
-    };
-    match taker {
+    match desk.open_cursor(rt, seat, all(), 4) {
         Ok(taker) => match taker.close(rt, seat, &[]) {
             Ended::Receipt(receipt) => receipt.commits() >= seat.share(),
             Ended::NoReceipt => false,
@@ -325,7 +321,7 @@ fn receipt<L: Ledger + Naming, R: Wait>(
     desk: &Desk<Intervals, L>,
     seat: &mut Seat<Intervals, L>,
 ) -> Result<Option<Receipt<Interval>>, Refusal> {
-    let mut taker = desk.open_cursor(rt, seat, all()?, 4)?;
+    let mut taker = desk.open_cursor(rt, seat, all(), 4)?;
     let _asked = desk.ask_mark(rt, taker.cursor());
     let items = sent(rt, alloc, desk, &mut taker)?;
     match taker.close(rt, seat, items.as_slice()) {

@@ -8,7 +8,7 @@ use interval_class::{Atom, Interval, Intervals};
 use interval_queries::{all, overlapping};
 use key_class::{Pred, Refusal};
 use shared_feed::{SharedFeed, Subscriber};
-use std::alloc::Global;
+use std::alloc::{AllocError, Global};
 use std::marker::Brand;
 use std::process::Abort;
 use std::sync::Wait;
@@ -32,8 +32,8 @@ fn inserted(row: u64, key: Interval) -> Item<Interval> {
 }
 
 /// A query of depth 33.
-fn too_deep(alloc: Global) -> Result<Pred<Atom>, Fail> {
-    let mut query = all()?;
+fn too_deep(alloc: Global) -> Result<Pred<Atom>, AllocError> {
+    let mut query = all();
     for _ in 0..32 {
         query = Pred::Not(Box::new(alloc, query)?);
     }
@@ -66,7 +66,7 @@ fn refusals<L: Ledger + Naming, R: Wait + Abort>(
         (told.saturating_add(1), 1, Some(Refusal::FromFuture)),
         (told, 4_096, None),
     ] {
-        assert!(rt; refusal(rt, feed, seat, all()?, from, room) == wanted);
+        assert!(rt; refusal(rt, feed, seat, all(), from, room) == wanted);
     }
     assert!(rt; refusal(rt, feed, seat, too_deep(alloc)?, 0, 1) == Some(Refusal::BadConfig));
     Ok(())
@@ -136,7 +136,7 @@ fn all_commits<L: Ledger + Naming, R: Wait + Abort>(
     seat: &mut Seat<Intervals, L>,
     feed: &SharedFeed<Intervals, L>,
 ) -> Result<Vec<Item<Interval>>, Fail> {
-    let mut narrow = feed.subscribe(rt, seat, all()?, 0, 2)?;
+    let mut narrow = feed.subscribe(rt, seat, all(), 0, 2)?;
     assert!(rt; feed.advance(rt, desk, seat, 9)? == 0 && narrow.take().is_none());
     four_rows(rt, desk, writer)?;
     let mut taken = Vec::new(alloc);
@@ -187,7 +187,7 @@ fn begin_earlier<L: Ledger + Naming, R: Wait + Abort>(
     seat: &mut Seat<Intervals, L>,
     feed: &SharedFeed<Intervals, L>,
 ) -> Result<(), Fail> {
-    let mut early = feed.subscribe(rt, seat, all()?, 1, 9)?;
+    let mut early = feed.subscribe(rt, seat, all(), 1, 9)?;
     assert!(rt; feed.advance(rt, desk, seat, 2)? == 4);
     assert!(rt; early.take() == Some(inserted(2, HIGH)));
     early.give_up(rt);
@@ -202,7 +202,7 @@ fn late_and_early<L: Ledger + Naming, R: Wait + Abort>(
     seat: &mut Seat<Intervals, L>,
 ) -> Result<(), Fail> {
     let feed = SharedFeed::new(alloc, seat)?;
-    let mut late = feed.subscribe(rt, seat, all()?, 3, 9)?;
+    let mut late = feed.subscribe(rt, seat, all(), 3, 9)?;
     assert!(rt; feed.advance(rt, desk, seat, 2)? == 2 && late.take().is_none());
     begin_earlier(rt, desk, seat, &feed)?;
     assert!(rt; late.take() == Some(inserted(4, LOW)) && late.take().is_none());

@@ -42,12 +42,9 @@ fn insert_rows<L: Ledger + Naming, R: Wait + Abort>(
         };
         assert!(rt; inserted.is_ok());
     }
-    let opened = match all() {
-        Ok(all) => desk
-            .open_cursor(rt, seat, all, 1)
-            .map(|taker| taker.opened()),
-        Err(why) => Err(why),
-    };
+    let opened = desk
+        .open_cursor(rt, seat, all(), 1)
+        .map(|taker| taker.opened());
     assert!(rt; opened.is_ok_and(|opened| opened >= seat.share()));
 }
 
@@ -178,8 +175,8 @@ fn work_and_follow<L: Ledger + Naming + Send + Sync, R: Threads + Wait + Abort +
     let Some(seat) = seats.get_mut(4) else {
         return Err(Refusal::BadConfig.into());
     };
-    let mut taker = desk.open_cursor(rt, seat, all()?, 4)?;
-    let mut wide = desk.open_cursor(rt, seat, all()?, 4_096)?;
+    let mut taker = desk.open_cursor(rt, seat, all(), 4)?;
+    let mut wide = desk.open_cursor(rt, seat, all(), 4_096)?;
     let (workers, _) = seats.split_at_mut(4);
     work_at_once(rt, desk, workers);
     follow(rt, desk, &mut taker);

@@ -205,8 +205,8 @@ fn write_and_follow<L: Ledger + Naming + Send + Sync, R: Threads + Wait + Abort 
     let Some(seat) = seats.get_mut(4) else {
         return Err(Refusal::BadConfig.into());
     };
-    let mut narrow = desk.open_cursor(rt, seat, all()?, 2)?;
-    let mut wide = desk.open_cursor(rt, seat, all()?, 4_096)?;
+    let mut narrow = desk.open_cursor(rt, seat, all(), 2)?;
+    let mut wide = desk.open_cursor(rt, seat, all(), 4_096)?;
     let mut taken = Vec::new(alloc);
     let mut others = Vec::new(alloc);
     let (writers, readers) = seats.split_at_mut(4);
@@ -228,7 +228,7 @@ pub fn is_whole(
     commits: &ChangeList<Interval>,
     reading: &Reading<Interval>,
 ) -> Result<bool, Refusal> {
-    let verdict = judged::<Intervals>(alloc, commits.as_view(), &all()?, reading)?;
+    let verdict = judged::<Intervals>(alloc, commits.as_view(), &all(), reading)?;
     Ok(verdict == Verdict::Whole)
 }
 

@@ -55,7 +55,7 @@ fn followed_once<L: Ledger + Naming, R: Wait>(
     commit: u64,
     times: usize,
 ) -> Result<(bool, Option<u64>, bool), Refusal> {
-    let mut taker = desk.open_from(rt, seat, all()?, 16, commit)?;
+    let mut taker = desk.open_from(rt, seat, all(), 16, commit)?;
     let told = taker.follows() && taker.opened() == commit;
     let _reply = desk.turn(rt, taker.cursor());
     let Some(item) = taker.take() else {
@@ -127,7 +127,7 @@ fn up_to_a_mark<L: Ledger + Naming, R: Wait>(
     for low in 0..10 {
         let _number = insert(rt, desk, seat, low)?;
     }
-    let taker = desk.open_cursor(rt, seat, all()?, 2)?;
+    let taker = desk.open_cursor(rt, seat, all(), 2)?;
     Ok(reading(rt, desk, seat, taker, Vec::new(alloc)))
 }
 
@@ -171,8 +171,8 @@ fn write_and_resume<L: Ledger + Naming + Send + Sync, R: Threads + Wait + Abort 
     let Some(mark) = last_mark(&before) else {
         return Err(Refusal::NotHere.into());
     };
-    let mut resumed = desk.open_from(rt, seat, all()?, 2, mark)?;
-    let mut whole = desk.open_from(rt, seat, all()?, 4_096, 0)?;
+    let mut resumed = desk.open_from(rt, seat, all(), 2, mark)?;
+    let mut whole = desk.open_from(rt, seat, all(), 4_096, 0)?;
     let mut taken = Vec::new(alloc);
     let mut others = Vec::new(alloc);
     let (writers, readers) = seats.split_at_mut(4);
