@@ -96,22 +96,10 @@ enum {
 size_t gist_refusal_name(uint32_t refusal, char *name, size_t room);
 
 /* A handle of a store, of a snapshot, of a query or of a feed, or of nothing. */
-typedef struct gist_store {
-    bool is_open;
-    void *inside;
-} gist_store;
-typedef struct gist_snapshot {
-    bool is_open;
-    void *inside;
-} gist_snapshot;
-typedef struct gist_query {
-    bool is_open;
-    void *inside;
-} gist_query;
-typedef struct gist_feed {
-    bool is_open;
-    void *inside;
-} gist_feed;
+typedef struct gist_store { bool is_open; void *inside; } gist_store;
+typedef struct gist_snapshot { bool is_open; void *inside; } gist_snapshot;
+typedef struct gist_query { bool is_open; void *inside; } gist_query;
+typedef struct gist_feed { bool is_open; void *inside; } gist_feed;
 
 #define GIST_NONE {false, NULL} /* what a handle is before its first use: it has nothing */
 
@@ -209,8 +197,7 @@ typedef struct gist_limits {
     uint32_t commits; /* how many commits there may be: 1 to 16,777,216 */
 } gist_limits;
 
-/* The greatest limits, for many rows. */
-#define GIST_LIMITS {32, 12, 65536, 16777216}
+#define GIST_LIMITS {32, 12, 65536, 16777216} /* the greatest limits, for many rows */
 
 /*
  * Makes an empty store of a class for a handle that has nothing.
@@ -234,6 +221,17 @@ typedef struct gist_figures {
 
 /* Tells how far a store has come. */
 uint32_t gist_stats(const gist_store *store, gist_figures *figures);
+
+/* Where an open cursor stands. All is 0 where there is none. */
+typedef struct gist_standing {
+    uint64_t cursor;
+    uint64_t opened;  /* how many commits there were at its opening, or the commit that it follows */
+    uint64_t lag;     /* how many commits it hasn't passed yet */
+    bool is_scanning; /* whether it still goes over the rows of its opening: what ended since isn't swept meanwhile */
+} gist_standing;
+
+/* Tells where an open cursor stands: at place 0 the one that was opened first, then the next. */
+uint32_t gist_standing_of(const gist_store *store, uint64_t place, gist_standing *standing);
 
 /*
  * Adds n rows one after the other, until one is refused, and tells how many were added. Their numbers are the next ones.

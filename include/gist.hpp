@@ -178,6 +178,12 @@ template <class Key> class Store {
         detail::need(gist_stats(raw(), &figures));
         return figures;
     }
+    std::vector<Standing> standings() const {
+        std::vector<Standing> all(stats().cursors);
+        for (size_t place = 0; place < all.size(); place++)
+            detail::need(gist_standing_of(raw(), place, &all[place]));
+        return all;
+    }
     Snapshot<Key> snapshot() const {
         Snapshot<Key> now;
         detail::need(gist_take(raw(), now.raw()));

@@ -79,6 +79,7 @@ enum class Kind : uint32_t { Row = GIST_ROW, Inserted, Deleted, Moved, Mark };
 
 using Limits = gist_limits;
 using Figures = gist_figures;
+using Standing = gist_standing;
 template <class Key> struct Entry { Key key; uint64_t tag; };
 template <class Key> struct Row { uint64_t row, tag; Key key; };
 template <class Key> struct Item { Kind kind; uint64_t number, ended, tag; Key key; };

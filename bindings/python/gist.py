@@ -169,6 +169,19 @@ class Figures(NamedTuple):
     """The commit up to which a sweep removes what ended."""
 
 
+class Standing(NamedTuple):
+    """Where an open cursor stands."""
+
+    cursor: int
+    """Its number."""
+    opened: int
+    """How many commits there were at its opening, or the commit that it follows."""
+    lag: int
+    """How many commits it hasn't passed yet."""
+    is_scanning: bool
+    """Whether it still goes over the rows of its opening. Until it is through, what ended since isn't swept."""
+
+
 class Refusal(enum.IntEnum):
     """Why a call is refused, by the numbers of the header for C."""
 
@@ -250,6 +263,10 @@ class _Figures(ctypes.Structure):
     _fields_ = [(name, ctypes.c_uint64) for name in Figures._fields]
 
 
+class _Standing(ctypes.Structure):
+    _fields_ = [("cursor", ctypes.c_uint64), ("opened", ctypes.c_uint64), ("lag", ctypes.c_uint64), ("is_scanning", ctypes.c_bool)]
+
+
 def _load() -> ctypes.CDLL:
     """Loads the library, or says how to name its folder."""
     if sys.byteorder != "little":
@@ -277,6 +294,7 @@ _u32, _u64, _size, _pointer = ctypes.c_uint32, ctypes.c_uint64, ctypes.c_size_t,
 _CALLS = {
     "create": (_pointer, _u32, _pointer),
     "stats": (_pointer, _pointer),
+    "standing_of": (_pointer, _u64, _pointer),
     "insert": (_pointer, _pointer, _size, _pointer),
     "move": (_pointer, _u64, _Key, _pointer),
     "delete": (_pointer, _pointer, _size, _pointer),
@@ -758,6 +776,15 @@ class Store(_Owner, Generic[K]):
             self._close_left()
             _need(_call["stats"](self._at, ctypes.addressof(figures)))
         return Figures(*(getattr(figures, name) for name in Figures._fields))
+
+    def standings(self) -> List[Standing]:
+        """Where each open cursor stands, the one that was opened first first."""
+        standings, standing = [], _Standing()
+        with self._turn:
+            for place in range(self.figures().cursors):
+                _need(_call["standing_of"](self._at, place, ctypes.addressof(standing)))
+                standings.append(Standing(*(getattr(standing, name) for name in Standing._fields)))
+        return standings
 
     def commits(self) -> int:
         """How many commits there are."""

@@ -131,11 +131,13 @@ class Stores(Case):
                 self.assertEqual(cursor.items(0), [])
                 self.assertEqual([it.number for it in follower.items(1)], [2])
                 self.assertEqual([it.number for it in follower.items()], [4])
+                store.insert(keys.far, 30)
+                self.assertEqual(store.standings(), [(1, 3, 1, False), (2, 1, 1, False)])
             self.assertEqual(store.figures().cursors, 0)
             self.refused(Refusal.CursorClosed, list, cursor)
             self.refused(Refusal.CursorClosed, cursor.mark)
             self.refused(Refusal.NoSuchCursor, gist.Cursor(store, 9).items)
-            self.refused(Refusal.FromFuture, store.follow, keys.text, 5)
+            self.refused(Refusal.FromFuture, store.follow, keys.text, 6)
             self.assertEqual(store.sweep(), 1)
 
     def test_a_cursor_that_nothing_refers_to_is_closed(self) -> None:

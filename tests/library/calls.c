@@ -42,6 +42,7 @@ static void stores(const keys *k) {
     gist_row rows[8], row;
     gist_item items[16], item;
     gist_figures figures;
+    gist_standing standing;
     gist_key asked[2];
     uint64_t n = 77, cursor = 0, follower = 0, fault = 77, upto = 0, ends[2], numbers[8], gone[2] = {1, 1};
     bool lives = false;
@@ -50,6 +51,7 @@ static void stores(const keys *k) {
     IS(gist_insert(&store, entries, 0, &n), GIST_NO_HANDLE);
     IS(gist_take(&store, &now), GIST_NO_HANDLE);
     IS(gist_stats(&store, &figures), GIST_NO_HANDLE);
+    IS(gist_standing_of(&store, 0, &standing), GIST_NO_HANDLE);
     IS(gist_commits(&now, &n), GIST_NO_HANDLE);
     IS(gist_find(&now, &near, rows, 8, &n), GIST_NO_HANDLE);
     IS(gist_open(&store, &near, &cursor), GIST_NO_HANDLE);
@@ -201,6 +203,16 @@ static void stores(const keys *k) {
     IS(figures.commit_limit, 12);
     IS(figures.page_limit, 64);
     IS(figures.cursors, 2);
+    IS(gist_standing_of(&store, 0, &standing), GIST_OK);
+    IS(standing.cursor, cursor);
+    IS(standing.lag, 0);
+    IS(gist_standing_of(&store, 1, &standing), GIST_OK);
+    IS(standing.cursor, follower);
+    IS(standing.opened, 1);
+    IS(standing.lag, 1);
+    IS(standing.is_scanning, false);
+    IS(gist_standing_of(&store, 2, &standing), GIST_OK);
+    IS(standing.cursor, 0);
     IS(gist_close(&store, follower), GIST_OK);
     IS(gist_close(&store, follower), GIST_CURSOR_CLOSED);
     IS(gist_mark(&store, follower), GIST_CURSOR_CLOSED);

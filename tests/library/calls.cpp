@@ -111,9 +111,13 @@ template <class Key> void cursors(const Keys<Key> &keys) {
     HOLDS(items.size() == 2 && is(items[0], Kind::Deleted, 4, 1, 10, keys.one));
     HOLDS(items[1].kind == Kind::Mark && items[1].number == 4 && cursor.next(0).empty());
     HOLDS(follower.next(1)[0].number == 2 && follower.next().size() == 1);
+    store.insert(keys.one, 30);
+    const auto standings = store.standings();
+    HOLDS(standings.size() == 2 && standings[0].cursor == 1 && standings[0].opened == 3 && standings[0].lag == 1);
+    HOLDS(standings[1].cursor == 2 && standings[1].opened == 1 && standings[1].lag == 1 && !standings[1].is_scanning);
     follower = std::move(cursor);
-    HOLDS(follower.next().empty());
-    REFUSED("FromFuture", GIST_FROM_FUTURE, store.follow(query, 5));
+    HOLDS(follower.next().size() == 1 && follower.next().empty());
+    REFUSED("FromFuture", GIST_FROM_FUTURE, store.follow(query, 6));
     HOLDS(store.sweep() == 1);
 
     std::vector<gist::Cursor<Key>> many;

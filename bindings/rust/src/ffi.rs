@@ -101,6 +101,15 @@ pub struct Figures {
     pub horizon: u64,
 }
 
+#[repr(C)]
+#[derive(Default)]
+pub struct Standing {
+    pub cursor: u64,
+    pub opened: u64,
+    pub lag: u64,
+    pub is_scanning: bool,
+}
+
 extern "C" {
     pub fn gist_version() -> u32;
     pub fn gist_refusal_name(refusal: u32, name: *mut c_char, room: usize) -> usize;
@@ -108,6 +117,7 @@ extern "C" {
     pub fn gist_create(store: *mut Store, key_class: u32, limits: *const Limits) -> u32;
     pub fn gist_destroy(store: *mut Store);
     pub fn gist_stats(store: *const Store, figures: *mut Figures) -> u32;
+    pub fn gist_standing_of(store: *const Store, place: u64, standing: *mut Standing) -> u32;
     pub fn gist_insert(store: *mut Store, rows: *const Entry, n: usize, added: *mut u64) -> u32;
     pub fn gist_move(store: *mut Store, row: u64, key: Key, moved: *mut u64) -> u32;
     pub fn gist_delete(store: *mut Store, rows: *const u64, n: usize, deleted: *mut u64) -> u32;

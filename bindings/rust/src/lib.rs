@@ -46,7 +46,7 @@ pub use query::Query;
 pub use renewal::{Renewal, Replaced};
 pub use shared::SharedStore;
 pub use snapshot::{Changes, Known, Snapshot};
-pub use store::{Figures, Limits, Renewed, Store};
+pub use store::{Figures, Limits, Renewed, Standing, Store};
 
 /// The version of the library that the program runs with: major, minor and patch.
 ///

@@ -78,6 +78,19 @@ pub struct Figures {
     pub horizon: u64,
 }
 
+/// Where an open cursor stands.
+#[derive(Clone, Copy, Debug, PartialEq, Eq, Hash)]
+pub struct Standing {
+    /// The cursor's number.
+    pub cursor: u64,
+    /// How many commits there were at its opening, or the commit that it follows.
+    pub opened: u64,
+    /// How many commits it hasn't passed yet.
+    pub lag: u64,
+    /// Whether it still goes over the rows of its opening. Until it is through, what ended since isn't swept.
+    pub is_scanning: bool,
+}
+
 /// Rows whose keys are of one class, and all commits that made them.
 ///
 /// Each insert, delete and move is a commit with the next number: 1, 2, 3 and so on. A row's number is that of the commit
@@ -179,6 +192,32 @@ impl<K: Key> Store<K> {
             cursors: told.cursors,
             horizon: told.horizon,
         }
+    }
+
+    /// Tells where each open cursor stands, the one that was opened first first.
+    ///
+    /// ```
+    /// use gist::{Interval, Query, Store};
+    ///
+    /// let rooms = Store::<Interval>::new()?;
+    /// let display = rooms.follow(&Query::overlaps(8..18)?, 0)?;
+    /// rooms.insert(9..12, 71)?;
+    /// assert!(rooms.standings().map(|standing| standing.lag).eq([1]));
+    /// # drop(display);
+    /// # Ok::<(), gist::Error>(())
+    /// ```
+    pub fn standings(&self) -> impl Iterator<Item = Standing> + '_ {
+        (0..self.figures().cursors).map(|place| {
+            let mut told = ffi::Standing::default();
+            let answer = unsafe { ffi::gist_standing_of(self.handle.get(), place, &mut told) };
+            debug_assert_eq!(answer, 0, "a store's handle has a store");
+            Standing {
+                cursor: told.cursor,
+                opened: told.opened,
+                lag: told.lag,
+                is_scanning: told.is_scanning,
+            }
+        })
     }
 
     /// How many commits there are.

@@ -229,12 +229,19 @@ fn cursors<K: Key>(keys: Keys<K>) -> Tried {
     );
     assert_eq!(follower.next_items(9)?, [left]);
 
+    store.insert(keys.one, 30)?;
+    let standings: Vec<_> = store.standings().collect();
+    assert_eq!(standings.len(), 2);
+    assert_eq!((standings[0].opened, standings[0].lag), (3, 1));
+    assert_eq!((standings[1].opened, standings[1].lag), (1, 1));
+    assert!(standings.iter().all(|it| !it.is_scanning));
     follower.close()?;
     let number = cursor.detach();
+    assert_eq!(standings[0].cursor, number.number());
     assert_eq!((number.number(), store.figures().cursors), (1, 1));
     drop(store.attach(number));
     assert_eq!(store.figures().cursors, 0);
-    assert_eq!(store.follow(&query, 5).err(), Some(Error::FromFuture));
+    assert_eq!(store.follow(&query, 6).err(), Some(Error::FromFuture));
     assert_eq!(store.sweep()?, 1);
     Ok(())
 }
