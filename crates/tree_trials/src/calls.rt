@@ -87,7 +87,11 @@ pub(crate) fn fit(page: &Page<Interval>, sides: &Sides) -> bool
     }
 }
 
-fn right_half(alloc: Global, page: &Page<Interval>, sides: &Sides) -> Result<Page<Interval>, Fail> {
+pub(crate) fn right_half(
+    alloc: Global,
+    page: &Page<Interval>,
+    sides: &Sides,
+) -> Result<Page<Interval>, Fail> {
     if !fit(page, sides) {
         return Err(Refusal::BadSides.into());
     }
@@ -124,17 +128,31 @@ fn left_half(alloc: Global) -> Result<Page<Interval>, Fail> {
 }
 
 #[test]
-fn parts_a_page(rt: HostRuntime) -> Result<(), Fail> {
-    let alloc = rt.alloc();
-    assert!(rt; entry_count(&Page::leaf(alloc, 4)?) == Some(0));
-    let page = three_rows(alloc)?;
+fn counts_entries(rt: HostRuntime) -> Result<(), Fail> {
+    let page = three_rows(rt.alloc())?;
     assert!(rt; page.rows().len() == 3 && page.branches().is_empty());
     assert!(rt; entry_count(&page) == Some(3));
-    let sides = second_left(alloc)?;
+    assert!(rt; entry_count(&Page::leaf(rt.alloc(), 4)?) == Some(0));
+    Ok(())
+}
+
+/// The cover of the right half of a page, how many rows the lower right one has, and what the lower left one links to.
+fn parts(
+    alloc: Global,
+    page: &Page<Interval>,
+    sides: &Sides,
+) -> Result<(Option<Interval>, usize, Option<u32>), Fail> {
+    let cover = right_half(alloc, page, sides)?.cover();
+    let rows = lower_right(alloc, page, sides)?.rows().len();
+    Ok((cover, rows, lower_left(alloc, page, sides)?.right()))
+}
+
+#[test]
+fn parts_a_page(rt: HostRuntime) -> Result<(), Fail> {
+    let sides = second_left(rt.alloc())?;
     assert!(rt; sides.len() == 3);
-    assert!(rt; right_half(alloc, &page, &sides)?.cover() == Some(key(1, 9)?));
-    assert!(rt; lower_right(alloc, &page, &sides)?.rows().len() == 2);
-    assert!(rt; lower_left(alloc, &page, &sides)?.right() == Some(2));
+    let parts = parts(rt.alloc(), &three_rows(rt.alloc())?, &sides)?;
+    assert!(rt; parts == (Some(key(1, 9)?), 2, Some(2)));
     Ok(())
 }
 

@@ -1,4 +1,4 @@
-use change_list::{ChangeList, RoomyList, Row, Status, Write, next_asked};
+use change_list::{ChangeList, RoomyList, Row, Status, View, Write, next_asked};
 use interval_class::{Atom, Interval, Intervals};
 use key_class::{Pred, Refusal, Rel};
 use std::alloc::Global;
@@ -84,26 +84,42 @@ fn of_inserts(alloc: Global, count: u64) -> Result<ChangeList<u8>, Fail> {
     Ok(list)
 }
 
+/// Whether a list and a view of it have so many segments and such a tail.
+fn have_parts(list: &ChangeList<u8>, view: &View<u8>, segments: usize, tail: usize) -> bool {
+    list.segments() == segments
+        && list.tail_len() == tail
+        && view.segments() == segments
+        && view.tail_len() == tail
+        && view.len() == list.len()
+}
+
+/// Whether a view has so many commits, each as an insert with its number for a tag.
+fn has_inserts(view: &View<u8>, count: u64) -> bool {
+    for number in 1..=count {
+        if view.get(number) != Some(Write::Insert(5, number)) {
+            return false;
+        }
+    }
+    view.get(0).is_none() && view.get(count.wrapping_add(1)).is_none()
+}
+
+/// The same of a list, which is asked in two ways.
+fn list_has_inserts(list: &ChangeList<u8>, count: u64) -> bool {
+    for number in 1..=count {
+        let write = Some(Write::Insert(5, number));
+        if list.commit(number) != write || list.as_view().get(number) != write {
+            return false;
+        }
+    }
+    true
+}
+
 /// Whether a list of so many commits, and a view of it, have so many segments and such a tail, and each commit.
 fn is_cut(alloc: Global, count: u64, segments: usize, tail: usize) -> Result<bool, Fail> {
     let list = of_inserts(alloc, count)?;
     let view = list.view()?;
-    if list.segments() != segments || list.tail_len() != tail {
-        return Ok(false);
-    }
-    if view.segments() != segments || view.tail_len() != tail || view.len() != list.len() {
-        return Ok(false);
-    }
-    for number in 1..=count {
-        let write = Some(Write::Insert(5, number));
-        if list.commit(number) != write || list.as_view().get(number) != write {
-            return Ok(false);
-        }
-        if view.get(number) != write {
-            return Ok(false);
-        }
-    }
-    Ok(view.get(0).is_none() && view.get(count.wrapping_add(1)).is_none())
+    let is_whole = list_has_inserts(&list, count) && has_inserts(&view, count);
+    Ok(is_whole && have_parts(&list, &view, segments, tail))
 }
 
 #[test]

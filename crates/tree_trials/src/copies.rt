@@ -1,4 +1,4 @@
-use crate::calls::fit;
+use crate::calls::{fit, right_half};
 use interval_class::{Interval, Intervals};
 use key_class::{Refusal, Side, Sides};
 use node::{Page, same_page};
@@ -45,13 +45,24 @@ fn relocate(table: &mut PageTable<Interval>, from: u32, to: u32) -> Result<(), F
     Ok(table.relocate(from, 1, 2, to, entry)?)
 }
 
-/// Parts a page, which has two rows then: the right one comes behind all.
-fn part(alloc: Global, table: &mut PageTable<Interval>, page: u32) -> Result<(), Fail> {
-    place(table, page)?;
-    place(table, page)?;
+/// A first entry to the left and a second to the right.
+fn left_and_right(alloc: Global) -> Result<Sides, Fail> {
     let mut sides = Sides::new(alloc);
     sides.push(Side::Left)?;
     sides.push(Side::Right)?;
+    Ok(sides)
+}
+
+/// Places two rows on a page.
+fn place_two(table: &mut PageTable<Interval>, page: u32) -> Result<(), Fail> {
+    place(table, page)?;
+    place(table, page)
+}
+
+/// Parts a page, which has two rows then: the right one comes behind all.
+fn part(alloc: Global, table: &mut PageTable<Interval>, page: u32) -> Result<(), Fail> {
+    place_two(table, page)?;
+    let sides = left_and_right(alloc)?;
     if page as usize >= table.len() || table.len() > 70_000 || !fit(table.page(page), &sides) {
         return Err(Refusal::BadSides.into());
     }
@@ -77,19 +88,21 @@ fn post(
     Ok(table.post(parent, child, sibling)?)
 }
 
-/// A table of so many leaves, one of which is the right half of itself, which is not hung.
+/// Makes a page the right half of itself, which is not hung.
+fn halve(alloc: Global, table: &mut PageTable<Interval>, page: u32) -> Result<(), Fail> {
+    place_two(table, page)?;
+    if page as usize >= table.len() {
+        return Err(Refusal::NotHere.into());
+    }
+    let right = right_half(alloc, table.page(page), &left_and_right(alloc)?)?;
+    *table.page_mut(page)? = right;
+    Ok(())
+}
+
+/// A table of so many leaves, one of which is the right half of itself.
 fn halved(alloc: Global, pages: u32, page: u32) -> Result<PageTable<Interval>, Fail> {
     let mut table = leaves(alloc, pages as usize)?;
-    place(&mut table, page)?;
-    place(&mut table, page)?;
-    let mut sides = Sides::new(alloc);
-    sides.push(Side::Left)?;
-    sides.push(Side::Right)?;
-    if page as usize >= table.len() || !fit(table.page(page), &sides) {
-        return Err(Refusal::BadSides.into());
-    }
-    let right = table.page(page).right_half::<Intervals>(alloc, &sides)?;
-    *table.page_mut(page)? = right;
+    halve(alloc, &mut table, page)?;
     Ok(table)
 }
 
@@ -127,50 +140,71 @@ fn changed(
     Ok(numbers)
 }
 
+/// Whether these pages of a table and no others aren't as they are in its copy.
+fn are_changed(
+    alloc: Global,
+    table: &PageTable<Interval>,
+    copy: &PageTable<Interval>,
+    wanted: &[u32],
+) -> Result<bool, Fail> {
+    Ok(changed(alloc, table, copy)?.as_slice() == wanted)
+}
+
 /// The last places of chunks of each size.
 const LAST: [u32; 3] = [31, 1_023, 65_535];
 
+/// Moves a row to the next page. Whether a copy that is made before stays as it is, and an older one too.
+fn keeps_two(
+    alloc: Global,
+    table: &mut PageTable<Interval>,
+    older: &PageTable<Interval>,
+    page: u32,
+) -> Result<bool, Fail> {
+    let next = page.wrapping_add(1);
+    let copy = table.copy()?;
+    relocate(table, page, next)?;
+    Ok(
+        are_changed(alloc, table, older, &[page, next])?
+            && are_changed(alloc, &copy, older, &[page])?,
+    )
+}
+
+/// Places a row on a page, and moves it to the next. Whether copies stay as they are.
+fn keeps_copies(alloc: Global, table: &mut PageTable<Interval>, page: u32) -> Result<bool, Fail> {
+    let copy = table.copy()?;
+    let is_whole = copy.len() == table.len() && copy.counter() == table.counter();
+    place(table, page)?;
+    Ok(
+        is_whole
+            && are_changed(alloc, table, &copy, &[page])?
+            && keeps_two(alloc, table, &copy, page)?,
+    )
+}
+
 #[test]
 fn keeps_a_copy_as_it_was(rt: HostRuntime) -> Result<(), Fail> {
-    let alloc = rt.alloc();
-    let mut table = leaves(alloc, 65_600)?;
+    let mut table = leaves(rt.alloc(), 65_600)?;
     for last in LAST {
-        let moved = [last, last.wrapping_add(1)];
-        let copy = table.copy()?;
-        assert!(rt; copy.len() == 65_600 && copy.counter() == table.counter());
-        place(&mut table, last)?;
-        assert!(rt;
-            changed(alloc, &table, &copy)?.as_slice() == [last].as_slice(),
-            "{last}"
-        );
-        let placed = table.copy()?;
-        relocate(&mut table, last, last.wrapping_add(1))?;
-        assert!(rt;
-            changed(alloc, &table, &copy)?.as_slice() == moved.as_slice(),
-            "{last}"
-        );
-        assert!(rt;
-            changed(alloc, &placed, &copy)?.as_slice() == [last].as_slice(),
-            "{last}"
-        );
+        assert!(rt; keeps_copies(rt.alloc(), &mut table, last)?, "{last}");
     }
     Ok(())
 }
 
+/// Parts the last page of a table of so many, and posts the new one. Whether a copy shows what was changed.
+fn posts_beside(alloc: Global, table: &mut PageTable<Interval>, last: u32) -> Result<bool, Fail> {
+    grow(alloc, table, (last as usize).wrapping_add(1))?;
+    part(alloc, table, last)?;
+    let copy = table.copy()?;
+    let (parent, sibling) = (last.wrapping_sub(1), last.wrapping_add(1));
+    post(table, parent, last, sibling)?;
+    are_changed(alloc, table, &copy, &[parent, last, sibling])
+}
+
 #[test]
 fn posts_beside_a_copy(rt: HostRuntime) -> Result<(), Fail> {
-    let alloc = rt.alloc();
-    let mut table = leaves(alloc, 1)?;
+    let mut table = leaves(rt.alloc(), 1)?;
     for last in LAST {
-        grow(alloc, &mut table, (last as usize).wrapping_add(1))?;
-        part(alloc, &mut table, last)?;
-        let copy = table.copy()?;
-        let posted = [last.wrapping_sub(1), last, last.wrapping_add(1)];
-        post(&mut table, last.wrapping_sub(1), last, last.wrapping_add(1))?;
-        assert!(rt;
-            changed(alloc, &table, &copy)?.as_slice() == posted.as_slice(),
-            "{last}"
-        );
+        assert!(rt; posts_beside(rt.alloc(), &mut table, last)?, "{last}");
     }
     assert!(rt; table.counter() == 3);
     Ok(())
@@ -185,40 +219,60 @@ const PAGES: [(u32, u32, u32); 5] = [
     (1, 1_100, 2_100),
 ];
 
+/// A table of so many leaves, of which one is posted.
+fn posted(
+    alloc: Global,
+    pages: u32,
+    (parent, child, sibling): (u32, u32, u32),
+) -> Result<PageTable<Interval>, Fail> {
+    let mut table = halved(alloc, pages, sibling)?;
+    post(&mut table, parent, child, sibling)?;
+    Ok(table)
+}
+
+/// Whether a posting beside a copy changes three pages, and as one without a copy does.
+fn posts_alike(
+    alloc: Global,
+    pages: &[u32; 3],
+    (parent, child, sibling): (u32, u32, u32),
+) -> Result<bool, Fail> {
+    let count = pages[2].wrapping_add(1);
+    let mut table = halved(alloc, count, sibling)?;
+    let copy = table.copy()?;
+    post(&mut table, parent, child, sibling)?;
+    let alone = posted(alloc, count, (parent, child, sibling))?;
+    Ok(are_changed(alloc, &table, &copy, pages)? && are_changed(alloc, &table, &alone, &[])?)
+}
+
 #[test]
 fn posts_near_and_far(rt: HostRuntime) -> Result<(), Fail> {
-    let alloc = rt.alloc();
     for (first, second, third) in PAGES {
-        let pages = third.wrapping_add(1);
-        for (parent, child, sibling) in orders(first, second, third) {
-            let mut alone = halved(alloc, pages, sibling)?;
-            post(&mut alone, parent, child, sibling)?;
-            let mut table = halved(alloc, pages, sibling)?;
-            let copy = table.copy()?;
-            post(&mut table, parent, child, sibling)?;
-            assert!(rt;
-                changed(alloc, &table, &copy)?.as_slice() == [first, second, third].as_slice(),
-                "{parent} {child} {sibling}"
-            );
-            assert!(rt;
-                changed(alloc, &table, &alone)?.is_empty(),
-                "{parent} {child} {sibling}"
-            );
+        for order in orders(first, second, third) {
+            let is_so = posts_alike(rt.alloc(), &[first, second, third], order)?;
+            assert!(rt; is_so, "{order:?}");
         }
     }
     Ok(())
 }
 
+/// Grows a table to so many pages. Whether a copy stays as it is.
+fn grows_behind(
+    alloc: Global,
+    table: &mut PageTable<Interval>,
+    pages: usize,
+) -> Result<bool, Fail> {
+    let before = table.len();
+    let copy = table.copy()?;
+    grow(alloc, table, pages)?;
+    let has_grown = copy.len() == before && table.len() == pages;
+    Ok(has_grown && changed(alloc, &copy, table)?.is_empty())
+}
+
 #[test]
 fn grows_behind_a_copy(rt: HostRuntime) -> Result<(), Fail> {
-    let alloc = rt.alloc();
-    let mut table = leaves(alloc, 31)?;
+    let mut table = leaves(rt.alloc(), 31)?;
     for pages in [33, 1_025, 65_537] {
-        let before = table.len();
-        let copy = table.copy()?;
-        grow(alloc, &mut table, pages)?;
-        assert!(rt; copy.len() == before && table.len() == pages);
-        assert!(rt; changed(alloc, &copy, &table)?.is_empty(), "{pages}");
+        assert!(rt; grows_behind(rt.alloc(), &mut table, pages)?, "{pages}");
     }
     Ok(())
 }
