@@ -12,25 +12,25 @@ use Rattle.world.specs.declared.reply.Reply.{Reply}
 use Rattle.world.specs.declared.reply.Reply.TheVariants as reply
 use Rattle.desk.specs.Visits.{IsReplied}
 
--- what a desk answers to an event
+-- a desk's reply to an event
 abbrev pub DeskReply : Type 0 → Type 0 → Type 0 → Type 0
 DeskReply C K A = Reply C (Ring K) K A (Consumer (Item K) Global AnyItems)
 
 module _ {C K A : Type 0} (rules : Rules K A) where
-  -- a turn of the cursor was made, and answered so
+  -- a turn of the cursor was made, with this reply
   pub record IsTurnMade (cursor : ℕ) (answer : DeskReply C K A) : Type 0 where
     pub replied : IsReplied rules (event.Turn cursor) answer
     pub done : (why : Refusal) → answer ≢ reply.Refused why
 
-  -- so many turns of the cursor were made in a row, and the last was answered so
+  -- this many turns of the cursor were made in a row, and the last got this reply
   pub record TurnsInARow (cursor made : ℕ) (last : Option (DeskReply C K A)) : Type 0 where
-    -- to each of them, the latest first
+    -- the reply to each of them, the latest first
     pub answers : List (DeskReply C K A)
     pub turned : All (IsTurnMade cursor) answers
     pub count : length answers ≡ made
     pub latest : last ≡ slice_get answers 0
 
-  -- so many were made of more that were asked for, and then one was refused
+  -- this many turns were made of more that were asked for, and then one was refused
   pub record EndsByRefusal (cursor times made : ℕ) (last : Option (DeskReply C K A)) : Type 0 where
     pub fewer : made < times
     pub before : Option (DeskReply C K A)

@@ -1,5 +1,5 @@
-//! The desk: a world under a lock, and the calls of its clients. Each call visits the lock once or more; a visit makes one
-//! event or none.
+//! The desk: a world under a lock, and the calls of its clients. Each call takes the lock once or more, and makes at
+//! most one event each time.
 ghost use mathlib.Core.List.{IsPrefix};
 ghost use Rattle.key_class.specs.Limits.{most_seats};
 ghost use Rattle.std.specs.Prelude.{◌≡◌, ◌↔◌, ◌<◌, ◌≤◌, ◌+◌, ℕ, [], ◌∷◌, ◌++◌, length, Some, Err, true, false, IfSome, IfOk, IfErr, OnOk, OnErr};
@@ -33,12 +33,12 @@ use std::sync::ledger::{Blank, Ledger, Share};
 use std::sync::{Condvar, Wait};
 use world::{Reply, SplitTask, Stamped, VisitTask, World};
 
-/// A world under a lock, which as many seats as the ledger has parts share.
+/// A world under a lock, shared by as many seats as the ledger has parts.
 #[derive(Drop)]
 pub struct DeskOver<W: Guarded, L: Ledger + Naming> {
     pub(crate) alloc: Global,
     pub(crate) locked: PriorityLock<Locked<W, L>>,
-    /// What who waits for a commit sleeps on, under the lock.
+    /// Signalled at each commit; waiters sleep on it under the lock.
     grown: Condvar,
     pub(crate) latches: Latches,
     pub(crate) seats: usize,
@@ -57,10 +57,11 @@ impl<W: Guarded, L: Ledger + Naming> Model for DeskOver<W, L> {
     ghost invariant = { λ d. (d.seats ≡ L.parts) × (0 < d.seats) };
 }
 
-/// After how many publications that came too late the event is made in one visit.
+/// How many prepared tasks may come too late before the event is made in one visit instead, so that a call makes
+/// progress.
 const PUBLICATIONS: u32 = 4;
 
-/// The task of a split with its sides. None where its page has too few entries.
+/// Works out the sides of a prepared split. `None` if its page has too few entries.
 fn worked_split<C: KeyClass>(task: SplitTask<C>) -> Result<Option<SplitTask<C>>, Refusal>
     ensures refusals { IfErr result (λ why. why ≡ Refusal.OutOfMemory) }
 {
@@ -72,7 +73,7 @@ fn worked_split<C: KeyClass>(task: SplitTask<C>) -> Result<Option<SplitTask<C>>,
     }
 }
 
-/// The task of a visit with what it found. None where memory was wanting.
+/// Tests the entries that a prepared visit reads. `None` if memory ran out.
 fn worked_visit<C: KeyClass>(task: VisitTask<C>) -> Option<VisitTask<C>>
     ensures { IfSome result (λ worked. worked.cursor ≡ task.cursor) }
 {
@@ -83,7 +84,7 @@ fn worked_visit<C: KeyClass>(task: VisitTask<C>) -> Option<VisitTask<C>>
     }
 }
 
-/// Seats that share all parts of a ledger, and were told nothing.
+/// Seats that share all parts of a ledger, and have been told of no commit yet.
 fn seats_of<C: KeyClass, L: Ledger + Naming>(
     alloc: Global,
     all: Share<L>,
@@ -105,12 +106,12 @@ fn seats_of<C: KeyClass, L: Ledger + Naming>(
 }
 
 impl<C: KeyClass, L: Ledger + Naming> DeskOver<World<C, Ring<C::Key>>, L> {
-    /// A desk with one empty leaf, and its seats, numbered from 1. The seats are told the history that is handed in, to which
-    /// each commit is added.
+    /// A desk with one empty leaf, and its seats, numbered from 1. Each commit is added to the history handed in, and
+    /// seats are told beginnings of it.
     ///
     /// # Errors
-    /// `BadConfig` where a limit of the configuration or the number of seats (1 to 64) is out of its range, else want of
-    /// memory.
+    /// `BadConfig` if a limit of the configuration or the number of seats (1 to 64) is out of range, else
+    /// `OutOfMemory`.
     pub fn new(
         alloc: Global,
         blank: Blank,
@@ -181,7 +182,7 @@ impl<C: KeyClass, L: Ledger + Naming> DeskOver<World<C, Ring<C::Key>>, L> {
         Ok(stamped)
     }
 
-    /// Keeps the stamp of a commit that was made for a seat, and wakes who waits for a commit.
+    /// Keeps the stamp of a commit made for a seat, and wakes the threads that wait for a commit.
     fn keep(&self, stamps: &mut Vec<Stamped<C::Key>>, stamped: Stamped<C::Key>)
         requires room { length stamps.old.items < vec_capacity stamps.old }
         ensures { stamps.new.items ≡ stamps.old.items ++ stamped ∷ [] }
@@ -226,8 +227,8 @@ impl<C: KeyClass, L: Ledger + Naming> DeskOver<World<C, Ring<C::Key>>, L> {
         unreachable!()
     }
 
-    /// Splits a page on an insertion's way. The sides are worked out without the lock, while nobody else works on the page;
-    /// where it was changed meanwhile, again and again, it is split in one visit.
+    /// Splits a page on an insertion's way. The sides are worked out without the lock, under the page's latch; if the
+    /// page keeps changing meanwhile, it is split in one visit.
     #[tactic(auto, using(crate::proofs::Answering::same_told, crate::proofs::Answering::told_on, crate::proofs::Answering::committed_on))]
     fn split_for<R: Wait>(
         &self,
@@ -319,7 +320,7 @@ impl<C: KeyClass, L: Ledger + Naming> DeskOver<World<C, Ring<C::Key>>, L> {
         unreachable!()
     }
 
-    /// A finder of a row; its serial.
+    /// Opens a finder of a row, and gives its serial.
     fn find_for<R: Wait>(
         &self,
         rt: &R,
@@ -340,7 +341,7 @@ impl<C: KeyClass, L: Ledger + Naming> DeskOver<World<C, Ring<C::Key>>, L> {
         let _reply = self.locked.lock(rt).unfind(finder);
     }
 
-    /// A step of a finder, which ends where it is refused.
+    /// One step of a finder. A refusal ends the finder.
     fn seek_for<R: Wait>(
         &self,
         rt: &R,
@@ -424,7 +425,7 @@ impl<C: KeyClass, L: Ledger + Naming> DeskOver<World<C, Ring<C::Key>>, L> {
         ensures refusals { IfErr result (OutOfMemoryOr (IsMoveRefused C.rules told.new row)) }
     {
         let mut page = 0;
-        // no finder has this serial
+        // serials start at 1, so no finder has this one
         let mut finder = 0;
         for _ in rt.forever() {
             let moving = self.move_on(rt, number, share, told, page, finder, row, key)?;
@@ -438,7 +439,7 @@ impl<C: KeyClass, L: Ledger + Naming> DeskOver<World<C, Ring<C::Key>>, L> {
         unreachable!()
     }
 
-    /// A step of a move, whose finder ends where it is refused.
+    /// One step of a move. A refusal ends its finder.
     fn move_on<R: Wait>(
         &self,
         rt: &R,
@@ -472,7 +473,7 @@ impl<C: KeyClass, L: Ledger + Naming> DeskOver<World<C, Ring<C::Key>>, L> {
         moving
     }
 
-    /// Splits a page on a move's way. The move's finder ends where that is refused.
+    /// Splits a page on a move's way. A refusal ends the move's finder.
     fn split_moving<R: Wait>(
         &self,
         rt: &R,
@@ -494,11 +495,12 @@ impl<C: KeyClass, L: Ledger + Naming> DeskOver<World<C, Ring<C::Key>>, L> {
         split
     }
 
-    /// Opens a cursor at the present commits, and gives the end from which its items are taken.
+    /// Opens a cursor at the present commits, and gives its taker: the end of the ring from which its items are
+    /// taken.
     ///
     /// # Errors
-    /// `BadConfig` where the room (1 to 4,096) or the query's depth (at most 32) is out of range, `CursorsFull`, or want
-    /// of memory.
+    /// `BadConfig` if the room (1 to 4,096) or the query's depth (at most 32) is out of range, `CursorsFull`, or
+    /// `OutOfMemory`.
     pub fn open_cursor<'d, R: Wait>(
         &'d self,
         rt: &R,
@@ -532,12 +534,12 @@ impl<C: KeyClass, L: Ledger + Naming> DeskOver<World<C, Ring<C::Key>>, L> {
         }
     }
 
-    /// Opens a cursor that follows a commit, and gives the end from which its items are taken: the changes after that
-    /// commit, and no row of a snapshot.
+    /// Opens a cursor that follows a commit, and gives its taker. The cursor gives the changes after that commit, and
+    /// no rows of a snapshot.
     ///
     /// # Errors
-    /// `BadConfig` as by `open_cursor`, `FromFuture` where there are fewer commits than that, `CursorsFull`, or want of
-    /// memory.
+    /// `BadConfig` as in `open_cursor`, `FromFuture` if there are fewer commits than that, `CursorsFull`, or
+    /// `OutOfMemory`.
     pub fn open_from<'d, R: Wait>(
         &'d self,
         rt: &R,
@@ -574,11 +576,11 @@ impl<C: KeyClass, L: Ledger + Naming> DeskOver<World<C, Ring<C::Key>>, L> {
         }
     }
 
-    /// One turn of a cursor, which takes from its ring nothing and puts there one item or none. A visit to a page is worked
-    /// out without the lock, while nobody else works on the page.
+    /// One turn of a cursor, which puts at most one item into its ring and takes none out. A visit to a page is
+    /// worked out without the lock, under the page's latch.
     ///
     /// # Errors
-    /// `NoSuchCursor`, `CursorClosed`, `NoRoom` where its ring is full, `Idle`, or want of memory, as a reply.
+    /// `NoSuchCursor`, `CursorClosed`, `NoRoom` if its ring is full, `Idle`, or `OutOfMemory`, as a reply.
     pub fn turn<R: Wait>(&self, rt: &R, cursor: u64) -> Reply<C, Ring<C::Key>>
         ensures visit { IsReplied C.rules (event.Turn cursor) result }
     {
@@ -593,8 +595,8 @@ impl<C: KeyClass, L: Ledger + Naming> DeskOver<World<C, Ring<C::Key>>, L> {
         }
     }
 
-    /// A turn that visits a page. None where its next turn is no visit any more, or where what it reads was changed again
-    /// and again.
+    /// A turn that visits a page. `None` if the cursor's next turn no longer visits one, or if what the visit reads
+    /// kept changing.
     fn visit_for<R: Wait>(&self, rt: &R, cursor: u64, page: u32) -> Option<Reply<C, Ring<C::Key>>>
         ensures visit { IfSome result (IsReplied C.rules (event.Turn cursor)) }
     {
@@ -609,14 +611,14 @@ impl<C: KeyClass, L: Ledger + Naming> DeskOver<World<C, Ring<C::Key>>, L> {
         None
     }
 
-    /// The visit that a cursor's next turn makes. None where its next turn is no visit.
+    /// Prepares the visit that a cursor's next turn makes. `None` if its next turn is no visit.
     fn prepare_visit<R: Wait>(&self, rt: &R, cursor: u64) -> Option<VisitTask<C>>
         ensures { IfSome result (λ task. task.cursor ≡ cursor) }
     {
         self.locked.lock(rt).prepare_visit(cursor)
     }
 
-    /// Makes the visit of a task as its cursor's turn. None where it came too late.
+    /// Publishes a prepared visit as its cursor's turn. `None` if it came too late.
     fn publish_visit<R: Wait>(
         &self,
         rt: &R,
@@ -643,10 +645,10 @@ impl<C: KeyClass, L: Ledger + Naming> DeskOver<World<C, Ring<C::Key>>, L> {
         self.locked.lock(rt).ask_mark(cursor)
     }
 
-    /// Takes from a leaf the dead rows that no open scan needs.
+    /// Removes from a leaf the dead rows that no open scan needs.
     ///
     /// # Errors
-    /// `NotHere` where there is no such leaf, or want of memory, as a reply.
+    /// `NotHere` if there is no such leaf, or `OutOfMemory`, as a reply.
     pub fn sweep<R: Wait>(&self, rt: &R, leaf: u64) -> Reply<C, Ring<C::Key>>
         ensures visit { IsReplied C.rules (event.Sweep leaf) result }
     {
@@ -660,7 +662,7 @@ impl<C: KeyClass, L: Ledger + Naming> DeskOver<World<C, Ring<C::Key>>, L> {
         self.locked.lock(rt).close(cursor)
     }
 
-    /// Closes a cursor for a seat, and gives the commits as they stood then, where there was memory for a view.
+    /// Closes a cursor for a seat, and gives a view of the commits as they then stood, if there was memory for one.
     pub(crate) fn close_with_view<R: Wait>(
         &self,
         rt: &R,
@@ -679,13 +681,13 @@ impl<C: KeyClass, L: Ledger + Naming> DeskOver<World<C, Ring<C::Key>>, L> {
             .close_with_view(rt, &mut seat.share, &mut seat.told, cursor)
     }
 
-    /// The commits as they stand, whatever follows, to be searched without the lock by any number of threads. The seat is told
-    /// them: they begin with all that it was told before, and its stamps stand in them.
+    /// A snapshot of the commits, which later commits don't change. Any number of threads can search it without the
+    /// lock. The seat is told its commits: they begin with all that it was told before, and its stamps stand in them.
     ///
-    /// One visit to the lock makes the snapshot, and no event.
+    /// Takes the lock once, and makes no event.
     ///
     /// # Errors
-    /// Want of memory.
+    /// `OutOfMemory`.
     pub fn snapshot<R: Wait>(&self, rt: &R, seat: &mut Seat<C, L>) -> Result<Snapshot<C>, Refusal>
         ensures seat { seat.new ≡ record seat.old { told = seat.new.told } }
         ensures seen { IsPrefix seat.old.told seat.new.told }
@@ -700,10 +702,10 @@ impl<C: KeyClass, L: Ledger + Naming> DeskOver<World<C, Ring<C::Key>>, L> {
             .snapshot(rt, &mut seat.share, &mut seat.told)
     }
 
-    /// Waits until there are more commits than that, and tells how many there are then. The thread sleeps meanwhile, and is
-    /// woken by each commit.
+    /// Waits until there are more than `commits` commits, and gives how many there then are. The thread sleeps, and
+    /// each commit wakes it.
     ///
-    /// A visit to the lock makes no event. Where no such commit comes, it doesn't return.
+    /// Makes no event. If no such commit comes, it doesn't return.
     pub fn wait_past<R: Wait>(&self, rt: &R, commits: u64) -> u64
         ensures past { commits < result }
         ensures visit { IsVisit C.rules (CountsCommits result) }
@@ -716,10 +718,10 @@ impl<C: KeyClass, L: Ledger + Naming> DeskOver<World<C, Ring<C::Key>>, L> {
         locked.commits()
     }
 
-    /// Waits until there are more commits than that or the flag is raised, and tells how many commits there are then. Who
-    /// raises the flag calls `wake` behind that.
+    /// Waits until there are more than `commits` commits or the flag is raised, and gives how many commits there then
+    /// are. Whoever raises the flag must call `wake` after it.
     ///
-    /// A visit to the lock makes no event.
+    /// Makes no event.
     pub fn wait_past_unless<R: Wait>(&self, rt: &R, commits: u64, is_over: &AtomicBool) -> u64
         ensures visit { IsVisit C.rules (CountsCommits result) }
     {
@@ -731,8 +733,8 @@ impl<C: KeyClass, L: Ledger + Naming> DeskOver<World<C, Ring<C::Key>>, L> {
         locked.commits()
     }
 
-    /// Wakes who waits for a commit, to look at its flag. It takes the lock, so that nobody is missed who has looked at its
-    /// flag and doesn't sleep yet.
+    /// Wakes the threads that wait for a commit, so that they check their flags. It takes the lock: otherwise it
+    /// could miss a thread that has checked its flag but isn't asleep yet.
     pub fn wake<R: Wait>(&self, rt: &R) {
         let _locked = self.locked.lock(rt);
         self.grown.notify_all();

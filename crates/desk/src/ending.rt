@@ -14,12 +14,12 @@ use std::alloc::Global;
 #[derive(Drop)]
 pub enum Ended<K> {
     Receipt(Receipt<K>),
-    /// The check failed, or memory was wanting.
+    /// The check failed, or memory ran out.
     NoReceipt,
 }
 
-/// A receipt, where what a client took of a query since an opening, or behind the commit that it follows, is a delivery of
-/// the commits.
+/// A receipt, if the items that a client took are a delivery of the commits: for its query, since its opening or
+/// after the commit that it follows.
 pub(crate) fn checked<C: KeyClass>(
     alloc: Global,
     commits: View<C::Key>,

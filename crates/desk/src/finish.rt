@@ -1,4 +1,4 @@
-//! What a desk gives once all seats came back.
+//! What a desk gives once every seat has come back.
 ghost use Rattle.std.specs.Prelude.{◌≡◌, ◌≢◌, ◌↔◌, length, ◌+◌, ◌<◌};
 ghost use Rattle.std.specs.List.{AllByRecursion};
 ghost use Rattle.change_list.specs.Changes.{IsLegal};
@@ -19,7 +19,7 @@ use std::sync::Wait;
 use std::sync::ledger::{Book, Ledger, Share};
 use world::World;
 
-/// The commits and the seats, which fit, and the sum of the shares.
+/// The commits and the seats, which agree, and the sum of the shares.
 #[derive(Drop)]
 pub struct Closing<C: KeyClass, L: Ledger + Naming> {
     commits: ChangeList<C::Key>,
@@ -68,7 +68,7 @@ impl<C: KeyClass, L: Ledger + Naming> Closing<C, L> {
     }
 }
 
-/// The commits and the seats, which don't fit.
+/// The commits and the seats, which don't agree: some commit isn't on exactly one seat's stamp.
 #[derive(Drop)]
 pub struct Torn<C: KeyClass, L: Ledger + Naming> {
     pub commits: ChangeList<C::Key>,
@@ -82,7 +82,7 @@ pub enum Finished<C: KeyClass, L: Ledger + Naming> {
     SeatsOut(Desk<C, L>, Vec<Seat<C, L>>),
 }
 
-/// Shows that the shares of the seats, with those that `all` has, sum up to the book's total.
+/// Proves that the shares of the seats, added to those in `all`, sum up to the book's total.
 fn audit_all<C: KeyClass, L: Ledger + Naming>(
     book: &mut Book<L>,
     seats: &mut [Seat<C, L>],
@@ -106,7 +106,7 @@ fn audit_all<C: KeyClass, L: Ledger + Naming>(
     }
 }
 
-/// Shows that the shares of all seats sum up to the book's total.
+/// Proves that the shares of all seats sum up to the book's total.
 pub(crate) fn audit_seats<C: KeyClass, L: Ledger + Naming>(
     book: &mut Book<L>,
     seats: &mut Vec<Seat<C, L>>,
@@ -125,7 +125,7 @@ pub(crate) fn audit_seats<C: KeyClass, L: Ledger + Naming>(
     audit_all(book, seats, &mut all);
 }
 
-/// Shows that what each seat was told begins the history, and that its stamps stand in it.
+/// Proves that what each seat was told begins the history, and that its stamps stand in it.
 fn audit_told<C: KeyClass, L: Ledger + Naming, R: Wait>(
     rt: &R,
     history: &History<Write<C::Key>, L>,
@@ -144,8 +144,8 @@ fn audit_told<C: KeyClass, L: Ledger + Naming, R: Wait>(
 }
 
 impl<C: KeyClass, L: Ledger + Naming> DeskOver<World<C, Ring<C::Key>>, L> {
-    /// Ends the desk, where all seats came back, and looks whether each commit was answered to one of them. It takes no
-    /// memory. What each seat was told begins the commits, and its stamps stand in them.
+    /// Ends the desk if every seat has come back, and checks that each commit is on exactly one seat's stamp. It
+    /// needs no memory. What each seat was told begins the commits, and its stamps stand in them.
     pub fn finish<R: Wait>(self, rt: &R, seats: Vec<Seat<C, L>>) -> Finished<C, L>
         ensures out { IsOut result ↔ (length seats.items ≢ self) }
         ensures back { IfOut result (λ d s. (d ≡ self) × (s ≡ seats.items)) }

@@ -1,4 +1,4 @@
-//! Seats that change one world under a lock, and takers that wait for nobody.
+//! A world under a lock, changed by the calls of seats; takers read what cursors send without waiting for the lock.
 #![tactic(auto)]
 
 mod checks;

@@ -1,4 +1,4 @@
-//! What lies under the lock, and the visits to it. Each makes one event or none.
+//! What lies under the lock, and the visits to it. A visit makes at most one event.
 ghost use Rattle.std.specs.Prelude.{ℕ, ◌≡◌, ◌↔◌, ◌<◌, ◌≤◌, ◌+◌, [], length, Err, IfSome, IfNone, IfOk, IfErr, OnOk, OnErr};
 ghost use mathlib.Core.List.{IsPrefix};
 ghost use Rattle.rtrb.specs.Ring.{received};
@@ -40,7 +40,7 @@ pub trait Guarded: Drop {
     /// Its commits.
     ghost commits_of: { Self → List Self.Commit };
 
-    /// Whether it is sound, and what each cursor's ring was sent fits the cursor.
+    /// Whether the world is sound, and each cursor's ring was sent only what fits the cursor.
     ghost is_held: { Self → Type 0 };
 }
 
@@ -92,7 +92,8 @@ impl<C: KeyClass, L: Ledger + Naming> Locked<World<C, Ring<C::Key>>, L> {
         }
     }
 
-    /// The book of all shares. The clauses state what stands under the lock before and after each visit.
+    /// The book of all shares. It changes nothing: its clauses bring the invariant of what stands under the lock into
+    /// view.
     pub fn book(&self) -> &Book<L>
         ensures held { IsHeld C.rules self.now }
         ensures total { result.now.total ≡ length self.now.commits }
@@ -113,7 +114,7 @@ impl<C: KeyClass, L: Ledger + Naming> Locked<World<C, Ring<C::Key>>, L> {
         (world, history, book)
     }
 
-    /// A step of an insertion that has come to a page.
+    /// A step of an insertion that has reached a page.
     pub(crate) fn insert_on<R: Wait>(
         &mut self,
         rt: &R,
@@ -163,7 +164,7 @@ impl<C: KeyClass, L: Ledger + Naming> Locked<World<C, Ring<C::Key>>, L> {
         }
     }
 
-    /// The task of a split, to be worked on without the lock. None where the page can't be split any more.
+    /// Prepares the split of a page, to be worked out without the lock. `None` if the page can no longer be split.
     pub(crate) fn prepare_split(&self, page: u32) -> Result<Option<SplitTask<C>>, Refusal>
         ensures refusals { IfErr result (λ why. why ≡ Refusal.OutOfMemory) }
     {
@@ -174,7 +175,7 @@ impl<C: KeyClass, L: Ledger + Naming> Locked<World<C, Ring<C::Key>>, L> {
         }
     }
 
-    /// Splits a page by a task; whether the task came in time.
+    /// Splits a page by a prepared task. False if the task came too late.
     pub(crate) fn split_prepared<R: Wait>(
         &mut self,
         rt: &R,
@@ -220,7 +221,7 @@ impl<C: KeyClass, L: Ledger + Naming> Locked<World<C, Ring<C::Key>>, L> {
         split
     }
 
-    /// A finder of a row; its serial.
+    /// Opens a finder of a row, and gives its serial.
     pub(crate) fn find<R: Wait>(
         &mut self,
         rt: &R,
@@ -290,7 +291,7 @@ impl<C: KeyClass, L: Ledger + Naming> Locked<World<C, Ring<C::Key>>, L> {
         }
     }
 
-    /// A step of a move, whose way has come to a page.
+    /// A step of a move whose way has reached a page.
     pub(crate) fn move_step<R: Wait>(
         &mut self,
         rt: &R,
@@ -349,8 +350,8 @@ impl<C: KeyClass, L: Ledger + Naming> Locked<World<C, Ring<C::Key>>, L> {
         self.world.step(Event::Unfind(finder))
     }
 
-    /// Opens a cursor: its serial, the number of commits, and the end of its ring. The share is at most that number. The
-    /// client is told the commits.
+    /// Opens a cursor: its serial, the number of commits, and the consumer's end of its ring. The seat is told the
+    /// commits, and its share is at most their number.
     pub(crate) fn open<R: Wait>(
         &mut self,
         rt: &R,
@@ -385,8 +386,8 @@ impl<C: KeyClass, L: Ledger + Naming> Locked<World<C, Ring<C::Key>>, L> {
         Ok((cursor, opened, end))
     }
 
-    /// Opens a cursor that follows a commit: its serial, and the end of its ring. The share is at most the number of
-    /// commits. The client is told the commits.
+    /// Opens a cursor that follows a commit: its serial, and the consumer's end of its ring. The seat is told the
+    /// commits, and its share is at most their number.
     pub(crate) fn follow<R: Wait>(
         &mut self,
         rt: &R,
@@ -430,7 +431,7 @@ impl<C: KeyClass, L: Ledger + Naming> Locked<World<C, Ring<C::Key>>, L> {
         self.world.step(Event::Turn(cursor))
     }
 
-    /// A cursor's turn, where it visits no page. Else the number of the page; nothing is done then.
+    /// A cursor's turn, unless it would visit a page: then nothing is done, and the page's number is given.
     pub(crate) fn turn_unless_visit(&mut self, cursor: u64) -> Result<Reply<C, Ring<C::Key>>, u32>
         ensures step { IfOk result (IsReplyTo C.rules (event.Turn cursor) self.old self.new) }
         ensures page { IfErr result (VisitsPageNext self.old cursor) }
@@ -443,14 +444,15 @@ impl<C: KeyClass, L: Ledger + Naming> Locked<World<C, Ring<C::Key>>, L> {
         }
     }
 
-    /// The visit that a cursor's next turn makes, to be worked on without the lock. None where its next turn is no visit.
+    /// Prepares the visit that a cursor's next turn makes, to be worked out without the lock. `None` if its next turn
+    /// is no visit.
     pub(crate) fn prepare_visit(&self, cursor: u64) -> Option<VisitTask<C>>
         ensures { IfSome result (λ task. task.cursor ≡ cursor) }
     {
         self.world.prepare_visit(cursor).ok()
     }
 
-    /// Makes the visit of a task as its cursor's turn. None where it came too late; nothing is changed then.
+    /// Publishes a prepared visit as its cursor's turn. `None`, without effect, if it came too late.
     pub(crate) fn turn_prepared(
         &mut self,
         cursor: u64,
@@ -491,8 +493,8 @@ impl<C: KeyClass, L: Ledger + Naming> Locked<World<C, Ring<C::Key>>, L> {
         self.world.step(Event::Close(cursor))
     }
 
-    /// Closes a cursor, and gives the commits as they are, where there is memory for a view. The share is at most their
-    /// number. The client is told them.
+    /// Closes a cursor, and gives a view of the commits, if there is memory for one. The seat is told the commits,
+    /// and its share is at most their number.
     pub(crate) fn close_with_view<R: Wait>(
         &mut self,
         rt: &R,
@@ -521,8 +523,8 @@ impl<C: KeyClass, L: Ledger + Naming> Locked<World<C, Ring<C::Key>>, L> {
         view
     }
 
-    /// The commits as they are, with the tree, where there is memory for a snapshot. The share is at most their number. The
-    /// client is told them.
+    /// A snapshot of the commits with the tree, if there is memory for one. The seat is told the commits, and its
+    /// share is at most their number.
     pub(crate) fn snapshot<R: Wait>(
         &mut self,
         rt: &R,

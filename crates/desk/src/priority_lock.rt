@@ -1,28 +1,29 @@
-//! A lock that lets those go first who hold it for a moment alone, and of the others all alike.
+//! A lock with two kinds of callers: those who hold it only for a moment go first, and the others take fair turns.
 use crossbeam_utils::Backoff;
 use std::sync::atomic::{AtomicU32, AtomicUsize, Ordering};
 use std::sync::{Mutex, MutexGuard, Wait};
 
-/// How often a thread that comes to the lock looks whether it may go on, before it joins the queue: the rounds of a
-/// `Backoff`, of which all but the first ones leave the processor to others. They take some 20 microseconds: longer than any
-/// visit has the lock, so that a reader seldom sleeps, since it takes longer to wake it than a visit takes.
+/// How often a thread checks whether it may go on before it queues up: the rounds of a `Backoff`, nearly all of which
+/// yield the processor. Together they take about 20 microseconds, longer than any visit holds the lock. So a reader
+/// seldom sleeps, which is what we want: waking it takes longer than a visit.
 const ROUNDS: u32 = 64;
 
-/// How often in a row the lock may be taken past those who sleep in front of it. To wake one of them takes as long as tens of visits, so
-/// that a lock that went to each in turn would be slower by as much.
+/// How often in a row the lock may be taken past the threads that sleep in front of it. Waking one takes as long as
+/// tens of visits, so a lock that was handed to each in turn would be that much slower.
 const OVERTAKINGS: u32 = 256;
 
-/// A lock for two kinds of visits. Those who come with `lock_first` go before those who come with `lock`, though these wait no
-/// longer for them than those rounds. Without it, who writes again and again takes the lock anew before a thread
-/// that sleeps in front of it is awake; among those who write, too, so that none of them goes on so for long.
+/// A lock for two kinds of visits. Callers of `lock_first` go before callers of `lock`, which let them pass for at
+/// most `ROUNDS` rounds. Without this a thread that writes in a loop would take the lock again before a sleeping
+/// thread is awake. Writers don't starve each other either: after `OVERTAKINGS` in a row, newcomers wait for the
+/// sleepers.
 #[derive(Drop)]
 pub(crate) struct PriorityLock<T> {
     lock: Mutex<T>,
-    /// How many wait in `lock_first`.
+    /// How many threads wait in `lock_first`.
     first: AtomicUsize,
-    /// How many sleep in `lock`.
+    /// How many threads sleep in `lock`.
     asleep: AtomicUsize,
-    /// How often the lock was taken past them since one of them had it.
+    /// How often the lock was taken past the sleepers since one of them last had it.
     overtaken: AtomicU32,
 }
 
@@ -41,7 +42,7 @@ impl<T> PriorityLock<T> {
         lock.into_inner()
     }
 
-    /// Takes the lock, behind those who wait to go first, and behind those who sleep where they were overtaken often.
+    /// Takes the lock, after the callers of `lock_first`, and after the sleepers if they were overtaken too often.
     pub(crate) fn lock<R: Wait>(&self, rt: &R) -> MutexGuard<'_, T> {
         self.give_way();
         if let Some(guard) = self.lock.try_lock() {
@@ -57,7 +58,7 @@ impl<T> PriorityLock<T> {
         guard
     }
 
-    /// Waits a while for those who are to have the lock before.
+    /// Waits a while for the threads that should have the lock first.
     fn give_way(&self) {
         let backoff = Backoff::new();
         for _ in 0..ROUNDS {
@@ -70,7 +71,7 @@ impl<T> PriorityLock<T> {
         }
     }
 
-    /// Takes the lock, before those who come with `lock`.
+    /// Takes the lock, ahead of the callers of `lock`.
     pub(crate) fn lock_first<R: Wait>(&self, rt: &R) -> MutexGuard<'_, T> {
         if let Some(guard) = self.lock.try_lock() {
             return guard;
@@ -81,7 +82,7 @@ impl<T> PriorityLock<T> {
         guard
     }
 
-    /// Takes the lock as soon as it is free, and sleeps in front of it only where that takes long.
+    /// Takes the lock as soon as it is free. Spins at first, and sleeps only if that takes long.
     fn lock_soon<R: Wait>(&self, rt: &R) -> MutexGuard<'_, T> {
         let backoff = Backoff::new();
         for _ in 0..ROUNDS {

@@ -4,8 +4,8 @@ ghost use Rattle.change_list.specs.Changes.{commit_at, IsLegal};
 use change_list::{View, Write};
 use std::marker::Model;
 
-/// The commits as they stood when a cursor was closed. What its client took begins a listing of them, or the changes after
-/// the commit that it follows.
+/// The commits as they stood when a cursor was closed: proof that what its client took begins a listing of them, or
+/// the changes after the commit that it follows.
 #[derive(Drop)]
 pub struct Receipt<K> {
     follows: bool,
@@ -32,7 +32,7 @@ impl<K: Copy> Receipt<K> {
         }
     }
 
-    /// Whether the cursor followed a commit, and so gave no rows.
+    /// Whether the cursor followed a commit, and so gave no rows of a snapshot.
     pub fn follows(&self) -> bool
         ensures { result ≡ self.now.follows }
     {
@@ -54,14 +54,14 @@ impl<K: Copy> Receipt<K> {
         self.commits.len() as u64
     }
 
-    /// The same number, as a length.
+    /// `commits`, as a length.
     pub fn len(&self) -> usize
         ensures { result ≡ length self.now.commits }
     {
         self.commits.len()
     }
 
-    /// The commit with a number.
+    /// The commit with a number, if there is one.
     pub fn commit(&self, number: u64) -> Option<Write<K>>
         ensures { result ≡ commit_at self.now.commits number }
     {

@@ -1,4 +1,4 @@
-//! Several turns of a cursor, without going back to the caller.
+//! Several turns of a cursor in one call.
 ghost use Rattle.desk.specs.Turns.{MakesTurns};
 
 use crate::desk::DeskOver;
@@ -9,17 +9,17 @@ use std::sync::Wait;
 use std::sync::ledger::Ledger;
 use world::{Reply, World};
 
-/// What some turns of a cursor came to.
+/// The result of some turns of a cursor.
 #[derive(Drop)]
 pub struct TurnsMade<C: KeyClass> {
-    /// How many were made. One that was refused isn't counted.
+    /// How many were made, not counting one that was refused.
     pub made: u64,
-    /// What the last was answered: a refusal where that ended them early. None where none were asked for.
+    /// The last reply: a refusal, if one ended the turns early. `None` if no turn was asked for.
     pub last: Option<Reply<C, Ring<C::Key>>>,
 }
 
 impl<C: KeyClass, L: Ledger + Naming> DeskOver<World<C, Ring<C::Key>>, L> {
-    /// So many turns of a cursor, one after the other as by `turn`, until one is refused. Each visits the lock anew.
+    /// Makes `times` turns of a cursor, as `turn` does, until one is refused. Each takes the lock anew.
     ///
     /// # Errors
     /// Those of `turn`, as the last reply.
