@@ -1,4 +1,4 @@
-//! Threads that turn the cursors of a desk as they are told.
+//! A pool of threads that turn a desk's cursors on request.
 #![tactic(auto)]
 
 mod pumps;

@@ -19,27 +19,27 @@ use world::Reply;
 /// How often a gate is asked before an order is skipped.
 const ASKS: u32 = 10_000;
 
-/// The milliseconds between two asks.
+/// The milliseconds between two such questions.
 const PAUSE: u64 = 1;
 
-/// What a pump is told.
+/// An order to the pumps.
 #[derive(Clone, Copy, Debug, PartialEq, Eq)]
 pub enum Order {
-    /// Turn the cursor with this serial so many times.
+    /// Turn the cursor with this serial this many times.
     Turn(u64, u64),
     /// Stop. It ends one pump.
     Stop,
 }
 
-/// Says when a cursor may be turned.
+/// Decides when a cursor may be turned, so that a caller can hold a cursor back.
 pub trait Gate: Drop {
     /// Whether the cursor with this serial may be turned now.
     fn may_turn(&self, cursor: u64) -> bool;
 }
 
-/// What pumps turn cursors of.
+/// Something whose cursors pumps can turn. Behind a trait, because the pumps don't need to know the desk.
 trait Turning {
-    /// Turns a cursor. Whether the turn wasn't refused.
+    /// Turns a cursor. False if the turn was refused.
     fn turn_cursor<R: Wait>(&self, rt: &R, cursor: u64) -> bool;
 }
 
@@ -49,12 +49,12 @@ impl<C: KeyClass, L: Ledger + Naming> Turning for Desk<C, L> {
     }
 }
 
-/// What pumps did. A number rises no further once it has its greatest value.
+/// What pumps did. Each number stops rising at its greatest value.
 #[derive(Clone, Copy, Debug, PartialEq, Eq)]
 pub struct Pumped {
     /// How many turns were made that weren't refused.
     pub turns: u64,
-    /// How many orders were skipped since the gate stayed shut.
+    /// How many orders were skipped because the gate stayed shut.
     pub skipped: u64,
 }
 
@@ -64,7 +64,7 @@ impl Pumped {
         skipped: 0,
     };
 
-    /// What both did.
+    /// The sum of both.
     fn and(self, other: Pumped) -> Pumped
         ensures turns { result.turns ≡ min (self.turns + other.turns) u64.MAX }
         ensures skipped { result.skipped ≡ min (self.skipped + other.skipped) u64.MAX }
@@ -90,10 +90,10 @@ impl<G: Gate> Model for Pumps<G> {
 }
 
 impl<G: Gate> Pumps<G> {
-    /// So many pumps with a gate.
+    /// `count` pumps with a gate.
     ///
     /// # Errors
-    /// `BadConfig` where there are none or more than 16.
+    /// `BadConfig` if `count` isn't from 1 to 16.
     pub fn new(count: usize, gate: G) -> Result<Pumps<G>, Refusal>
         ensures gate { IfOk result (λ pumps. pumps ≡ gate) }
         ensures bad { (result ≡ Err Refusal.BadConfig)
@@ -113,7 +113,7 @@ impl<G: Gate> Pumps<G> {
         &self.gate
     }
 
-    /// Whether the gate opens for the cursor within so many asks.
+    /// Asks the gate until it opens for the cursor. False if it is still shut after `ASKS` questions.
     fn opens<R: Clock>(&self, rt: &R, cursor: u64) -> bool {
         for _ in 0..ASKS {
             if self.gate.may_turn(cursor) {
@@ -124,7 +124,7 @@ impl<G: Gate> Pumps<G> {
         false
     }
 
-    /// Turns the cursor, until it was done so many times, the gate stays shut or a turn is refused.
+    /// Turns the cursor until the order is done, the gate stays shut or a turn is refused.
     fn carry_out<D: Turning, R: Wait + Clock>(
         &self,
         rt: &R,
@@ -150,7 +150,7 @@ impl<G: Gate> Pumps<G> {
         }
     }
 
-    /// One pump, which ends at a stop, or where no sender is left.
+    /// One pump, which ends when it gets `Stop` or no sender is left.
     fn pump<D: Turning, R: Wait + Clock>(
         &self,
         rt: &R,
@@ -167,7 +167,7 @@ impl<G: Gate> Pumps<G> {
         done
     }
 
-    /// Runs the pumps over what has cursors.
+    /// Runs the pumps over something that has cursors.
     fn run_all<D, R>(
         &self,
         rt: &R,
@@ -192,13 +192,13 @@ impl<G: Gate> Pumps<G> {
         )
     }
 
-    /// Runs the pumps until all of them have ended, each in a thread of its own where one is to be had.
+    /// Runs the pumps until all of them have ended, each in a thread of its own if the system gives one.
     ///
-    /// An order is carried out by one pump. Before each turn it asks the gate, at most 10,000 times with a millisecond
-    /// between two asks; then the order is skipped. An order ends early where a turn is refused.
+    /// Each order is carried out by one pump. Before each turn it asks the gate, up to 10,000 times with a
+    /// millisecond between, and then skips the order. A refused turn ends the order.
     ///
     /// # Errors
-    /// Want of memory. No pump was started then.
+    /// `OutOfMemory`. No pump has started then.
     pub fn run<C, L, R>(
         &self,
         rt: &R,
