@@ -1,4 +1,4 @@
-//! A whole history, as it lies beside what is kept under a lock.
+//! The whole history, kept by whoever holds the lock.
 ghost use Rattle.std.specs.Prelude.{◌≡◌, ◌++◌, ◌∷◌, [], length};
 ghost use mathlib.Core.List.{IsPrefix};
 ghost use Rattle.history.specs.Rules.{word_of};
@@ -9,7 +9,7 @@ use logbook::{Seen, Start, Word};
 use std::marker::Model;
 use std::sync::Wait;
 
-/// No history gets as long as this.
+/// No history gets as long as this: appending a value a nanosecond would take a century.
 const MOST: u64 = 1 << 62;
 
 /// A history with no values, and no name yet.
@@ -42,7 +42,7 @@ impl<K> BlankHistory<K> {
         }
     }
 
-    /// The history under a name.
+    /// Gives the history a name.
     pub fn open<J: Naming>(self) -> History<K, J>
         requires { self ≡ J.history }
         ensures { result ≡ [] }
@@ -55,11 +55,11 @@ impl<K> BlankHistory<K> {
     }
 }
 
-/// A whole history. Contracts see its values. When the program runs it is their number, twice.
+/// A whole history. Contracts see its values. At run time it is only their number, twice.
 ///
-/// Nobody but its owner adds to a history, since nobody else has its word; but no clause of `logbook` says that a word is
-/// its owner's alone, and so no proof. Were a history longer than its owner knows, `audit`, `show` and `tell` would wait for
-/// ever, in place of a wrong answer.
+/// Only the owner adds to a history, because only the owner has its word. But no clause of `logbook` says that, so it
+/// isn't proved: if a history were longer than its owner knows, `audit`, `show` and `tell` would wait forever rather
+/// than give a wrong answer.
 #[derive(Drop)]
 pub struct History<K, J: Naming> {
     word: Word<K, u64, Law>,
@@ -85,7 +85,7 @@ impl<K, J: Naming> History<K, J> {
         &self.all
     }
 
-    /// Shows that what a client was told begins all of it.
+    /// Proves that what a client was told begins the whole history.
     pub fn audit<R: Wait>(&self, rt: &R, past: &Past<K, J>)
         ensures { IsPrefix past.now self.now }
     {
@@ -95,7 +95,7 @@ impl<K, J: Naming> History<K, J> {
         }
     }
 
-    /// Tells a client all of it.
+    /// Tells a client the whole history.
     pub fn show<R: Wait>(&self, rt: &R, past: &mut Past<K, J>)
         ensures seen { IsPrefix past.old past.new }
         ensures whole { past.new ≡ self.now }
@@ -104,7 +104,8 @@ impl<K, J: Naming> History<K, J> {
         *past = self.all.again();
     }
 
-    /// Adds a value, and tells a client all. The client was told of no value behind those before it.
+    /// Adds a value, and tells a client the whole history with it. What the client had been told begins the history
+    /// without it.
     pub fn tell<R: Wait>(&mut self, rt: &R, past: &mut Past<K, J>, value: &K)
         ensures seen { IsPrefix past.old self.old }
         ensures whole { past.new ≡ self.new }

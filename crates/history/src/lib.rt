@@ -1,4 +1,5 @@
-//! One history of values for several clients, which exists in proofs alone: each client is told beginnings of it.
+//! One history of values for several clients, each of which is told beginnings of it. It exists in proofs alone; at
+//! run time only lengths are kept.
 #![tactic(auto)]
 
 mod history;

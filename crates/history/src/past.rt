@@ -8,8 +8,8 @@ use crate::rule::{Add, Law, Naming, Nothing};
 use logbook::{Offer, Seen, Word};
 use std::marker::{Model, PhantomData};
 
-/// A history as it once was: a beginning of it. Contracts see its values. When the program runs it is their number and
-/// nothing else.
+/// A beginning of a history: the history as it once was. Contracts see its values. At run time it is only their
+/// number.
 #[derive(Drop)]
 pub struct Past<K, J: Naming> {
     count: u64,
@@ -28,7 +28,7 @@ impl<K, J: Naming> Model for Past<K, J> {
 }
 
 impl<K, J: Naming> Past<K, J> {
-    /// What was seen of a history that has no value yet.
+    /// The past of a history that has no value yet.
     pub(crate) fn new(seen: Seen<K, u64, Law>) -> Past<K, J>
         requires empty { seen.log ≡ [] }
         requires history { seen.book ≡ J.history }
@@ -59,7 +59,7 @@ impl<K, J: Naming> Past<K, J> {
         }
     }
 
-    /// Whether another past of the same history begins with this one. Else this one begins with the other.
+    /// Whether this past begins the other one, of the same history. If not, the other begins this one.
     pub fn begins(&self, other: &Past<K, J>) -> bool
         ensures tells { IsTrue result ↔ IsPastOf self.now other.now }
         ensures either { MatchBool result
@@ -71,7 +71,7 @@ impl<K, J: Naming> Past<K, J> {
         self.count <= other.count
     }
 
-    /// Goes on to another past of the same history, where that is longer.
+    /// Extends this past to another one of the same history, if that is longer.
     pub fn learn(&mut self, other: &Past<K, J>)
         ensures one { (self.new ≡ self.old) ⊎ (self.new ≡ other.now) }
         ensures mine { IsPrefix self.old self.new }
@@ -82,8 +82,8 @@ impl<K, J: Naming> Past<K, J> {
         }
     }
 
-    /// Adds a value behind all of it to the history that the word has the length of, and says whether it did. It did not
-    /// where that history is longer.
+    /// Appends a value to this past and to the history, if both have the same length; the word holds the history's.
+    /// False if the history is longer: then this past is extended to the length found.
     pub(crate) fn add(&mut self, word: &Word<K, u64, Law>, value: &K) -> bool
         requires word { word.now ≡ word_of J.history }
         requires room { length self.old < 2 ^ 62 }

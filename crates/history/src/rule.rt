@@ -1,10 +1,10 @@
-//! The rule of a history: one word has its length.
+//! The rule of a history: one word holds its length.
 ghost use Rattle.std.specs.Prelude.{◌≡◌};
 
 use logbook::{Gain, Plain, Play, Rule};
 use std::marker::Brand;
 
-/// The rule: the word has the length of the history. Clients of a history see no other part of it.
+/// The rule: the word holds the length of the history. Clients of a history see no other part of it.
 pub struct Law;
 
 impl<K> Rule<K, u64> for Law {
@@ -25,7 +25,7 @@ impl<K> Rule<K, u64> for Law {
     ghost moves = { λ ask before after answer. Unit {0} };
 }
 
-/// Who adds a value trades nothing for it.
+/// A step that adds a value takes nothing in exchange.
 pub(crate) struct Nothing;
 
 impl<K> Gain<K, u64> for Nothing {
@@ -43,7 +43,7 @@ impl<K> Play<K, u64> for Add {
     ghost then = { Adds };
 }
 
-/// What such a step asks for is the value.
+/// The argument of such a step is the value.
 impl<K> Plain<K, K, u64> for Add {
     ghost use Rattle.std.specs.Prelude.{None};
 
@@ -52,7 +52,7 @@ impl<K> Plain<K, K, u64> for Add {
     ghost state = { λ value. None };
 }
 
-/// Which history it is. Who opens a history picks it.
+/// Names a history. Whoever opens a history picks the name.
 pub trait Naming {
     ghost use Rattle.logbook.specs.Pages.{Book};
 
