@@ -1,4 +1,4 @@
--- A store that is as its client was told.
+-- A store whose state agrees with what its client was told.
 use Rattle.std.specs.Prelude.{◌≡◌, ℕ, ◌<◌, ◌≤◌, true, List, length, Result, Ok, Err, IsPermutation}
 use Rattle.key_class.specs.Rules.{Rules}
 use Rattle.key_class.specs.declared.refusal.Refusal.{Refusal}
@@ -8,7 +8,7 @@ use Rattle.store.specs.States.{StoreState, cursor_of}
 use Rattle.front.specs.Told.{ClientCursor, Told}
 
 module _ {K A : Type 0} (rules : Rules K A) where
-  -- the open cursor of the store is the client's, and what it was given fits it
+  -- the open cursor of the store is the client's, and what it gave fits it
   pub record IsSameCursor (commits : List (Write K)) (cursor : CursorState K A) (f : ClientCursor K A) : Type 0 where
     pub query : f.query ≡ cursor.query
     pub follows : f.follows ≡ cursor.follows
@@ -30,9 +30,10 @@ module _ {K A : Type 0} (rules : Rules K A) where
     pub last : told.last ≡ state.last
     pub dead : IsPermutation told.dead state.dead
     pub finders : state.finders ≤ told.finders
-    -- once that was told, fewer than two pages are left for good
+    -- once the client was told that the pages are full, fewer than two pages are left for good
     pub pages : told.pages_full ≡ true → state.pages_left < 2
 
-  -- Whatever was told that the store was as, the replies may follow it, and then the store is as is told.
+  -- If the state of the store agreed with what was told before, the replies are allowed, and the new state agrees
+  -- with what is told then.
   abbrev pub Tells : StoreState K A → StoreState K A → (Told K A → Told K A → Type 0) → Type 0
   Tells old new replies = (told : Told K A) → IsAsTold old told → (after : Told K A) × replies told after × IsAsTold new after

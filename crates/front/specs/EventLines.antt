@@ -22,7 +22,7 @@ use Rattle.front.specs.declared.event_request.EventRequest.{EventRequest}
 use Rattle.front.specs.declared.event_request.EventRequest.TheVariants as request
 use Rattle.front.specs.Requests.{natural_at, start_at, alone, one_number}
 
--- what a word is at the front of an event line
+-- the verb that a word spells at the front of an event line
 abbrev pub event_verb_of_word : List ℕ → EventVerb
 event_verb_of_word w =
     if bytes_eq w (codes "enlarge") then verb.Enlarge
@@ -46,20 +46,20 @@ abbrev pub event_verb_of : Token → EventVerb
 event_verb_of (word w) = event_verb_of_word w
 event_verb_of _ = verb.Other
 
--- What is asked: an event, or a cursor with that room, which follows a commit or none, on the query of these tokens, which
--- are those up to the line's end.
+-- What a line asks: an event; or a cursor with this room, which follows a commit or none, on the query that these
+-- tokens spell. The tokens are those up to the line's end.
 pub data Asked (C K A : Type 0) : Type 0 where
   one_event : Event C K A → Asked C K A
   cursor_on : ℕ → Option ℕ → List Placed → Asked C K A
 
--- the letters of sides are l and r
+-- sides are written with the letters l and r
 abbrev pub is_side : ℕ → Bool
 is_side letter = (letter == 108) || (letter == 114)
 
 abbrev pub side_of : ℕ → Side
 side_of letter = if letter == 108 then Left else Right
 
--- a side for each letter of a word that has no others
+-- a side for each letter of a word that has only such letters
 abbrev pub sides_of : Token → Option (List Side)
 sides_of (word w) = if list_all is_side w then Some (map side_of w) else None
 sides_of _ = None
@@ -68,24 +68,24 @@ abbrev pub sides_at : ℕ → List Placed → Reading (List Side)
 sides_at len [] = Err len
 sides_at len (t ∷ ts) = or_fault_at t.place ts (sides_of t.token)
 
--- the event has sides, which are collected with memory
+-- the event has sides, for which memory is needed
 abbrev pub HasSides : {C K A : Type 0} → Event C K A → Type 0
 HasSides (event.Split page sides) = Unit
 HasSides (event.Grow sides) = Unit
 HasSides _ = ⊥
 
--- the event that opens a cursor: at the present commits, or behind one that it follows
+-- the event that opens a cursor: at the present commits, or after a commit that it follows
 abbrev pub opening_of : {C K A : Type 0} → Pred A → ℕ → Option ℕ → Event C K A
 opening_of query room None = event.Open query room
 opening_of query room (Some commit) = event.Follow query room commit
 
 module _ {C K A : Type 0} (texts : Texts K A) where
-  -- of a line with so many bytes this is the event
+  -- a line of so many bytes asks this event
   abbrev pub IsEvent : ℕ → Asked C K A → Event C K A → Type 0
   IsEvent len (one_event asked) e = e ≡ asked
   IsEvent len (cursor_on room from ts) e = (query : Pred A) × SpellsQuery texts len ts (query_of query) × (e ≡ opening_of query room from)
 
-  -- there is no event: the query's tokens are refused at a place, or memory was wanting for sides or a query
+  -- the line asks no event: its query is refused at a place, or memory ran out for sides or the query
   abbrev pub IsNoEvent : ℕ → Asked C K A → Refusal → Type 0
   IsNoEvent len (one_event asked) why = HasSides asked × (why ≡ refusal.OutOfMemory)
   IsNoEvent len (cursor_on room from ts) why =
@@ -93,7 +93,7 @@ module _ {C K A : Type 0} (texts : Texts K A) where
       ⊎ (why ≡ refusal.OutOfMemory)
 
 module _ {C K A : Type 0} (key_at : ℕ → List Placed → Reading K) where
-  -- an event of two numbers and a key
+  -- reads an event of two numbers and a key
   abbrev pub two_numbers_and_key : (ℕ → ℕ → K → Event C K A) → ℕ → List Placed → Result (Asked C K A) ℕ
   two_numbers_and_key event_of len ts = do
     first ← natural_at len ts
@@ -131,7 +131,7 @@ cursor_asked len ts = do
   start ← start_at len room.1
   Ok (cursor_on room.0 start.0 start.1)
 
--- what the tokens behind a verb ask, or the place of the first fault; any other first token is one
+-- what the tokens after a verb ask, or the place of the first fault; a first token that is no verb is a fault
 abbrev pub event_asked_by : {C K A : Type 0} → (ℕ → List Placed → Reading K) → ℕ → ℕ → EventVerb → List Placed → Result (Asked C K A) ℕ
 event_asked_by key_at len place verb.Enlarge ts = two_numbers_and_key key_at event.Enlarge len ts
 event_asked_by key_at len place verb.Place ts = page_key_and_tag key_at len ts
@@ -150,7 +150,7 @@ event_asked_by key_at len place verb.Take ts = one_number (λ c. one_event (even
 event_asked_by key_at len place verb.Close ts = one_number (λ c. one_event (event.Close c)) len ts
 event_asked_by key_at len place verb.Other ts = Err place
 
--- what a request with lexemes of a text asks
+-- what a request asks, with lexemes of a text
 abbrev pub asked_of : {C K A : Type 0} → List ℕ → EventRequest K → Asked C K A
 asked_of text (request.Enlarge parent child key) = one_event (event.Enlarge parent child key)
 asked_of text (request.Place page key tag) = one_event (event.Place page key tag)
@@ -168,24 +168,24 @@ asked_of text (request.AskMark c) = one_event (event.AskMark c)
 asked_of text (request.Take c) = one_event (event.Take c)
 asked_of text (request.Close c) = one_event (event.Close c)
 
--- the same by the lexeme of the verb
+-- what the tokens after the verb's lexeme ask
 abbrev pub event_from : {C K A : Type 0} → Texts K A → List ℕ → Lexeme → ℕ → List Placed → Result (Asked C K A) ℕ
 event_from texts text first len ts = event_asked_by texts.key_at len first.place (event_verb_of (token_in text first)) ts
 
--- What was returned is what this reading gives of a text's lexemes. C is the class, A its atoms.
+-- The result is what this reading gives of a text's lexemes. C is the class, A its atoms.
 abbrev pub IsEventAsked : (C A : Type 0) {K : Type 0} → (ℕ → List Placed → Result (Asked C K A) ℕ) → List ℕ → List Lexeme → Result (EventRequest K) ℕ → Type 0
 IsEventAsked C A read text lexemes returned =
     MatchResult returned (λ r. read (length text) (placed text lexemes) ≡ Ok (asked_of text r)) (λ place. read (length text) (placed text lexemes) ≡ Err place)
 
--- the letters that were returned are those of the sides in front of a text's lexemes
+-- the result is the letters of the sides at the front of a text's lexemes
 abbrev pub GivesSides : List ℕ → List Lexeme → Result (Bor (List ℕ) × Bor (List Lexeme)) ℕ → Type 0
 GivesSides text lexemes returned =
     MatchResult returned (λ r. sides_at (length text) (placed text lexemes) ≡ Ok (map side_of r.0.now, placed text r.1.now)) (λ place. sides_at (length text) (placed text lexemes) ≡ Err place)
 
--- what a request with lexemes of a text asks is this event
+-- what a request asks, with lexemes of a text, is this event
 abbrev pub AsksEvent : {C K A : Type 0} → Texts K A → List ℕ → EventRequest K → Event C K A → Type 0
 AsksEvent texts text asked event = IsEvent texts (length text) (asked_of text asked) event
 
--- it asks for no event, for this reason
+-- it asks no event, for this reason
 abbrev pub AsksNoEvent : (C : Type 0) {K A : Type 0} → Texts K A → List ℕ → EventRequest K → Refusal → Type 0
 AsksNoEvent C texts text asked why = IsNoEvent {C = C} texts (length text) (asked_of text asked) why

@@ -38,7 +38,7 @@ module _ {K : Type 0} (key_text : K → List ℕ) where
   abbrev pub row_line : Row K → List ℕ
   row_line r = codes "row " ++ (row_text r ++ codes "\n")
 
-  -- of the row that a move made, and the number of the row that it ended
+  -- the row that a move made, and the number of the row that it ended
   abbrev pub moved_line : Row K → ℕ → List ℕ
   moved_line r ended =
       codes "moved " ++ (decimal r.row ++ (codes " " ++ (decimal ended ++ (codes " " ++ (content_text r ++ codes "\n")))))
@@ -62,6 +62,6 @@ module _ {K : Type 0} (key_text : K → List ℕ) where
   first_line reply.Closed = codes "closed\n"
   first_line (reply.Refused why) = refusal_line why
 
-  -- the lines of a reply: those of the rows found stand behind the first
+  -- the lines of a reply: the first, and then one for each row that was found
   abbrev pub reply_text : Reply K → List ℕ
   reply_text reply = first_line reply ++ flat_map row_line (listed reply)

@@ -10,7 +10,7 @@ use Rattle.front.specs.declared.request.Verb.TheVariants as verb
 use Rattle.front.specs.declared.request.Request.{Request}
 use Rattle.front.specs.declared.request.Request.TheVariants as request
 
--- what a word is at the front of a line
+-- the verb that a word spells at the front of a line
 abbrev pub verb_of_word : List ℕ → Verb
 verb_of_word w =
     if bytes_eq w (codes "insert") then verb.Insert
@@ -28,8 +28,8 @@ abbrev pub verb_of : Token → Verb
 verb_of (word w) = verb_of_word w
 verb_of _ = verb.Other
 
--- What is asked; of a query the tokens, which are those up to the line's end; of a cursor its room, and which commit it
--- follows, if any.
+-- What a line asks. A query is still its tokens, which are those up to the line's end; an opening has the cursor's
+-- room, and the commit that it follows, if any.
 pub data Command (K : Type 0) : Type 0 where
   insert_row : K → ℕ → Command K
   delete_row next_item ask_mark close_cursor : ℕ → Command K
@@ -44,12 +44,12 @@ natural_at len ts = do
   number ← number_at (pos 0) most_u64 len ts
   Ok (unsigned_abs number.0, number.1)
 
--- with nothing behind it
+-- the value, if no token is left
 abbrev pub alone : {A : Type 0} → A → List Placed → Result A ℕ
 alone asked [] = Ok asked
 alone asked (t ∷ ts) = Err t.place
 
--- what is asked with one number
+-- what is asked with one number and nothing after it
 abbrev pub one_number : {A : Type 0} → (ℕ → A) → ℕ → List Placed → Result A ℕ
 one_number asked len ts = do
   number ← natural_at len ts
@@ -78,7 +78,7 @@ start_by true len t ts = do
   Ok (Some commit.0, commit.1)
 start_by false len t ts = Ok (None, t ∷ ts)
 
--- the commit that is followed, where the word `from` and its number are in front
+-- the commit that is followed, if the word `from` and a number are at the front
 abbrev pub start_at : ℕ → List Placed → Reading (Option ℕ)
 start_at len [] = Ok (None, [])
 start_at len (t ∷ ts) = start_by (is_from t.token) len t ts
@@ -89,7 +89,7 @@ room_and_query len ts = do
   start ← start_at len room.1
   Ok (open_cursor room.0 start.0 start.1)
 
--- what the tokens behind a verb ask, or the place of the first fault; any other first token is one
+-- what the tokens after a verb ask, or the place of the first fault; a first token that is no verb is a fault
 abbrev pub asked_by : {K : Type 0} → (ℕ → List Placed → Reading K) → ℕ → ℕ → Verb → List Placed → Result (Command K) ℕ
 asked_by key_at len place verb.Insert ts = key_and_tag key_at len ts
 asked_by key_at len place verb.Delete ts = one_number delete_row len ts
@@ -102,7 +102,7 @@ asked_by key_at len place verb.Sweep ts = alone sweep_all ts
 asked_by key_at len place verb.Close ts = one_number close_cursor len ts
 asked_by key_at len place verb.Other ts = Err place
 
--- what a request with lexemes of a text asks
+-- what a request asks, with lexemes of a text
 abbrev pub command_of : {K : Type 0} → List ℕ → Request K → Command K
 command_of text (request.Insert key tag) = insert_row key tag
 command_of text (request.Delete row) = delete_row row
@@ -114,20 +114,20 @@ command_of text (request.Find lexemes) = find_rows (placed text lexemes.now)
 command_of text request.Sweep = sweep_all
 command_of text (request.Close cursor) = close_cursor cursor
 
--- the same by the lexeme of the verb
+-- what the tokens after the verb's lexeme ask
 abbrev pub asked_from : {K A : Type 0} → Texts K A → List ℕ → Lexeme → ℕ → List Placed → Result (Command K) ℕ
 asked_from texts text first len ts = asked_by texts.key_at len first.place (verb_of (token_in text first)) ts
 
--- what was returned is what this reading gives of a text's lexemes
+-- the result is what this reading gives of a text's lexemes
 abbrev pub IsAsked : {K : Type 0} → (ℕ → List Placed → Result (Command K) ℕ) → List ℕ → List Lexeme → Result (Request K) ℕ → Type 0
 IsAsked read text lexemes returned =
     MatchResult returned (λ r. read (length text) (placed text lexemes) ≡ Ok (command_of text r)) (λ place. read (length text) (placed text lexemes) ≡ Err place)
 
--- the same where it is given as it is read
+-- the same for a value of one part
 abbrev pub IsRead : {A : Type 0} → (ℕ → List Placed → Result A ℕ) → List ℕ → List Lexeme → Result A ℕ → Type 0
 IsRead read text lexemes returned =
     MatchResult returned (λ a. read (length text) (placed text lexemes) ≡ Ok a) (λ place. read (length text) (placed text lexemes) ≡ Err place)
 
--- the first of the lexemes stands at the place
+-- the first of the lexemes is at this place
 abbrev pub BeginAt : List Lexeme → ℕ → Type 0
 BeginAt lexemes place = (first : Lexeme) × (rest : List Lexeme) × (lexemes ≡ first ∷ rest) × (place ≡ first.place)

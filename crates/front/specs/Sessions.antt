@@ -17,13 +17,13 @@ use Rattle.front.specs.Told.{Told, nothing_told, RepliesInsert, RepliesDelete, R
 use Rattle.front.specs.AsTold.{IsAsTold, Tells}
 use Rattle.front.specs.Conversations.{Exchange, AnswersLines, AnsweredAll, AnsweredWhole, AnsweredFirst}
 
--- what is written of a reply, if there is one
+-- the text of a reply, if there is one
 abbrev pub text_of_answer : {K : Type 0} → (K → List ℕ) → Option (Reply K) → List ℕ
 text_of_answer key_text None = []
 text_of_answer key_text (Some said) = reply_text key_text said
 
 module _ {K A : Type 0} (texts : Texts K A) where
-  -- the tokens spell a query, which is answered so; or they are refused at a place; or memory was wanting
+  -- the tokens spell a query, and the reply is one for it; or they are refused at a place; or memory ran out
   abbrev pub WithQuery : ℕ → List Placed → (Query A → Reply K → Told K A → Told K A → Type 0) → Reply K → Told K A → Told K A → Type 0
   WithQuery len ts replies said old new =
       ((q : Query A) × SpellsQuery texts len ts q × replies q said old new)
@@ -43,7 +43,7 @@ module _ {K A : Type 0} (texts : Texts K A) where
     RepliesTo len sweep_all said old new = RepliesSweep said old new
     RepliesTo len (close_cursor c) said old new = RepliesClose c said old new
 
-    -- a command is carried out; a fault of the line is refused at its place
+    -- a command gets a reply to it; a fault of the line is refused at its place
     abbrev pub RepliesAsked : ℕ → Result (Command K) ℕ → Option (Reply K) → Told K A → Told K A → Type 0
     RepliesAsked len (Ok command) said old new = (r : Reply K) × (said ≡ Some r) × RepliesTo len command r old new
     RepliesAsked len (Err place) said old new = (said ≡ Some (reply.Refused (refusal.Line place))) × (new ≡ old)
@@ -53,12 +53,12 @@ module _ {K A : Type 0} (texts : Texts K A) where
     RepliesTokens len [] said old new = (said ≡ None) × (new ≡ old)
     RepliesTokens len (t ∷ ts) said old new = RepliesAsked len (asked_by texts.key_at len t.place (verb_of t.token) ts) said old new
 
-    -- the text may answer the tokens of a line with so many bytes, and this is told with it
+    -- the text may answer the tokens of a line of so many bytes, and this is then told
     abbrev pub AnswersTold : ℕ → Told K A → List Placed → List ℕ → Told K A → Type 0
     AnswersTold len old ts text new = (said : Option (Reply K)) × (text ≡ text_of_answer texts.key_text said) × RepliesTokens len ts said old new
 
-    -- The calls of a store answer a text as their client is told: a request, its tokens, and the query that lexemes spell
-    -- where a cursor is opened on it or its rows are found.
+    -- The replies are those of a store's calls: to a request, to its tokens, and to the query that lexemes spell when
+    -- a cursor is opened on it or its rows are found.
 
     abbrev pub TellsRequest : StoreState K A → StoreState K A → List ℕ → Request K → Reply K → Type 0
     TellsRequest old new text asked said = Tells rules old new (RepliesTo (length text) (command_of text asked) said)
@@ -72,14 +72,16 @@ module _ {K A : Type 0} (texts : Texts K A) where
     abbrev pub TellsFinding : StoreState K A → StoreState K A → List ℕ → List Lexeme → Reply K → Type 0
     TellsFinding old new text lexemes said = Tells rules old new (WithQuery (length text) (placed text lexemes) (RepliesFind rules) said)
 
--- The client of a new store was told nothing before such a conversation, and then the store is as was told.
+-- The client of a new store was told nothing before this conversation, and the store's state agrees with what it was
+-- told in it.
 abbrev pub FromNothing : {K A : Type 0} → Rules K A → (Told K A → Told K A → Type 0) → StoreState K A → StoreState K A → Type 0
 FromNothing {K} {A} rules conversation old new =
     (told : Told K A) × conversation (nothing_told old.limit old.page_limit) told × IsAsTold rules new told
 
 module _ {K A : Type 0} (texts : Texts K A) (rules : Rules K A) where
-  -- The client of a new store was told what answers all lines up to the reader's end; the whole lines before a fault of
-  -- the reader; some first lines, of whose answers the writer took a beginning. The store is as was told.
+  -- What the client of a new store was told, by how the session ended: the answers to all lines up to the reader's
+  -- end; those to the whole lines before the reader failed; those to some first lines, of which a beginning was
+  -- written. The store's state agrees with it.
 
   abbrev pub ToldAll : StoreState K A → StoreState K A → Exchange → Type 0
   ToldAll old new io = FromNothing rules (λ before after. AnsweredAll (AnswersTold texts rules) before after io) old new
@@ -90,15 +92,15 @@ module _ {K A : Type 0} (texts : Texts K A) (rules : Rules K A) where
   abbrev pub ToldFirst : StoreState K A → StoreState K A → Exchange → Type 0
   ToldFirst old new io = FromNothing rules (λ before after. AnsweredFirst (AnswersTold texts rules) before after io) old new
 
-  -- Where the client was once told that the pages are full, and then what answers these lines, and the store is as was
-  -- told, fewer than two pages are left.
+  -- If the client was told that the pages are full, and then the answers to these lines, and the store's state agrees
+  -- with that, fewer than two pages are left.
   abbrev pub LacksPagesOnceTold : StoreState K A → Type 0
   LacksPagesOnceTold new =
       (before told : Told K A) (lines : List (List ℕ)) (text : List ℕ) → before.pages_full ≡ true
       → AnswersLines (AnswersTold texts rules) before lines text told → IsAsTold rules new told → new.pages_left < 2
 
-  -- The text answers the tokens of a line with so many bytes: it is one that may, whatever was told that the store is
-  -- as, and then the store is as is told.
+  -- The text answers the tokens of a line of so many bytes: for whatever was told before that agreed with the store's
+  -- state, the text is an allowed answer, and the new state agrees with what is told then.
   pub record AnswersTokens (len : ℕ) (old : StoreState K A) (ts : List Placed) (text : List ℕ) (new : StoreState K A) : Type 0 where
     pub said : Option (Reply K)
     pub is_text : text ≡ text_of_answer texts.key_text said

@@ -1,4 +1,4 @@
--- What a client of a session was told, and which replies may answer which requests.
+-- What a client of a session was told so far, and which replies are allowed to which requests.
 use Rattle.std.specs.Prelude.{◌≡◌, ℕ, ◌+◌, ◌-◌, ◌<◌, ◌≤◌, Bool, true, false, List, [], ◌∷◌, ◌++◌, length, Option, Some, None, Result, Ok, Err, ◌⊎◌, IsPermutation, nat_eq, if◌then◌else◌}
 use Rattle.std.specs.List.{AllByRecursion}
 use Rattle.key_class.specs.declared.refusal.Refusal.{Refusal}
@@ -20,13 +20,13 @@ use Rattle.front.specs.declared.reply.Reply.TheVariants as reply
 -- an open cursor, as its client sees it
 pub record ClientCursor (K A : Type 0) : Type 0 where
   pub query : Query A
-  -- it follows a commit: it was opened without a snapshot
+  -- it follows a commit, so it was opened without a snapshot
   pub follows : Bool
-  -- the number of commits at its opening, or of the commit that it follows
+  -- the number of commits at its opening, or the commit that it follows
   pub opened : ℕ
-  -- what it was given, marks among it
+  -- the items that it gave, marks included
   pub given : List (Item K)
-  -- a mark is asked for
+  -- a mark was asked for and not given yet
   pub asked : Bool
 
 pub record Told (K A : Type 0) : Type 0 where
@@ -35,28 +35,28 @@ pub record Told (K A : Type 0) : Type 0 where
   pub commits : List (Write K)
   -- the greatest number of pages
   pub page_limit : ℕ
-  -- for each serial the open cursor, or why there is none
+  -- for each serial the open cursor, or the refusal that its use gets
   pub cursors : ℕ → Result (ClientCursor K A) Refusal
   -- how many cursors are open
   pub open_cursors : ℕ
   -- the last serial that was given
   pub last : ℕ
-  -- a collection: the dead rows that no sweep removed
+  -- the dead rows that no sweep has removed, in any order
   pub dead : List DeadRow
   -- the most finders that can have been opened
   pub finders : ℕ
-  -- the client was told that the pages are full
+  -- the client was once told that the pages are full
   pub pages_full : Bool
 
 abbrev pub IsBadRoom : ℕ → Type 0
 IsBadRoom room = (room ≡ 0) ⊎ (most_room < room)
 
 module _ {K A : Type 0} where
-  -- before the first line
+  -- what a client was told before the first line
   abbrev pub nothing_told : ℕ → ℕ → Told K A
   nothing_told limit page_limit = record { limit = limit; commits = []; page_limit = page_limit; cursors = λ c. Err refusal.NoSuchCursor; open_cursors = 0; last = 0; dead = []; finders = 0; pages_full = false }
 
-  -- the serial has this cursor, or none for this reason, and the others what they had
+  -- the serial gets this cursor, or this refusal; the other serials keep what they have
   abbrev pub with_client_cursor : (ℕ → Result (ClientCursor K A) Refusal) → ℕ → Result (ClientCursor K A) Refusal → ℕ → Result (ClientCursor K A) Refusal
   with_client_cursor cursors c now d = if nat_eq d c then now else cursors d
 
@@ -66,15 +66,15 @@ module _ {K A : Type 0} where
   abbrev pub HasNoCursorLeft : Told K A → Type 0
   HasNoCursorLeft told = (most_cursors ≤ told.open_cursors) ⊎ (greatest_serial ≤ told.last)
 
-  -- no finder may be left
+  -- it is possible that no finder is left
   abbrev pub MayLackFinders : Told K A → Type 0
   MayLackFinders told = greatest_serial ≤ told.finders
 
-  -- fewer than two pages may be left: at most one more was made than there are commits
+  -- it is possible that fewer than two pages are left: at most one more was made than there are commits
   abbrev pub MayLackPages : Told K A → Type 0
   MayLackPages told = told.page_limit < (length told.commits + 1) + 2
 
-  -- the client is told that the pages are full, and nothing else
+  -- the client is told that the pages are full, and nothing else changes
   abbrev pub TellsPagesFull : Told K A → Told K A → Type 0
   TellsPagesFull old new = new ≡ record old { pages_full = true }
 
@@ -86,7 +86,7 @@ module _ {K A : Type 0} where
   RepliesInsert key tag (reply.Refused refusal.OutOfMemory) old new = (¬ IsFullAsTold old) × (new ≡ old)
   RepliesInsert key tag _ old new = ⊥
 
-  -- why a row doesn't end
+  -- why ending a row is refused
   abbrev pub RefusesToEnd : ℕ → Refusal → Told K A → Told K A → Type 0
   RefusesToEnd row refusal.NoSuchRow old new = (status_of old.commits row ≡ status.NeverIssued) × (new ≡ old)
   RefusesToEnd row refusal.AlreadyDeleted old new = (status_of old.commits row ≡ status.Dead) × (new ≡ old)
@@ -95,7 +95,7 @@ module _ {K A : Type 0} where
   RefusesToEnd row refusal.FindersFull old new = (status_of old.commits row ≡ status.Live) × (¬ IsFullAsTold old) × MayLackFinders old × (new ≡ old)
   RefusesToEnd row _ old new = ⊥
 
-  -- the row may end, but there may be too few pages for another key
+  -- the row may be ended, but too few pages may be left for the new key
   abbrev pub LacksPagesFor : ℕ → Refusal → Told K A → Told K A → Type 0
   LacksPagesFor row why old new = (why ≡ refusal.PagesFull) × (status_of old.commits row ≡ status.Live) × (¬ IsFullAsTold old) × MayLackPages old × TellsPagesFull old new
 
@@ -113,17 +113,17 @@ module _ {K A : Type 0} where
   RepliesMove row key (reply.Refused why) old new = RefusesToEnd row why old new ⊎ LacksPagesFor row why old new
   RepliesMove row key _ old new = ⊥
 
-  -- a client's new cursor: at the present commits, or behind one that it follows
+  -- a new cursor of the client: at the present commits, or after a commit that it follows
   abbrev pub client_cursor : Told K A → Query A → Option ℕ → ClientCursor K A
   client_cursor told query None = record { query = query; follows = false; opened = length told.commits; given = []; asked = false }
   client_cursor told query (Some commit) = record { query = query; follows = true; opened = commit; given = []; asked = false }
 
-  -- the commit that is to be followed isn't there yet
+  -- the commit to follow doesn't exist yet
   abbrev pub IsAhead : Told K A → Option ℕ → Type 0
   IsAhead told None = ⊥
   IsAhead told (Some commit) = length told.commits < commit
 
-  -- the room is in range, and the commit that is to be followed is there
+  -- the room is in range, and the commit to follow exists
   pub record MayBegin (told : Told K A) (room : ℕ) (from : Option ℕ) : Type 0 where
     pub room_is_good : ¬ IsBadRoom room
     pub is_there : ¬ IsAhead told from
@@ -154,7 +154,8 @@ module _ {K A : Type 0} where
   RepliesClose c (reply.Refused why) old new = (old.cursors c ≡ Err why) × (new ≡ old)
   RepliesClose c _ old new = ⊥
 
-  -- each dead row that a sweep leaves died after the opening of some open cursor that has a snapshot
+  -- a dead row that a sweep leaves died after the opening of some open cursor with a snapshot, which may still need
+  -- it
   pub record DiedAfterOpening (told : Told K A) (dead : DeadRow) : Type 0 where
     pub serial : ℕ
     pub cursor : ClientCursor K A
@@ -179,7 +180,7 @@ module _ {K A : Type 0} (rules : Rules K A) where
   RepliesFind query (reply.Refused refusal.OutOfMemory) old new = new ≡ old
   RepliesFind query _ old new = ⊥
 
-  -- A mark comes only where one is asked for, tells the number of commits, and ends the asking; then all up to it was given.
+  -- A mark comes only if one was asked for, and tells the number of commits; then everything up to it has been given.
   abbrev pub GivesTo : List (Write K) → ClientCursor K A → Item K → Bool → Type 0
   GivesTo commits f (item.Mark n) asked = (f.asked ≡ true) × (n ≡ length commits) × (asked ≡ false) × IsListingFor f.follows (client_wants f) f.opened n commits (without_marks f.given)
   GivesTo commits f other asked = asked ≡ f.asked

@@ -14,22 +14,22 @@ use key_class::{Fault, Refusal};
 use query_text::{ClassText, Line, append, append_number};
 use std::io::Write;
 
-/// How many bytes of answers are gathered before they are written.
+/// How many bytes of answers are gathered before they are written: a write for each line would be slow.
 const GATHERED: usize = 4_096;
 
-/// The room for fewer bytes than are written at once, and for as many lines of rows as are put together.
+/// The capacity of the gathered answers: less than `GATHERED` bytes, and the lines of `TOGETHER` rows behind them.
 const ANSWERS: usize = 8_192;
 
-/// How many rows are put together: their lines have at most 450 bytes each.
+/// How many rows are appended at once: their lines have at most 450 bytes each.
 const TOGETHER: usize = 8;
 
-/// Answers that are gathered, in an array: no memory is asked for them.
+/// Answers gathered for the writer, in an array, so that no memory needs to be requested for them.
 pub type Gathered = ArrayVec<u8, ANSWERS>;
 
-/// Writes bytes, and goes on where a signal came between.
+/// Writes all bytes. A write that a signal interrupts is tried again.
 ///
 /// # Errors
-/// `Write` where the writer failed. It took a beginning of the bytes, and is given no more.
+/// `Write` if the writer failed. It took a beginning of the bytes, and is given no more.
 fn write_out<W: Write>(writer: &mut W, bytes: &[u8]) -> Result<(), Fault>
     ensures ok { OnOk result (Appends (W.contents writer.old) (W.contents writer.new) bytes.now) }
     ensures part { OnErr result (TakesBeginning W.contents writer.old writer.new bytes.now) }
@@ -49,7 +49,7 @@ fn write_out<W: Write>(writer: &mut W, bytes: &[u8]) -> Result<(), Fault>
 /// Writes what was gathered.
 ///
 /// # Errors
-/// `Write` where the writer failed. It took a beginning, and is given no more.
+/// `Write` if the writer failed. It took a beginning, and is given no more.
 pub fn send<W: Write>(writer: &mut W, gathered: &mut Gathered) -> Result<(), Fault>
     ensures written { Says [] result W.contents writer.old writer.new gathered.old gathered.new }
     ensures empty { OnOk result (gathered.new.items ≡ []) }
@@ -60,10 +60,10 @@ pub fn send<W: Write>(writer: &mut W, gathered: &mut Gathered) -> Result<(), Fau
     Ok(())
 }
 
-/// Writes what was gathered, once it is enough. Then there is room for a line.
+/// Writes what was gathered, if that is at least `GATHERED` bytes, so that there is room for a further line.
 ///
 /// # Errors
-/// `Write` where the writer failed. It took a beginning, and is given no more.
+/// `Write` if the writer failed. It took a beginning, and is given no more.
 pub fn send_enough<W: Write>(writer: &mut W, gathered: &mut Gathered) -> Result<(), Fault>
     ensures written { Says [] result W.contents writer.old writer.new gathered.old gathered.new }
     ensures room { OnOk result (HasRoomForLine gathered.new.items) }
@@ -75,7 +75,7 @@ pub fn send_enough<W: Write>(writer: &mut W, gathered: &mut Gathered) -> Result<
     send(writer, gathered)
 }
 
-/// Appends a number and the line's feed.
+/// Appends a number and a line feed.
 fn append_last(gathered: &mut Gathered, number: u64)
     requires room { length gathered.old.items + 21 ≤ 8192 }
     ensures { gathered.new.items ≡ gathered.old.items ++ (decimal number ++ codes "\n") }
@@ -105,7 +105,7 @@ pub fn append_pair(gathered: &mut Gathered, words: &[u8], first: u64, second: u6
     append_numbered(gathered, b" ", second);
 }
 
-/// Puts a row's key, its tag and the line's feed in front of what `line` has.
+/// Puts a row's key, its tag and a line feed in front of the bytes in `line`.
 #[inline]
 fn put_content<C: ClassText>(line: &mut Line, row: &Row<C::Key>)
     requires room { length line.old ≤ 3200 }
@@ -118,7 +118,7 @@ fn put_content<C: ClassText>(line: &mut Line, row: &Row<C::Key>)
     C::put_text(row.key, line);
 }
 
-/// Puts a row's number, its key, its tag and the line's feed in front of what `line` has.
+/// Puts a row's number, its key, its tag and a line feed in front of the bytes in `line`.
 #[inline]
 fn put_row<C: ClassText>(line: &mut Line, row: &Row<C::Key>)
     requires room { length line.old ≤ 3200 }
@@ -130,7 +130,7 @@ fn put_row<C: ClassText>(line: &mut Line, row: &Row<C::Key>)
     line.put_number(row.row);
 }
 
-/// Appends the line of a row, which is written in place of what `line` has.
+/// Appends the line of a row. `line` is scratch: it is overwritten.
 fn append_row_line<C: ClassText>(gathered: &mut Gathered, line: &mut Line, row: &Row<C::Key>)
     requires room { HasRoomForLine gathered.old.items }
     ensures { gathered.new.items ≡ gathered.old.items ++ row_line C.texts.key_text row.now }
@@ -141,7 +141,7 @@ fn append_row_line<C: ClassText>(gathered: &mut Gathered, line: &mut Line, row: 
     append(gathered, line.as_slice());
 }
 
-/// Puts the lines of rows in place of what `line` has, the last row's first.
+/// Writes the lines of rows into `line`, from the last row to the first, since `line` is filled from its end.
 fn put_rows<C: ClassText>(line: &mut Line, rows: &[Row<C::Key>])
     requires few { length rows.now ≤ 8 }
     ensures text { line.new ≡ flat_map (row_line C.texts.key_text) rows.now }
@@ -156,7 +156,7 @@ fn put_rows<C: ClassText>(line: &mut Line, rows: &[Row<C::Key>])
     }
 }
 
-/// Appends the lines of rows, which are written in place of what `line` has.
+/// Appends the lines of rows. `line` is scratch: it is overwritten.
 fn append_rows<C: ClassText>(gathered: &mut Gathered, line: &mut Line, rows: &[Row<C::Key>])
     requires few { length rows.now ≤ 8 }
     requires room { HasRoomForLine gathered.old.items }
@@ -167,7 +167,7 @@ fn append_rows<C: ClassText>(gathered: &mut Gathered, line: &mut Line, rows: &[R
     append(gathered, line.as_slice());
 }
 
-/// Appends the line of a row that was inserted, which is written in place of what `line` has.
+/// Appends the line of a row that was inserted. `line` is scratch: it is overwritten.
 fn append_inserted_line<C: ClassText>(gathered: &mut Gathered, line: &mut Line, row: &Row<C::Key>)
     requires room { HasRoomForLine gathered.old.items }
     ensures { gathered.new.items
@@ -179,8 +179,8 @@ fn append_inserted_line<C: ClassText>(gathered: &mut Gathered, line: &mut Line, 
     append(gathered, line.as_slice());
 }
 
-/// Appends the line of a move, which is written in place of what `line` has: of the row that it made, and the number of the
-/// row that it ended.
+/// Appends the line of a move: the row that it made, and the number of the row that it ended. `line` is scratch: it
+/// is overwritten.
 fn append_moved_line<C: ClassText>(
     gathered: &mut Gathered,
     line: &mut Line,
@@ -201,7 +201,7 @@ fn append_moved_line<C: ClassText>(
     append(gathered, line.as_slice());
 }
 
-/// Appends the line of an item. Where it has a key it is written in place of what `line` has.
+/// Appends the line of an item. `line` is scratch: it is overwritten if the item has a key.
 pub fn append_item<C: ClassText>(gathered: &mut Gathered, line: &mut Line, item: &Item<C::Key>)
     requires room { HasRoomForLine gathered.old.items }
     ensures { gathered.new.items ≡ gathered.old.items ++ item_line C.texts.key_text item.now }
@@ -230,10 +230,10 @@ pub fn append_refusal(gathered: &mut Gathered, why: Refusal)
     }
 }
 
-/// Writes a refusal, behind the answers that are gathered.
+/// Appends a refusal to the gathered answers, which may be written first.
 ///
 /// # Errors
-/// `Write` where the writer failed. It took a beginning of what was gathered.
+/// `Write` if the writer failed. It took a beginning of what was gathered.
 pub fn gather_refusal<W: Write>(
     why: Refusal,
     writer: &mut W,
@@ -249,7 +249,7 @@ pub fn gather_refusal<W: Write>(
     send_enough(writer, gathered)
 }
 
-/// Appends the first line of a reply. Where it has a key it is written in place of what `line` has.
+/// Appends the first line of a reply. `line` is scratch: it is overwritten if the reply has a key.
 fn append_line<C: ClassText>(gathered: &mut Gathered, line: &mut Line, reply: &Reply<C::Key>)
     requires room { HasRoomForLine gathered.old.items }
     ensures { gathered.new.items ≡ gathered.old.items ++ first_line C.texts.key_text reply.now }
@@ -267,7 +267,7 @@ fn append_line<C: ClassText>(gathered: &mut Gathered, line: &mut Line, reply: &R
     }
 }
 
-/// The rows that a reply lists behind its first line.
+/// The rows that a reply lists after its first line.
 fn rows_of<K>(reply: &Reply<K>) -> &[Row<K>]
     ensures { result.now ≡ listed reply.now }
 {
@@ -277,11 +277,11 @@ fn rows_of<K>(reply: &Reply<K>) -> &[Row<K>]
     }
 }
 
-/// Writes a line for each row, behind the answers that are gathered. They are written in place of what `line` has, some
-/// together.
+/// Appends a line for each row, `TOGETHER` at a time, to the gathered answers, and writes these when they are enough.
+/// `line` is scratch: it is overwritten.
 ///
 /// # Errors
-/// `Write` where the writer failed. It took a beginning of what was gathered.
+/// `Write` if the writer failed. It took a beginning of what was gathered.
 fn write_rows<C: ClassText, W: Write>(
     writer: &mut W,
     gathered: &mut Gathered,
@@ -304,11 +304,11 @@ fn write_rows<C: ClassText, W: Write>(
     Ok(())
 }
 
-/// Writes the lines of a reply, behind the answers that are gathered. Those with keys are written in place of what `line`
-/// has.
+/// Appends the lines of a reply to the gathered answers, and writes these when they are enough. `line` is scratch: it
+/// is overwritten if the reply has keys.
 ///
 /// # Errors
-/// `Write` where the writer failed. It took a beginning of what was gathered.
+/// `Write` if the writer failed. It took a beginning of what was gathered.
 pub fn write_reply<C: ClassText, W: Write>(
     writer: &mut W,
     gathered: &mut Gathered,

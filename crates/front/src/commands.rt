@@ -98,7 +98,7 @@ pub fn find<C: KeyClass>(store: &mut Store<C>, query: &Pred<C::Atom>) -> Reply<C
     }
 }
 
-/// Sweeps the dead rows that no scan needs.
+/// Removes the dead rows that no scan needs.
 pub fn sweep<C: KeyClass>(store: &mut Store<C>) -> Reply<C::Key>
     ensures { Tells C.rules store.old store.new (RepliesSweep result) }
 {

@@ -1,4 +1,4 @@
-//! Lines in, answers out, over what answers them.
+//! Reads lines, and writes the answers that a responder gives.
 ghost use Rattle.std.specs.Prelude.{◌≡◌, ℕ, ◌≤◌, List, length, OnOk, IfErr, vec_capacity, Err};
 ghost use Rattle.query_text.specs.Tokens.{Placed, placed};
 ghost use Rattle.front.specs.Conversations.{AnswersLine, AnsweredAll, AnsweredWhole, AnsweredFirst, IfOutOfMemory, IfReadFails, IfWriteFails, IsConversationFault, Kept, exchange};
@@ -13,15 +13,16 @@ use query_text::{Lexeme, Line, scan};
 use std::alloc::Global;
 use std::io::{Read, Write};
 
-/// What answers lines by their tokens, and is changed by them.
+/// Answers lines by their tokens, and may be changed by each of them.
 pub trait Responder {
-    /// Whether a text may answer the tokens of a line with so many bytes, and what becomes of the responder.
+    /// Whether a text may answer the tokens of a line of so many bytes, and which state of the responder comes of it.
     ghost answers: { ℕ → Self → List Placed → List ℕ → Self → Type 0 };
 
-    /// Answers the lexemes of a line, behind the answers that are gathered. A line with a key is written in place of what
-    /// `scratch` has.
+    /// Answers the lexemes of a line: appends the answer to the gathered ones. `scratch` is overwritten if the answer
+    /// has a key.
     ///
     /// # Errors
+    /// `Write` if the writer failed. The line is carried out all the same.
     /// `Write` where the writer failed. The line is carried out all the same.
     fn answer<W: Write>(
         &mut self,
@@ -40,7 +41,7 @@ pub trait Responder {
         ensures err { IfErr result (λ e. e ≡ Fault.Write) };
 }
 
-/// Answers a line. Where its first bytes were let go, `line` is the rest of it.
+/// Answers a line. If it is too long, its first bytes were dropped, and `line` has only the rest of it.
 fn answer_line<S: Responder, W: Write>(
     alloc: Global,
     responder: &mut S,
@@ -71,12 +72,12 @@ fn answer_line<S: Responder, W: Write>(
 
 /// Answers the lines of a reader until its bytes end.
 ///
-/// Answers are gathered, and written when there are enough of them and before the reader is asked for more.
+/// Answers are gathered. They are written when there are enough of them, and before the reader is asked for more.
 ///
 /// # Errors
-/// `OutOfMemory` where a buffer found no memory at the start; nothing was read then. `Read` where the reader failed, or hadn't
-/// ended when it had been read 2^64 - 1 times: the whole lines before that were answered. `Write` where the writer failed:
-/// some first lines were carried out, and a beginning of their answers was written.
+/// `OutOfMemory` if there was no memory for a buffer at the start: then nothing was read. `Read` if the reader
+/// failed, or hadn't ended after 2^64 - 1 reads: all whole lines read before were answered. `Write` if the writer
+/// failed: the first lines, up to some line, were carried out, and a beginning of their answers was written.
 pub fn converse<S: Responder, R: Read, W: Write>(
     alloc: Global,
     reader: &mut R,
@@ -101,8 +102,8 @@ pub fn converse<S: Responder, R: Read, W: Write>(
     };
     let mut gathered = Gathered::new();
     let mut scratch = Line::new();
-    // A reader that has given bytes so often and hasn't ended is left as one that failed (docs/DECISIONS.md, "A reader that
-    // never ends").
+    // A reader that still hasn't ended after so many reads counts as one that failed (docs/DECISIONS.md, "A reader
+    // that never ends").
     'reading: for _ in 0..u64::MAX {
         send(writer, &mut gathered)?;
         if !lines.fill(reader)? {

@@ -12,7 +12,7 @@ use query_text::{ClassText, Line, append};
 use std::io::Write;
 use world::Reply;
 
-/// Appends the line of a reply. Where it has a key it is written in place of what `line` has.
+/// Appends the line of a reply. `line` is scratch: it is overwritten if the reply has a key.
 fn append_line<C: ClassText, O: Outlet<C::Key>>(
     gathered: &mut Gathered,
     line: &mut Line,
@@ -48,11 +48,11 @@ fn append_line<C: ClassText, O: Outlet<C::Key>>(
     }
 }
 
-/// Writes the line of a reply, behind the answers that are gathered. Where it has a key it is written in place of what
-/// `line` has.
+/// Appends the line of a reply to the gathered answers, which may be written first. `line` is scratch: it is
+/// overwritten if the reply has a key.
 ///
 /// # Errors
-/// `Write` where the writer failed. It took a beginning of what was gathered.
+/// `Write` if the writer failed. It took a beginning of what was gathered.
 pub fn write_event_reply<C: ClassText, O: Outlet<C::Key>, W: Write>(
     writer: &mut W,
     gathered: &mut Gathered,

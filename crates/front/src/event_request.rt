@@ -30,7 +30,7 @@ pub enum EventVerb {
     Other,
 }
 
-/// What an event line asks. Sides are the letters of their word; the lexemes of a query aren't read yet.
+/// What an event line asks. Sides are still the letters of their word, and a query still its lexemes.
 #[derive(Clone, Copy, Debug)]
 pub enum EventRequest<'a, K> {
     Enlarge(u64, u64, K),
@@ -43,7 +43,7 @@ pub enum EventRequest<'a, K> {
     Move(u64, u64, K),
     Unfind(u64),
     Sweep(u64),
-    /// Its room, which commit it follows, if any, and its query.
+    /// Its room, the commit that it follows, if any, and its query.
     Open(u64, Option<u64>, &'a [Lexeme]),
     Turn(u64),
     AskMark(u64),
@@ -89,7 +89,7 @@ fn verb_of_word(word: &[u8]) -> EventVerb
     }
 }
 
-/// What a lexeme is at the front of an event line.
+/// The verb that a lexeme spells at the front of an event line.
 fn read_verb(text: &[u8], lexeme: Lexeme) -> EventVerb
     ensures { result ≡ event_verb_of (token_in text.now lexeme) }
 {
@@ -99,17 +99,17 @@ fn read_verb(text: &[u8], lexeme: Lexeme) -> EventVerb
     }
 }
 
-/// Whether a word has no letters but those of sides.
+/// Whether all letters of a word are letters of sides.
 fn are_sides(word: &[u8]) -> bool
     ensures { result ≡ list_all is_side word.now }
 {
     word.iter().all(|letter| *letter == b'l' || *letter == b'r')
 }
 
-/// The letters of sides at the front, and the lexemes behind them.
+/// The letters of sides at the front, and the lexemes after them.
 ///
 /// # Errors
-/// The place of the fault, which is the text's length at its end.
+/// The place of the fault in the text; the text's length if the sides are missing at its end.
 fn sides<'a>(text: &'a [u8], lexemes: &'a [Lexeme]) -> Result<(&'a [u8], &'a [Lexeme]), usize>
     ensures { GivesSides text.now lexemes.now result }
 {
@@ -216,7 +216,7 @@ fn open<'a, C: ClassText>(
     Ok(EventRequest::Open(room.0, start.0, start.1))
 }
 
-/// What the lexemes behind a verb ask.
+/// What the lexemes after a verb ask.
 ///
 /// # Errors
 /// The place of the first fault.

@@ -1,4 +1,4 @@
-//! Events of a world from lines.
+//! Replays: events of a world from lines.
 ghost use Rattle.std.specs.Prelude.{◌≡◌, map, IfOk, IfErr, OnOk, Err};
 ghost use Rattle.front.specs.EventLines.{side_of, opening_of, AsksEvent, AsksNoEvent};
 ghost use Rattle.front.specs.Replays.{AnswersEventTokens, CarriesOut, ReplayedAll, ReplayedFirst, ReplayedWhole};
@@ -38,7 +38,7 @@ fn collect_sides(alloc: Global, letters: &[u8]) -> Result<Sides, Refusal>
     Ok(sides)
 }
 
-/// The event that opens a cursor, at the present commits or behind one that it follows.
+/// The event that opens a cursor, at the present commits or after a commit that it follows.
 fn opening<C: ClassText>(query: Pred<C::Atom>, room: u64, from: Option<u64>) -> Event<C>
     ensures { result ≡ opening_of query room from }
 {
@@ -48,10 +48,10 @@ fn opening<C: ClassText>(query: Pred<C::Atom>, room: u64, from: Option<u64>) -> 
     }
 }
 
-/// The event that is asked.
+/// The event that a line asks.
 ///
 /// # Errors
-/// `QueryText` where the lexemes of a query are refused, else want of memory for sides or a query.
+/// `QueryText` if the lexemes of a query are refused, else `OutOfMemory` for sides or a query.
 fn event_of<C: ClassText>(
     alloc: Global,
     text: &[u8],
@@ -85,7 +85,7 @@ fn event_of<C: ClassText>(
     }
 }
 
-/// Gives the world the event that is asked.
+/// Carries out the event that a line asks, as one step of the world.
 fn carry_out<C: ClassText>(
     alloc: Global,
     world: &mut World<C, Tray<C::Key>>,
@@ -125,16 +125,17 @@ impl<C: ClassText> Responder for World<C, Tray<C::Key>> {
     }
 }
 
-/// Gives a world the events of a reader's lines until its bytes end, and answers each.
+/// Carries out the events of a reader's lines as steps of a world, until its bytes end, and answers each.
 ///
-/// A line asks an event by its words and numbers, and is answered by the line of the event's reply. A line that asks
-/// none is refused at the place of its first fault and changes nothing; a line without a token has no answer. Answers
-/// are gathered, and written when there are enough of them and before the reader is asked for more.
+/// A line that asks an event is answered by the line of the event's reply. A line that asks none is refused at the
+/// place of its first fault and changes nothing. A line without a token has no answer. Answers are gathered. They are
+/// written when there are enough of them, and before the reader is asked for more.
 ///
 /// # Errors
-/// `OutOfMemory` where a buffer found no memory at the start; nothing was read then. `Read` where the reader failed, or hadn't
-/// ended when it had been read 2^64 - 1 times: the whole lines before that were answered. `Write` where the writer failed:
-/// the events of some first lines stand, and a beginning of their answers was written.
+/// `OutOfMemory` if there was no memory for a buffer at the start: then nothing was read. `Read` if the reader
+/// failed, or hadn't ended after 2^64 - 1 reads: all whole lines read before were answered. `Write` if the writer
+/// failed: the events of the first lines, up to some line, were carried out, and a beginning of their answers was
+/// written.
 pub fn replay<C: ClassText, R: Read, W: Write>(
     alloc: Global,
     reader: &mut R,

@@ -1,4 +1,4 @@
-//! Lines in, lines of answers out: sessions of commands over a store, replays of events over a world.
+//! Sessions of commands over a store, and replays of events over a world: lines in, lines of answers out.
 #![tactic(auto)]
 
 mod answers;

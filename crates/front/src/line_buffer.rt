@@ -11,16 +11,16 @@ use std::alloc::{AllocError, Global};
 use std::io::Read;
 use std::marker::Model;
 
-/// How many bytes are held: as many as a line may have, and one more.
+/// How many bytes are held: the longest line, and one byte more, by which a line that is too long is noticed.
 const ROOM: usize = 4_097;
 
-/// The bytes that were read and whose line isn't answered yet.
+/// The bytes that were read but whose lines aren't answered yet.
 #[derive(Drop)]
 pub struct LineBuffer {
     bytes: Vec<u8>,
     start: usize,
     end: usize,
-    /// The line's first bytes were more than are held, and aren't held any more.
+    /// The line is too long: its first bytes were dropped.
     overlong: bool,
 }
 
@@ -36,7 +36,7 @@ impl Model for LineBuffer {
 }
 
 impl LineBuffer {
-    /// Nothing is held yet.
+    /// An empty buffer.
     pub fn new(alloc: Global) -> Result<LineBuffer, AllocError>
         ensures { IfOk result (λ b. b ≡ record { rest = []; overlong = false }) }
     {
@@ -49,7 +49,7 @@ impl LineBuffer {
         })
     }
 
-    /// Whether the line's first bytes aren't held any more, because it is too long.
+    /// Whether the line is too long, so that its first bytes were dropped.
     pub fn is_overlong(&self) -> bool
         ensures { result ≡ self.now.overlong }
     {
@@ -63,7 +63,7 @@ impl LineBuffer {
         &self.bytes[self.start..self.end]
     }
 
-    /// The first line of what is held, if its line feed is there.
+    /// The first line that is held, without its line feed, if that has been read.
     pub fn line(&self) -> Option<&[u8]>
         ensures line { IfSome result (λ l. IsFirstLine self.now.rest l.now) }
         ensures none { IsNone result → HasNoFeed self.now.rest }
@@ -73,7 +73,7 @@ impl LineBuffer {
         Some(&rest[..at])
     }
 
-    /// Lets the first bytes go, a whole line with its line feed.
+    /// Drops the first `count` bytes: a whole line with its line feed.
     pub fn pass(&mut self, count: usize)
         requires { count ≤ length self.old.rest }
         ensures { self.new ≡ record { rest = drop count self.old.rest; overlong = false } }
@@ -82,11 +82,11 @@ impl LineBuffer {
         self.overlong = false;
     }
 
-    /// Reads more bytes behind those that are held, one at least; false where the reader has none left. Bytes of a line that
-    /// has no room here are let go.
+    /// Reads at least one more byte, and appends what was read to what is held; false if the reader has no more.
+    /// Bytes of a line that is too long are dropped.
     ///
     /// # Errors
-    /// `Read` where the reader failed, and not by a signal alone. What it had left, it has.
+    /// `Read` if the reader failed other than by a signal. It then still has all that it had.
     pub fn fill<R: Read>(&mut self, reader: &mut R) -> Result<bool, Fault>
         ensures ok { IfOk result (FillsFrom R.remaining reader.old reader.new self.old self.new) }
         ensures err { IfErr result (FailsToRead R.remaining reader.old reader.new) }
@@ -106,7 +106,8 @@ impl LineBuffer {
     }
 }
 
-/// Moves the bytes from `start` to `end` to the front and gives their number, unless there is no room behind them.
+/// Moves the bytes from `start` to `end` to the front, so that there is room after them, and gives their number. `None`
+/// if they fill the whole buffer.
 fn moved_to_front(bytes: &mut [u8], start: usize, end: usize) -> Option<usize>
     requires order { start ≤ end }
     requires within { end ≤ length bytes.old }
@@ -121,10 +122,10 @@ fn moved_to_front(bytes: &mut [u8], start: usize, end: usize) -> Option<usize>
     Some(held)
 }
 
-/// Reads bytes behind the first `held`, and gives their number.
+/// Reads bytes into the room after the first `held`, and gives how many were read.
 ///
 /// # Errors
-/// `Read` where the reader failed, and not by a signal alone. What it had left, it has.
+/// `Read` if the reader failed other than by a signal. It then still has all that it had.
 fn read_behind<R: Read>(bytes: &mut [u8], held: usize, reader: &mut R) -> Result<usize, Fault>
     requires { held < length bytes.old }
     ensures ok { IfOk result (ReadsMore R.remaining reader.old reader.new held bytes.new) }
@@ -139,7 +140,7 @@ fn read_behind<R: Read>(bytes: &mut [u8], held: usize, reader: &mut R) -> Result
     }
 }
 
-/// Where the first line feed stands.
+/// The place of the first line feed.
 fn feed_of(bytes: &[u8]) -> Option<usize>
     ensures some { IfSome result (IsFirstFeed bytes.now) }
     ensures none { IsNone result → HasNoFeed bytes.now }

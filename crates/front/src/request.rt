@@ -21,13 +21,13 @@ pub enum Verb {
     Other,
 }
 
-/// What a line asks. The lexemes of a query aren't read yet.
+/// What a line asks. A query is still its lexemes.
 #[derive(Clone, Copy, Debug)]
 pub enum Request<'a, K> {
     Insert(K, u64),
     Delete(u64),
     Move(u64, K),
-    /// Its room, which commit it follows, if any, and its query.
+    /// Its room, the commit that it follows, if any, and its query.
     Open(u64, Option<u64>, &'a [Lexeme]),
     Next(u64),
     Mark(u64),
@@ -53,7 +53,7 @@ fn verb_of_word(word: &[u8]) -> Verb
     }
 }
 
-/// What a lexeme is at the front of a line.
+/// The verb that a lexeme spells at the front of a line.
 pub fn read_verb(text: &[u8], lexeme: Lexeme) -> Verb
     ensures { result ≡ verb_of (token_in text.now lexeme) }
 {
@@ -95,7 +95,7 @@ fn open<'a, K: Copy>(text: &[u8], lexemes: &'a [Lexeme]) -> Result<Request<'a, K
     Ok(Request::Open(room.0, start.0, start.1))
 }
 
-/// What the lexemes behind a verb ask.
+/// What the lexemes after a verb ask.
 ///
 /// # Errors
 /// The place of the first fault.

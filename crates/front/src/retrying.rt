@@ -1,4 +1,4 @@
-//! Reads and writes that are tried again where a signal came between.
+//! Reads and writes that are tried again if a signal interrupts them.
 ghost use Rattle.std.specs.Prelude.{◌≡◌, ◌≢◌, ◌↔◌, IsTrue, IfErr};
 ghost use Rattle.std.specs.Io.{ReadsAtMost, WritesAtMost};
 ghost use Rattle.std.specs.Io.KnownBytes.{ReadConsumes, WriteAppends};
@@ -6,7 +6,7 @@ ghost use Rattle.std.specs.IoError.{error_kind};
 
 use std::io::{Error, ErrorKind, Read, Result, Write};
 
-/// Whether a call moved nothing since a signal came between.
+/// Whether a call failed only because a signal interrupted it, and so moved no byte.
 fn is_interruption(error: &Error) -> bool
     ensures { IsTrue result ↔ (error_kind error.now ≡ ErrorKind.Interrupted) }
 {
@@ -16,7 +16,7 @@ fn is_interruption(error: &Error) -> bool
 /// Reads once. A read that a signal interrupts is tried again.
 ///
 /// # Errors
-/// That of the reader, and `TimedOut` where 2^64 - 1 reads were interrupted. What the reader had left, it has.
+/// The reader's own, or `TimedOut` if 2^64 - 1 reads were interrupted. The reader then still has all that it had.
 pub fn read_retrying<R: Read>(reader: &mut R, bytes: &mut [u8]) -> Result<usize>
     ensures bound { ReadsAtMost result bytes.new }
     ensures bytes { ReadConsumes (R.remaining reader.old) (R.remaining reader.new)
@@ -39,7 +39,7 @@ pub fn read_retrying<R: Read>(reader: &mut R, bytes: &mut [u8]) -> Result<usize>
 /// Writes once. A write that a signal interrupts is tried again.
 ///
 /// # Errors
-/// That of the writer, and `TimedOut` where 2^64 - 1 writes were interrupted. The writer took nothing.
+/// The writer's own, or `TimedOut` if 2^64 - 1 writes were interrupted. The writer took nothing.
 pub fn write_retrying<W: Write>(writer: &mut W, bytes: &[u8]) -> Result<usize>
     ensures bound { WritesAtMost result bytes.now }
     ensures bytes { WriteAppends (W.contents writer.old) (W.contents writer.new)

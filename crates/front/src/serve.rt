@@ -19,7 +19,7 @@ use std::alloc::Global;
 use std::io::{Read, Write};
 use store::Store;
 
-/// Opens a cursor, at the present commits or behind one that it follows.
+/// Opens a cursor, at the present commits or after a commit that it follows.
 fn open_at<C: KeyClass>(
     store: &mut Store<C>,
     room: u64,
@@ -92,7 +92,7 @@ fn carry_out<C: ClassText>(
     }
 }
 
-/// What answers the tokens of a line, if it has any.
+/// The reply to the tokens of a line. `None` if there are no tokens.
 fn reply_to_tokens<C: ClassText>(
     alloc: Global,
     store: &mut Store<C>,
@@ -127,14 +127,15 @@ impl<C: ClassText> Responder for Store<C> {
     }
 }
 
-/// Answers the lines of a reader until its bytes end. The store is as `Store::new` gives it.
+/// Answers the lines of a reader until its bytes end. The store must be new, as `Store::new` gives it.
 ///
-/// Answers are gathered, and written when there are enough of them and before the reader is asked for more.
+/// Answers are gathered. They are written when there are enough of them, and before the reader is asked for more.
 ///
 /// # Errors
-/// `OutOfMemory` where a buffer found no memory at the start; nothing was read then. `Read` where the reader failed, or hadn't
-/// ended when it had been read 2^64 - 1 times: the whole lines before that were answered. `Write` where the writer failed:
-/// the commands of some first lines stand, and a beginning of their answers was written.
+/// `OutOfMemory` if there was no memory for a buffer at the start: then nothing was read. `Read` if the reader
+/// failed, or hadn't ended after 2^64 - 1 reads: all whole lines read before were answered. `Write` if the writer
+/// failed: the commands of the first lines, up to some line, were carried out, and a beginning of their answers was
+/// written.
 pub fn session<C: ClassText, R: Read, W: Write>(
     alloc: Global,
     reader: &mut R,

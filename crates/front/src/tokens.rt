@@ -1,4 +1,4 @@
-//! What stands at the front of a line's lexemes.
+//! Readers of what is at the front of a line's lexemes.
 ghost use Rattle.std.specs.Prelude.{◌≡◌, [], Ok, Err, OnOk, IfErr};
 ghost use Rattle.query_text.specs.Keys.{GivesRead};
 ghost use Rattle.query_text.specs.declared.lexeme.Lexeme.{Lexeme};
@@ -7,10 +7,10 @@ ghost use Rattle.front.specs.Requests.{is_from, natural_at, one_number, start_at
 
 use query_text::{Kind, Lexeme, first_of, same_bytes};
 
-/// A number from 0 to 2^64 - 1 at the front, and the lexemes behind it.
+/// A number from 0 to 2^64 - 1 at the front, and the lexemes after it.
 ///
 /// # Errors
-/// The place of the fault, which is the text's length at its end.
+/// The place of the fault in the text; the text's length if the number is missing at its end.
 pub fn natural<'a>(text: &[u8], lexemes: &'a [Lexeme]) -> Result<(u64, &'a [Lexeme]), usize>
     ensures { GivesRead natural_at text.now lexemes.now result }
 {
@@ -33,10 +33,10 @@ fn is_from(text: &[u8], lexeme: Lexeme) -> bool
     }
 }
 
-/// The commit that a cursor follows, where the word `from` and its number are in front, and the lexemes behind.
+/// The commit that a cursor follows, if the word `from` and a number are at the front, and the lexemes after them.
 ///
 /// # Errors
-/// The place of the fault, which is the text's length at its end.
+/// The place of the fault in the text; the text's length if the number is missing at its end.
 pub fn start<'a>(text: &[u8], lexemes: &'a [Lexeme]) -> Result<(Option<u64>, &'a [Lexeme]), usize>
     ensures { GivesRead start_at text.now lexemes.now result }
 {
@@ -53,10 +53,10 @@ pub fn start<'a>(text: &[u8], lexemes: &'a [Lexeme]) -> Result<(Option<u64>, &'a
     }
 }
 
-/// Nothing more.
+/// Checks that no lexeme is left.
 ///
 /// # Errors
-/// The place of what stands there.
+/// The place of the first lexeme that is left.
 pub fn end(lexemes: &[Lexeme]) -> Result<(), usize>
     ensures ok { OnOk result (lexemes.now ≡ []) }
     ensures err { IfErr result (BeginAt lexemes.now) }
@@ -67,7 +67,7 @@ pub fn end(lexemes: &[Lexeme]) -> Result<(), usize>
     }
 }
 
-/// A number from 0 to 2^64 - 1 with nothing behind it.
+/// A number from 0 to 2^64 - 1 with nothing after it.
 ///
 /// # Errors
 /// The place of the first fault.
