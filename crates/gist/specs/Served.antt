@@ -1,4 +1,4 @@
--- What a program that ended well did.
+-- What a run of the program that ended well has done.
 use Rattle.std.specs.Prelude.{◌≡◌, List, Result, Ok, Err, ◌⊎◌}
 use Rattle.std.specs.Borrow.{Bor}
 use Rattle.change_list.specs.Configs.{IsWithinLimits}
@@ -40,33 +40,33 @@ use Rattle.gist.specs.declared.options.Settings.TheVariants as settings
 abbrev pub limits_of : StoreOptions → Config
 limits_of options = record { fan = options.fan; least = options.least; pages = most_pages; commits = most_commits }
 
--- All bytes of the reader were lines of a session over this store, and what was written answers them. At the end the
--- store is as the answers tell.
+-- All bytes of the reader were lines of a session over this store, and what was written answers them. In the end the
+-- store's state agrees with the answers.
 abbrev pub AnsweredOver : {K A : Type 0} → Texts K A → Rules K A → StoreState K A → Exchange → Type 0
 AnsweredOver {K} {A} texts rules store io = (last : StoreState K A) × ToldAll texts rules store last io
 
--- the same of a store of the class that is new with these limits
+-- the same for a new store of the class with these limits
 abbrev pub AnswersSession : Class → Config → Exchange → Type 0
 AnswersSession classes.Interval config io = AnsweredOver interval_texts interval_rules (new_store config) io
 AnswersSession classes.Box config io = AnsweredOver box_texts box_rules (new_store config) io
 AnswersSession classes.Set config io = AnsweredOver set_texts set_rules (new_store config) io
 
--- the limits are in their ranges, and a whole session was answered
+-- the limits are in range, and a whole session was answered
 abbrev pub ServesOptions : StoreOptions → Exchange → Type 0
 ServesOptions options io = IsWithinLimits (limits_of options) × AnswersSession options.class (limits_of options) io
 
--- All bytes of the reader were lines of events, which were steps of this world, and what was written answers them.
--- C is the class.
+-- All bytes of the reader were lines of events, which were steps of this world, and what was written answers them. C
+-- is the class.
 abbrev pub EventsAnsweredOver : (C : Type 0) {K A : Type 0} → Texts K A → Rules K A → World K A → Exchange → Type 0
 EventsAnsweredOver C {K} {A} texts rules world io = (last : World K A) × ReplayedAll C texts rules world last io
 
--- the same of a world of the class that is new with these limits
+-- the same for a new world of the class with these limits
 abbrev pub AnswersEvents : Class → Config → Exchange → Type 0
 AnswersEvents classes.Interval config io = EventsAnsweredOver Intervals interval_texts interval_rules (new_world config) io
 AnswersEvents classes.Box config io = EventsAnsweredOver Boxes box_texts box_rules (new_world config) io
 AnswersEvents classes.Set config io = EventsAnsweredOver Sets set_texts set_rules (new_world config) io
 
--- the limits are in their ranges, and every line of events was answered
+-- the limits are in range, and every line of events was answered
 abbrev pub Replays : StoreOptions → Exchange → Type 0
 Replays options io = IsWithinLimits (limits_of options) × AnswersEvents options.class (limits_of options) io
 
@@ -74,25 +74,25 @@ Replays options io = IsWithinLimits (limits_of options) × AnswersEvents options
 abbrev pub PassesStorm : Limits → Exchange → Type 0
 PassesStorm limits io = (io.has_left ≡ io.had_left) × TellsStorm io.had io.has limits
 
--- what the settings say was done
+-- what the settings ask for was done
 abbrev pub Does : Settings → Exchange → Type 0
 Does (settings.Serve options) io = ServesOptions options io
 Does (settings.Replay options) io = Replays options io
 Does (settings.Storm limits) io = PassesStorm limits io
 
--- the words of a command line give settings, and what these say was done
+-- the words of a command line give settings, and what these ask for was done
 abbrev pub DoesAsked : List (Bor Text) → Exchange → Type 0
 DoesAsked words io = (settings : Settings) × GivesSettings (texts_of words) settings × Does settings io
 
--- what holds where a command ended well
+-- if a command ended well, this holds
 abbrev pub IfWell : Result Ending Fault → Type 0 → Type 0
 IfWell returned P = returned ≡ Ok ending.Well → P
 
--- a number of the options is outside its range
+-- a number of the options is out of range
 abbrev pub HaveBadLimits : StoreOptions → Type 0
 HaveBadLimits options = ¬ IsWithinLimits (limits_of options)
 
--- the settings name a number outside its range
+-- a number of the settings is out of range
 abbrev pub AreOutOfLimits : Settings → Type 0
 AreOutOfLimits (settings.Serve options) = HaveBadLimits options
 AreOutOfLimits (settings.Replay options) = HaveBadLimits options
@@ -102,10 +102,11 @@ AreOutOfLimits (settings.Storm limits) = ¬ IsStorm limits
 abbrev pub RefusesLimits : {T : Type 0} → Result T Fault → Type 0
 RefusesLimits returned = returned ≡ Err (fault.Refused refusal.BadConfig)
 
--- the words are well-formed, and the settings that they give name a number outside its range
+-- the words are well-formed, and a number of the settings that they give is out of range
 abbrev pub NameBadLimits : List Text → Type 0
 NameBadLimits words = AreWellFormed words × ((settings : Settings) → GivesSettings words settings → AreOutOfLimits settings)
 
--- the words of a command line give no settings and ask for no text, or settings that name a number outside its range
+-- the words of a command line give no settings and don't ask for help or the version; or a number of their settings
+-- is out of range
 abbrev pub AreUnfit : List (Bor Text) → Type 0
 AreUnfit words = NameNothing (texts_of words) ⊎ NameBadLimits (texts_of words)

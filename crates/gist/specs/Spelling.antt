@@ -1,4 +1,4 @@
--- How the words behind a command's name spell options.
+-- How the words after a command's name spell options.
 use Rattle.std.specs.Prelude.{◌≡◌, ◌⊎◌, ℕ, ◌<◌, ◌^◌, ◌++◌, ⊤, false, pos, List, [], ◌∷◌, Option, Some, None, codes, if◌then◌else◌, Bool, ◌==◌}
 use Rattle.std.specs.List.{list_any}
 use Rattle.std.specs.Str.Parse.{IsNumeral, signed_digits_value, without_leading_sign}
@@ -6,7 +6,7 @@ use Rattle.std.specs.Str.{bytes_eq}
 use Rattle.clap.specs.Words.{Text}
 use Rattle.clap.specs.Lexer.{long_of}
 
--- The words are options, each with one value, which is the next word or stands behind `=`. A last word `--` says no more.
+-- The words are options, each with one value, which is the next word or follows `=`. A last word `--` has no effect.
 pub data SpellsOptions : List Text → List (Text × Text) → Type 0 where
   nothing : SpellsOptions [] []
   marked : SpellsOptions (codes "--" ∷ []) []
@@ -24,7 +24,7 @@ IsCommand word = (word ≡ codes "serve") ⊎ (word ≡ codes "replay") ⊎ (wor
 abbrev pub IsClassName : Text → Type 0
 IsClassName text = (text ≡ codes "interval") ⊎ (text ≡ codes "box") ⊎ (text ≡ codes "set")
 
--- decimal digits, behind a sign or none, spell a number of 32 bits
+-- decimal digits, perhaps after a sign, spell a number of 32 bits
 pub record SpellsNumber (text : Text) (number : ℕ) : Type 0 where
   pub digits : IsNumeral 10 (without_leading_sign text)
   pub value : signed_digits_value 10 text ≡ pos number
@@ -33,7 +33,7 @@ pub record SpellsNumber (text : Text) (number : ℕ) : Type 0 where
 abbrev pub IsNumber : Text → Type 0
 IsNumber text = (number : ℕ) × SpellsNumber text number
 
--- what the value of an option is
+-- the kind of value that an option takes
 pub data OptionKind : Type 0 where
   a_class a_number : OptionKind
 
@@ -41,11 +41,11 @@ abbrev pub IsValueOf : OptionKind → Text → Type 0
 IsValueOf a_class text = IsClassName text
 IsValueOf a_number text = IsNumber text
 
--- the options of how rows are kept, and what their values are
+-- the options of a store, and the kinds of their values
 abbrev pub store_table : List (Text × OptionKind)
 store_table = (codes "class", a_class) ∷ (codes "fan", a_number) ∷ (codes "least", a_number) ∷ []
 
--- the options of how large a storm is
+-- the options of a storm, and the kinds of their values
 abbrev pub storm_table : List (Text × OptionKind)
 storm_table =
     (codes "writers", a_number) ∷ (codes "inserts", a_number) ∷ (codes "deletes", a_number) ∷ (codes "readers", a_number)
@@ -55,7 +55,7 @@ storm_table =
 abbrev pub table_of : Text → List (Text × OptionKind)
 table_of command = if bytes_eq command (codes "storm") then storm_table else store_table
 
--- what the value of the option with a name is, if a table has one
+-- the kind of value of the option with a name, if a table has that option
 abbrev pub kind_named : List (Text × OptionKind) → Text → Option OptionKind
 kind_named [] name = None
 kind_named (o ∷ table) name = if bytes_eq o.0 name then Some o.1 else kind_named table name
@@ -64,7 +64,7 @@ kind_named (o ∷ table) name = if bytes_eq o.0 name then Some o.1 else kind_nam
 abbrev pub IsOption : List (Text × OptionKind) → Text × Text → Type 0
 IsOption table o = (kind : OptionKind) × (kind_named table o.0 ≡ Some kind) × IsValueOf kind o.1
 
--- each is such an option, and none has a name that was seen before it
+-- each is such an option, and no name comes twice
 abbrev pub AreOptions : List (Text × OptionKind) → List Text → List (Text × Text) → Type 0
 AreOptions table seen [] = ⊤
 AreOptions table seen (o ∷ given) = IsOption table o × (list_any (λ name. bytes_eq name o.0) seen ≡ false) × AreOptions table (seen ++ o.0 ∷ []) given
@@ -73,7 +73,7 @@ abbrev pub is_hyphened : Text → Bool
 is_hyphened [] = false
 is_hyphened (x ∷ xs) = x == 45
 
--- the same, where a value that is a word of its own begins with no hyphen (45)
+-- the same, where a value that is a word of its own doesn't begin with a hyphen (45)
 pub data SpellsPlainly : List Text → List (Text × Text) → Type 0 where
   no_more : SpellsPlainly [] []
   behind_equals : {word name value : Text} {words : List Text} {given : List (Text × Text)} → long_of word ≡ Some (name, Some value) → SpellsPlainly words given → SpellsPlainly (word ∷ words) ((name, value) ∷ given)

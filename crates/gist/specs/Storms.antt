@@ -11,7 +11,7 @@ use Rattle.storm.specs.declared.outcome.Outcome.{Outcome}
 use Rattle.gist.specs.declared.options.Role.{Role}
 use Rattle.gist.specs.declared.options.Role.TheVariants as role
 
--- where it ends well, the writer has this text more. contents tells of a writer what it has.
+-- If it ends well, the writer has this text in addition. `contents` gives the bytes that a writer has.
 abbrev pub Outputs : {W E : Type 0} → (W → Option (List ℕ)) → W → W → List ℕ → Result (Unit {0}) E → Type 0
 Outputs contents old new text returned = OnOk returned (Appends (contents old) (contents new) text)
 
@@ -25,7 +25,7 @@ missing_text role.Reader = codes " no receipt"
 missing_text role.Looker = codes " no snapshot"
 missing_text role.Subscriber = codes " no receipt"
 
--- how a client fared, of a storm of so many commits
+-- how a client fared, in a storm of so many commits
 abbrev pub verdict_text : Role → ℕ → Verdict → List ℕ
 verdict_text client commits verdict.Whole = codes " whole at " ++ decimal commits
 verdict_text client commits verdict.NotWhole = codes " not whole"
@@ -35,7 +35,7 @@ verdict_text client commits verdict.Missing = missing_text client
 abbrev pub client_line : Role → ℕ → ℕ → Verdict → List ℕ
 client_line client commits number told = role_text client ++ (decimal number ++ (verdict_text client commits told ++ codes "\n"))
 
--- the lines of clients, of which so many stand before them
+-- the lines of clients, numbered from after those before them
 abbrev pub client_lines : Role → ℕ → ℕ → List Verdict → List ℕ
 client_lines client commits before [] = []
 client_lines client commits before (told ∷ verdicts) = client_line client commits (before + 1) told ++ client_lines client commits (before + 1) verdicts

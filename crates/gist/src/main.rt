@@ -13,7 +13,7 @@ use std::io::ErrorKind;
 use std::process::ExitCode;
 use std::{env, io};
 
-/// The words that the program was given; none where one of them is no text.
+/// The words that the program was given; `None` if one of them isn't UTF-8.
 fn given_words(rt: &HostRuntime, alloc: Global) -> io::Result<Option<Vec<String>>> {
     match env::args(rt) {
         Ok(words) => Ok(Some(words.collect(alloc)?)),

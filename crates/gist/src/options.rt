@@ -8,33 +8,33 @@ pub enum Class {
     Set,
 }
 
-/// What a command that keeps rows is told of them.
+/// The options of a command that keeps rows.
 #[derive(Clone, Copy, Debug, PartialEq, Eq)]
 pub struct StoreOptions {
     pub class: Class,
     /// How many entries a page may have.
     pub fan: u32,
-    /// How many entries each side of a split has at least.
+    /// The least number of entries on each side of a split.
     pub least: u32,
 }
 
-/// What the program's words ask it to do.
+/// What the command line asks for.
 #[derive(Clone, Copy, Debug, PartialEq, Eq)]
 pub enum Settings {
-    /// Answer the lines of a session.
+    /// Answer the lines of a session on standard input.
     Serve(StoreOptions),
-    /// Carry out the events of lines.
+    /// Carry out the lines of standard input as events.
     Replay(StoreOptions),
-    /// Let many clients work at one desk at once.
+    /// Run a storm: many clients at one desk at once.
     Storm(Limits),
 }
 
-/// What a client of a storm is that tells how it fared.
+/// The kind of a storm's client that is judged in the end.
 #[derive(Clone, Copy, Debug, PartialEq, Eq)]
 pub enum Role {
     /// It follows a cursor.
     Reader,
-    /// It looks at snapshots.
+    /// It takes snapshots and searches them.
     Looker,
     /// It is given the changes of its query by a feed.
     Subscriber,

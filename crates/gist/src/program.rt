@@ -36,7 +36,7 @@ use store::Store;
 use storm::{Limits, Outcome, Verdict, run_storm};
 use world::World;
 
-/// The limits that the options set: as many pages and commits as there may be.
+/// The options' limits of a page's entries, and the greatest numbers of pages and commits.
 fn config_of(options: StoreOptions) -> Config
     ensures { result ≡ limits_of options }
 {
@@ -48,10 +48,10 @@ fn config_of(options: StoreOptions) -> Config
     }
 }
 
-/// Serves a new store until the reader's bytes end.
+/// Serves a session over a new store, until the reader's bytes end.
 ///
 /// # Errors
-/// `Refused` with `BadConfig` where a limit is out of its range; nothing was read then. Else as `session`.
+/// `Refused` with `BadConfig` if a limit is out of range: then nothing was read. Else those of `session`.
 fn serve_store<C: ClassText, R: Read, W: Write>(
     alloc: Global,
     config: Config,
@@ -72,7 +72,7 @@ fn serve_store<C: ClassText, R: Read, W: Write>(
     session(alloc, reader, writer, &mut store)
 }
 
-/// Serves a new store of the class of the options.
+/// Serves a session over a new store of the class that the options name.
 fn serve<R: Read, W: Write>(
     alloc: Global,
     options: StoreOptions,
@@ -92,10 +92,10 @@ fn serve<R: Read, W: Write>(
     }
 }
 
-/// Gives a new world the events of the reader's lines until its bytes end.
+/// Carries out the events of the reader's lines on a new world, until the reader's bytes end.
 ///
 /// # Errors
-/// `Refused` with `BadConfig` where a limit is out of its range; nothing was read then. Else as `front::replay`.
+/// `Refused` with `BadConfig` if a limit is out of range: then nothing was read. Else those of `front::replay`.
 fn replay_world<C: ClassText, R: Read, W: Write>(
     alloc: Global,
     config: Config,
@@ -116,7 +116,7 @@ fn replay_world<C: ClassText, R: Read, W: Write>(
     front::replay(alloc, reader, writer, &mut world)
 }
 
-/// Gives the events to a new world of the class of the options.
+/// Carries out the events on a new world of the class that the options name.
 fn replay<R: Read, W: Write>(
     alloc: Global,
     options: StoreOptions,
@@ -167,7 +167,7 @@ fn tell_client<W: Write>(
     writer.write_all(line.as_slice())
 }
 
-/// Writes a line for each client with a role.
+/// Writes a line for each client of a role.
 fn tell_clients<W: Write>(
     writer: &mut W,
     role: Role,
@@ -209,7 +209,7 @@ fn tell_storm<W: Write>(writer: &mut W, outcome: &Outcome) -> io::Result<()>
 /// Lets the clients of a storm work at once, and tells how each reader, each looker and each subscriber fared.
 ///
 /// # Errors
-/// `Refused` with `BadConfig` where a number is out of its range, and else want of memory, or `Write`.
+/// `Refused` with `BadConfig` if a number is out of range, or with `OutOfMemory`; else `Write`.
 fn storm<W: Write, T: Threads + Wait + Clock + Sync>(
     rt: &T,
     alloc: Global,
@@ -258,7 +258,7 @@ fn run<T: Threads + Wait + Clock + Sync, R: Read, W: Write>(
     Ok(Ending::Well)
 }
 
-/// Shows why there are no settings, and gives the status.
+/// Writes why there are no settings, or the help or version that was asked for, and gives the status.
 fn show<W: Write, E: Write>(error: &Error, writer: &mut W, errors: &mut E) -> u8
     ensures well { result ≡ 0 → AsksForText error.now × (errors.new ≡ errors.old) }
     ensures wrong { (result ≡ 2) ↔ IsOfWords error.now }
@@ -279,7 +279,7 @@ fn show<W: Write, E: Write>(error: &Error, writer: &mut W, errors: &mut E) -> u8
     }
 }
 
-/// Tells a fault on a line, and gives the status.
+/// Writes the line of a fault, and gives the status.
 fn fail<E: Write>(fault: Fault, errors: &mut E) -> u8
     ensures { result ≡ 1 }
 {
@@ -287,8 +287,8 @@ fn fail<E: Write>(fault: Fault, errors: &mut E) -> u8
     1
 }
 
-/// Does what the words ask and gives the program's status: 0 where all went well, 1 for a fault, which is told on a line
-/// of `errors`, and 2 where the words are refused.
+/// Does what the command line asks, and gives the program's exit status: 0 if all went well, 1 after a fault, which
+/// is told on a line of `errors`, and 2 if the command line is refused.
 pub fn command<T: Threads + Wait + Clock + Sync, R: Read, W: Write, E: Write>(
     rt: &T,
     alloc: Global,

@@ -14,7 +14,7 @@ use clap::{Arg, ArgMatches, Command, Error, value_parser};
 use std::alloc::{AllocError, Global};
 use storm::Limits;
 
-/// The words that name the classes.
+/// The names of the classes on the command line.
 static CLASSES: [&str; 3] = ["interval", "box", "set"];
 
 fn class_names<'a>() -> &'a [&'a str]
@@ -27,7 +27,7 @@ const DEFAULT_FAN: u32 = 8;
 
 const DEFAULT_LEAST: u32 = 3;
 
-/// A storm where the words say nothing else.
+/// The size of a storm, if no option changes it.
 const DEFAULT_STORM: Limits = Limits {
     writers: 4,
     inserts: 250,
@@ -121,7 +121,7 @@ fn command_line<'a>(alloc: Global) -> Result<Command<'a>, AllocError>
         .subcommand(storm)
 }
 
-/// The class that the words give, else intervals.
+/// The class that an option names, by default intervals.
 fn class_of(options: &ArgMatches<'_>) -> Class
     ensures { result ≡ class_named (first_value (found_of options.now) (codes "class")) }
 {
@@ -132,7 +132,7 @@ fn class_of(options: &ArgMatches<'_>) -> Class
     }
 }
 
-/// What the words give of a store, and else its defaults.
+/// The options of a store, each with its default.
 fn store_options(options: &ArgMatches<'_>) -> StoreOptions
     ensures { OptionsRead (rows_of (found_of options.now)) result }
 {
@@ -143,7 +143,7 @@ fn store_options(options: &ArgMatches<'_>) -> StoreOptions
     }
 }
 
-/// What the words give of a storm, and else its defaults.
+/// The options of a storm, each with its default.
 fn storm_limits(options: &ArgMatches<'_>) -> Limits
     ensures { LimitsRead (rows_of (found_of options.now)) result }
 {
@@ -164,7 +164,7 @@ fn storm_limits(options: &ArgMatches<'_>) -> Limits
     }
 }
 
-/// What a command asks with what the words give it.
+/// What a command with these options asks for.
 fn settings_of(command: &str, options: &ArgMatches<'_>) -> Settings
     requires { IsCommand command.now }
     ensures { SettingsRead command.now (rows_of (found_of options.now)) result }
@@ -177,11 +177,11 @@ fn settings_of(command: &str, options: &ArgMatches<'_>) -> Settings
     }
 }
 
-/// What the program's words ask for. The first word is the program's name.
+/// Parses the command line. The first word is the program's name.
 ///
 /// # Errors
-/// `DisplayHelp` or `DisplayVersion` where the words ask for help or for the version, `OutOfMemory`, and else why the words
-/// are refused; its `Display` is the text for the user.
+/// `DisplayHelp` or `DisplayVersion` if help or the version is asked for, `OutOfMemory`, and otherwise why the words
+/// are refused. `Display` gives the text for the user.
 pub fn settings<'a>(alloc: Global, words: &'a [&'a str]) -> Result<Settings, Error>
     ensures given { IfOk result (GivesSettings (texts_of words.now)) }
     ensures taken { AreWellFormed (texts_of words.now) → IfErr result LacksMemory }
