@@ -1,4 +1,4 @@
--- What is answered of what a handle has, whichever its class is.
+-- What calls answer about what a handle owns, of any class.
 use Rattle.std.specs.Prelude.{◌≡◌, ℕ, Bool, List, length, Result, Ok}
 use Rattle.libgist.specs.Calls.{Passing, IsTelling, IsTellingStanding, IsOpening, IsFollowing}
 use Rattle.libgist.specs.Classes.{InSnapshot, InSnapshotBy, InStore, InStoreBy}
@@ -21,32 +21,32 @@ use Rattle.libgist.specs.declared.words.ToldItem.{ToldItem}
 abbrev pub AnswersCommits : Held → Result ℕ Denied → Type 0
 AnswersCommits = InSnapshot (λ K A class commits answer. answer ≡ Ok (length commits))
 
--- a snapshot's row with a number, and whether it lives
+-- a snapshot's row with a number, and whether it is live
 abbrev pub AnswersRow : ℕ → Held → Result (ShownRow × Bool) Denied → Type 0
 AnswersRow number = InSnapshot (λ K A class commits. PassesOn (IsRowOf class.words_of commits number))
 
--- a snapshot's commit with a number, or that there is none
+-- a snapshot's commit with a number, or nothing if there is none
 abbrev pub AnswersCommit : ℕ → Held → Result ShownItem Denied → Type 0
 AnswersCommit number = InSnapshot (λ K A class commits answer. answer ≡ Ok (shown_commit class.words_of commits number))
 
--- the rows of each of many keys, and where those of each end
+-- the rows of each of many keys, and where each key's rows end
 abbrev pub AnswersFindOfEach : ℕ → List KeyWords → List ℕ → List ℕ → List ShownRow → List ShownRow → Held → Result ℕ Denied → Type 0
 AnswersFindOfEach relation keys ends_before ends_after before after =
     InSnapshot (λ K A class commits. IsFindOfEach class.rules class.texts class.key_of commits class.words_of relation keys ends_before ends_after before after)
 
--- the rows that live and that a query asks for
+-- the live rows that match a query
 abbrev pub AnswersFind : List ShownRow → List ShownRow → Held → Held → Result ℕ Denied → Type 0
 AnswersFind before after = InSnapshotBy (λ K A class query commits. PassesOn (IsFind class.rules class.words_of query commits before after))
 
--- and how many they are
+-- how many live rows match a query
 abbrev pub AnswersCount : Held → Held → Result ℕ Denied → Type 0
 AnswersCount = InSnapshotBy (λ K A class query commits. PassesOn (IsCount class.rules query commits))
 
--- the items of the commits after one that a query asks for
+-- the items of the commits after one that match a query
 abbrev pub AnswersChanges : ℕ → List ShownItem → List ShownItem → Held → Held → Result (ℕ × ℕ) Denied → Type 0
 AnswersChanges from before after = InSnapshotBy (λ K A class query commits. PassesOn (IsChanges class.rules class.words_of query commits from before after))
 
--- how far a store has come
+-- the figures of a store
 abbrev pub AnswersStats : Held → Result Figures Denied → Type 0
 AnswersStats held answer = InStore (λ K A class. IsTelling) held answer held
 
@@ -61,7 +61,7 @@ AnswersOpening = InStoreBy (λ K A class query. Passing (IsOpening class.rules q
 abbrev pub AnswersFollowing : ℕ → Held → Held → Result ℕ Denied → Held → Type 0
 AnswersFollowing commit = InStoreBy (λ K A class query. Passing (IsFollowing class.rules query commit))
 
--- a feed has a further subscription, or goes on over a snapshot
+-- a feed gets another subscription, or goes on over a snapshot
 abbrev pub AnswersSubscribing : ℕ → Held → Held → Result ℕ Denied → Held → Type 0
 AnswersSubscribing from = InFeedBy (λ K A class query. Passing (IsSubscribing query from))
 

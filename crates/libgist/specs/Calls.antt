@@ -25,7 +25,7 @@ use Rattle.libgist.specs.Buffers.{written_over}
 use Rattle.libgist.specs.Denials.{PassesOn}
 use Rattle.libgist.specs.Shown.{shown_item}
 
--- the numbers of a store, as C is given them
+-- the figures of a store, in the layout that C reads
 abbrev pub figures_of : Stats → Figures
 figures_of stats = record { commits = stats.commits; commit_limit = stats.commit_limit; pages = stats.pages; page_limit = stats.page_limit; cursors = stats.cursors; horizon = stats.horizon }
 
@@ -38,7 +38,7 @@ shown_standing None = record { cursor = 0; opened = 0; lag = 0; is_scanning = fa
 abbrev pub Passing : {S V : Type 0} → (S → Result V Refusal → S → Type 0) → S → Result V Denied → S → Type 0
 Passing call old answer new = PassesOn (λ below. call old below new) answer
 
--- a call with a key; where its ends are out of order it is refused, and nothing changes
+-- a call with a key; if the key's ends are out of order it is refused, and nothing changes
 abbrev pub WithKey : {K S V : Type 0} → (K → S → Result V Refusal → S → Type 0) → Option K → S → Result V Denied → S → Type 0
 WithKey call (Some key) old answer new = Passing (call key) old answer new
 WithKey call None old answer new = (answer ≡ Err BadEnds) × (new ≡ old)
@@ -73,7 +73,7 @@ module _ {K A : Type 0} (rules : Rules K A) where
     pub legal : IsLegal new.commits
     pub few_pages : HasFewPages new
 
-  -- rows are to be deleted, one after the other
+  -- rows are deleted, one after the other
   abbrev pub IsDeleting : List ℕ → StoreState K A → Result ℕ Denied → StoreState K A → Type 0
   IsDeleting rows = IsBatch (λ row. Passing (IsDelete row)) rows
 
@@ -95,8 +95,8 @@ module _ {K A : Type 0} (rules : Rules K A) where
     pub legal : IsLegal new.commits
     pub few_pages : HasFewPages new
 
-  -- a cursor gave items, which are counted and stand over the first places of a buffer, until it was full, nothing was left
-  -- or, behind the first, one was refused
+  -- a cursor gave items, which are counted and stand over the first places of a buffer; it stopped when the buffer
+  -- was full, when nothing was left or, after the first item, when one was refused
   pub record Gives (words_of : K → KeyWords) (cursor : ℕ) (before after : List ShownItem) (old : StoreState K A) (number : ℕ) (new : StoreState K A) : Type 0 where
     pub given : List (Item K)
     pub last_given : StoreState K A
@@ -105,7 +105,7 @@ module _ {K A : Type 0} (rules : Rules K A) where
     pub written : after ≡ written_over (map (shown_item words_of old.commits) given) before
     pub ended : ((number ≡ length before) × (new ≡ last_given)) ⊎ Nexts rules.is_match last_given cursor None new ⊎ ((0 < number) × (why : Refusal) × RefusesNext rules.is_match last_given cursor why new)
 
-  -- a cursor is asked for its next items, and is refused where the first is
+  -- a cursor is asked for its next items; the call is refused if the first item is
   pub record IsTaking (words_of : K → KeyWords) (cursor : ℕ) (before after : List ShownItem) (old : StoreState K A) (answer : Result ℕ Refusal) (new : StoreState K A) : Type 0 where
     pub ok : IfOk answer (λ n. Gives words_of cursor before after old n new)
     pub err : IfErr answer (λ why. RefusesNext rules.is_match old cursor why new)
@@ -125,7 +125,7 @@ module _ {K A : Type 0} (rules : Rules K A) where
     pub full : answer ≡ Err CursorsFull → HasNoCursorFor old (query_of query) 1
     pub refusals : IfErr answer RefusesCursor
 
-  -- a cursor is opened on a query, which follows a commit
+  -- a cursor is opened on a query, after a commit that it follows
   pub record IsFollowing (query : Pred A) (commit : ℕ) (old : StoreState K A) (answer : Result ℕ Refusal) (new : StoreState K A) : Type 0 where
     pub ok : IfOk answer (λ c. IsFollowerFor rules.is_match old query commit c new)
     pub err : OnErr answer (new ≡ old)
@@ -135,15 +135,15 @@ module _ {K A : Type 0} (rules : Rules K A) where
     pub refusals : IfErr answer RefusesFollower
 
   module _ (key_of : KeyWords → Option K) where
-    -- a row is to be added, which is refused where its ends are out of order
+    -- a row is added; it is refused if its key's ends are out of order
     abbrev pub InsertsOne : NewRow → StoreState K A → Result ℕ Denied → StoreState K A → Type 0
     InsertsOne row = WithKey (λ key. IsInsert key row.tag) (key_of row.key)
 
-    -- rows are to be added, one after the other
+    -- rows are added, one after the other
     abbrev pub IsInserting : List NewRow → StoreState K A → Result ℕ Denied → StoreState K A → Type 0
     IsInserting rows = IsBatch InsertsOne rows
 
-    -- a row is to be moved to a key
+    -- a row is moved to a key
     abbrev pub IsMovingTo : ℕ → KeyWords → StoreState K A → Result ℕ Denied → StoreState K A → Type 0
     IsMovingTo row words = WithKey (IsMove row) (key_of words)
 
@@ -158,7 +158,7 @@ module _ {K A : Type 0} where
     pub ok : OnOk answer (Closes old cursor new)
     pub err : IfErr answer (λ why. LacksCursor old cursor why new)
 
-  -- the numbers of a store are told, and it stays
+  -- the figures of a store are given, and the store is unchanged
   pub record IsTelling (old : StoreState K A) (answer : Result Figures Denied) (new : StoreState K A) : Type 0 where
     pub stats : Stats
     pub tells : TellsOf old stats

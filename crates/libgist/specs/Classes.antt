@@ -1,4 +1,4 @@
--- Calls of what a handle has, whose class is known when it is made.
+-- Calls of what a handle owns. Which class it has is known only at run time.
 use Rattle.std.specs.Prelude.{◌≡◌, ◌⊎◌, ℕ, Option, None, IfSome, IsSomeAnd, List, Result, Err}
 use Rattle.key_class.specs.Rules.{Rules}
 use Rattle.key_class.specs.declared.pred.Pred.{Pred}
@@ -30,7 +30,7 @@ use Rattle.libgist.specs.IntervalKeys.{interval_told, interval_words}
 use Rattle.libgist.specs.BoxKeys.{box_told, box_words}
 use Rattle.libgist.specs.SetKeys.{set_told, set_words}
 
--- what a class means: by its rules, by the texts of its queries and by its keys as 16 bytes
+-- what a class means: its rules, the texts of its queries, and its keys as two words
 pub record Meaning (K A : Type 0) : Type 1 where
   pub rules : Rules K A
   pub texts : Texts K A
@@ -68,7 +68,7 @@ IsStore (held.Store it) = Unit {0}
 IsStore other = ⊥
 
 module _ (V : Type 0) where
-  -- what a call of a store answers and leaves, by its class
+  -- what a call of a store answers and leaves, for each class
   abbrev pub StoreCall : Type 1
   StoreCall = (K A : Type 0) → Meaning K A → StoreState K A → Result V Denied → StoreState K A → Type 0
 
@@ -85,14 +85,14 @@ module _ (V : Type 0) where
   SearchCall = (K A : Type 0) → Meaning K A → Pred A → List (Write K) → Result V Denied → Type 0
 
 module _ {V : Type 0} where
-  -- a call of a store; what is none is refused, and nothing changes
+  -- a call of a store; anything else is refused, and nothing changes
   abbrev pub InStore : StoreCall V → Held → Result V Denied → Held → Type 0
   InStore call (held.Store (store.Intervals old)) answer (held.Store (store.Intervals new)) = call Interval interval.Atom intervals old answer new
   InStore call (held.Store (store.Boxes old)) answer (held.Store (store.Boxes new)) = call BoxKey box.Atom boxes old answer new
   InStore call (held.Store (store.Sets old)) answer (held.Store (store.Sets new)) = call Elements set.Atom sets old answer new
   InStore call old answer new = (answer ≡ Err NoHandle) × (new ≡ old)
 
-  -- a call of a store with a query, which is refused where their classes differ
+  -- a call of a store with a query; it is refused if their classes differ
   abbrev pub InStoreBy : AskingCall V → Held → Held → Result V Denied → Held → Type 0
   InStoreBy call (held.Query (query.Intervals asked)) (held.Store (store.Intervals old)) answer (held.Store (store.Intervals new)) = call Interval interval.Atom intervals asked old answer new
   InStoreBy call (held.Query (query.Boxes asked)) (held.Store (store.Boxes old)) answer (held.Store (store.Boxes new)) = call BoxKey box.Atom boxes asked old answer new
@@ -100,14 +100,14 @@ module _ {V : Type 0} where
   InStoreBy call (held.Query asked) (held.Store old) answer new = (answer ≡ Err OtherClass) × (new ≡ held.Store old)
   InStoreBy call asked old answer new = (answer ≡ Err NoHandle) × (new ≡ old)
 
-  -- a call of a snapshot; what is none is refused
+  -- a call of a snapshot; anything else is refused
   abbrev pub InSnapshot : SnapshotCall V → Held → Result V Denied → Type 0
   InSnapshot call (held.Snapshot (snapshot.Intervals commits)) answer = call Interval interval.Atom intervals commits answer
   InSnapshot call (held.Snapshot (snapshot.Boxes commits)) answer = call BoxKey box.Atom boxes commits answer
   InSnapshot call (held.Snapshot (snapshot.Sets commits)) answer = call Elements set.Atom sets commits answer
   InSnapshot call other answer = answer ≡ Err NoHandle
 
-  -- a call of a snapshot with a query, which is refused where their classes differ
+  -- a call of a snapshot with a query; it is refused if their classes differ
   abbrev pub InSnapshotBy : SearchCall V → Held → Held → Result V Denied → Type 0
   InSnapshotBy call (held.Query (query.Intervals asked)) (held.Snapshot (snapshot.Intervals commits)) answer = call Interval interval.Atom intervals asked commits answer
   InSnapshotBy call (held.Query (query.Boxes asked)) (held.Snapshot (snapshot.Boxes commits)) answer = call BoxKey box.Atom boxes asked commits answer
@@ -115,22 +115,22 @@ module _ {V : Type 0} where
   InSnapshotBy call (held.Query asked) (held.Snapshot commits) answer = answer ≡ Err OtherClass
   InSnapshotBy call asked other answer = answer ≡ Err NoHandle
 
-  -- a call that reads what a handle has; a handle of nothing is refused
+  -- a call that reads what a handle owns; an empty handle is refused
   pub record FromHandle (call : Held → Result V Denied → Type 0) (state : Option Held) (answer : Result V Denied) : Type 0 where
     pub none : state ≡ None → answer ≡ Err NoHandle
     pub called : IfSome state (λ held. call held answer)
 
-  -- and what another handle has
+  -- a call that reads what two handles own
   pub record FromHandles (call : Held → Held → Result V Denied → Type 0) (asked state : Option Held) (answer : Result V Denied) : Type 0 where
     pub none : (asked ≡ None) ⊎ (state ≡ None) → answer ≡ Err NoHandle
     pub called : IfSome asked (λ query. IfSome state (λ held. call query held answer))
 
-  -- a call of what a handle has; a handle of nothing is refused, and has nothing then
+  -- a call that changes what a handle owns; an empty handle is refused, and stays empty
   pub record OnHandle (call : Held → Result V Denied → Held → Type 0) (old new : Option Held) (answer : Result V Denied) : Type 0 where
     pub none : old ≡ None → (answer ≡ Err NoHandle) × (new ≡ None)
     pub called : IfSome old (λ before. IsSomeAnd new (λ after. call before answer after))
 
-  -- and with what another handle has, which is only read
+  -- a call that changes what a handle owns, and only reads what another owns
   pub record OnHandles (call : Held → Held → Result V Denied → Held → Type 0) (asked old new : Option Held) (answer : Result V Denied) : Type 0 where
     pub none : (asked ≡ None) ⊎ (old ≡ None) → (answer ≡ Err NoHandle) × (new ≡ old)
     pub called : IfSome asked (λ query. IfSome old (λ before. IsSomeAnd new (λ after. call query before answer after)))

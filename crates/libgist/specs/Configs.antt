@@ -2,6 +2,6 @@
 use Rattle.change_list.specs.declared.config.Config.{Config}
 use Rattle.libgist.specs.declared.limits.Limits.{Limits}
 
--- the limits, as those of a configuration
+-- the same limits as a `Config`
 abbrev pub config_of : Limits → Config
 config_of limits = record { fan = limits.fan; least = limits.least; pages = limits.pages; commits = limits.commits }

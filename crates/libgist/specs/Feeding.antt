@@ -1,4 +1,4 @@
--- Calls of a feed that a handle has, whose class is known when it is made.
+-- Calls of a feed that a handle owns. Which class it has is known only at run time.
 use Rattle.std.specs.Prelude.{◌≡◌, ◌↔◌, ◌⊎◌, ℕ, List, Result, Err, IfOk, IfErr}
 use Rattle.key_class.specs.declared.refusal.Refusal.TheVariants.{BadConfig, OutOfMemory}
 use Rattle.key_class.specs.declared.pred.Pred.{Pred}
@@ -24,34 +24,34 @@ abbrev pub IsNewFeedOf : ℕ → Held → Type 0
 IsNewFeedOf class made =
     ((class ≡ 1) × (made ≡ held.Feed (feed.Intervals new_following))) ⊎ ((class ≡ 2) × (made ≡ held.Feed (feed.Boxes new_following))) ⊎ ((class ≡ 3) × (made ≡ held.Feed (feed.Sets new_following)))
 
--- a feed is to be made
+-- a feed is made
 pub record IsBeginning (class : ℕ) (made : Result Held Denied) : Type 0 where
   pub ok : IfOk made (IsNewFeedOf class)
   pub no_class : (made ≡ Err (By BadConfig)) ↔ (¬ IsClass class)
   pub refusals : IfErr made (λ why. (why ≡ By BadConfig) ⊎ (why ≡ By OutOfMemory))
 
 module _ (V : Type 0) where
-  -- what a call of a feed answers and leaves, by its class
+  -- what a call of a feed answers and leaves, for each class
   abbrev pub FeedCall : Type 1
   FeedCall = (K A : Type 0) → Meaning K A → FollowingState K A → Result V Denied → FollowingState K A → Type 0
 
-  -- with a query
+  -- the same with a query
   abbrev pub SubscribingCall : Type 1
   SubscribingCall = (K A : Type 0) → Meaning K A → Pred A → FollowingState K A → Result V Denied → FollowingState K A → Type 0
 
-  -- over a snapshot
+  -- the same over a snapshot
   abbrev pub AdvancingCall : Type 1
   AdvancingCall = (K A : Type 0) → Meaning K A → List (Write K) → FollowingState K A → Result V Denied → FollowingState K A → Type 0
 
 module _ {V : Type 0} where
-  -- a call of a feed; what is none is refused, and nothing changes
+  -- a call of a feed; anything else is refused, and nothing changes
   abbrev pub InFeed : FeedCall V → Held → Result V Denied → Held → Type 0
   InFeed call (held.Feed (feed.Intervals old)) answer (held.Feed (feed.Intervals new)) = call Interval interval.Atom intervals old answer new
   InFeed call (held.Feed (feed.Boxes old)) answer (held.Feed (feed.Boxes new)) = call BoxKey box.Atom boxes old answer new
   InFeed call (held.Feed (feed.Sets old)) answer (held.Feed (feed.Sets new)) = call Elements set.Atom sets old answer new
   InFeed call old answer new = (answer ≡ Err NoHandle) × (new ≡ old)
 
-  -- a call of a feed with a query, which is refused where their classes differ
+  -- a call of a feed with a query; it is refused if their classes differ
   abbrev pub InFeedBy : SubscribingCall V → Held → Held → Result V Denied → Held → Type 0
   InFeedBy call (held.Query (query.Intervals asked)) (held.Feed (feed.Intervals old)) answer (held.Feed (feed.Intervals new)) = call Interval interval.Atom intervals asked old answer new
   InFeedBy call (held.Query (query.Boxes asked)) (held.Feed (feed.Boxes old)) answer (held.Feed (feed.Boxes new)) = call BoxKey box.Atom boxes asked old answer new
@@ -59,7 +59,7 @@ module _ {V : Type 0} where
   InFeedBy call (held.Query asked) (held.Feed old) answer new = (answer ≡ Err OtherClass) × (new ≡ held.Feed old)
   InFeedBy call asked old answer new = (answer ≡ Err NoHandle) × (new ≡ old)
 
-  -- a call of a feed over a snapshot, which is refused where their classes differ
+  -- a call of a feed over a snapshot; it is refused if their classes differ
   abbrev pub InFeedOver : AdvancingCall V → Held → Held → Result V Denied → Held → Type 0
   InFeedOver call (held.Snapshot (snapshot.Intervals commits)) (held.Feed (feed.Intervals old)) answer (held.Feed (feed.Intervals new)) = call Interval interval.Atom intervals commits old answer new
   InFeedOver call (held.Snapshot (snapshot.Boxes commits)) (held.Feed (feed.Boxes old)) answer (held.Feed (feed.Boxes new)) = call BoxKey box.Atom boxes commits old answer new

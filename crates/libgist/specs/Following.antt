@@ -1,4 +1,4 @@
--- A feed and what it gave that hasn't been taken yet, and what its calls answer and leave.
+-- A feed with the items that it gave but C hasn't taken yet, and what its calls answer and leave.
 use Rattle.std.specs.Prelude.{◌≡◌, ◌↔◌, ℕ, ◌+◌, ◌<◌, min, List, [], length, map, drop, Option, None, Result, Err, IfOk, IfErr, OnOk, OnErr}
 use Rattle.key_class.specs.declared.refusal.Refusal.{Refusal}
 use Rattle.key_class.specs.declared.refusal.Refusal.TheVariants.{BadConfig, FeedFull, FromFuture, NotSubscribed, OutOfMemory}
@@ -16,7 +16,7 @@ use Rattle.libgist.specs.Shown.{shown_item}
 
 pub record FollowingState (K A : Type 0) : Type 0 where
   pub feed : FeedState A
-  -- what it gave that wasn't taken, each item under the serial of a subscription
+  -- the items that it gave but that weren't taken, each under the serial of its subscription
   pub waiting : List (ℕ × Item K)
 
 module _ {K A : Type 0} where
@@ -43,11 +43,12 @@ module _ {K A : Type 0} where
     pub refusal : IfErr answer (λ why. why ≡ NotSubscribed)
 
 module _ {K : Type 0} (words_of : K → KeyWords) (commits : List (Write K)) where
-  -- an item that a subscription is given
+  -- an item for a subscription, in the layout that C reads
   abbrev pub told_item : ℕ × Item K → ToldItem
   told_item given = record { serial = given.0; item = shown_item words_of commits given.1 }
 
-  -- what waits is counted and stands over the first places of a buffer, as far as it fits, and the rest waits on
+  -- the items that wait are counted and stand over the first places of a buffer, as far as they fit; the rest still
+  -- wait
   pub record GivesWaiting {A : Type 0} (before after : List ToldItem) (old new : FollowingState K A) (told : ℕ × ℕ) : Type 0 where
     pub counted : told.0 ≡ min (length old.waiting) (length before)
     pub written : after ≡ written_over (map told_item old.waiting) before
@@ -56,19 +57,19 @@ module _ {K : Type 0} (words_of : K → KeyWords) (commits : List (Write K)) whe
     pub upto : told.1 ≡ new.feed.upto
 
 module _ {K A : Type 0} (rules : Rules K A) (most : ℕ) (commits : List (Write K)) where
-  -- a feed goes on only once all that it gave was taken
+  -- a feed goes on only when no item waits
   pub record GoesOn (old new : FollowingState K A) : Type 0 where
     pub goes_on : old.waiting ≡ [] → Advances rules old.feed commits most new.waiting new.feed
     pub stays : (old.waiting ≡ [] → ⊥) → new ≡ old
 
 module _ {K A : Type 0} (rules : Rules K A) (words_of : K → KeyWords) (most : ℕ) (commits : List (Write K)) where
-  -- the feed goes on, and gives what waits then
+  -- the feed goes on if it may, and gives the items that then wait
   pub record Gives (before after : List ToldItem) (old new : FollowingState K A) (told : ℕ × ℕ) : Type 0 where
     pub between : FollowingState K A
     pub goes_on : GoesOn rules most commits old between
     pub gives : GivesWaiting words_of commits before after between new told
 
-  -- the feed is asked to go on over a snapshot
+  -- the feed is asked to go on over a snapshot and to give items
   pub record IsAdvancing (before after : List ToldItem) (old : FollowingState K A) (answer : Result (ℕ × ℕ) Refusal) (new : FollowingState K A) : Type 0 where
     pub ok : IfOk answer (Gives before after old new)
     pub err : OnErr answer (new ≡ old)

@@ -1,4 +1,4 @@
--- Handles that are lent for a call, and after it are whose they were.
+-- Handles lent for a call, which go back to their owner after it.
 use base.Fml.{Lft, Share, Fml, fsep, flft}
 use denote.RawPtr.{Ptr}
 use denote.Struct.Lending.{lent_at}
@@ -6,7 +6,7 @@ use Rattle.std.specs.Prelude.{Option}
 use Rattle.libgist.specs.Owning.{HeldState}
 use Rattle.libgist.specs.contracts.lent.Lent.{the_row}
 
--- a loan of a handle: until when, at which share of that time, and of what
+-- a loan of a handle: its lifetime, the share of that lifetime that the call holds, and the state of what is lent
 pub record Loan : Type 0 where
   pub until : Lft
   pub share : Share
@@ -16,7 +16,7 @@ pub record Loan : Type 0 where
 abbrev pub state_of : Loan → Option HeldState
 state_of loan = loan.handle.inside.state
 
--- the share of the loan's time, in which it can't end
+-- the share of the loan's lifetime: while a call holds it, the loan can't end
 abbrev pub lasts : Loan → Fml
 lasts loan = flft loan.until loan.share
 
@@ -24,7 +24,7 @@ lasts loan = flft loan.until loan.share
 abbrev pub is_lent : Ptr → Loan → Fml
 is_lent at loan = fsep (lasts loan) (lent_at the_row at loan.handle loan.until)
 
--- two handles are, each by a loan of its own
+-- two handles are lent, each by a loan of its own
 abbrev pub are_lent : Ptr → Ptr → Loan × Loan → Fml
 are_lent at beside loans = fsep (is_lent at loans.0) (is_lent beside loans.1)
 

@@ -1,4 +1,4 @@
--- What is made for a handle that has nothing.
+-- Making what an empty handle is to own.
 use Rattle.std.specs.Prelude.{◌≡◌, ◌≢◌, ◌↔◌, ◌⊎◌, ℕ, ◌==◌, Bool, true, false, List, length, Option, Some, None, Result, Ok, Err, IfOk, IfErr, OnOk, if◌then◌else◌}
 use Rattle.key_class.specs.declared.refusal.Refusal.TheVariants.{BadConfig, OutOfMemory, QueryText}
 use Rattle.key_class.specs.declared.pred.Pred.{Pred}
@@ -25,20 +25,20 @@ use Rattle.libgist.specs.SetKeys.{set_told}
 use Rattle.libgist.specs.Owning.{is_held}
 use Rattle.libgist.specs.Relations.{atom_for}
 
--- what was made went into a handle that had nothing, or there was no memory for it, or it wasn't made
+-- an empty handle got what was made; or there was no memory for it, or it wasn't made, and the handle stays empty
 pub record Settles (made : Result Held Denied) (code : ℕ) (new : Option Held) : Type 0 where
   pub settled : code ≡ 0 → (it : Held) × (made ≡ Ok it) × (new ≡ Some it)
   pub refused : code ≢ 0 → new ≡ None
   pub unmade : IfErr made (λ why. code ≡ number_told why)
   pub wanting : OnOk made ((code ≡ 0) ⊎ (code ≡ 1))
 
--- something was made of which this holds, for the handle
+-- something of which this holds was made for the handle
 pub record SettlesSome (holds : Result Held Denied → Type 0) (code : ℕ) (new : Option Held) : Type 0 where
   pub made : Result Held Denied
   pub is : holds made
   pub settles : Settles made code new
 
--- something is made for a handle, which is refused where the handle has something
+-- something is made for a handle; it is refused if the handle isn't empty
 pub record Makes (holds : Result Held Denied → Type 0) (old new : Option Held) (code : ℕ) : Type 0 where
   pub full : is_held old ≡ true → (code ≡ 2) × (new ≡ old)
   pub made : is_held old ≡ false → SettlesSome holds code new
@@ -81,12 +81,12 @@ pub record IsPrepared (class : ℕ) (text : List ℕ) (made : Result Held Denied
   pub sets : class ≡ 3 → IsSpelledBy set_texts text (λ pred. held.Query (query.Sets pred)) made
   pub no_class : (¬ IsClass class) → made ≡ Err (By BadConfig)
 
--- an atom that is asked for, as a query that is held
+-- an atom as a query, in the form that a handle owns
 abbrev pub held_atom : {A : Type 0} → (Pred A → Held) → Result A Denied → Result Held Denied
 held_atom in_held (Ok wanted) = Ok (in_held (Atom wanted))
 held_atom in_held (Err why) = Err why
 
--- the query for a relation to a key, by the number of its class
+-- the query for the keys that have a relation to a key; class and relation are given by their numbers
 abbrev pub asked_of : ℕ → ℕ → KeyWords → Result Held Denied
 asked_of class relation words =
     if class == 1 then held_atom (λ pred. held.Query (query.Intervals pred)) (atom_for interval_texts interval_told relation words)

@@ -1,4 +1,4 @@
--- The names of refusals by their numbers, and what is written into a buffer.
+-- The names of refusals by number, and how a name is written into a buffer.
 use Rattle.std.specs.Prelude.{◌≡◌, ◌⊎◌, ◌<◌, ℕ, List, [], ◌∷◌, ◌++◌, length, codes}
 use Rattle.key_class.specs.Refusals.{name_of}
 use Rattle.libgist.specs.declared.denied.Denied.{Denied}
@@ -14,10 +14,11 @@ name_told OtherClass = codes "OtherClass"
 name_told NoHandle = codes "NoHandle"
 name_told BadLimits = codes "BadLimits"
 
--- the text names the refusal with the number; there is none with 0, nor past 29
+-- the text names the refusal with the number, and is empty for 0 and for numbers above 29
 abbrev pub IsNameOf : ℕ → List ℕ → Type 0
 IsNameOf number text = ((why : Denied) × (number_told why ≡ number) × (text ≡ name_told why)) ⊎ (((number ≡ 0) ⊎ (29 < number)) × (text ≡ []))
 
--- the name's length is given, and the name with a 0 behind it stands over a buffer
+-- the result is the name's length; the name with a 0 after it stands over the first places of a buffer, as far as it
+-- fits
 abbrev pub TellsName : ℕ → ℕ → List ℕ → List ℕ → Type 0
 TellsName number len before after = (text : List ℕ) × IsNameOf number text × (len ≡ length text) × (after ≡ written_over (text ++ 0 ∷ []) before)

@@ -19,7 +19,7 @@ use Rattle.libgist.specs.Buffers.{written_over}
 use Rattle.libgist.specs.Shown.{shown_row, shown_item}
 
 module _ {K A : Type 0} (rules : Rules K A) (words_of : K → KeyWords) (query : Pred A) (commits : List (Write K)) where
-  -- the rows that live and match are counted, and stand over the first places of a buffer, by rising number
+  -- the live rows that match are counted, and stand over the first places of a buffer, by rising number
   pub record IsFind (before after : List ShownRow) (answer : Result ℕ Refusal) : Type 0 where
     pub counted : IfOk answer (λ n. n ≡ length (found_in rules query commits))
     pub written : IfOk answer (λ n. after ≡ written_over (map (shown_row words_of) (found_in rules query commits)) before)
@@ -27,8 +27,8 @@ module _ {K A : Type 0} (rules : Rules K A) (words_of : K → KeyWords) (query :
     pub depth : (answer ≡ Err BadConfig) ↔ (32 < depth_of (query_of query))
     pub refusals : IfErr answer (IsEither BadConfig OutOfMemory)
 
-  -- The items of the commits after `from` up to another are counted, and stand over the first places of a buffer. That
-  -- commit is the last, or the buffer is full.
+  -- The matching items of the commits after `from`, up to another commit, are counted and stand over the first places
+  -- of a buffer. That commit is the last one, or the buffer is full.
   pub record GivesChanges (from : ℕ) (before after : List ShownItem) (told : ℕ × ℕ) : Type 0 where
     pub items : List (Item K)
     pub changes : AreChanges (satisfies rules (query_of query)) from told.1 commits items
@@ -46,14 +46,14 @@ module _ {K A : Type 0} (rules : Rules K A) (words_of : K → KeyWords) (query :
     pub refusals : IfErr answer RefusesChanges
 
 module _ {K A : Type 0} (rules : Rules K A) (query : Pred A) (commits : List (Write K)) where
-  -- the rows that live and match are counted
+  -- the live rows that match are counted
   pub record IsCount (answer : Result ℕ Refusal) : Type 0 where
     pub counted : IfOk answer (λ n. n ≡ length (found_in rules query commits))
     pub depth : (answer ≡ Err BadConfig) ↔ (32 < depth_of (query_of query))
     pub refusals : IfErr answer (IsEither BadConfig OutOfMemory)
 
 module _ {K : Type 0} (words_of : K → KeyWords) (commits : List (Write K)) where
-  -- the row with a number, and whether it lives
+  -- the row with a number, and whether it is live
   pub record TellsRow (number : ℕ) (told : ShownRow × Bool) : Type 0 where
     pub row : Row K
     pub is : row_at commits number ≡ Some row

@@ -1,4 +1,4 @@
--- Relations by the numbers that C hands in, and the queries that they make.
+-- Relations by the numbers that C uses, and the queries that they make.
 use Rattle.std.specs.Prelude.{ℕ, ◌==◌, Option, Some, None, Result, Ok, Err, if◌then◌else◌}
 use Rattle.key_class.specs.declared.refusal.Refusal.TheVariants.{BadConfig}
 use Rattle.key_class.specs.declared.sides.Rel.{Rel}
@@ -18,12 +18,12 @@ relation_of number =
     else None)))
 
 module _ {K A : Type 0} (texts : Texts K A) (key_of : KeyWords → Option K) where
-  -- the atom of a relation and a key, where both are there
+  -- the atom of a relation and a key, if both exist
   abbrev pub atom_with : Option Rel → Option K → Result A Denied
   atom_with None key = Err (By BadConfig)
   atom_with (Some rel) None = Err BadEnds
   atom_with (Some rel) (Some key) = Ok (texts.atom_of rel key)
 
-  -- the atom that asks for the relation with a number to a key
+  -- the atom for the keys that have a relation, given by its number, to a key
   abbrev pub atom_for : ℕ → KeyWords → Result A Denied
   atom_for number words = atom_with (relation_of number) (key_of words)

@@ -1,4 +1,4 @@
--- A store that is made of the rows that live in a snapshot.
+-- Renewal: a new store made of the rows that are live in a snapshot.
 use Rattle.std.specs.Prelude.{◌≡◌, ◌≢◌, ◌↔◌, ◌⊎◌, ℕ, Bool, true, List, [], length, Option, Some, None, IsSomeAnd, Result, Ok, Err, IfOk, IfErr}
 use Rattle.key_class.specs.declared.refusal.Refusal.TheVariants.{CommitsFull, PagesFull, OutOfMemory}
 use Rattle.change_list.specs.Configs.{IsWithinLimits}
@@ -19,37 +19,37 @@ abbrev pub IsSnapshot : Held → Type 0
 IsSnapshot (held.Snapshot it) = Unit {0}
 IsSnapshot other = ⊥
 
--- a store of the same class has the rows that live in the snapshot, and has made nothing else
+-- a store of the same class has exactly the rows that are live in the snapshot
 abbrev pub IsRenewedFrom : Config → Held → Held → Type 0
 IsRenewedFrom config (held.Snapshot (snapshot.Intervals commits)) (held.Store (store.Intervals made)) = IsRenewed config commits made
 IsRenewedFrom config (held.Snapshot (snapshot.Boxes commits)) (held.Store (store.Boxes made)) = IsRenewed config commits made
 IsRenewedFrom config (held.Snapshot (snapshot.Sets commits)) (held.Store (store.Sets made)) = IsRenewed config commits made
 IsRenewedFrom config old made = ⊥
 
--- the numbers of the rows that live in a snapshot
+-- the numbers of the rows that are live in a snapshot
 abbrev pub numbers_in : Held → List ℕ
 numbers_in (held.Snapshot (snapshot.Intervals commits)) = numbers_of_living commits
 numbers_in (held.Snapshot (snapshot.Boxes commits)) = numbers_of_living commits
 numbers_in (held.Snapshot (snapshot.Sets commits)) = numbers_of_living commits
 numbers_in other = []
 
--- why a snapshot isn't renewed
+-- why a snapshot can't be renewed
 abbrev pub RefusesRenewing : Denied → Type 0
 RefusesRenewing why = (why ≡ BadLimits) ⊎ (why ≡ By CommitsFull) ⊎ (why ≡ By PagesFull) ⊎ (why ≡ By OutOfMemory)
 
--- a store is to be made of the rows that live in a snapshot
+-- a store is made of the rows that are live in a snapshot
 pub record IsRenewal (config : Config) (old : Held) (made : Result Held Denied) : Type 0 where
   pub ok : IfOk made (IsRenewedFrom config old)
   pub no_snapshot : (made ≡ Err NoHandle) ↔ (¬ IsSnapshot old)
   pub bad : (made ≡ Err BadLimits) ↔ (IsSnapshot old × (¬ IsWithinLimits config))
   pub refusals : IfErr made (λ why. (why ≡ NoHandle) ⊎ RefusesRenewing why)
 
--- the store alone of what was made
+-- what was made, without the numbers
 abbrev pub stored : Result Anew Denied → Result Held Denied
 stored (Ok anew) = Ok anew.store
 stored (Err why) = Err why
 
--- of the snapshot that a handle has
+-- the same for the snapshot that a handle owns
 abbrev pub IsRenewalOf : Config → Option Held → Result Held Denied → Type 0
 IsRenewalOf config (Some old) made = IsRenewal config old made
 IsRenewalOf config None made = made ≡ Err NoHandle

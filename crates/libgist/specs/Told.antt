@@ -1,4 +1,4 @@
--- How C is told what a call answered: by a number, and by what stands where its values go.
+-- How C gets an answer: as a code, and as values written through pointers.
 use Rattle.std.specs.Prelude.{◌≡◌, ℕ, Result, Ok, Err}
 use Rattle.key_class.specs.declared.refusal.Refusal.TheVariants.{QueryText}
 use Rattle.libgist.specs.declared.denied.Denied.{Denied}
@@ -11,24 +11,24 @@ module _ {V : Type 0} where
   code_of (Ok value) = 0
   code_of (Err why) = number_told why
 
-  -- the value, or where there is none what stood in its place
+  -- the value; if there is none, what was there before
   abbrev pub value_or : Result V Denied → V → V
   value_or (Ok value) before = value
   value_or (Err why) before = before
 
-  -- the byte at which a query's text is refused, or where it isn't what stood in its place
+  -- the place of the first wrong byte, if a query's text is refused; otherwise what was there before
   abbrev pub fault_or : Result V Denied → ℕ → ℕ
   fault_or (Err (By (QueryText place))) before = place
   fault_or answer before = before
 
-  -- the number tells an answer of which this holds
+  -- the code is that of an answer of which this holds
   abbrev pub TellsCode : ℕ → (Result V Denied → Type 0) → Type 0
   TellsCode code holds = (answer : Result V Denied) × (code ≡ code_of answer) × holds answer
 
-  -- and its value stands where it goes
+  -- the same, and its value is written
   abbrev pub Tells : ℕ → V → V → (Result V Denied → Type 0) → Type 0
   Tells code before after holds = TellsCode code (λ answer. (after ≡ value_or answer before) × holds answer)
 
-  -- and where its query is refused the byte stands where that goes
+  -- the same, and the place of the first wrong byte is written if its query's text is refused
   abbrev pub TellsFault : ℕ → ℕ → (Result V Denied → Type 0) → Result V Denied → Type 0
   TellsFault before after holds answer = (after ≡ fault_or answer before) × holds answer

@@ -1,4 +1,4 @@
-//! The calls of a feed that a handle has, whichever its class is.
+//! The calls of a feed behind a handle, of any class.
 ghost use Rattle.std.specs.Prelude.{◌≡◌, OnErr};
 ghost use Rattle.libgist.specs.Asked.{AnswersAdvancing, AnswersSubscribing};
 ghost use Rattle.libgist.specs.Calls.{Passing};
@@ -26,7 +26,7 @@ pub fn unsubscribe(held: &mut Held, serial: u64) -> Result<(), Denied>
     in_feed!(held, feed => passed_on(feed.unsubscribe(serial)))
 }
 
-/// Goes on over a snapshot, and gives what waits.
+/// Lets the feed go over more of a snapshot's commits if nothing waits, and gives the items that wait.
 pub fn advance(
     over: &Held,
     held: &mut Held,

@@ -1,4 +1,4 @@
-//! The calls of a snapshot that is lent, whichever its class is.
+//! The calls of a lent snapshot, of any class.
 ghost use Rattle.std.specs.Prelude.{◌≡◌, Ok, OnErr};
 ghost use Rattle.libgist.specs.Classes.{FromHandle, FromHandles};
 ghost use Rattle.libgist.specs.Asked.{AnswersChanges, AnswersCommit, AnswersCommits, AnswersCount, AnswersFind, AnswersFindOfEach, AnswersRow};
@@ -25,14 +25,14 @@ pub fn row_of(lent: &Lent, number: u64) -> Result<(ShownRow, bool), Denied>
     in_snapshot!(lent, snapshot => passed_on(reading::row_of(snapshot, number)))
 }
 
-/// The commit with a number, or that there is none.
+/// The commit with a number; kind 0 if there is none.
 pub fn commit(lent: &Lent, number: u64) -> Result<ShownItem, Denied>
     ensures { FromHandle (AnswersCommit number) lent.now.inside.state result }
 {
     in_snapshot!(lent, snapshot => Ok(reading::commit(snapshot, number)))
 }
 
-/// Finds the rows that live and match.
+/// Finds the live rows that match.
 pub fn find(asked: &Lent, lent: &Lent, rows: &mut [ShownRow]) -> Result<u64, Denied>
     ensures answered { FromHandles (AnswersFind rows.old rows.new) asked.now.inside.state
         lent.now.inside.state result }
@@ -43,14 +43,14 @@ pub fn find(asked: &Lent, lent: &Lent, rows: &mut [ShownRow]) -> Result<u64, Den
     })
 }
 
-/// Counts the rows that live and match.
+/// Counts the live rows that match.
 pub fn count(asked: &Lent, lent: &Lent) -> Result<u64, Denied>
     ensures { FromHandles AnswersCount asked.now.inside.state lent.now.inside.state result }
 {
     in_snapshot_by!(asked, query, lent, snapshot => passed_on(reading::count(snapshot, query)))
 }
 
-/// Gives the items of the commits after `from` that match.
+/// Gives the matching items of the commits after `from`.
 pub fn changes(
     alloc: Global,
     asked: &Lent,
@@ -67,7 +67,7 @@ pub fn changes(
     })
 }
 
-/// Finds the rows of many keys.
+/// Finds the live rows that are related to each of many keys.
 pub fn find_each(
     lent: &Lent,
     relation: u32,

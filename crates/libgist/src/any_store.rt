@@ -1,4 +1,4 @@
-//! The calls of a store that a handle has, whichever its class is.
+//! The calls of a store behind a handle, of any class.
 ghost use Rattle.std.specs.Prelude.{◌≡◌, OnErr};
 ghost use Rattle.libgist.specs.Asked.{AnswersFollowing, AnswersOpening, AnswersStanding, AnswersStats};
 ghost use Rattle.libgist.specs.Calls.{Passing, IsInserting, IsDeleting, IsMovingTo, IsTaking, IsSweep, IsAsking, IsClosing};
@@ -35,14 +35,14 @@ pub fn move_row(held: &mut Held, row: u64, key: KeyWords) -> Result<u64, Denied>
     in_store!(held, store => stores::move_row(store, row, key))
 }
 
-/// Sweeps the dead rows that no scan needs.
+/// Removes the dead rows that no scan needs.
 pub fn sweep(held: &mut Held) -> Result<u64, Denied>
     ensures { InStore (λ K A class. Passing (IsSweep class.rules)) held.old result held.new }
 {
     in_store!(held, store => passed_on(stores::sweep(store)))
 }
 
-/// Tells how far the store has come.
+/// Gives the store's figures.
 pub fn stats(held: &Held) -> Result<Figures, Denied>
     ensures { AnswersStats held.now result }
 {

@@ -1,4 +1,4 @@
-//! Buffers of a caller, which are filled as far as they go.
+//! Filling a caller's buffer as far as it goes.
 ghost use Rattle.std.specs.Prelude.{◌≡◌, map};
 ghost use Rattle.libgist.specs.Buffers.{written_over};
 ghost use Rattle.libgist.specs.Shown.{shown_row};
@@ -8,7 +8,7 @@ use crate::shown;
 use crate::words::ShownRow;
 use change_list::Row;
 
-/// Puts as many items as fit into a buffer, the first into its first place.
+/// Copies as many items as fit into a buffer, from its first place on.
 pub fn write_over<T: Copy>(buffer: &mut [T], items: &[T])
     ensures { buffer.new ≡ written_over items.now buffer.old }
 {
@@ -16,7 +16,7 @@ pub fn write_over<T: Copy>(buffer: &mut [T], items: &[T])
     buffer[..fitting].copy_from_slice(&items[..fitting]);
 }
 
-/// Puts as many rows as fit into a buffer, as C is given them.
+/// Writes as many rows as fit into a buffer, in the layout that C reads.
 pub fn write_rows<C: Crossing>(buffer: &mut [ShownRow], rows: &[Row<C::Key>])
     ensures { buffer.new ≡ written_over (map (shown_row C.words_of) rows.now) buffer.old }
 {

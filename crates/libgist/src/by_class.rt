@@ -1,6 +1,6 @@
-//! The choice of the class, once for each kind of call.
+//! Dispatch over the three classes: one macro for each kind of call.
 
-/// A call of what stands behind an enum of the classes.
+/// Calls a generic function on the variant of an enum of classes.
 macro_rules! of_class {
     ($any:expr, $kind:ident, $it:ident => $call:expr) => {
         match $any {
@@ -11,7 +11,7 @@ macro_rules! of_class {
     };
 }
 
-/// A call of two that are of one class.
+/// Calls a generic function on two such enums, which must be of the same class.
 macro_rules! of_one_class {
     ($any:expr, $kind:ident, $it:ident, $other:expr, $other_kind:ident, $by:ident => $call:expr) => {
         match $any {
@@ -31,7 +31,7 @@ macro_rules! of_one_class {
     };
 }
 
-/// A call of a store that is held.
+/// A call of a store that a handle has.
 macro_rules! in_store {
     ($held:expr, $store:ident => $call:expr) => {
         match $held {
@@ -41,7 +41,7 @@ macro_rules! in_store {
     };
 }
 
-/// A call of a store that is held, with a query that is held.
+/// A call of a store, with a query, both of which handles have.
 macro_rules! in_store_by {
     ($asked:expr, $query:ident, $held:expr, $store:ident => $call:expr) => {
         match $asked {
@@ -81,7 +81,7 @@ macro_rules! in_snapshot_by {
     };
 }
 
-/// A call of a feed that is held.
+/// A call of a feed that a handle has.
 macro_rules! in_feed {
     ($held:expr, $feed:ident => $call:expr) => {
         match $held {
@@ -91,7 +91,7 @@ macro_rules! in_feed {
     };
 }
 
-/// A call of a feed that is held, with a query that is held.
+/// A call of a feed, with a query, both of which handles have.
 macro_rules! in_feed_by {
     ($asked:expr, $query:ident, $held:expr, $feed:ident => $call:expr) => {
         match $asked {
@@ -106,7 +106,7 @@ macro_rules! in_feed_by {
     };
 }
 
-/// A call of a feed that is held, over a snapshot that is held.
+/// A call of a feed over a snapshot, both of which handles have.
 macro_rules! in_feed_over {
     ($over:expr, $snapshot:ident, $held:expr, $feed:ident => $call:expr) => {
         match $over {

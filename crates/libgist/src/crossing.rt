@@ -4,9 +4,9 @@ ghost use Rattle.libgist.specs.declared.words.KeyWords.{KeyWords};
 use crate::words::KeyWords;
 use query_text::ClassText;
 
-/// A class whose keys C hands in and is given as 16 bytes.
+/// A class whose keys cross to C and back as two words of 8 bytes.
 pub trait Crossing: ClassText {
-    /// The key that two words tell, where its ends are in order.
+    /// The key of two words, if its ends are in order.
     ghost key_of: { KeyWords → Option Self.Key };
 
     /// The words of a key.

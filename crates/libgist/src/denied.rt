@@ -7,15 +7,15 @@ use key_class::Refusal;
 /// Why a call of the library is refused.
 #[derive(Clone, Copy, PartialEq, Eq)]
 pub enum Denied {
-    /// The call below refuses.
+    /// The call below refused.
     By(Refusal),
-    /// The ends of a key are out of order.
+    /// The low end of a key is above its high end.
     BadEnds,
-    /// The class is another than the store's.
+    /// The class differs from that of the store, the snapshot or the feed.
     OtherClass,
-    /// The handle has nothing, or something else than what is asked.
+    /// The handle is empty, or holds something of another kind.
     NoHandle,
-    /// A limit is out of its range.
+    /// A limit is out of range.
     BadLimits,
 }
 
@@ -28,7 +28,7 @@ impl From<Refusal> for Denied {
 }
 
 impl Denied {
-    /// The number that C is told.
+    /// The number by which C knows the refusal, as in `include/gist.h`.
     pub fn number(self) -> u32
         ensures { result ≡ number_told self }
     {
@@ -42,7 +42,7 @@ impl Denied {
     }
 }
 
-/// The answer of a call below, as one of the library.
+/// Wraps the refusal of a call below.
 pub fn passed_on<V>(answer: Result<V, Refusal>) -> Result<V, Denied>
     ensures { result ≡ passed_on answer }
 {

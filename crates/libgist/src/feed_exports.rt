@@ -1,4 +1,4 @@
-//! What C can ask of a feed.
+//! The exported calls of feeds.
 ghost use Rattle.std.specs.Prelude.{◌≡◌, ◌≢◌, None};
 ghost use Rattle.libgist.specs.Asked.{AnswersAdvancing, AnswersSubscribing};
 ghost use Rattle.libgist.specs.Calls.{Passing};
@@ -18,7 +18,7 @@ use crate::telling::{code, no_handle, tell, tell_both};
 use crate::words::ToldItem;
 use std::alloc::Global;
 
-/// Makes a feed of a class without subscriptions, for a handle that has nothing.
+/// Makes a feed of a class, without subscriptions, for an empty handle.
 #[unsafe(no_mangle)]
 pub extern "C" fn gist_begin(alloc: Global, feed: &mut Handle, class: u32) -> u32
     ensures { Makes (IsBeginning class)
@@ -30,7 +30,7 @@ pub extern "C" fn gist_begin(alloc: Global, feed: &mut Handle, class: u32) -> u3
     settle(alloc, making::feed(alloc, class), feed)
 }
 
-/// Drops the feed of a handle, if it has one. The handle has none then.
+/// Drops the feed of a handle, if it has one, and leaves the handle empty.
 #[unsafe(no_mangle)]
 pub extern "C" fn gist_end(alloc: Global, feed: &mut Handle)
     ensures { feed.new.inside.state ≡ None }
@@ -90,8 +90,8 @@ pub extern "C" fn gist_unsubscribe(alloc: Global, feed: &mut Handle, subscriptio
     }
 }
 
-/// Gives what waits, until a buffer is full; where nothing waits, the feed goes over at most `most` further commits of a snapshot
-/// before. Tells how many items were given, and up to which commit the feed has gone.
+/// Gives the items that wait, until a buffer is full. If none waits, the feed first goes over at most `most` further
+/// commits of a snapshot. Also gives how many items were given, and up to which commit the feed has gone.
 #[unsafe(no_mangle)]
 pub unsafe extern "C" fn gist_advance(
     feed: &mut Handle,

@@ -1,4 +1,4 @@
-/// How far a store has come, and what is left to it, as C is given it.
+/// Figures of a store: its progress, and what it still has room for, in the layout that C reads.
 #[repr(C)]
 #[derive(Clone, Copy)]
 pub struct Figures {
@@ -8,7 +8,7 @@ pub struct Figures {
     pub page_limit: u64,
     /// How many cursors are open.
     pub cursors: u64,
-    /// The commit from which on no open scan needs the dead.
+    /// The commit from which on no open scan needs dead rows.
     pub horizon: u64,
 }
 

@@ -1,4 +1,4 @@
-//! Finds of many keys by one call.
+//! Searches for many keys in one call.
 ghost use Rattle.std.specs.Prelude.{◌≡◌, ◌+◌, ◌≤◌, ◌++◌, length, map, take, drop, Ok, IfOk, IfErr};
 ghost use Rattle.libgist.specs.ManyFinds.{IsFindOfEach, RefusesKey, live_by};
 ghost use Rattle.libgist.specs.Shown.{shown_row};
@@ -12,7 +12,7 @@ use change_list::Row;
 use key_class::Pred;
 use snapshot::Snapshot;
 
-/// Puts rows into a buffer that has room for them behind a place, as C is given them.
+/// Writes rows into a buffer from a place on, where they must fit, in the layout that C reads.
 fn put_rows<C: Crossing>(buffer: &mut [ShownRow], at: usize, rows: &[Row<C::Key>])
     requires { at + length rows.now ≤ length buffer.old }
     ensures { buffer.new ≡ take at buffer.old
@@ -23,7 +23,7 @@ fn put_rows<C: Crossing>(buffer: &mut [ShownRow], at: usize, rows: &[Row<C::Key>
     }
 }
 
-/// The rows that live and have the relation with a number to a key, by rising number.
+/// The live rows that have a relation, given by its number, to a key, by rising number.
 fn found_by<C: Crossing>(
     snapshot: &Snapshot<C>,
     relation: u32,
@@ -39,9 +39,9 @@ fn found_by<C: Crossing>(
     Ok(found)
 }
 
-/// Puts the rows that live and have a relation to each of many keys into a buffer, those of one key behind those of the key
-/// before, until they don't fit, a find is refused or there is no place for an end, and tells how many keys were answered
-/// and where the rows of each end.
+/// Finds the live rows that have a relation to each of many keys. Writes them into a buffer, key after key, until the
+/// next key's rows don't fit, a find is refused or `ends` is full. Gives how many keys were answered, and where each
+/// key's rows end.
 pub fn find_each<C: Crossing>(
     snapshot: &Snapshot<C>,
     relation: u32,

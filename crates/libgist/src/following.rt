@@ -1,4 +1,4 @@
-//! A feed of any class, with what it gave that hasn't been taken yet.
+//! A feed of any class, with the items that it gave but C hasn't taken yet.
 ghost use Rattle.std.specs.Prelude.{◌≡◌, ◌<◌, ◌≤◌, min, length, map, drop, Err, IfOk, IfErr, OnOk, OnErr};
 ghost use Rattle.key_class.specs.declared.refusal.Refusal.TheVariants.{FromFuture, OutOfMemory};
 ghost use Rattle.key_class.specs.Refusals.{IsEither};
@@ -16,7 +16,7 @@ use snapshot::Snapshot;
 use std::alloc::Global;
 use std::marker::Model;
 
-/// A feed, and the items that it gave and that weren't taken yet.
+/// A feed, and the items that it gave but C hasn't taken yet.
 #[derive(Drop)]
 pub struct Following<C: Reach> {
     alloc: Global,
@@ -36,7 +36,7 @@ impl<C: Reach> Model for Following<C> {
     ghost view = { λ f. record { feed = f.feed; waiting = f.waiting.items } };
 }
 
-/// What an item tells that a subscription is given.
+/// An item for a subscription, in the layout that C reads.
 fn told<C: Crossing>(snapshot: &Snapshot<C>, given: (u64, Item<C::Key>)) -> ToldItem
     ensures { result ≡ told_item C.words_of snapshot.now given }
 {
@@ -56,7 +56,7 @@ fn take_out<K: Copy>(items: &mut Vec<(u64, Item<K>)>, n: usize)
     items.truncate(left);
 }
 
-/// Puts as many items as fit into a buffer, as C is given them.
+/// Writes as many items as fit into a buffer, in the layout that C reads.
 fn write_told<C: Crossing>(
     snapshot: &Snapshot<C>,
     buffer: &mut [ToldItem],
@@ -74,7 +74,7 @@ fn write_told<C: Crossing>(
 }
 
 impl<C: Reach> Following<C> {
-    /// A feed without subscriptions, which has gone over no commit.
+    /// A feed without subscriptions, which has gone over no commit yet.
     pub fn new(alloc: Global) -> Result<Following<C>, Refusal>
         ensures ok { IfOk result (λ following. following ≡ new_following) }
         ensures refused { IfErr result (λ why. why ≡ OutOfMemory) }
@@ -95,7 +95,7 @@ impl<C: Reach> Following<C> {
         self.feed.subscribe(copy, from)
     }
 
-    /// Goes over at most `most` further commits of a snapshot, where nothing waits to be taken.
+    /// Goes over at most `most` further commits of a snapshot, unless items wait to be taken.
     fn go_on(&mut self, snapshot: &Snapshot<C>, most: u64) -> Result<(), Refusal>
         ensures ok { OnOk result (GoesOn C.rules most snapshot.now self.old self.new) }
         ensures err { OnErr result (self.new ≡ self.old) }
@@ -116,7 +116,7 @@ impl<C: Reach> Following<C> {
     }
 }
 
-/// Gives the items that wait, as many as fit into a buffer, and tells how many they are and up to which commit the feed has gone.
+/// Gives as many of the items that wait as fit into a buffer, their number, and up to which commit the feed has gone.
 fn give<C: Crossing + Reach>(
     following: &mut Following<C>,
     snapshot: &Snapshot<C>,
@@ -130,11 +130,11 @@ fn give<C: Crossing + Reach>(
     (given as u64, following.feed.upto())
 }
 
-/// Gives the items that wait, as many as fit into a buffer. Where none waits the feed goes over at most `most` further commits of
-/// a snapshot before. Tells how many items were given, and up to which commit the feed has gone.
+/// Gives as many of the items that wait as fit into a buffer. If none waits, the feed first goes over at most `most`
+/// further commits of a snapshot. Also gives how many items were given, and up to which commit the feed has gone.
 ///
 /// # Errors
-/// `FromFuture` where the snapshot has fewer commits than the feed has gone over, and want of memory.
+/// `FromFuture` if the snapshot has fewer commits than the feed has gone over, or `OutOfMemory`.
 pub fn advance<C: Crossing + Reach>(
     following: &mut Following<C>,
     snapshot: &Snapshot<C>,

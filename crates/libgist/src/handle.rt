@@ -7,7 +7,7 @@ use crate::parts::Parts;
 use std::alloc::Global;
 use std::mem;
 
-/// A handle of a store, a snapshot or a query, or of nothing.
+/// A handle of a store, a snapshot, a query or a feed; or an empty one.
 #[repr(C)]
 #[derive(Drop)]
 pub struct Handle {
@@ -17,7 +17,7 @@ pub struct Handle {
 }
 
 impl Handle {
-    /// A handle of nothing.
+    /// An empty handle.
     fn empty(alloc: Global) -> Handle
         ensures { result.inside.state ≡ None }
     {
@@ -27,7 +27,7 @@ impl Handle {
         }
     }
 
-    /// A handle of something.
+    /// A handle that owns what the box holds.
     fn of(held: Box<Held>) -> Handle
         ensures { result.inside.state ≡ Some held.value }
     {
@@ -37,14 +37,14 @@ impl Handle {
         }
     }
 
-    /// Whether the handle has something.
+    /// Whether the handle isn't empty.
     pub(crate) fn is_open(&self) -> bool
         ensures { result ≡ is_held self.now.inside.state }
     {
         self.is_open
     }
 
-    /// Takes what it has out of the handle.
+    /// Takes out what the handle owns, and leaves the handle empty.
     pub(crate) fn take(&mut self, alloc: Global) -> Option<Box<Held>>
         ensures some { IfSome result (λ held. self.old.inside.state ≡ Some held.value) }
         ensures none { IfNone result (self.old.inside.state ≡ None) }
@@ -57,7 +57,7 @@ impl Handle {
         Some(inside.into_parts().into_box())
     }
 
-    /// Puts something into a handle that has nothing.
+    /// Gives an empty handle something to own.
     pub(crate) fn put(&mut self, held: Box<Held>)
         requires { self.old.inside.state ≡ None }
         ensures { self.new.inside.state ≡ Some held.value }
@@ -66,10 +66,10 @@ impl Handle {
     }
 }
 
-/// Nothing is done. It may be called for a type whose values may go to another thread.
+/// Compile-time check that `T: Send`.
 pub(crate) fn may_cross<T: Send>() {}
 
-/// Nothing is done. That it is proved says that a handle, with what it has, may go to another thread.
+/// Compile-time check that a handle, with what it owns, may be moved to another thread.
 pub fn handles_may_cross() {
     may_cross::<Handle>();
 }

@@ -1,4 +1,4 @@
-//! What a handle leads to, of any class.
+//! What a handle may own, of any class.
 use crate::following::Following;
 use box_class::Boxes;
 use interval_class::Intervals;
@@ -39,7 +39,7 @@ pub enum AnyFeed {
     Sets(Following<Sets>),
 }
 
-/// What a handle has.
+/// What a handle owns.
 #[derive(Drop)]
 pub enum Held {
     Store(AnyStore),

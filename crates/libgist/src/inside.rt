@@ -7,8 +7,8 @@ use crate::parts::Parts;
 use std::alloc::Global;
 use std::marker::Model;
 
-/// A pointer to what a handle has, or to nothing. Its type names nothing of it, so that it may cross to C. One that is let go
-/// frees nothing.
+/// The pointer of the box that a handle owns, or null. Its type doesn't mention the Rust types, so that C can hold
+/// it. Dropping it frees nothing: see `into_parts`.
 #[repr(C)]
 #[derive(Drop)]
 pub struct Inside {
@@ -21,11 +21,11 @@ impl Model for Inside {
     ghost also_owns = { λ inside. owned inside.alloc inside.at inside.state };
 }
 
-// What it owns may go to another thread.
+// SAFETY: what it owns is `Send` (`Held`), so the pointer to it may be sent too.
 unsafe impl Send for Inside {}
 
 impl Inside {
-    /// Nothing.
+    /// A null pointer, which owns nothing.
     pub(crate) fn empty(alloc: Global) -> Inside
         ensures { result.state ≡ None }
     {
@@ -35,7 +35,7 @@ impl Inside {
         }
     }
 
-    /// What the box held that was taken apart.
+    /// Takes over a box that was taken apart.
     pub(crate) fn of_parts(parts: Parts<Held, Global>) -> Inside
         ensures { result.state ≡ Some parts.value }
     {
@@ -46,7 +46,7 @@ impl Inside {
         }
     }
 
-    /// The parts of its box.
+    /// The parts of its box, from which the box can be put together again.
     pub(crate) fn into_parts(self) -> Parts<Held, Global>
         requires { self.state ≢ None }
         ensures { self.state ≡ Some result.value }

@@ -12,7 +12,7 @@ use box_class::{BoxKey, Boxes};
 use interval_class::{Interval, Intervals};
 use set_class::{Elements, Sets};
 
-/// The interval with these ends, or none where they are out of order.
+/// The interval with these ends, or `None` if they are out of order.
 fn interval(lo: i64, hi: i64) -> Option<Interval>
     ensures { result ≡ interval_of lo hi }
 {
@@ -43,7 +43,7 @@ impl Crossing for Intervals {
     }
 }
 
-/// The box with these ends, or none where they are out of order.
+/// The box with these ends, or `None` if they are out of order.
 fn box_key(x1: i32, y1: i32, x2: i32, y2: i32) -> Option<BoxKey>
     ensures { result ≡ box_of x1 y1 x2 y2 }
 {
@@ -53,21 +53,21 @@ fn box_key(x1: i32, y1: i32, x2: i32, y2: i32) -> Option<BoxKey>
     }
 }
 
-/// The number in the lower half of a word.
+/// The lower 32 bits of a word, as a signed number.
 fn lower_half(word: u64) -> i32
     ensures { result ≡ lower_half word }
 {
     ((word % (1 << 32)) as u32).cast_signed()
 }
 
-/// The number in the upper half of a word.
+/// The upper 32 bits of a word, as a signed number.
 fn upper_half(word: u64) -> i32
     ensures { result ≡ upper_half word }
 {
     ((word / (1 << 32)) as u32).cast_signed()
 }
 
-/// The word with these halves.
+/// The word with these two halves.
 fn word(lower: i32, upper: i32) -> u64
     ensures { result ≡ word_of lower upper }
 {

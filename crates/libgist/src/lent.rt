@@ -1,4 +1,4 @@
-//! Handles that are lent, so that any number of calls read them at once.
+//! Handles lent for reading, by any number of calls at once.
 ghost use Rattle.std.specs.Prelude.{◌≡◌, ◌≢◌, Option, Some, None, IfSome, IfNone};
 ghost use Rattle.std.specs.Coded.{coded_option};
 ghost use Rattle.libgist.specs.Owning.{HeldState, held_coded, is_held, lent, shown_at};
@@ -8,7 +8,7 @@ use crate::held::Held;
 use std::alloc::Global;
 use std::marker::Model;
 
-/// The pointer of an `Inside` that is lent.
+/// The pointer of an `Inside`, while that is lent.
 #[repr(C)]
 pub struct LentInside {
     at: *mut u8,
@@ -22,7 +22,7 @@ impl Model for LentInside {
     ghost also_shares = { λ inside _ κ. shown_at inside.at inside.state κ };
 }
 
-// What it shows may be shared by threads.
+// SAFETY: it only gives shared access to what is `Sync`, so threads may share it.
 unsafe impl Sync for LentInside {}
 
 impl LentInside {
@@ -40,7 +40,7 @@ impl LentInside {
     }
 }
 
-/// A handle that is lent: nobody changes it or drops what it has, until the loan ends.
+/// A handle lent for reading: nobody changes or drops what it owns until the loan ends.
 #[repr(C)]
 pub struct Lent {
     is_open: bool,
@@ -49,14 +49,14 @@ pub struct Lent {
 }
 
 impl Lent {
-    /// A loan of a handle, by whoever has it to change: as long as the loan lasts it is only read.
+    /// Lends a handle that the caller may change. While the loan lasts it is only read.
     pub fn of(handle: &mut Handle) -> &Lent
         ensures { result.now.inside.state ≡ handle.old.inside.state }
     {
         unsafe { &*(handle as *mut Handle as *const Lent) }
     }
 
-    /// The allocator that what it has is from.
+    /// The allocator of what the handle owns.
     pub(crate) fn alloc(&self) -> Global {
         *self.inside.alloc()
     }
@@ -72,10 +72,10 @@ impl Lent {
     }
 }
 
-/// Nothing is done. It may be called for a type whose values may be shared by threads.
+/// Compile-time check that `T: Sync`.
 fn may_be_shared<T: Sync>() {}
 
-/// Nothing is done. That it is proved says that threads may read a handle that is lent, and what it has, at once.
+/// Compile-time check that threads may read a lent handle, and what it owns, at once.
 pub fn lent_handles_may_be_shared() {
     may_be_shared::<Lent>();
 }

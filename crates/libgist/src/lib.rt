@@ -1,4 +1,4 @@
-//! Stores for programs in C, and in Rust and other languages that call C.
+//! gist as a static library for C, and for Rust and other languages that call C.
 #![tactic(auto)]
 
 mod any_feed;

@@ -3,13 +3,13 @@ ghost use Rattle.libgist.specs.Configs.{config_of};
 
 use change_list::Config;
 
-/// The limits of a store, as C hands them in.
+/// The limits of a store, in the layout that C writes.
 #[repr(C)]
 #[derive(Drop)]
 pub struct Limits {
     /// How many entries a page may have: 4 to 64.
     pub fan: u32,
-    /// How many entries each side of a split has at least: 2 to half of `fan`.
+    /// The least number of entries on each side of a split: 2 to half of `fan`.
     pub least: u32,
     /// How many pages there may be: 1 to 65,536.
     pub pages: u32,
@@ -17,7 +17,7 @@ pub struct Limits {
     pub commits: u32,
 }
 
-/// The limits, as those of a configuration.
+/// The same limits as a `Config`.
 pub fn config(limits: &Limits) -> Config
     ensures { result ≡ config_of limits.now }
 {

@@ -1,4 +1,4 @@
-//! What is made for a handle that has nothing.
+//! Making what an empty handle is to own.
 ghost use Rattle.std.specs.Prelude.{◌≡◌, ◌↔◌, ◌⊎◌, None, Err, IfOk, IfErr};
 ghost use Rattle.key_class.specs.declared.refusal.Refusal.TheVariants.{OutOfMemory};
 ghost use Rattle.change_list.specs.Configs.{IsWithinLimits};
@@ -23,7 +23,7 @@ use set_class::Sets;
 use std::alloc::Global;
 use store::Store;
 
-/// Puts what was made into a handle that has nothing. 0, or the number of the refusal.
+/// Gives an empty handle what was made. The result is 0, or the number of the refusal.
 pub fn settle(alloc: Global, made: Result<Held, Denied>, handle: &mut Handle) -> u32
     requires { handle.old.inside.state ≡ None }
     ensures { Settles made result handle.new.inside.state }
@@ -53,10 +53,10 @@ fn empty<C: KeyClass>(alloc: Global, config: Config) -> Result<Store<C>, Denied>
     }
 }
 
-/// An empty store of the class with a number: 1 of intervals, 2 of boxes, 3 of sets.
+/// An empty store of the class with a number: 1 for intervals, 2 for boxes, 3 for sets.
 ///
 /// # Errors
-/// `BadConfig` where no class has the number, else `BadLimits` where a limit is out of its range; and want of memory.
+/// `BadConfig` if no class has the number, else `BadLimits` if a limit is out of range, or `OutOfMemory`.
 pub fn store(alloc: Global, class: u32, config: Config) -> Result<Held, Denied>
     ensures { IsCreation class config result }
 {
@@ -71,7 +71,7 @@ pub fn store(alloc: Global, class: u32, config: Config) -> Result<Held, Denied>
 /// A snapshot of a store.
 ///
 /// # Errors
-/// `NoHandle` where it is none, and want of memory.
+/// `NoHandle` if what is held is no store, or `OutOfMemory`.
 pub fn snapshot(held: &Held) -> Result<Held, Denied>
     ensures { IsTaken held.now result }
 {
@@ -88,10 +88,10 @@ pub fn snapshot(held: &Held) -> Result<Held, Denied>
     }
 }
 
-/// The query of a text, for the class with a number.
+/// Parses the text of a query, for the class with a number.
 ///
 /// # Errors
-/// `BadConfig` where no class has the number, `QueryText` where the text spells no query, and want of memory.
+/// `BadConfig` if no class has the number, `QueryText` if the text is no query, or `OutOfMemory`.
 pub fn query(alloc: Global, class: u32, text: &[u8]) -> Result<Held, Denied>
     ensures { IsPrepared class text.now result }
 {
@@ -103,10 +103,10 @@ pub fn query(alloc: Global, class: u32, text: &[u8]) -> Result<Held, Denied>
     }
 }
 
-/// The query for the relation with a number to a key, for the class with a number.
+/// The query for the keys that have a relation to a key; class and relation are given by their numbers.
 ///
 /// # Errors
-/// `BadConfig` where no class or no relation has the number, else `BadEnds` where the key's ends are out of order.
+/// `BadConfig` if no class or no relation has the number, else `BadEnds` if the key's ends are out of order.
 pub fn asked(class: u32, relation: u32, key: KeyWords) -> Result<Held, Denied>
     ensures { result ≡ asked_of class relation key }
 {
@@ -130,7 +130,7 @@ pub fn asked(class: u32, relation: u32, key: KeyWords) -> Result<Held, Denied>
 /// A feed without subscriptions, of the class with a number.
 ///
 /// # Errors
-/// `BadConfig` where no class has the number, and want of memory.
+/// `BadConfig` if no class has the number, or `OutOfMemory`.
 pub fn feed(alloc: Global, class: u32) -> Result<Held, Denied>
     ensures { IsBeginning class result }
 {

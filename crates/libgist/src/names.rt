@@ -7,7 +7,7 @@ use crate::buffers::write_over;
 use crate::denied::Denied;
 use key_class::Refusal;
 
-/// A refusal with a number; those of texts at byte 0.
+/// The refusal with a number. Those of texts get byte 0, which their names don't tell.
 fn numbered(number: u32) -> Option<Denied>
     ensures some { IfSome result (λ why. number_told why ≡ number) }
     ensures none { IfNone result ((number ≡ 0) ⊎ (29 < number)) }
@@ -59,7 +59,7 @@ fn name(denied: Denied) -> &'static str
     }
 }
 
-/// The name of the refusal with a number, or nothing where there is none.
+/// The name of the refusal with a number, empty if there is none.
 fn name_numbered(number: u32) -> &'static str
     ensures { IsNameOf number result.now }
 {
@@ -69,8 +69,8 @@ fn name_numbered(number: u32) -> &'static str
     }
 }
 
-/// Puts the name of the refusal with a number into a buffer, as far as it fits, and a 0 behind it, where there is room.
-/// Gives the length of the name, which is 0 where no refusal has the number.
+/// Writes the name of the refusal with a number, and a 0 after it, into a buffer, as far as they fit. Gives the
+/// length of the name, which is 0 if no refusal has the number.
 #[unsafe(no_mangle)]
 pub extern "C" fn gist_refusal_name(refusal: u32, name: &mut [u8]) -> usize
     ensures { TellsName refusal result name.old name.new }

@@ -14,7 +14,7 @@ use key_class::{KeyClass, Pred, Refusal};
 use snapshot::Snapshot;
 use std::alloc::Global;
 
-/// Puts the rows that live and match into a buffer, as many as fit, and tells how many there are.
+/// Writes the live rows that match into a buffer, as many as fit, and gives how many there are in all.
 pub fn find<C: Crossing>(
     snapshot: &Snapshot<C>,
     query: &Pred<C::Atom>,
@@ -27,14 +27,14 @@ pub fn find<C: Crossing>(
     Ok(found.len() as u64)
 }
 
-/// How many rows live and match.
+/// How many live rows match.
 pub fn count<C: KeyClass>(snapshot: &Snapshot<C>, query: &Pred<C::Atom>) -> Result<u64, Refusal>
     ensures { IsCount C.rules query.now snapshot.now result }
 {
     snapshot.count(query)
 }
 
-/// What an item of a snapshot tells.
+/// An item of a snapshot, in the layout that C reads.
 pub fn item<C: Crossing>(snapshot: &Snapshot<C>, item: Item<C::Key>) -> ShownItem
     ensures { result ≡ shown_item C.words_of snapshot.now item }
 {
@@ -42,7 +42,7 @@ pub fn item<C: Crossing>(snapshot: &Snapshot<C>, item: Item<C::Key>) -> ShownIte
     shown::item::<C>(item, snapshot.row(ended))
 }
 
-/// Puts as many items as fit into a buffer, as C is given them.
+/// Writes as many items as fit into a buffer, in the layout that C reads.
 fn write_items<C: Crossing>(
     snapshot: &Snapshot<C>,
     buffer: &mut [ShownItem],
@@ -57,8 +57,8 @@ fn write_items<C: Crossing>(
     }
 }
 
-/// Puts the items of the commits after `from` that match into a buffer, until it is full, and tells how many they are and
-/// up to which commit all were given.
+/// Writes the matching items of the commits after `from` into a buffer, until it is full. Gives how many were
+/// written, and up to which commit they are complete.
 pub fn changes<C: Crossing>(
     alloc: Global,
     snapshot: &Snapshot<C>,
@@ -74,7 +74,7 @@ pub fn changes<C: Crossing>(
     Ok((given.len() as u64, upto))
 }
 
-/// Whether it is that of a row that lives.
+/// Whether it is the status of a live row.
 fn is_live(status: Status) -> bool
     ensures { IsTrue result ↔ (status ≡ Live) }
 {
@@ -95,7 +95,7 @@ pub fn row_of<C: Crossing>(snapshot: &Snapshot<C>, number: u64) -> Result<(Shown
     Ok((shown::row::<C>(row), lives))
 }
 
-/// What the commit with a number tells, or that there is none.
+/// The commit with a number, in the layout that C reads; kind 0 if there is none.
 pub fn commit<C: Crossing>(snapshot: &Snapshot<C>, number: u64) -> ShownItem
     ensures { result ≡ shown_commit C.words_of snapshot.now number }
 {

@@ -1,4 +1,4 @@
-//! The relations by the numbers that C hands in.
+//! Relations by the numbers that C uses.
 ghost use Rattle.std.specs.Prelude.{◌≡◌};
 ghost use Rattle.libgist.specs.Relations.{relation_of, atom_for};
 
@@ -20,10 +20,10 @@ fn relation(number: u32) -> Option<Rel>
     }
 }
 
-/// The atom that asks for the relation with a number to a key.
+/// The atom for the keys that have a relation, given by its number, to a key.
 ///
 /// # Errors
-/// `BadConfig` where no relation has the number, else `BadEnds` where the key's ends are out of order.
+/// `BadConfig` if no relation has the number, else `BadEnds` if the key's ends are out of order.
 pub fn atom<C: Crossing>(number: u32, words: KeyWords) -> Result<C::Atom, Denied>
     ensures { result ≡ atom_for C.texts C.key_of number words }
 {

@@ -1,4 +1,4 @@
-//! A store that is made of the rows that live in a snapshot.
+//! Renewal: a new store made of the rows that are live in a snapshot.
 ghost use Rattle.std.specs.Prelude.{◌≡◌, ◌≢◌, ◌↔◌, length, None, Ok, Err, IfOk, IfErr, IsSomeAnd};
 ghost use Rattle.libgist.specs.Buffers.{written_over};
 ghost use Rattle.change_list.specs.Configs.{IsWithinLimits};
@@ -24,7 +24,7 @@ use snapshot::Snapshot;
 use std::alloc::Global;
 use store::{Renewed, Store};
 
-/// A store with the rows that live in a snapshot of a class, and the numbers that they had.
+/// A new store of the rows that are live in a snapshot of a class, and the numbers that these rows had.
 fn renewed_of<C: KeyClass>(
     alloc: Global,
     config: Config,
@@ -43,17 +43,18 @@ fn renewed_of<C: KeyClass>(
     }
 }
 
-/// A store with the rows that live in a snapshot, and the numbers that they had.
+/// A new store of the rows that are live in a snapshot, and the numbers that these rows had.
 #[derive(Drop)]
 struct Anew {
     store: Held,
     old_numbers: Vec<u64>,
 }
 
-/// A store with the rows that live in a snapshot, of whichever class.
+/// A new store of the rows that are live in a snapshot, of any class.
 ///
 /// # Errors
-/// `NoHandle` where it is none, `BadLimits` where a limit is out of its range; `CommitsFull` and `PagesFull` where the limits
+/// `NoHandle` if what is held is no snapshot, `BadLimits` if a limit is out of range, `CommitsFull` or `PagesFull` if
+/// the limits are too small for the rows, or `OutOfMemory`.
 /// are too small for the rows; and want of memory.
 fn renewed(alloc: Global, config: Config, held: &Held) -> Result<Anew, Denied>
     ensures renewal { IsRenewal config held.now (stored result) }
@@ -87,7 +88,7 @@ fn renewed(alloc: Global, config: Config, held: &Held) -> Result<Anew, Denied>
     }
 }
 
-/// Puts a store into a handle that has nothing, and then the numbers that its rows had into a buffer.
+/// Gives an empty handle the store, and then writes the numbers that its rows had into a buffer.
 fn settle_anew(
     alloc: Global,
     anew: Anew,
@@ -114,8 +115,8 @@ fn settle_anew(
     code
 }
 
-/// Makes a store of the rows that live in a snapshot, for a handle that has nothing, and tells the numbers that they had. They
-/// are numbered anew, in the order of their numbers.
+/// Makes a store of the rows that are live in a snapshot, for an empty handle, and gives the numbers that they had.
+/// The rows are numbered from 1 again, in the same order.
 #[unsafe(no_mangle)]
 pub unsafe extern "C" fn gist_renew(
     snapshot: *const Handle,

@@ -1,4 +1,4 @@
-//! What C is given of rows, items and commits.
+//! Rows, items and commits, in the layout that C reads.
 ghost use Rattle.std.specs.Prelude.{◌≡◌};
 ghost use Rattle.libgist.specs.Shown.{shown, shown_row, shown_with, shown_write, ended_in, ended_by};
 
@@ -6,25 +6,25 @@ use crate::crossing::Crossing;
 use crate::words::{KeyWords, ShownItem, ShownRow};
 use change_list::{Item, Row, Write};
 
-/// Nothing.
+/// The kind of nothing: no item, no commit.
 const NOTHING: u32 = 0;
 
-/// A row of a snapshot.
+/// The kind of a row of a snapshot.
 const ROW: u32 = 1;
 
-/// A row that was inserted.
+/// The kind of a row that was inserted.
 const INSERTED: u32 = 2;
 
-/// A row that was deleted.
+/// The kind of a row that was deleted.
 const DELETED: u32 = 3;
 
-/// A row that was moved.
+/// The kind of a row that was moved.
 const MOVED: u32 = 4;
 
-/// A mark.
+/// The kind of a mark.
 const MARK: u32 = 5;
 
-/// What a row tells.
+/// A row, in the layout that C reads.
 pub fn row<C: Crossing>(row: Row<C::Key>) -> ShownRow
     ensures { result ≡ shown_row C.words_of row }
 {
@@ -35,7 +35,7 @@ pub fn row<C: Crossing>(row: Row<C::Key>) -> ShownRow
     }
 }
 
-/// What is told of a kind, with a row's key and tag.
+/// An item of a kind, with the key and the tag of a row, or zeros.
 fn told<C: Crossing>(kind: u32, number: u64, ended: u64, row: Option<Row<C::Key>>) -> ShownItem
     ensures { result ≡ shown C.words_of kind number ended row }
 {
@@ -60,7 +60,7 @@ fn told<C: Crossing>(kind: u32, number: u64, ended: u64, row: Option<Row<C::Key>
     }
 }
 
-/// The number of the row that an item tells the end of, without a row that was made, or 0.
+/// The number of the row that a `Deleted` item names; 0 for any other item.
 pub fn ended_in<C: Crossing>(item: &Item<C::Key>) -> u64
     ensures { result ≡ ended_in C.words_of item.now }
 {
@@ -70,7 +70,7 @@ pub fn ended_in<C: Crossing>(item: &Item<C::Key>) -> u64
     }
 }
 
-/// What an item tells, where the row that it tells the end of is this one.
+/// An item, in the layout that C reads. `former` is the row whose end it tells, if that is needed.
 pub fn item<C: Crossing>(item: Item<C::Key>, former: Option<Row<C::Key>>) -> ShownItem
     ensures { result ≡ shown_with C.words_of former item }
 {
@@ -83,7 +83,7 @@ pub fn item<C: Crossing>(item: Item<C::Key>, former: Option<Row<C::Key>>) -> Sho
     }
 }
 
-/// The number of the row that a commit ended, or 0.
+/// The number of the row that a delete ended; 0 for any other commit.
 pub fn ended_by<C: Crossing>(write: Option<Write<C::Key>>) -> u64
     ensures { result ≡ ended_by C.words_of write }
 {
@@ -93,7 +93,7 @@ pub fn ended_by<C: Crossing>(write: Option<Write<C::Key>>) -> u64
     }
 }
 
-/// What the commit with a number tells, by the row that it made and the row that it ended, or that there is none.
+/// The commit with a number, by the row that it made and the row that it ended; kind 0 if there is none.
 pub fn commit<C: Crossing>(
     number: u64,
     made: Option<Row<C::Key>>,

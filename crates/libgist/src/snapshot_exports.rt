@@ -1,4 +1,5 @@
-//! What C can ask of a snapshot, and the queries that it asks with. A function beside each export takes its pointers as loans.
+//! The exported calls of snapshots and queries. Next to each export that takes pointers is a function that takes
+//! references instead.
 ghost use Rattle.std.specs.Prelude.{◌≡◌, ◌≢◌, None};
 ghost use Rattle.libgist.specs.Asked.{AnswersChanges, AnswersCommit, AnswersCommits, AnswersCount, AnswersFind, AnswersFindOfEach, AnswersRow};
 ghost use Rattle.std.specs.Borrow.{sem};
@@ -34,7 +35,7 @@ fn tell_commits(snapshot: &Lent, commits: &mut u64) -> u32
     tell(any_snapshot::commits(snapshot), commits)
 }
 
-/// Gives the row with a number, and tells whether it lives.
+/// Gives the row with a number, and whether it is live.
 #[unsafe(no_mangle)]
 pub unsafe extern "C" fn gist_row_of(
     snapshot: *const Handle,
@@ -58,7 +59,7 @@ fn tell_row(snapshot: &Lent, number: u64, row: &mut ShownRow, lives: &mut bool) 
     tell_both(any_snapshot::row_of(snapshot, number), row, lives)
 }
 
-/// Tells the commit with a number, or that there is none.
+/// Gives the commit with a number; kind 0 if there is none.
 #[unsafe(no_mangle)]
 pub unsafe extern "C" fn gist_commit_of(
     snapshot: *const Handle,
@@ -81,8 +82,8 @@ fn tell_commit(snapshot: &Lent, number: u64, commit: &mut ShownItem) -> u32
     tell(any_snapshot::commit(snapshot, number), commit)
 }
 
-/// Puts the rows that live and have a relation to each of many keys into a buffer, those of one key behind those of the key
-/// before, as long as they fit, and tells how many keys were answered and where the rows of each end.
+/// Finds the live rows that have a relation to each of many keys. Writes them into a buffer, key after key, as long
+/// as a key's rows fit. Gives how many keys were answered, and where each key's rows end.
 #[unsafe(no_mangle)]
 pub unsafe extern "C" fn gist_find_each(
     snapshot: *const Handle,
@@ -127,7 +128,8 @@ fn find_each(
     )
 }
 
-/// Puts the rows that live and match into a buffer, by rising number, as many as fit, and tells how many there are.
+/// Writes the live rows that match into a buffer, by rising number, as many as fit, and gives how many there are in
+/// all.
 #[unsafe(no_mangle)]
 pub unsafe extern "C" fn gist_find(
     snapshot: *const Handle,
@@ -158,7 +160,7 @@ fn find_rows(snapshot: &Lent, query: &Lent, rows: &mut [ShownRow], found: &mut u
     tell(any_snapshot::find(query, snapshot, rows), found)
 }
 
-/// Tells how many rows live and match.
+/// Gives how many live rows match.
 #[unsafe(no_mangle)]
 pub unsafe extern "C" fn gist_count(
     snapshot: *const Handle,
@@ -181,8 +183,8 @@ fn count_rows(snapshot: &Lent, query: &Lent, count: &mut u64) -> u32
     tell(any_snapshot::count(query, snapshot), count)
 }
 
-/// Puts the items of the commits after `from` that match into a buffer, until it is full, and tells how many they are and
-/// up to which commit all were given.
+/// Writes the matching items of the commits after `from` into a buffer, until it is full. Gives how many were
+/// written, and up to which commit they are complete.
 #[unsafe(no_mangle)]
 pub unsafe extern "C" fn gist_changes(
     snapshot: *const Handle,
@@ -228,7 +230,7 @@ fn give_changes(
     )
 }
 
-/// Takes a snapshot of a store, for a handle that has nothing.
+/// Takes a snapshot of a store, for an empty handle.
 #[unsafe(no_mangle)]
 pub unsafe extern "C" fn gist_take(store: *const Handle, snapshot: &mut Handle) -> u32
     ghost loan: { Loan }
@@ -253,7 +255,7 @@ fn take_snapshot(store: &Lent, snapshot: &mut Handle) -> u32
     }
 }
 
-/// Drops the snapshot of a handle, if it has one. The handle has none then.
+/// Drops the snapshot of a handle, if it has one, and leaves the handle empty.
 #[unsafe(no_mangle)]
 pub extern "C" fn gist_drop(alloc: Global, snapshot: &mut Handle)
     ensures { snapshot.new.inside.state ≡ None }
@@ -261,7 +263,8 @@ pub extern "C" fn gist_drop(alloc: Global, snapshot: &mut Handle)
     drop(snapshot.take(alloc));
 }
 
-/// Reads the query of a text, for a handle that has nothing. Where the text is refused, `fault` gets the place of the byte.
+/// Parses the text of a query, for an empty handle. If the text is refused, `fault` gets the place of the first wrong
+/// byte.
 #[unsafe(no_mangle)]
 pub extern "C" fn gist_prepare(
     alloc: Global,
@@ -281,7 +284,7 @@ pub extern "C" fn gist_prepare(
     settle(alloc, prepared, query)
 }
 
-/// Makes the query that asks for a relation to a key, for a handle that has nothing.
+/// Makes the query for the keys that have a relation to a key, for an empty handle.
 #[unsafe(no_mangle)]
 pub extern "C" fn gist_ask(
     alloc: Global,
@@ -299,7 +302,7 @@ pub extern "C" fn gist_ask(
     settle(alloc, making::asked(class, relation, key), query)
 }
 
-/// Drops the query of a handle, if it has one. The handle has none then.
+/// Drops the query of a handle, if it has one, and leaves the handle empty.
 #[unsafe(no_mangle)]
 pub extern "C" fn gist_forget(alloc: Global, query: &mut Handle)
     ensures { query.new.inside.state ≡ None }

@@ -1,4 +1,4 @@
-//! What C can ask of a store.
+//! The exported calls of stores.
 ghost use Rattle.std.specs.Prelude.{◌≡◌, ◌≢◌, None};
 ghost use Rattle.libgist.specs.Asked.{AnswersFollowing, AnswersOpening, AnswersStanding, AnswersStats};
 ghost use Rattle.libgist.specs.Calls.{Passing, IsInserting, IsDeleting, IsMovingTo, IsTaking, IsSweep, IsAsking, IsClosing};
@@ -19,7 +19,7 @@ use crate::telling::{code, no_handle, tell};
 use crate::words::{KeyWords, NewRow, ShownItem};
 use std::alloc::Global;
 
-/// Makes an empty store of a class for a handle that has nothing.
+/// Makes an empty store of a class, for an empty handle.
 #[unsafe(no_mangle)]
 pub extern "C" fn gist_create(alloc: Global, store: &mut Handle, class: u32, limits: &Limits) -> u32
     ensures { Makes (IsCreation class (config_of limits.now))
@@ -31,7 +31,7 @@ pub extern "C" fn gist_create(alloc: Global, store: &mut Handle, class: u32, lim
     settle(alloc, making::store(alloc, class, config(limits)), store)
 }
 
-/// Drops the store of a handle, if it has one. The handle has none then.
+/// Drops the store of a handle, if it has one, and leaves the handle empty.
 #[unsafe(no_mangle)]
 pub extern "C" fn gist_destroy(alloc: Global, store: &mut Handle)
     ensures { store.new.inside.state ≡ None }
@@ -39,7 +39,7 @@ pub extern "C" fn gist_destroy(alloc: Global, store: &mut Handle)
     drop(store.take(alloc));
 }
 
-/// Adds rows one after the other, until one is refused, and tells how many were added.
+/// Adds rows one after the other, until one is refused, and gives how many were added.
 #[unsafe(no_mangle)]
 pub extern "C" fn gist_insert(
     alloc: Global,
@@ -82,7 +82,7 @@ pub extern "C" fn gist_move(
     }
 }
 
-/// Deletes rows one after the other, until one is refused, and tells how many were deleted.
+/// Deletes rows one after the other, until one is refused, and gives how many were deleted.
 #[unsafe(no_mangle)]
 pub extern "C" fn gist_delete(
     alloc: Global,
@@ -103,7 +103,7 @@ pub extern "C" fn gist_delete(
     }
 }
 
-/// Removes the dead rows that no scan needs, and tells how many they were.
+/// Removes the dead rows that no scan needs, and gives how many there were.
 #[unsafe(no_mangle)]
 pub extern "C" fn gist_sweep(alloc: Global, store: &mut Handle, removed: &mut u64) -> u32
     ensures { Tells result removed.old removed.new
@@ -120,7 +120,7 @@ pub extern "C" fn gist_sweep(alloc: Global, store: &mut Handle, removed: &mut u6
     }
 }
 
-/// Tells how far a store has come.
+/// Gives the figures of a store: its progress, and what it still has room for.
 #[unsafe(no_mangle)]
 pub unsafe extern "C" fn gist_stats(store: *const Handle, figures: &mut Figures) -> u32
     ghost loan: { Loan }
@@ -200,7 +200,7 @@ fn open_on(store: &mut Handle, query: &Lent, cursor: &mut u64) -> u32
     }
 }
 
-/// Opens a cursor on a query, which follows a commit.
+/// Opens a cursor on a query that follows a commit: it gives the changes after it.
 #[unsafe(no_mangle)]
 pub unsafe extern "C" fn gist_follow(
     store: &mut Handle,
@@ -234,7 +234,7 @@ fn follow_on(store: &mut Handle, query: &Lent, commit: u64, cursor: &mut u64) ->
     }
 }
 
-/// Gives a cursor's next items, until a buffer is full, nothing is left or the next is refused, and tells how many they
+/// Gives a cursor's next items, until the buffer is full, nothing is left or the next is refused, and how many they
 /// are.
 #[unsafe(no_mangle)]
 pub extern "C" fn gist_next(

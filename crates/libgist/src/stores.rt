@@ -1,4 +1,4 @@
-//! The calls of a store of any class, with what they promise in one word each.
+//! The calls of a store, generic over the class. What each promises is one definition in specs/Calls.
 ghost use Rattle.std.specs.Prelude.{◌≡◌};
 ghost use Rattle.libgist.specs.Calls.{IsInserting, InsertsOne, IsDeleting, IsMovingTo, IsTaking, IsSweep, IsTelling, IsTellingStanding, IsOpening, IsFollowing, IsAsking, IsClosing};
 ghost use Rattle.libgist.specs.Shown.{shown_item};
@@ -13,7 +13,7 @@ use key_class::{KeyClass, Pred, Refusal};
 use std::alloc::Global;
 use store::Store;
 
-/// A cursor's room, which has no meaning in a store.
+/// The room of a cursor. It has no effect, since a store takes each item at once.
 const ROOM: u64 = 1;
 
 /// Adds a row, if the ends of its key are in order.
@@ -26,7 +26,7 @@ fn insert_one<C: Crossing>(store: &mut Store<C>, row: &NewRow) -> Result<u64, De
     }
 }
 
-/// Adds rows one after the other, until one is refused, and tells how many were added.
+/// Adds rows one after the other, until one is refused, and gives how many were added.
 pub fn insert<C: Crossing>(store: &mut Store<C>, rows: &[NewRow]) -> Result<u64, Denied>
     ensures { IsInserting C.rules C.key_of rows.now store.old result store.new }
 {
@@ -40,7 +40,7 @@ pub fn insert<C: Crossing>(store: &mut Store<C>, rows: &[NewRow]) -> Result<u64,
     Ok(rows.len() as u64)
 }
 
-/// Deletes rows one after the other, until one is refused, and tells how many were deleted.
+/// Deletes rows one after the other, until one is refused, and gives how many were deleted.
 pub fn delete<C: KeyClass>(store: &mut Store<C>, rows: &[u64]) -> Result<u64, Denied>
     ensures { IsDeleting C.rules rows.now store.old result store.new }
 {
@@ -64,14 +64,14 @@ pub fn move_row<C: Crossing>(store: &mut Store<C>, row: u64, words: KeyWords) ->
     }
 }
 
-/// Sweeps the dead rows that no scan needs.
+/// Removes the dead rows that no scan needs.
 pub fn sweep<C: KeyClass>(store: &mut Store<C>) -> Result<u64, Refusal>
     ensures { IsSweep C.rules store.old result store.new }
 {
     store.sweep_all()
 }
 
-/// Tells how far a store has come.
+/// The figures of a store, in the layout that C reads.
 pub fn stats<C: KeyClass>(store: &Store<C>) -> Result<Figures, Denied>
     ensures { IsTelling store.now result store.now }
 {
@@ -118,7 +118,7 @@ pub fn open<C: KeyClass>(
     store.open(copy, ROOM)
 }
 
-/// Opens a cursor on a query, which follows a commit.
+/// Opens a cursor on a query that follows a commit.
 pub fn follow<C: KeyClass>(
     alloc: Global,
     store: &mut Store<C>,
@@ -131,7 +131,7 @@ pub fn follow<C: KeyClass>(
     store.open_from(copy, ROOM, commit)
 }
 
-/// What an item of a store tells.
+/// An item of a store, in the layout that C reads.
 fn item<C: Crossing>(store: &Store<C>, item: Item<C::Key>) -> ShownItem
     ensures { result ≡ shown_item C.words_of store.now.commits item }
 {
@@ -139,7 +139,7 @@ fn item<C: Crossing>(store: &Store<C>, item: Item<C::Key>) -> ShownItem
     shown::item::<C>(item, store.row(ended))
 }
 
-/// Gives a cursor's next items, until a buffer is full, nothing is left or the next is refused, and tells how many they
+/// Gives a cursor's next items, until the buffer is full, nothing is left or the next is refused, and how many they
 /// are.
 pub fn next<C: Crossing>(
     store: &mut Store<C>,

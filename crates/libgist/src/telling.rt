@@ -1,4 +1,4 @@
-//! How C is told what a call answered.
+//! Answers as C gets them: a code, and values written through references.
 ghost use Rattle.std.specs.Prelude.{◌≡◌, Err};
 ghost use Rattle.libgist.specs.declared.denied.Denied.TheVariants.{NoHandle};
 ghost use Rattle.libgist.specs.Told.{code_of, value_or, fault_or};
@@ -6,7 +6,7 @@ ghost use Rattle.libgist.specs.Told.{code_of, value_or, fault_or};
 use crate::denied::Denied;
 use key_class::Refusal;
 
-/// What a handle of nothing answers.
+/// The answer of an empty handle.
 pub fn no_handle<V>() -> Result<V, Denied>
     ensures { result ≡ Err NoHandle }
 {
@@ -23,7 +23,7 @@ pub fn code(answer: Result<(), Denied>) -> u32
     }
 }
 
-/// 0 or the number of the refusal; and the value goes where it is wanted.
+/// 0, or the number of the refusal. The value, if there is one, is written to `into`.
 pub fn tell<V: Copy>(answer: Result<V, Denied>, into: &mut V) -> u32
     ensures code { result ≡ code_of answer }
     ensures value { into.new ≡ value_or answer into.old }
@@ -37,7 +37,7 @@ pub fn tell<V: Copy>(answer: Result<V, Denied>, into: &mut V) -> u32
     }
 }
 
-/// 0 or the number of the refusal; and both values go where they are wanted.
+/// 0, or the number of the refusal. The values, if there are any, are written to where they belong.
 pub fn tell_both<V: Copy, W: Copy>(
     answer: Result<(V, W), Denied>,
     first: &mut V,
@@ -56,7 +56,7 @@ pub fn tell_both<V: Copy, W: Copy>(
     }
 }
 
-/// Where a query's text is refused, the place of the byte goes where it is wanted.
+/// If the text of a query is refused, writes the place of the first wrong byte to `fault`.
 pub fn tell_fault<V>(answer: &Result<V, Denied>, fault: &mut u64)
     ensures { fault.new ≡ fault_or answer.now fault.old }
 {

@@ -1,6 +1,6 @@
-//! What C hands in and is given, of any class.
+//! The records that C hands in and gets, for every class.
 
-/// A key, as 16 bytes, which each class reads in its own way.
+/// A key, as two words of 8 bytes, which each class reads in its own way.
 #[repr(C)]
 #[derive(Clone, Copy)]
 pub struct KeyWords {
@@ -8,7 +8,7 @@ pub struct KeyWords {
     pub second: u64,
 }
 
-/// A row to be added.
+/// A row to add.
 #[repr(C)]
 #[derive(Clone, Copy)]
 pub struct NewRow {
@@ -25,14 +25,14 @@ pub struct ShownRow {
     pub key: KeyWords,
 }
 
-/// An item, or a commit. Where it has no key both words are 0.
+/// An item, or a commit. Both words are 0 if it has no key.
 #[repr(C)]
 #[derive(Clone, Copy)]
 pub struct ShownItem {
     pub kind: u32,
-    /// The number of a commit, and of the row that it made.
+    /// The number of the commit, which is that of the row that it made.
     pub number: u64,
-    /// The number of a row that ended.
+    /// The number of the row that ended.
     pub ended: u64,
     pub tag: u64,
     pub key: KeyWords,
