@@ -1,4 +1,4 @@
--- What a commit gives to the subscriptions of a feed, and which topics it is to ask.
+-- What a commit gives to the subscriptions of a feed, and which topics it has to test.
 use Rattle.std.specs.Prelude.{◌≡◌, ◌⊎◌, ℕ, max, nat_le, List, [], ◌++◌, map, Contains, Option, Some, None, option_to_list, if◌then◌else◌}
 use Rattle.std.specs.Option.{option_map_or}
 use Rattle.key_class.specs.Queries.{Query}
@@ -12,27 +12,27 @@ use Rattle.feed.specs.Feeds.{FeedState, Subscription, items_under, subscription_
 use Rattle.feed.specs.Hearing.{HearsAtMost, TopicState, heard, query_at}
 
 module _ {K : Type 0} where
-  -- items, each under a serial
+  -- items, each under the same serial
   abbrev pub under : ℕ → List (Item K) → List (ℕ × Item K)
   under serial items = map (λ item. (serial, item)) items
 
 module _ {K A : Type 0} where
-  -- each open subscription is given what is due to it, and no other serial anything
+  -- each open subscription is given what is due to it, and nothing stands under any other serial
   abbrev pub Gives : (Subscription A → List (Item K)) → FeedState A → List (ℕ × Item K) → Type 0
   Gives due feed given = (serial : ℕ) → items_under serial given ≡ option_map_or due (subscription_of feed serial) []
 
-  -- what was put behind the entries of a list gives what is due
+  -- what was appended to a list is exactly what is due
   pub record GivesInto (due : Subscription A → List (Item K)) (feed : FeedState A) (before after : List (ℕ × Item K)) : Type 0 where
     pub given : List (ℕ × Item K)
     pub is : after ≡ before ++ given
     pub gives : Gives due feed given
 
 module _ {K A : Type 0} (rules : Rules K A) (commits : List (Write K)) where
-  -- what commit `place + 1` has for a query
+  -- the item of commit `place + 1` for a query, if any
   abbrev pub item_for : Query A → ℕ → Option (Item K)
   item_for query place = item_at (satisfies rules query) commits place
 
-  -- what commit `place + 1` gives to one who asks for the items of a query after commit n
+  -- what commit `place + 1` gives to a listener that asks for the items of a query after commit n
   abbrev pub due_after : ℕ → Query A → ℕ → List (Item K)
   due_after place query n = if nat_le n place then option_to_list (item_for query place) else []
 
@@ -40,7 +40,7 @@ module _ {K A : Type 0} (rules : Rules K A) (commits : List (Write K)) where
   abbrev pub due_at : ℕ → Subscription A → List (Item K)
   due_at place s = due_after place s.query s.at
 
-  -- what it gives to one who hears of a query, or of none
+  -- what it gives to a listener of a query, or of none
   abbrev pub due_to : ℕ → Option (Query A × ℕ) → List (Item K)
   due_to place hears = option_map_or (λ h. due_after place h.0 h.1) hears []
 
@@ -48,23 +48,24 @@ module _ {K A : Type 0} (rules : Rules K A) (commits : List (Write K)) where
   abbrev pub due_upto : ℕ → Subscription A → List (Item K)
   due_upto n s = changes (satisfies rules s.query) s.at (max s.at n) commits
 
-  -- a query whose number isn't among these has no item of commit `place + 1`
+  -- a query whose topic isn't among these has no item of commit `place + 1`
   abbrev pub AreAllConcerned : List (Option (TopicState A)) → ℕ → List ℕ → Type 0
   AreAllConcerned topics place numbers = (number : ℕ) (query : Query A) → query_at topics number ≡ Some query → (item_for query place ≡ None) ⊎ Contains numbers number
 
-  -- What was put behind the entries of a list: to one who listens to no query but that with a number, what commit `place + 1` gives
-  -- to it by that.
+  -- What was appended to a list: for each listener that listens only to the topic with a number, what commit `place +
+  -- 1` gives it by that topic's query.
   pub record TellsCommit (topics : List (Option (TopicState A))) (place : ℕ) (before after : List (ℕ × Item K)) : Type 0 where
     pub given : List (ℕ × Item K)
     pub is : after ≡ before ++ given
     pub gives : (number serial : ℕ) → HearsAtMost topics number serial → items_under serial given ≡ due_to place (heard topics number serial)
 
 module _ {K A : Type 0} (rules : Rules K A) (topics : List (Option (TopicState A))) where
-  -- a query whose number isn't among these has no item of a commit whose change it is
+  -- a query whose topic isn't among these has no item of a commit with this change
   abbrev pub AreConcerned : Change K → List ℕ → Type 0
   AreConcerned change numbers = (commits : List (Write K)) (place : ℕ) → IsChangeOf commits place change → AreAllConcerned rules commits topics place numbers
 
-  -- what was put behind the entries of a list: to each who listens to the query with a number, what a commit whose change it is gives
+  -- what was appended to a list: for each listener of the topic with a number, what a commit with this change gives
+  -- it
   pub record TellsTopic (number : ℕ) (change : Change K) (before after : List (ℕ × Item K)) : Type 0 where
     pub given : List (ℕ × Item K)
     pub is : after ≡ before ++ given

@@ -13,11 +13,11 @@ use Rattle.change_list.specs.Listings.{AreChanges}
 pub record Subscription (A : Type 0) : Type 0 where
   pub serial : ℕ
   pub query : Query A
-  -- the changes up to this commit were given, or are none of its concern
+  -- the changes up to this commit were given, or weren't asked for
   pub at : ℕ
 
 pub record FeedState (A : Type 0) : Type 0 where
-  -- up to which commit it went
+  -- the last commit that it went over
   pub upto : ℕ
   -- the open subscriptions, by rising serial
   pub subscriptions : List (Subscription A)
@@ -25,7 +25,7 @@ pub record FeedState (A : Type 0) : Type 0 where
   pub last : ℕ
 
 module _ {A : Type 0} where
-  -- a feed that went over no commit, with no subscription
+  -- a feed that has gone over no commit, without subscriptions
   abbrev pub new_feed : FeedState A
   new_feed = record { upto = 0; subscriptions = []; last = 0 }
 
@@ -41,18 +41,18 @@ module _ {A : Type 0} where
   abbrev pub HasNoPlaceFor : FeedState A → Query A → Type 0
   HasNoPlaceFor feed query = (depth_of query ≤ most_depth) × HasAllSubscriptions feed
 
-  -- with a subscription to a query's changes after commit n, under the next serial
+  -- the feed with one more subscription, to a query's changes after commit n, under the next serial
   abbrev pub with_subscription : FeedState A → Query A → ℕ → FeedState A
   with_subscription feed query n = record feed {
     subscriptions = feed.subscriptions ++ (record { serial = feed.last + 1; query = query; at = n }) ∷ [];
     last = feed.last + 1;
   }
 
-  -- without the subscription that has a serial
+  -- the feed without the subscription that has this serial
   abbrev pub without_subscription : FeedState A → ℕ → FeedState A
   without_subscription feed serial = record feed { subscriptions = filter (λ s. not (nat_eq s.serial serial)) feed.subscriptions }
 
-  -- a subscription once all changes up to commit n are given; one that begins later stays
+  -- a subscription once all its changes up to commit n are given; one that begins later is unchanged
   abbrev pub given_upto : ℕ → Subscription A → Subscription A
   given_upto n s = record s { at = max s.at n }
 
@@ -61,18 +61,18 @@ abbrev pub RefusesSubscription : Refusal → Type 0
 RefusesSubscription why = (why ≡ refusal.BadConfig) ⊎ (why ≡ refusal.FeedFull) ⊎ (why ≡ refusal.OutOfMemory)
 
 module _ {K : Type 0} where
-  -- the items that stand under a serial, in their order
+  -- the items under a serial, in order
   abbrev pub items_under : ℕ → List (ℕ × Item K) → List (Item K)
   items_under serial given = map (λ g. g.1) (filter (λ g. nat_eq g.0 serial) given)
 
 module _ {K A : Type 0} (rules : Rules K A) where
-  -- a subscription is given the changes of its query after commit `at` up to commit n, and nothing where it begins after n
+  -- a subscription is given the changes of its query after commit `at` up to commit n; nothing, if it begins after n
   pub record IsGivenUpto (commits : List (Write K)) (n : ℕ) (s : Subscription A) (items : List (Item K)) : Type 0 where
     pub changes : s.at ≤ n → AreChanges (satisfies rules s.query) s.at n commits items
     pub later : n < s.at → items ≡ []
 
-  -- The feed goes over at most `most` further commits. Each open subscription is given its changes up to where the feed then
-  -- stands, under its serial; under no other serial anything is given.
+  -- The feed goes over at most `most` further commits. Each open subscription is given its changes up to the commit
+  -- that the feed then reached, under its serial. Nothing is given under any other serial.
   pub record Advances (old : FeedState A) (commits : List (Write K)) (most : ℕ) (given : List (ℕ × Item K)) (new : FeedState A) : Type 0 where
     pub upto : new.upto ≡ min (old.upto + most) (length commits)
     pub subscriptions : new.subscriptions ≡ map (given_upto new.upto) old.subscriptions
@@ -80,7 +80,7 @@ module _ {K A : Type 0} (rules : Rules K A) where
     pub each : (serial : ℕ) (s : Subscription A) → subscription_of old serial ≡ Some s → IsGivenUpto commits new.upto s (items_under serial given)
     pub no_others : (serial : ℕ) → subscription_of old serial ≡ None → items_under serial given ≡ []
 
-  -- what was put behind the entries of a list is what the feed gives as it goes on
+  -- what was appended to a list is what the feed gives as it goes on
   pub record AdvancesInto (old : FeedState A) (commits : List (Write K)) (most : ℕ) (before after : List (ℕ × Item K)) (new : FeedState A) : Type 0 where
     pub given : List (ℕ × Item K)
     pub is : after ≡ before ++ given

@@ -1,4 +1,4 @@
--- What several calls give.
+-- What several calls give together.
 use Rattle.std.specs.Prelude.{ℕ, Bool, List, ◌++◌}
 use Rattle.change_list.specs.declared.item.Item.{Item}
 use Rattle.change_list.specs.declared.write.Write.{Write}

@@ -13,9 +13,9 @@ use snapshot::Snapshot;
 pub(crate) struct Change<K> {
     /// The number of the commit.
     pub(crate) number: u64,
-    /// The row that it ends.
+    /// The row that it ends, if any.
     pub(crate) ended: Option<Row<K>>,
-    /// The row that it makes.
+    /// The row that it makes, if any.
     pub(crate) made: Option<Row<K>>,
 }
 
@@ -25,7 +25,7 @@ impl<K: Copy> Change<K> {
         requires { place < length snapshot.now }
         ensures { IsChangeOf snapshot.now place result }
     {
-        // there is such a commit, so that its number is in range
+        // brings into view that there is such a commit, so that its number is in range
         let _count = snapshot.commits();
         let number = place + 1;
         match snapshot.commit(number) {
@@ -59,7 +59,8 @@ impl<K: Copy> Change<K> {
         }
     }
 
-    /// The item that the change is to a query, which sees of the two rows those for whose keys it asks.
+    /// The item that this change is to a query, if any. The query sees only those of the two rows whose keys satisfy
+    /// it.
     pub(crate) fn item<C: KeyClass<Key = K>>(&self, query: &Pred<C::Atom>) -> Option<Item<K>>
         ensures { TellsItem (satisfies C.rules (query_of query.now)) self.now result }
     {
@@ -74,7 +75,7 @@ impl<K: Copy> Change<K> {
     }
 }
 
-/// The row that a move makes of another, by its number and its new key.
+/// The row that a move makes: its number and its key are new, its tag is the old row's.
 fn moved<K: Copy>(old: Option<Row<K>>, number: u64, key: K) -> Option<Row<K>>
     ensures { result ≡ option_map (moved number key) old }
 {
@@ -86,7 +87,7 @@ fn moved<K: Copy>(old: Option<Row<K>>, number: u64, key: K) -> Option<Row<K>>
     })
 }
 
-/// The row, where a query asks for its key.
+/// The row, if its key satisfies the query.
 fn asked<C: KeyClass>(query: &Pred<C::Atom>, row: Option<Row<C::Key>>) -> Option<Row<C::Key>>
     ensures { result ≡ asked_row (satisfies C.rules (query_of query.now)) row }
 {

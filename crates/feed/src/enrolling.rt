@@ -12,11 +12,12 @@ use std::alloc::Global;
 use std::collections::BTreeSet;
 use store::Store;
 
-/// Has a topic asked by each commit that may concern its query: by rows of the tree, which bear its number, or, where any key may
-/// satisfy the query or the tree can have no more rows, by being one of those that every commit asks.
+/// Registers a topic, so that each commit that may concern its query finds it: with rows in the tree that have the
+/// topic's number as their tag. If any key may satisfy the query, or the tree is full, the topic is put among those
+/// that every commit asks instead.
 ///
 /// # Errors
-/// Want of memory. Those that every commit asks are as they were then; of the rows some may stay.
+/// `OutOfMemory`. `always` is then unchanged; some rows may stay in the tree.
 pub(crate) fn enrol<C: Reach>(
     alloc: Global,
     tree: &mut Store<C>,
@@ -37,11 +38,11 @@ pub(crate) fn enrol<C: Reach>(
     Ok(())
 }
 
-/// Plants a query in the tree under each key under which it is looked for, and gives the numbers of its rows, which bear the topic's
-/// number. None where any key may satisfy the query or the tree can have no more rows.
+/// Puts a row into the tree for each key under which a query is looked for, with the topic's number as the tag, and
+/// gives the numbers of the rows. `None` if any key may satisfy the query, or the tree is full.
 ///
 /// # Errors
-/// Want of memory. Of the rows some may stay.
+/// `OutOfMemory`. Some rows may stay in the tree.
 fn plant_query<C: Reach>(
     alloc: Global,
     tree: &mut Store<C>,
@@ -60,8 +61,8 @@ fn plant_query<C: Reach>(
     plant(alloc, tree, &keys, number)
 }
 
-/// Takes the rows of a topic's query out of the tree. Where memory is wanting some may stay, which costs a look at them, and gives
-/// nothing.
+/// Removes the rows of a topic's query from the tree. If memory runs out some may stay: commits then look at them in
+/// vain, but nothing more is told.
 pub(crate) fn uproot_query<C: Reach>(
     alloc: Global,
     tree: &mut Store<C>,
@@ -79,7 +80,7 @@ pub(crate) fn uproot_query<C: Reach>(
     }
 }
 
-/// Takes the rows of a topic that have a key out of the tree. Where memory is wanting some may stay.
+/// Removes the rows of a topic under one key from the tree. If memory runs out some may stay.
 fn uproot_key<C: Reach>(alloc: Global, tree: &mut Store<C>, key: C::Key, number: u64)
     requires legal { IsLegal tree.old.commits }
     ensures { Tends number tree.old.commits tree.new.commits }

@@ -16,17 +16,18 @@ use std::alloc::Global;
 use std::collections::BTreeMap;
 use std::marker::Model;
 
-/// Subscriptions to the changes of queries, and how far each was told of a list of commits.
+/// Subscriptions to the changes of queries. It goes over a list of commits, and remembers up to which commit.
 ///
-/// A commit asks only the queries that its keys may match, and each once, whoever has subscribed to it.
+/// A commit tests only the queries that its keys may match, and each of them once, however many subscriptions share
+/// it.
 #[derive(Drop)]
 pub struct Feed<C: Reach> {
     alloc: Global,
     upto: u64,
-    /// Those up to this serial were given what they had missed before `upto`.
+    /// Subscriptions with serials up to this one have already been given what they had missed before `upto`.
     passed: u64,
     last: u64,
-    /// By their serials.
+    /// The subscriptions, by serial.
     registrations: BTreeMap<u64, Registration<C::Atom>>,
     topics: Topics<C>,
 }
@@ -47,10 +48,10 @@ impl<C: Reach> Model for Feed<C> {
 }
 
 impl<C: Reach> Feed<C> {
-    /// A feed without subscriptions, which has gone over no commit.
+    /// A feed without subscriptions, which has gone over no commit yet.
     ///
     /// # Errors
-    /// Want of memory.
+    /// `OutOfMemory`.
     pub fn new(alloc: Global) -> Result<Feed<C>, Refusal>
         ensures ok { IfOk result (λ feed. feed ≡ new_feed) }
         ensures refused { IfErr result (λ why. why ≡ OutOfMemory) }
@@ -66,7 +67,7 @@ impl<C: Reach> Feed<C> {
         })
     }
 
-    /// Up to which commit it went.
+    /// The number of the last commit that it went over.
     pub fn upto(&self) -> u64
         ensures { result ≡ self.now.upto }
     {
@@ -80,12 +81,12 @@ impl<C: Reach> Feed<C> {
         self.registrations.len()
     }
 
-    /// Subscribes to the changes of a query that come after commit `from`, and gives the subscription's serial. That commit may lie
-    /// before the one up to which the feed went: the next `advance` gives what was missed.
+    /// Subscribes to the changes of a query that come after commit `from`, and gives the subscription's serial. That
+    /// commit may be before `upto`: the next `advance` gives what was missed.
     ///
     /// # Errors
-    /// `BadConfig` where the query is deeper than 32, else `FeedFull` where 1,000,000 subscriptions are open or the last serial,
-    /// 4,294,967,295, was given, else want of memory. Nothing is changed then.
+    /// `BadConfig` if the query is deeper than 32, else `FeedFull` if 1,000,000 subscriptions are open or the last
+    /// serial, 4,294,967,295, was given, else `OutOfMemory`. Nothing is changed then.
     pub fn subscribe(&mut self, query: Pred<C::Atom>, from: u64) -> Result<u64, Refusal>
         ensures serial { IfOk result (λ serial. serial ≡ self.old.last + 1) }
         ensures ok { OnOk result
@@ -115,7 +116,7 @@ impl<C: Reach> Feed<C> {
     /// Ends a subscription.
     ///
     /// # Errors
-    /// `NotSubscribed` where no subscription with the serial is open.
+    /// `NotSubscribed` if no subscription with the serial is open.
     pub fn unsubscribe(&mut self, serial: u64) -> Result<(), Refusal>
         ensures ok { OnOk result (self.new ≡ without_subscription self.old serial) }
         ensures err { OnErr result (self.new ≡ self.old) }
@@ -130,13 +131,13 @@ impl<C: Reach> Feed<C> {
         Ok(())
     }
 
-    /// Goes over at most `most` further commits of a snapshot. Puts what they give to each subscription behind the entries of a list,
-    /// under its serial, and tells up to which commit the feed has gone then. A subscription that missed earlier commits is given
-    /// those too.
+    /// Goes over at most `most` further commits of a snapshot, and gives up to which commit the feed has gone.
+    /// Appends to a list what each subscription is given, under its serial. A subscription that missed earlier
+    /// commits is given those changes too.
     ///
     /// # Errors
-    /// `FromFuture` where the snapshot has fewer commits than the feed has gone over, else want of memory. Feed and list are as they
-    /// were then.
+    /// `FromFuture` if the snapshot has fewer commits than the feed has gone over, else `OutOfMemory`. Feed and list
+    /// are unchanged then.
     pub fn advance(
         &mut self,
         snapshot: &Snapshot<C>,
@@ -164,10 +165,10 @@ impl<C: Reach> Feed<C> {
         Ok(upto)
     }
 
-    /// Puts what is due up to a commit behind the entries of a list.
+    /// Appends all that is due up to a commit to a list.
     ///
     /// # Errors
-    /// Want of memory.
+    /// `OutOfMemory`.
     fn tell(
         &self,
         snapshot: &Snapshot<C>,
@@ -187,10 +188,10 @@ impl<C: Reach> Feed<C> {
         Ok(())
     }
 
-    /// Puts what subscriptions have missed behind the entries of a list.
+    /// Appends what new subscriptions have missed to a list.
     ///
     /// # Errors
-    /// Want of memory.
+    /// `OutOfMemory`.
     fn tell_missed(
         &self,
         snapshot: &Snapshot<C>,
@@ -209,10 +210,10 @@ impl<C: Reach> Feed<C> {
         Ok(())
     }
 
-    /// Puts what commit `place + 1` gives behind the entries of a list.
+    /// Appends what commit `place + 1` gives to a list.
     ///
     /// # Errors
-    /// Want of memory.
+    /// `OutOfMemory`.
     fn tell_commit(
         &self,
         snapshot: &Snapshot<C>,

@@ -1,4 +1,4 @@
-//! A feed: many subscriptions to the changes of queries, of which a commit asks only those that its keys may match.
+//! A feed: many subscriptions to the changes of queries. A commit tests only the queries that its keys may match.
 #![tactic(auto)]
 
 mod change;

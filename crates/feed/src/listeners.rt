@@ -10,19 +10,20 @@ use std::alloc::Global;
 use std::collections::BTreeMap;
 use std::marker::Model;
 
-/// One to whom the items of a query are told.
+/// A subscription that listens to a query.
 #[derive(Clone, Copy)]
 struct Listener {
     serial: u64,
-    /// The commit after which items are asked for.
+    /// The commit after which it asks for items.
     from: u64,
 }
 
-/// Those to whom the items of a query are told, by their serials. There is always one.
+/// The subscriptions that listen to a query, by serial. There is always at least one: the first is kept inline, so that
+/// a query with one listener needs no map entry.
 #[derive(Drop)]
 pub(crate) struct Listeners {
     first: Listener,
-    /// The commit after which each of the others asks for items.
+    /// All others: for each serial the commit after which it asks for items.
     others: BTreeMap<u64, u64>,
 }
 
@@ -38,7 +39,7 @@ impl Model for Listeners {
 }
 
 impl Listeners {
-    /// One alone.
+    /// A single listener.
     pub(crate) fn alone(alloc: Global, serial: u64, from: u64) -> Listeners
         ensures { result ≡ (serial, from) ∷ [] }
     {
@@ -48,10 +49,10 @@ impl Listeners {
         }
     }
 
-    /// One more.
+    /// Adds a listener.
     ///
     /// # Errors
-    /// Want of memory.
+    /// `OutOfMemory`.
     pub(crate) fn insert(&mut self, serial: u64, from: u64) -> Result<(), Refusal>
         ensures ok { OnOk result (ChangesBegin self.old serial (Some from) self.new) }
         ensures err { OnErr result (self.new ≡ self.old) }
@@ -65,7 +66,7 @@ impl Listeners {
         Ok(())
     }
 
-    /// One less, unless it is the only one. Tells whether one is left without it.
+    /// Removes a listener, unless it is the only one. False if it is the only one.
     pub(crate) fn remove(&mut self, serial: u64) -> bool
         ensures left { OnTrue result (ChangesBegin self.old serial None self.new) }
         ensures only { OnFalse result ((other : ℕ) → other ≢ serial
@@ -82,10 +83,10 @@ impl Listeners {
         true
     }
 
-    /// Puts the item of a commit behind the entries of a list, for each whose items come after an earlier one.
+    /// Appends the item of a commit to a list, for each listener that asks for items after an earlier commit.
     ///
     /// # Errors
-    /// Want of memory.
+    /// `OutOfMemory`.
     pub(crate) fn tell<K: Copy>(
         &self,
         number: u64,

@@ -9,21 +9,21 @@ use change_list::{Item, change_item};
 use key_class::{KeyClass, Pred, Refusal};
 use snapshot::Snapshot;
 
-/// Who is given the changes of a query.
+/// A subscription, as the feed keeps it.
 #[derive(Drop)]
 pub(crate) struct Registration<A> {
     pub(crate) query: Pred<A>,
-    /// The commit after which changes are asked for.
+    /// The commit after which it asks for changes.
     pub(crate) from: u64,
-    /// The number of the query among the topics.
+    /// The number of its query's topic.
     pub(crate) topic: usize,
 }
 
-/// Puts the changes of a registration's query that come after its first commit, up to another, behind the entries of a list, under its
-/// serial.
+/// Appends the changes of a subscription's query to a list, under its serial: those after the commit from which it
+/// subscribed, up to another.
 ///
 /// # Errors
-/// Want of memory.
+/// `OutOfMemory`.
 pub(crate) fn tell_since<C: KeyClass>(
     serial: u64,
     registration: &Registration<C::Atom>,

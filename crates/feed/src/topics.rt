@@ -22,7 +22,7 @@ use std::collections::BTreeSet;
 use std::marker::Model;
 use store::Store;
 
-/// The limits of the tree, which has a row for each key under which a query is looked for.
+/// The limits of the tree. It has a row for each key under which a query is looked for.
 const TREE: Config = Config {
     fan: 32,
     least: 12,
@@ -30,32 +30,32 @@ const TREE: Config = Config {
     commits: MAX_COMMITS,
 };
 
-/// After how many commits of the tree, beside one for each topic, it is tended.
+/// How many commits the tree makes before it is swept: this many, and one more for each topic.
 const FEW_COMMITS: u64 = 1_000;
 
-/// After how many times as many commits it is planted anew.
+/// It is rebuilt after this many times as many.
 const TENDINGS: u64 = 8;
 
-/// A query, and those to whom its items are told.
+/// A query, and the subscriptions that listen to it.
 #[derive(Drop)]
 pub(crate) struct Topic<A> {
     pub(crate) query: Pred<A>,
     pub(crate) listeners: Listeners,
 }
 
-/// The queries that somebody listens to, each under a number, and those who do.
+/// The queries that subscriptions listen to, each once and under a number.
 ///
-/// They lie in a tree by the keys that can match them, so that a commit asks only those that its keys overlap, and those that any key
-/// may match.
+/// They lie in a tree, under the keys that can match them. So a commit tests only those that its own keys overlap,
+/// and those that any key may match.
 #[derive(Drop)]
 pub(crate) struct Topics<C: Reach> {
     alloc: Global,
     topics: Slab<Topic<C::Atom>>,
-    /// The numbers of those that each commit asks.
+    /// The numbers of the topics that every commit tests.
     always: BTreeSet<u64>,
-    /// Its rows bear the numbers of topics.
+    /// The tags of its rows are numbers of topics.
     tree: Store<C>,
-    /// How many commits the tree had when it was last tended.
+    /// How many commits the tree had when it was last swept or rebuilt.
     tended: u64,
 }
 
@@ -77,10 +77,10 @@ impl<C: Reach> Model for Topics<C> {
 }
 
 impl<C: Reach> Topics<C> {
-    /// None.
+    /// No topics.
     ///
     /// # Errors
-    /// Want of memory.
+    /// `OutOfMemory`.
     pub(crate) fn new(alloc: Global) -> Result<Topics<C>, Refusal>
         ensures ok { IfOk result (λ topics. topics ≡ []) }
         ensures refused { IfErr result (λ why. why ≡ OutOfMemory) }
@@ -95,10 +95,10 @@ impl<C: Reach> Topics<C> {
         })
     }
 
-    /// Has somebody listen to a query after a commit, and gives the query's number.
+    /// Adds a listener to a query, with the commit after which it listens, and gives the topic's number.
     ///
     /// # Errors
-    /// Want of memory.
+    /// `OutOfMemory`.
     pub(crate) fn enter(
         &mut self,
         query: &Pred<C::Atom>,
@@ -117,10 +117,10 @@ impl<C: Reach> Topics<C> {
         self.begin(query, serial, from)
     }
 
-    /// Has somebody listen to the query with a number.
+    /// Adds a listener to the topic with a number.
     ///
     /// # Errors
-    /// Want of memory.
+    /// `OutOfMemory`.
     fn join(
         &mut self,
         number: usize,
@@ -140,10 +140,10 @@ impl<C: Reach> Topics<C> {
         topic.listeners.insert(serial, from)
     }
 
-    /// Begins a topic, to which somebody listens, and gives its number.
+    /// Begins a topic with its first listener, and gives its number.
     ///
     /// # Errors
-    /// Want of memory.
+    /// `OutOfMemory`.
     fn begin(&mut self, query: &Pred<C::Atom>, serial: u64, from: u64) -> Result<usize, Refusal>
         ensures ok { IfOk result (λ number. ChangesHearing self.old number serial
             (Some (query_of query.now, from)) self.new) }
@@ -168,10 +168,10 @@ impl<C: Reach> Topics<C> {
         )
     }
 
-    /// The number of a query, or none where nobody is found who listens to it.
+    /// The number of the topic of a query, or `None` if it isn't found.
     ///
     /// # Errors
-    /// Want of memory.
+    /// `OutOfMemory`.
     fn find(&self, query: &Pred<C::Atom>) -> Result<Option<usize>, Refusal>
         ensures ok { IfOk result (λ found. IfSome found (λ number.
             query_at self.now number ≡ Some (query_of query.now))) }
@@ -186,10 +186,10 @@ impl<C: Reach> Topics<C> {
         self.find_below(*key, query)
     }
 
-    /// The number of a query of those that lie in the tree under a key.
+    /// The number of a query's topic, among those that lie in the tree under a key.
     ///
     /// # Errors
-    /// Want of memory.
+    /// `OutOfMemory`.
     fn find_below(&self, key: C::Key, query: &Pred<C::Atom>) -> Result<Option<usize>, Refusal>
         ensures ok { IfOk result (λ found. IfSome found (λ number.
             query_at self.now number ≡ Some (query_of query.now))) }
@@ -204,7 +204,7 @@ impl<C: Reach> Topics<C> {
         Ok(None)
     }
 
-    /// The number of a query of those that each commit asks.
+    /// The number of a query's topic, among those that every commit tests.
     fn find_always(&self, query: &Pred<C::Atom>) -> Option<usize>
         ensures { IfSome result (λ number.
             query_at self.now number ≡ Some (query_of query.now)) }
@@ -217,7 +217,7 @@ impl<C: Reach> Topics<C> {
         None
     }
 
-    /// Whether a topic has the query.
+    /// Whether the topic with a number has this query.
     fn is_about(&self, number: usize, query: &Pred<C::Atom>) -> bool
         ensures { IsTrue result ↔ (query_at self.now number ≡ Some (query_of query.now)) }
     {
@@ -227,7 +227,7 @@ impl<C: Reach> Topics<C> {
         }
     }
 
-    /// Has somebody no longer listen to the query with a number.
+    /// Removes a listener from the topic with a number. The topic ends with its last listener.
     pub(crate) fn leave(&mut self, number: usize, serial: u64)
         ensures { ChangesHearing self.old number serial None self.new }
     {
@@ -236,7 +236,7 @@ impl<C: Reach> Topics<C> {
         }
     }
 
-    /// Has somebody no longer listen to a query that others listen to. Tells whether there are others, or nobody at all.
+    /// Removes a listener from a topic, unless it is the only one. False if it is the only one.
     fn leaves_others(&mut self, number: usize, serial: u64) -> bool
         ensures left { OnTrue result (ChangesHearing self.old number serial None self.new) }
         ensures only { OnFalse result (IsHeardBy self.old number serial) }
@@ -249,7 +249,7 @@ impl<C: Reach> Topics<C> {
         topic.listeners.remove(serial)
     }
 
-    /// Ends a topic.
+    /// Ends a topic, and removes its rows from the tree.
     fn end(&mut self, number: usize)
         ensures gone { topic_at self.new number ≡ None }
         ensures others { (other : ℕ) → other ≢ number
@@ -263,8 +263,8 @@ impl<C: Reach> Topics<C> {
         self.tend();
     }
 
-    /// Removes the dead rows of the tree, or plants it anew, where enough commits were made since the last time. Where memory is wanting
-    /// some stay.
+    /// Sweeps the tree or rebuilds it, if it has made enough commits since the last time. If memory runs out some
+    /// dead rows stay.
     fn tend(&mut self)
         ensures { self.new ≡ self.old }
     {
@@ -279,10 +279,10 @@ impl<C: Reach> Topics<C> {
         }
     }
 
-    /// Plants the queries in a tree without commits, which takes the place of the one there was.
+    /// Rebuilds the tree: puts the queries into a new one, without commits.
     ///
     /// # Errors
-    /// Want of memory.
+    /// `OutOfMemory`.
     fn plant_anew(&mut self) -> Result<(), Refusal>
         ensures { self.new ≡ self.old }
     {
@@ -293,10 +293,10 @@ impl<C: Reach> Topics<C> {
         Ok(())
     }
 
-    /// Puts what commit `place + 1` gives behind the entries of a list.
+    /// Appends what commit `place + 1` gives to a list.
     ///
     /// # Errors
-    /// Want of memory.
+    /// `OutOfMemory`.
     pub(crate) fn tell_commit(
         &self,
         snapshot: &Snapshot<C>,
@@ -316,10 +316,10 @@ impl<C: Reach> Topics<C> {
         Ok(())
     }
 
-    /// Puts what a change gives to those who listen to the query with a number behind the entries of a list.
+    /// Appends what a change gives to the listeners of the topic with a number to a list.
     ///
     /// # Errors
-    /// Want of memory.
+    /// `OutOfMemory`.
     fn tell_topic(
         &self,
         number: usize,
@@ -339,10 +339,10 @@ impl<C: Reach> Topics<C> {
         topic.listeners.tell(change.number, item, told)
     }
 
-    /// The numbers of the topics that a change may concern, each once, by rising number.
+    /// The numbers of the topics that a change may concern, rising and each once.
     ///
     /// # Errors
-    /// Want of memory.
+    /// `OutOfMemory`.
     fn concerned(&self, change: &Change<C::Key>) -> Result<Vec<u64>, Refusal>
         ensures all { IfOk result (λ numbers.
             AreConcerned C.rules self.now change.now numbers.items) }
@@ -355,10 +355,10 @@ impl<C: Reach> Topics<C> {
         Ok(numbers)
     }
 
-    /// The same numbers as they are found, so that one may come twice.
+    /// The same numbers in the order in which they are found, perhaps with duplicates.
     ///
     /// # Errors
-    /// Want of memory.
+    /// `OutOfMemory`.
     fn gathered(&self, change: &Change<C::Key>) -> Result<Vec<u64>, Refusal>
         ensures all { IfOk result (λ numbers.
             AreConcerned C.rules self.now change.now numbers.items) }
@@ -372,10 +372,10 @@ impl<C: Reach> Topics<C> {
     }
 }
 
-/// Puts the members of a set behind those of a list.
+/// Appends the members of a set to a list.
 ///
 /// # Errors
-/// Want of memory.
+/// `OutOfMemory`.
 fn push_all(members: &BTreeSet<u64>, into: &mut Vec<u64>) -> Result<(), Refusal>
     ensures ok { OnOk result (into.new.items ≡ into.old.items ++ members.now.keys) }
     ensures refused { IfErr result (λ why. why ≡ OutOfMemory) }
@@ -386,10 +386,10 @@ fn push_all(members: &BTreeSet<u64>, into: &mut Vec<u64>) -> Result<(), Refusal>
     Ok(())
 }
 
-/// A tree in which the queries of all topics were planted, and the numbers of those that each commit asks.
+/// A new tree with the queries of all topics, and the numbers of the topics that every commit tests.
 ///
 /// # Errors
-/// Want of memory.
+/// `OutOfMemory`.
 fn planted<C: Reach>(
     alloc: Global,
     topics: &Slab<Topic<C::Atom>>,

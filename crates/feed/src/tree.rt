@@ -1,4 +1,4 @@
-//! The tree of a feed.
+//! The tree of a feed: a store whose rows lead from keys to topics.
 ghost use Rattle.std.specs.Prelude.{◌≡◌, ◌++◌, OnOk, IfOk, IfErr, option_map, vec_items};
 ghost use Rattle.key_class.specs.declared.refusal.Refusal.TheVariants.{OutOfMemory};
 ghost use Rattle.change_list.specs.Changes.{IsLegal};
@@ -10,11 +10,11 @@ use reach::Reach;
 use std::alloc::Global;
 use store::Store;
 
-/// Puts a row with the tag into the tree for each key, and gives the numbers of the rows. None where the tree can have no more
-/// rows, which leaves none of them there.
+/// Puts a row with the tag into the tree for each key, and gives the numbers of the rows. `None`, and no row is left
+/// there, if the tree is full.
 ///
 /// # Errors
-/// Want of memory. Of the rows that were put some may stay.
+/// `OutOfMemory`. Some of the rows may stay in the tree.
 pub(crate) fn plant<C: KeyClass>(
     alloc: Global,
     tree: &mut Store<C>,
@@ -47,7 +47,8 @@ pub(crate) fn plant<C: KeyClass>(
     Ok(Some(rows))
 }
 
-/// Takes rows with the tag out of the tree. Where memory is wanting one may stay, which costs a look at it, and gives nothing.
+/// Removes rows with the tag from the tree. If memory runs out some may stay: commits then look at them in vain, but
+/// nothing more is told.
 pub(crate) fn uproot<C: KeyClass>(tree: &mut Store<C>, rows: &[u64], tag: u64)
     requires legal { IsLegal tree.old.commits }
     requires tagged { AreTagged tree.old.commits tag rows.now }
@@ -58,7 +59,7 @@ pub(crate) fn uproot<C: KeyClass>(tree: &mut Store<C>, rows: &[u64], tag: u64)
     }
 }
 
-/// Removes the dead rows of the tree. Where memory is wanting some stay.
+/// Sweeps the dead rows of the tree. If memory runs out some stay.
 pub(crate) fn sweep<C: KeyClass>(tree: &mut Store<C>)
     ensures { tree.new.commits ≡ tree.old.commits }
 {
@@ -68,7 +69,7 @@ pub(crate) fn sweep<C: KeyClass>(tree: &mut Store<C>)
 /// The numbers of the live rows that have a key and a tag.
 ///
 /// # Errors
-/// Want of memory.
+/// `OutOfMemory`.
 pub(crate) fn tagged_rows<C: Reach>(
     alloc: Global,
     tree: &Store<C>,
@@ -87,10 +88,10 @@ pub(crate) fn tagged_rows<C: Reach>(
     Ok(rows)
 }
 
-/// Puts the tags of the rows whose keys overlap that of another row, where there is one, behind those of a list.
+/// Appends to a list the tags of the tree's rows whose keys overlap the key of `row`, if there is a row.
 ///
 /// # Errors
-/// Want of memory.
+/// `OutOfMemory`.
 pub(crate) fn find_tags<C: Reach>(
     tree: &Store<C>,
     touched: Option<Row<C::Key>>,
