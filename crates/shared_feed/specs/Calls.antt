@@ -12,19 +12,19 @@ use Rattle.shared_feed.specs.Boards.{BoardState, IsBoardVisit}
 use Rattle.shared_feed.specs.Handing.{EndedAside, EndsOpen}
 use Rattle.shared_feed.specs.Supplies.{ChangesSupply, GoFurther, new_supply, supply_at}
 
--- of two beginnings of one history the longer is told from then on
+-- of two beginnings of one history the longer is told from now on
 pub record Learns {K : Type 0} (old told new : List (Write K)) : Type 0 where
   pub one : (new ≡ old) ⊎ (new ≡ told)
   pub mine : IsPrefix old new
   pub others : IsPrefix told new
 
--- all subscriptions are as they were, and the feed stands where it stood
+-- all subscriptions are unchanged, and the feed has gone no further
 pub record SubscriptionsStay {A : Type 0} (old new : FeedState A) : Type 0 where
   pub upto : new.upto ≡ old.upto
   pub each : (serial : ℕ) → subscription_of new serial ≡ subscription_of old serial
 
 module _ {K A : Type 0} where
-  -- a board without subscriptions, whose feed was told a list of commits and went over none
+  -- a board without subscriptions, whose feed was told of these commits and has gone over none
   abbrev pub new_board : List (Write K) → BoardState K A
   new_board told = record { feed = new_feed; told = told; supplies = [] }
 
@@ -35,31 +35,31 @@ module _ {K A : Type 0} where
     pub feed : new.feed ≡ with_subscription old.feed query n
     pub supply : ChangesSupply old.supplies serial (Some (new_supply query n room)) new.supplies
 
-  -- where the ring of the subscription with a serial was put aside, the commit at which it was
+  -- the commit at which the ring of the subscription with a serial was put aside, if it was
   abbrev pub aside_at : BoardState K A → ℕ → Option ℕ
   aside_at board serial = option_and_then (λ s. s.aside) (supply_at board.supplies serial)
 
-  -- why a board opens no subscription to a query in range
+  -- why a board opens no subscription to a query that is in range
   abbrev pub RefusesOnBoard : BoardState K A → Query A → Refusal → Type 0
   RefusesOnBoard board query why = (why ≡ refusal.OutOfMemory) ⊎ ((why ≡ refusal.FeedFull) × HasNoPlaceFor board.feed query)
 
-  -- none is opened
+  -- no subscription is opened
   pub record SubscribesNone (old new : BoardState K A) : Type 0 where
     pub subscriptions : SubscriptionsStay old.feed new.feed
     pub supplies : new.supplies ≡ old.supplies
 
-  -- the subscription with a serial ends, whether it was put aside or not, and its ring goes
+  -- the subscription with a serial ends, even if it was put aside, and its ring is gone
   pub record Ends (serial : ℕ) (old new : BoardState K A) : Type 0 where
     pub feed : EndsOpen serial old.feed new.feed
     pub supply : ChangesSupply old.supplies serial None new.supplies
     pub told : new.told ≡ old.told
 
-  -- Each subscription was given all up to where the feed now stands, or has ended with its ring put aside.
+  -- Each subscription was given everything up to where the feed now is, or has ended with its ring put aside.
   pub record GivesAll (old new : BoardState K A) : Type 0 where
     pub each : (serial : ℕ) → (subscription_of new.feed serial ≡ option_map (given_upto new.feed.upto) (subscription_of old.feed serial)) ⊎ EndedAside new.feed new.supplies serial
     pub supplies : GoFurther old.supplies new.supplies
 
-  -- the feed goes over at most `most` further commits of those told, where it doesn't stand behind them all already
+  -- the feed goes over at most `most` further commits of those told, if it isn't past all of them already
   pub record AdvancesBoard (told : List (Write K)) (most : ℕ) (old new : BoardState K A) (stands : ℕ) : Type 0 where
     pub learns : Learns old.told told new.told
     pub here : stands ≡ new.feed.upto
@@ -71,24 +71,24 @@ module _ {K A : Type 0} where
 abbrev pub IsBadSubscription : {A : Type 0} → Query A → ℕ → Type 0
 IsBadSubscription query room = (room ≡ 0) ⊎ (most_room < room) ⊎ (most_depth < depth_of query)
 
--- the query and the room are in range, but fewer than n commits were told
+-- query and room are in range, but fewer than n commits were told
 abbrev pub IsFromFuture : {K A : Type 0} → List (Write K) → Query A → ℕ → ℕ → Type 0
 IsFromFuture told query room n = (¬ IsBadSubscription query room) × (length told < n)
 
 module _ {K A : Type 0} (rules : Rules K A) where
-  -- a visit in which no further subscription could be opened
+  -- a visit found that no further subscription could be opened
   abbrev pub IsFullVisit : Query A → Type 0
   IsFullVisit query = IsBoardVisit rules (λ old new. HasNoPlaceFor old.feed query × SubscribesNone old new)
 
-  -- why no subscription is opened
+  -- why there is no subscriber
   abbrev pub RefusesSubscriber : Query A → Refusal → Type 0
   RefusesSubscriber query why = (why ≡ refusal.BadConfig) ⊎ (why ≡ refusal.FromFuture) ⊎ (why ≡ refusal.OutOfMemory)
       ⊎ ((why ≡ refusal.FeedFull) × IsFullVisit query)
 
-  -- why none is opened to a query in range
+  -- why there is no subscriber to a query that is in range
   abbrev pub RefusesOnVisit : Query A → Refusal → Type 0
   RefusesOnVisit query why = (why ≡ refusal.OutOfMemory) ⊎ ((why ≡ refusal.FeedFull) × IsFullVisit query)
 
-  -- why a subscriber that was put aside doesn't catch up
+  -- why a subscriber that was put aside can't catch up
   abbrev pub RefusesCatchingUp : Query A → Refusal → Type 0
   RefusesCatchingUp query why = (why ≡ refusal.FromFuture) ⊎ RefusesOnVisit query why

@@ -1,4 +1,4 @@
--- What is still to be handed to rings of what a feed gave.
+-- What is still to be sent to rings, of what a feed gave.
 use Rattle.std.specs.Prelude.{◌≡◌, ◌≢◌, ◌⊎◌, ℕ, Bool, true, false, List, ◌++◌, Option, Some, None}
 use Rattle.key_class.specs.Rules.{Rules, satisfies}
 use Rattle.change_list.specs.declared.item.Item.{Item}
@@ -17,32 +17,33 @@ module _ {K A : Type 0} where
     pub at : ℕ
     pub aside : supply.aside ≡ Some at
 
-  -- each subscription is as it was, or has ended with its ring put aside
+  -- each subscription is unchanged, or has ended with its ring put aside
   abbrev pub EndAside : FeedState A → FeedState A → List (ℕ × SupplyState K A) → Type 0
   EndAside old new supplies = (serial : ℕ) → (subscription_of new serial ≡ subscription_of old serial) ⊎ EndedAside new supplies serial
 
 module _ {A : Type 0} where
-  -- the subscription with a serial ends, where it was open, and nothing else changes
+  -- the subscription with a serial ends, if it was open, and nothing else changes
   pub record EndsOpen (serial : ℕ) (old new : FeedState A) : Type 0 where
     pub ended : subscription_of new serial ≡ None
     pub others : (other : ℕ) → other ≢ serial → subscription_of new other ≡ subscription_of old other
     pub upto : new.upto ≡ old.upto
     pub last : new.last ≡ old.last
 
-  -- it does, or nothing changes
+  -- it ends, or nothing changes
   abbrev pub EndsOpenWhere : Bool → ℕ → FeedState A → FeedState A → Type 0
   EndsOpenWhere true serial old new = EndsOpen serial old new
   EndsOpenWhere false serial old new = new ≡ old
 
 module _ {K A : Type 0} where
-  -- an item is handed to the ring under a serial, where there is one; where that is put aside by it, its subscription ends
+  -- an item is sent to the ring under a serial, if there is one; if that puts the ring aside, its subscription ends
   pub record HandsOn (serial : ℕ) (item : Item K) (feed : FeedState A) (supplies : List (ℕ × SupplyState K A)) (new_feed : FeedState A) (new_supplies : List (ℕ × SupplyState K A)) : Type 0 where
     pub full : Bool
     pub hands : HandsUnder serial item supplies full new_supplies
     pub ends : EndsOpenWhere full serial feed new_feed
 
 module _ {K A : Type 0} (rules : Rules K A) (feed : FeedState A) (told : List (Write K)) where
-  -- the subscription is open; what its ring was sent and these items are exactly the changes of its query up to where it stands
+  -- the subscription is open; what its ring was sent, and then these items, are exactly the changes of its query up
+  -- to where the feed is
   pub record IsSuppliedWith (serial : ℕ) (supply : SupplyState K A) (rest : List (Item K)) : Type 0 where
     pub subscription : Subscription A
     pub is : subscription_of feed serial ≡ Some subscription
@@ -53,6 +54,6 @@ module _ {K A : Type 0} (rules : Rules K A) (feed : FeedState A) (told : List (W
   IsDueAt None serial supply rest = IsSuppliedWith serial supply rest
   IsDueAt (Some at) serial supply rest = IsPutAside rules feed told serial supply at
 
-  -- each ring was sent what it should but these items, each of which stands under the serial to which it is due
+  -- each ring was sent what it should have been except for these items, each under the serial of its subscription
   abbrev pub AreDue : List (ℕ × SupplyState K A) → List (ℕ × Item K) → Type 0
   AreDue supplies rest = (serial : ℕ) (supply : SupplyState K A) → supply_at supplies serial ≡ Some supply → IsDueAt supply.aside serial supply (items_under serial rest)

@@ -1,4 +1,5 @@
-//! What stands under the lock of a shared feed. Each visit leaves every ring with exactly what it should have been sent.
+//! The state under the lock of a shared feed. After each visit, each ring has been sent exactly what it should have
+//! been.
 ghost use Rattle.std.specs.Prelude.{◌≡◌, ◌≤◌, [], length, IfOk, IfErr, OnErr, is_some};
 ghost use Rattle.key_class.specs.Queries.{query_of, depth_of};
 ghost use Rattle.key_class.specs.declared.refusal.Refusal.TheVariants.{OutOfMemory};
@@ -20,15 +21,15 @@ use std::collections::BTreeMap;
 use std::marker::Model;
 use std::sync::ledger::Ledger;
 
-/// A feed, how far its list of commits goes, and what each subscription is supplied by.
+/// A feed, the commits that it was told of, and the ring of each subscription.
 #[derive(Drop)]
 pub(crate) struct Board<C: Reach, L: Ledger + Naming> {
     alloc: Global,
     feed: Feed<C>,
     told: Past<Write<C::Key>, L>,
-    /// By the serials of the subscriptions.
+    /// The producers' ends of the rings, by the serials of their subscriptions.
     supplies: BTreeMap<u64, Supply<C>>,
-    /// What the feed gave last. It is kept for its memory.
+    /// What the feed gave last. It is kept so that its memory is used again.
     given: Vec<(u64, Item<C::Key>)>,
 }
 
@@ -50,7 +51,7 @@ impl<C: Reach, L: Ledger + Naming> Board<C, L> {
     /// A board without subscriptions.
     ///
     /// # Errors
-    /// Want of memory.
+    /// `OutOfMemory`.
     pub(crate) fn new(alloc: Global, told: Past<Write<C::Key>, L>) -> Result<Board<C, L>, Refusal>
         ensures ok { IfOk result (λ board. board ≡ new_board told) }
         ensures refused { IfErr result (λ why. why ≡ OutOfMemory) }
@@ -65,10 +66,11 @@ impl<C: Reach, L: Ledger + Naming> Board<C, L> {
         })
     }
 
-    /// Opens a subscription to the changes of a query after a commit of those that are told: its serial, and the end of its ring.
+    /// Opens a subscription to the changes of a query after one of the commits that are told: its serial, and the
+    /// consumer's end of its ring.
     ///
     /// # Errors
-    /// `FeedFull`, or want of memory.
+    /// `FeedFull` or `OutOfMemory`.
     pub(crate) fn subscribe(
         &mut self,
         told: &Past<Write<C::Key>, L>,
@@ -99,7 +101,7 @@ impl<C: Reach, L: Ledger + Naming> Board<C, L> {
         Ok((serial, end))
     }
 
-    /// Whether the ring of a subscription was put aside.
+    /// Whether the ring of a subscription was put aside because it was full.
     pub(crate) fn is_aside(&self, serial: u64) -> bool
         ensures aside { result ≡ is_some (aside_at self.now serial) }
         ensures held { IsBoard C.rules self.now }
@@ -110,7 +112,7 @@ impl<C: Reach, L: Ledger + Naming> Board<C, L> {
         }
     }
 
-    /// Ends a subscription, whether it was put aside or not.
+    /// Ends a subscription, even one that was put aside.
     pub(crate) fn end(&mut self, serial: u64)
         ensures ends { Ends serial self.old self.new }
         ensures held { IsBoard C.rules self.old × IsBoard C.rules self.new }
@@ -119,11 +121,12 @@ impl<C: Reach, L: Ledger + Naming> Board<C, L> {
         end_open(&mut self.feed, serial);
     }
 
-    /// Goes over at most `most` further commits of a snapshot, whose commits are told, and hands what they give to the rings: up to
-    /// which commit the feed has gone then. A snapshot that is older than that changes nothing.
+    /// Goes over at most `most` further commits of a snapshot, and sends what they give to the rings. The snapshot's
+    /// commits are told to the board. Gives up to which commit the feed has gone. A snapshot older than that changes
+    /// nothing.
     ///
     /// # Errors
-    /// Want of memory. Nothing is changed then.
+    /// `OutOfMemory`. Nothing is changed then.
     pub(crate) fn advance(
         &mut self,
         snapshot: &Snapshot<C>,

@@ -3,7 +3,7 @@ ghost use Rattle.shared_feed.specs.Numbers.{commit_of};
 
 use change_list::Item;
 
-/// The number of the commit of which an item tells.
+/// The number of an item's commit.
 pub(crate) fn commit_of<K: Copy>(item: Item<K>) -> u64
     ensures { result ≡ commit_of item }
 {

@@ -3,10 +3,10 @@ use history::Naming;
 use reach::Reach;
 use std::sync::ledger::Ledger;
 
-/// Nothing is done. It may be called for a type whose values several threads may share.
+/// Compile-time check that `T: Sync`.
 fn may_be_shared<T: Sync>() {}
 
-/// Nothing is done. That it is proved says that several threads may share a feed, where keys and atoms may cross.
+/// Compile-time check that threads may share a feed, if keys and atoms may cross threads.
 pub fn shared_feeds_may_cross<C: Reach, L: Ledger + Naming>()
 where
     C::Key: Send + Sync,

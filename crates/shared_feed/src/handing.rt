@@ -1,4 +1,4 @@
-//! How what a feed gave is handed to rings.
+//! Sending what a feed gave to rings.
 ghost use Rattle.std.specs.Prelude.{◌≡◌, IfErr, None, OnErr, OnOk, Some};
 ghost use Rattle.key_class.specs.declared.refusal.Refusal.TheVariants.{OutOfMemory};
 ghost use Rattle.shared_feed.specs.Boards.{AllStand};
@@ -14,7 +14,7 @@ use reach::Reach;
 use std::collections::BTreeMap;
 use std::sync::ledger::Ledger;
 
-/// Hands an item to the ring under a serial, where there is one; whether that was put aside by it.
+/// Sends an item to the ring under a serial, if there is one. True if this put the ring aside.
 fn hand_one<C: KeyClass>(
     supplies: &mut BTreeMap<u64, Supply<C>>,
     serial: u64,
@@ -28,10 +28,10 @@ fn hand_one<C: KeyClass>(
     supply.hand(item)
 }
 
-/// Has a subscription supplied by a ring.
+/// Gives a subscription a ring.
 ///
 /// # Errors
-/// Want of memory.
+/// `OutOfMemory`.
 pub(crate) fn put<C: KeyClass>(
     supplies: &mut BTreeMap<u64, Supply<C>>,
     serial: u64,
@@ -46,21 +46,21 @@ pub(crate) fn put<C: KeyClass>(
     Ok(())
 }
 
-/// Lets go of what a subscription is supplied by.
+/// Drops the ring of a subscription.
 pub(crate) fn let_go<C: KeyClass>(supplies: &mut BTreeMap<u64, Supply<C>>, serial: u64)
     ensures { ChangesSupply supplies.old.entries serial None supplies.new.entries }
 {
     let _gone = supplies.remove(&serial);
 }
 
-/// Ends a subscription, where it is open.
+/// Ends a subscription, if it is open.
 pub(crate) fn end_open<C: Reach>(feed: &mut Feed<C>, serial: u64)
     ensures { EndsOpen serial feed.old feed.new }
 {
     let _ended = feed.unsubscribe(serial);
 }
 
-/// Hands an item to the ring under a serial, where there is one. The subscription of a ring that is full ends.
+/// Sends an item to the ring under a serial, if there is one. If the ring is full, its subscription ends.
 fn hand_on<C: Reach>(
     feed: &mut Feed<C>,
     supplies: &mut BTreeMap<u64, Supply<C>>,
@@ -74,7 +74,7 @@ fn hand_on<C: Reach>(
     }
 }
 
-/// Hands each item to the ring under its serial. The subscription of a ring that is full ends.
+/// Sends each item to the ring under its serial. If a ring is full, its subscription ends.
 pub(crate) fn hand_all<C: Reach, L: Ledger + Naming>(
     told: &Past<Write<C::Key>, L>,
     feed: &mut Feed<C>,

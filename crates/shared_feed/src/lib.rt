@@ -1,4 +1,5 @@
-//! A feed for a desk, under a lock of its own: whoever has time advances it, and each subscriber takes its items from a ring.
+//! A feed for a desk, under a lock of its own. Any thread may advance it, and each subscriber takes its items from a
+//! ring.
 #![tactic(auto)]
 
 mod board;

@@ -1,4 +1,4 @@
-//! The feed that is shared, and its calls.
+//! The shared feed and its calls.
 ghost use Rattle.std.specs.Prelude.{◌≡◌, ◌↔◌, ◌≤◌, [], length, Err, IfOk, IfErr, is_some};
 ghost use mathlib.Core.List.{IsPrefix};
 ghost use Rattle.key_class.specs.Queries.{query_of, depth_of};
@@ -21,7 +21,7 @@ use std::alloc::Global;
 use std::sync::ledger::Ledger;
 use std::sync::{Mutex, Wait};
 
-/// A feed of a desk's commits, which any number of threads advance, and whose subscribers take their items from rings.
+/// A feed of a desk's commits. Any number of threads advance it, and each subscriber takes its items from a ring.
 #[derive(Drop)]
 pub struct SharedFeed<C: Reach, L: Ledger + Naming> {
     pub(crate) alloc: Global,
@@ -29,10 +29,11 @@ pub struct SharedFeed<C: Reach, L: Ledger + Naming> {
 }
 
 impl<C: Reach, L: Ledger + Naming> SharedFeed<C, L> {
-    /// A feed without subscriptions, which has gone over no commit. It is told of the desk's history what the seat was told.
+    /// A feed without subscriptions, which has gone over no commit yet. It is told the commits that the seat was
+    /// told.
     ///
     /// # Errors
-    /// Want of memory.
+    /// `OutOfMemory`.
     pub fn new(alloc: Global, seat: &Seat<C, L>) -> Result<SharedFeed<C, L>, Refusal>
         ensures { IfErr result (λ why. why ≡ OutOfMemory) }
     {
@@ -43,12 +44,13 @@ impl<C: Reach, L: Ledger + Naming> SharedFeed<C, L> {
         })
     }
 
-    /// Subscribes to the changes of a query that come after commit `from`, one of those that the seat was told, and gives the end of a
-    /// ring for so many items.
+    /// Subscribes to the changes of a query that come after commit `from`, which the seat must have been told, and
+    /// gives the consumer's end of a ring for `room` items.
     ///
     /// # Errors
-    /// `BadConfig` where the room isn't from 1 to 4,096 or the query is deeper than 32, else `FromFuture` where the seat was told fewer
-    /// commits, else `FeedFull` where 1,000,000 subscriptions are open or the last serial was given, else want of memory.
+    /// `BadConfig` if the room isn't from 1 to 4,096 or the query is deeper than 32, else `FromFuture` if the seat
+    /// was told fewer than `from` commits, else `FeedFull` if 1,000,000 subscriptions are open or the last serial was
+    /// given, else `OutOfMemory`.
     pub fn subscribe<'f, R: Wait>(
         &'f self,
         rt: &R,
@@ -79,10 +81,10 @@ impl<C: Reach, L: Ledger + Naming> SharedFeed<C, L> {
         Ok(Subscriber::new(self, serial, query, from, room as u32, items))
     }
 
-    /// Opens a subscription: its serial, and the end of its ring.
+    /// Opens a subscription: its serial, and the consumer's end of its ring.
     ///
     /// # Errors
-    /// `FeedFull`, or want of memory.
+    /// `FeedFull` or `OutOfMemory`.
     pub(crate) fn open<R: Wait>(
         &self,
         rt: &R,
@@ -103,7 +105,7 @@ impl<C: Reach, L: Ledger + Naming> SharedFeed<C, L> {
             .subscribe(seat.past(), query, from, room)
     }
 
-    /// Whether the ring of a subscription was put aside.
+    /// Whether the ring of a subscription was put aside because it was full.
     pub(crate) fn is_aside<R: Wait>(&self, rt: &R, serial: u64) -> bool
         ensures { IsBoardVisit C.rules (λ old new.
             (new ≡ old) × (result ≡ is_some (aside_at old serial))) }
@@ -118,12 +120,13 @@ impl<C: Reach, L: Ledger + Naming> SharedFeed<C, L> {
         self.board.lock(rt).end(serial);
     }
 
-    /// Takes a snapshot of the desk for a seat, lets the feed go over at most `most` further commits of it, and hands each item to the
-    /// ring of its subscriber: up to which commit the feed has gone then. Where it had gone further than the snapshot nothing is
-    /// changed. Subscribers whose rings are full are put aside; they lose nothing, and catch up.
+    /// Takes a snapshot of the desk for a seat, lets the feed go over at most `most` further commits of it, and sends
+    /// each item to its subscriber's ring. Gives up to which commit the feed has gone. If that was already past the
+    /// snapshot, nothing changes. A subscriber whose ring is full is put aside: it loses nothing, because `catch_up`
+    /// makes up for what it missed.
     ///
     /// # Errors
-    /// Want of memory. No item is handed on then.
+    /// `OutOfMemory`. No item is sent then.
     pub fn advance<R: Wait>(
         &self,
         rt: &R,
@@ -141,10 +144,10 @@ impl<C: Reach, L: Ledger + Naming> SharedFeed<C, L> {
         self.advance_by(rt, &snapshot, seat, most)
     }
 
-    /// The same, by a snapshot for a seat.
+    /// The same, with a snapshot already taken for the seat.
     ///
     /// # Errors
-    /// Want of memory.
+    /// `OutOfMemory`.
     fn advance_by<R: Wait>(
         &self,
         rt: &R,

@@ -1,4 +1,4 @@
-//! Who takes the items of a subscription.
+//! The client's side of a subscription.
 ghost use Rattle.std.specs.Prelude.{◌≡◌, ◌≤◌, Bool, true, [], length, IfErr, IfOk, IfSome, OnErr, OnOk};
 ghost use mathlib.Core.List.{IsPrefix};
 ghost use Rattle.key_class.specs.Queries.{depth_of, query_of};
@@ -27,7 +27,7 @@ use std::marker::Model;
 use std::sync::Wait;
 use std::sync::ledger::Ledger;
 
-/// Who takes the items of a subscription. One that is dropped leaves it open.
+/// Takes the items of a subscription. Dropping it leaves the subscription open.
 #[derive(Drop)]
 pub struct Subscriber<'f, C: Reach, L: Ledger + Naming> {
     feed: &'f SharedFeed<C, L>,
@@ -35,7 +35,7 @@ pub struct Subscriber<'f, C: Reach, L: Ledger + Naming> {
     query: Pred<C::Atom>,
     from: u64,
     room: u32,
-    /// The commit of the item that was taken last, or up to which what was missed was made up for.
+    /// The commit of the last item taken, or the one up to which it caught up.
     position: u64,
     items: Consumer<Item<C::Key>>,
 }
@@ -87,7 +87,7 @@ impl<'f, C: Reach, L: Ledger + Naming> Subscriber<'f, C, L> {
         }
     }
 
-    /// Takes the item at the front, where one is seen. It waits for nobody.
+    /// Takes the item at the front, if one is there. It never waits.
     pub fn take(&mut self) -> Option<Item<C::Key>>
         ensures takes { TakesNext self.old.end result self.new.end }
         ensures kept { self.new ≡ record self.old {
@@ -104,10 +104,10 @@ impl<'f, C: Reach, L: Ledger + Naming> Subscriber<'f, C, L> {
         }
     }
 
-    /// Takes all that stands in the ring, and puts it behind the items of a list.
+    /// Takes all items in the ring, and appends them to a list.
     ///
     /// # Errors
-    /// Want of memory. What is left stays in the ring.
+    /// `OutOfMemory`. What wasn't taken stays in the ring.
     fn drain<R: Wait>(&mut self, rt: &R, into: &mut Vec<Item<C::Key>>) -> Result<(), Refusal>
         ensures drains { Drains self.old self.new into.old.items into.new.items }
         ensures all { OnOk result (self.new.end.seen ≡ []) }
@@ -123,10 +123,11 @@ impl<'f, C: Reach, L: Ledger + Naming> Subscriber<'f, C, L> {
         unreachable!()
     }
 
-    /// Puts the changes that were missed behind the items of a list, up to the last commit of a snapshot.
+    /// Appends the changes that were missed to a list, up to the last commit of a snapshot.
     ///
     /// # Errors
-    /// `FromFuture` where an item was taken of a commit that the snapshot hasn't, else want of memory. Nothing is changed then.
+    /// `FromFuture` if an item was taken whose commit the snapshot doesn't have, else `OutOfMemory`. Nothing is
+    /// changed then.
     fn make_up(
         &mut self,
         snapshot: &Snapshot<C>,
@@ -144,10 +145,10 @@ impl<'f, C: Reach, L: Ledger + Naming> Subscriber<'f, C, L> {
         Ok(())
     }
 
-    /// Subscribes anew from where it has come, in the place of the subscription that has ended.
+    /// Subscribes again after the commit that it has come to, in place of the subscription that ended.
     ///
     /// # Errors
-    /// `FeedFull`, or want of memory. Nothing is changed then.
+    /// `FeedFull` or `OutOfMemory`. Nothing is changed then.
     fn resume<R: Wait>(&mut self, rt: &R, seat: &Seat<C, L>) -> Result<(), Refusal>
         requires { self.old.position ≤ length seat.now.told }
         ensures kept { self.new ≡ record self.old {
@@ -167,11 +168,11 @@ impl<'f, C: Reach, L: Ledger + Naming> Subscriber<'f, C, L> {
         Ok(())
     }
 
-    /// Puts the changes that were missed behind the items of a list, up to the last commit of a snapshot for the seat, and subscribes
-    /// anew from there.
+    /// Appends the changes that were missed to a list, up to the last commit of a snapshot for the seat, and
+    /// subscribes again from there.
     ///
     /// # Errors
-    /// `FeedFull`, `FromFuture`, or want of memory. The changes may have been put there.
+    /// `FeedFull`, `FromFuture` or `OutOfMemory`. The changes may have been appended.
     fn recover<R: Wait>(
         &mut self,
         rt: &R,
@@ -195,13 +196,13 @@ impl<'f, C: Reach, L: Ledger + Naming> Subscriber<'f, C, L> {
         Ok(())
     }
 
-    /// Takes all that stands in the ring, and puts it behind the items of a list. Where the ring was put aside the changes that were
-    /// missed come behind that, up to the last commit of a snapshot for the seat, and the subscriber is subscribed again from
-    /// there. Tells whether it was put aside.
+    /// Takes all items in the ring, and appends them to a list. If the ring was put aside, it also appends the
+    /// changes that were missed, up to the last commit of a snapshot for the seat, and subscribes again from there.
+    /// True if the ring was put aside.
     ///
     /// # Errors
-    /// `FeedFull`, `FromFuture` where the desk isn't that whose commits the feed has gone over, else want of memory. What was put
-    /// into the list stays there, and a later call goes on behind it.
+    /// `FeedFull`, `FromFuture` if the desk isn't the one whose commits the feed goes over, else `OutOfMemory`. What
+    /// was appended stays in the list, and a later call goes on after it.
     pub fn catch_up<R: Wait>(
         &mut self,
         rt: &R,
@@ -227,9 +228,9 @@ impl<'f, C: Reach, L: Ledger + Naming> Subscriber<'f, C, L> {
         Ok(true)
     }
 
-    /// Ends the subscription, whatever comes of it, and checks what was taken against the commits as a snapshot for the seat has them:
-    /// that is given as a receipt where what was taken begins the changes of the query after the commit from which it was
-    /// subscribed. Else, and where memory is wanting, there is none.
+    /// Ends the subscription in any case, and checks what was taken against the commits of a snapshot for the seat.
+    /// That snapshot is the receipt, if what was taken begins the changes of the query after the commit from which it
+    /// was subscribed. If not, or if memory runs out, there is no receipt.
     pub fn close<R: Wait>(
         self,
         rt: &R,

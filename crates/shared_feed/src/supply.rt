@@ -1,4 +1,4 @@
-//! What a subscription is supplied by.
+//! The producer's side of a subscription.
 ghost use Rattle.std.specs.Prelude.{◌≡◌, [], IfErr, IfOk, is_some};
 ghost use Rattle.key_class.specs.Queries.{query_of};
 ghost use Rattle.key_class.specs.declared.refusal.Refusal.TheVariants.{OutOfMemory};
@@ -13,14 +13,14 @@ use rtrb::Consumer;
 use std::alloc::Global;
 use std::marker::Model;
 
-/// What a subscription is supplied by: the side of its ring that is filled.
+/// The producer's end of a subscription's ring.
 #[derive(Drop)]
 pub(crate) struct Supply<C: KeyClass> {
     pub(crate) ring: Ring<C::Key>,
     pub(crate) query: Pred<C::Atom>,
-    /// The commit after which changes are asked for.
+    /// The commit after which the subscription asks for changes.
     pub(crate) from: u64,
-    /// Where the ring was full once, the commit up to which it was sent everything. It is sent nothing more then.
+    /// Set once the ring was full: the commit up to which it was sent everything. It is sent nothing more then.
     pub(crate) aside: Option<u64>,
 }
 
@@ -39,10 +39,10 @@ impl<C: KeyClass> Model for Supply<C> {
 }
 
 impl<C: KeyClass> Supply<C> {
-    /// One with a ring of a room that was sent nothing, and the ring's other end.
+    /// A supply with an empty ring, and the consumer's end of it.
     ///
     /// # Errors
-    /// Want of memory.
+    /// `OutOfMemory`.
     pub(crate) fn make(
         alloc: Global,
         query: &Pred<C::Atom>,
@@ -71,8 +71,8 @@ impl<C: KeyClass> Supply<C> {
         self.aside.is_some()
     }
 
-    /// Hands an item to the ring, unless that was put aside. Where the ring is full it is put aside, with the commit before the
-    /// item's; whether it was by this.
+    /// Sends an item to the ring, unless it was put aside. If the ring is full it is put aside, at the commit before
+    /// the item's. True if this call put it aside.
     pub(crate) fn hand(&mut self, item: Item<C::Key>) -> bool
         ensures { HandsTo self.old.aside self.old item result self.new }
     {
