@@ -15,7 +15,7 @@ use Rattle.storm.specs.declared.judge.Verdict.{Verdict}
 use Rattle.storm.specs.declared.judge.Verdict.TheVariants as verdict
 
 module _ {K : Type 0} where
-  -- each commit of the first list is the one with its number
+  -- each commit of the first list is the one with the same number in the second
   abbrev pub Begins : List (Write K) → List (Write K) → Type 0
   Begins first commits = (place : ℕ) → place < length first → commit_at first (place + 1) ≡ commit_at commits (place + 1)
 
@@ -23,19 +23,20 @@ module _ {K : Type 0} where
   abbrev pub IsWholeListing : (K → Bool) → ℕ → List (Write K) → List (Item K) → Type 0
   IsWholeListing wanted opened commits items = IsListing wanted opened (length commits) commits (without_marks items)
 
-  -- The last item is a mark of all commits, and those before it are their listing; the receipt's commits begin them.
+  -- The last item is a mark at the last commit, the items before it are a listing, and the receipt's commits begin
+  -- all commits.
   pub record IsWhole (wanted : K → Bool) (opened : ℕ) (commits receipt : List (Write K)) (items : List (Item K)) : Type 0 where
     pub before : List (Item K)
     pub ends : items ≡ before ++ item.Mark (length commits) ∷ []
     pub listing : IsWholeListing wanted opened commits before
     pub begins : Begins receipt commits
 
--- what is asked of a receipt, where there is one
+-- a condition on a receipt, if there is one
 abbrev pub OfReceipt : {K : Type 0} → Ended K → (List (Write K) → Type 0) → Type 0
 OfReceipt (ended.Receipt r) P = P r.commits
 OfReceipt ended.NoReceipt P = ⊥
 
--- the reader closed its cursor with a receipt, and was whole
+-- the reader closed its cursor with a receipt, and is whole
 abbrev pub IsWholeReading : {K A : Type 0} → Rules K A → Query A → List (Write K) → Reading K → Type 0
 IsWholeReading rules query commits reading =
     OfReceipt reading.ended (λ receipt. IsWhole (satisfies rules query) reading.opened commits receipt reading.items.items)
@@ -43,32 +44,33 @@ IsWholeReading rules query commits reading =
 abbrev pub HasNoReceipt : {K : Type 0} → Reading K → Type 0
 HasNoReceipt reading = reading.ended ≡ ended.NoReceipt
 
--- it tells whether the items, marks left out, are all that a cursor of a query gives from one commit to another
+-- the result tells whether the items, marks left out, are all that a cursor of a query gives from one commit to
+-- another
 abbrev pub TellsGiven : {K A : Type 0} → Rules K A → Pred A → Bool → ℕ → ℕ → List (Write K) → List (Item K) → Bool → Type 0
 TellsGiven rules query follows from upto commits items told = IsTrue told ↔ IsListingFor follows (satisfies rules (query_of query)) from upto commits (without_marks items)
 
--- it tells whether the items are such a listing of a query
+-- the result tells whether the items, marks left out, are a listing of all commits for a query since an opening
 abbrev pub TellsListing : {K A : Type 0} → Rules K A → Pred A → ℕ → List (Write K) → List (Item K) → Bool → Type 0
 TellsListing rules query opened commits items told = IsTrue told ↔ IsWholeListing (satisfies rules (query_of query)) opened commits items
 
--- it tells whether a reader of a query was whole
+-- the result tells whether a reader of a query is whole
 abbrev pub TellsWhole : {K A : Type 0} → Rules K A → Pred A → List (Write K) → Reading K → Verdict → Type 0
 TellsWhole rules query commits reading told = (told ≡ verdict.Whole) ↔ IsWholeReading rules (query_of query) commits reading
 
--- it tells how a reader of a query fared: one that took nothing has no receipt
+-- the verdict tells how a reader of a query fared; one that has no reading has no receipt
 abbrev pub TellsFate : {K A : Type 0} → Rules K A → Query A → List (Write K) → Option (Reading K) → Verdict → Type 0
 TellsFate rules query commits None told = told ≡ verdict.Missing
 TellsFate rules query commits (Some reading) told =
     ((told ≡ verdict.Whole) ↔ IsWholeReading rules query commits reading) × ((told ≡ verdict.Missing) ↔ HasNoReceipt reading)
 
--- each tells how the client in its place fared
+-- each verdict tells how the client at its place fared
 abbrev pub TellsEach : {X : Type 0} → (X → Verdict → Type 0) → List X → List Verdict → Type 0
 TellsEach Tells [] [] = ⊤
 TellsEach Tells [] (v ∷ told) = ⊥
 TellsEach Tells (x ∷ clients) [] = ⊥
 TellsEach Tells (x ∷ clients) (v ∷ told) = Tells x v × TellsEach Tells clients told
 
--- each tells how the reader in its place fared
+-- each verdict tells how the reader at its place fared
 abbrev pub TellsFates : {K A : Type 0} → Rules K A → Query A → List (Write K) → List (Option (Reading K)) → List Verdict → Type 0
 TellsFates rules query commits readings told = TellsEach (TellsFate rules query commits) readings told
 

@@ -1,4 +1,4 @@
--- What came of a storm.
+-- The outcome of a storm.
 use Rattle.std.specs.Prelude.{◌≡◌, ◌↔◌, IsTrue, List, Option, ◌+◌, ◌*◌, length, map, pos, Vec}
 use Rattle.std.specs.List.{list_all}
 use Rattle.key_class.specs.Queries.{Query, query_of, atom, both, either, never}
@@ -21,18 +21,18 @@ use Rattle.storm.specs.declared.limits.Limits.{Limits}
 use Rattle.storm.specs.declared.looks.Look.{Look}
 use Rattle.storm.specs.declared.outcome.Outcome.{Outcome}
 
--- the query is whether a key has a number from 0 to 499
+-- the query asks whether a key has a number from 0 to 499
 abbrev pub AsksFirst500 : Query Atom → Type 0
 AsksFirst500 (atom a) = (a.rel ≡ rel.Overlaps) × (a.operand.lo ≡ pos 0) × (a.operand.hi ≡ pos 499)
 AsksFirst500 (both left right) = ⊥
 AsksFirst500 (either left right) = ⊥
 AsksFirst500 (never part) = ⊥
 
--- each verdict tells how the reader in its place fared, by these commits
+-- each verdict tells how the reader at its place fared, by these commits
 abbrev pub TellsReaders : {Z : Type 0} → Pred Atom → List (Write Interval) → List (Option (Reading Interval)) → Vec Verdict Z → Type 0
 TellsReaders query commits readings told = TellsFates interval_rules (query_of query) commits readings told.items
 
--- each verdict tells how the looker in its place fared, by these commits
+-- each verdict tells how the looker at its place fared, by these commits
 abbrev pub TellsLookers : {Z Y : Type 0} → Pred Atom → List (Write Interval) → List (Vec (Look Interval) Z) → Vec Verdict Y → Type 0
 TellsLookers query commits looks told = TellsSights interval_rules (query_of query) commits looks told.items
 

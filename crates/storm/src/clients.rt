@@ -26,16 +26,16 @@ use std::thread;
 use std::thread::Threads;
 use std::time::Duration;
 
-/// What stands for the number of commits while rows are written still.
+/// Stands for the number of commits while rows are still being written.
 pub const WRITING: u64 = u64::MAX;
 
-/// How many turns are ordered at once. An order ends where its cursor's mailbox is full.
+/// How many turns an order asks for. The order ends early when the cursor's mailbox is full.
 const TURNS: u64 = 64;
 
-/// The microseconds that a reader waits where no item is seen.
+/// The microseconds that a reader sleeps when it sees no item.
 const PAUSE: u64 = 200;
 
-/// After how many such pauses without an item a reader gives up: a minute.
+/// After how many such sleeps in a row a reader gives up: a minute.
 const PAUSES: u32 = 300_000;
 
 /// A looker looks again when more commits have come than one of so many parts of all, and so does a host of subscribers.
@@ -54,7 +54,7 @@ pub fn asked() -> Pred<Atom>
     }
 }
 
-/// A small interval, of which some overlap what readers ask for.
+/// A small interval. Some of them overlap what readers ask for.
 fn small_interval(generator: &mut Pcg32) -> Result<Interval, Refusal> {
     let low = i64::from(generator.next_u32() % 600);
     Interval::new(low, low + i64::from(generator.next_u32() % 8))
@@ -93,9 +93,9 @@ pub struct Place<'s, L: Ledger + Naming> {
 pub struct Told<'s> {
     pub limits: Limits,
     pub orders: &'s Sender<Order>,
-    /// The number of commits once all rows were written, `WRITING` before that.
+    /// The number of commits once all rows are written, `WRITING` before that.
     pub commits: &'s AtomicU64,
-    /// Raised once all rows were written.
+    /// Raised once all rows are written.
     pub is_over: &'s AtomicBool,
     /// A looker or a host looks again when more than so many commits have come, or the flag is raised.
     pub pace: u64,
@@ -109,10 +109,10 @@ pub trait Clients<W, V, X, Y> {
     /// How many commits a writer made.
     fn share(&self, writer: &W) -> u64;
 
-    /// Follows a cursor up to a mark of all commits.
+    /// Follows a cursor up to a mark at the last commit.
     fn read<R: Wait + Clock>(&self, rt: &R, alloc: Global, told: &Told<'_>, reader: &mut V);
 
-    /// Looks at snapshots, one after the other, up to one of all commits.
+    /// Takes and searches snapshots, one after the other, up to one that has all commits.
     fn look<R: Wait>(&self, rt: &R, alloc: Global, told: &Told<'_>, looker: &mut X);
 
     /// Advances the feed and lets subscribers catch up, again and again, until they were given the changes of all commits.
@@ -121,11 +121,11 @@ pub trait Clients<W, V, X, Y> {
     /// Wakes lookers and hosts, to see that all rows were written.
     fn wake_all<R: Wait>(&self, rt: &R);
 
-    /// Sweeps pages 0 to 63 in turn, and passes over refusals.
+    /// Sweeps pages 0 to 63 in turn, and ignores refusals.
     fn sweep_pages<R: Wait>(&self, rt: &R, times: u32);
 }
 
-/// Whether the item is a mark of all commits.
+/// Whether the item is a mark at the last commit.
 fn is_last(item: Item<Interval>, commits: u64) -> bool {
     match item {
         Item::Mark(number) => number == commits,
@@ -133,8 +133,7 @@ fn is_last(item: Item<Interval>, commits: u64) -> bool {
     }
 }
 
-/// Takes items until it took a mark of all commits. It ends before that where no item comes for a minute, or where memory is
-/// wanting.
+/// Takes items up to a mark at the last commit. It ends early if no item comes for a minute, or if memory runs out.
 fn follow<L: Ledger + Naming, R: Wait + Clock>(
     rt: &R,
     desk: &Desk<Intervals, L>,
@@ -171,8 +170,9 @@ fn follow<L: Ledger + Naming, R: Wait + Clock>(
     }
 }
 
-/// Keeps what a looker finds in a snapshot, with the changes after one of `from` commits. How many commits it has; none where
-/// memory is wanting. Its snapshot is dropped, so that writers needn't copy pages that it shares.
+/// Searches a snapshot, and takes the changes since the look before, at `from` commits. Gives how many commits the
+/// snapshot has, or `None` if memory ran out. The snapshot is dropped, so that writers needn't copy pages that it
+/// shares.
 fn look_behind<L: Ledger + Naming, R: Wait>(
     rt: &R,
     alloc: Global,
@@ -291,7 +291,7 @@ impl<L: Ledger + Naming> Clients<Seat<Intervals, L>, Reader<L>, Looker<L>, Host<
     fn look<R: Wait>(&self, rt: &R, alloc: Global, told: &Told<'_>, looker: &mut Looker<L>) {
         let mut from = 0;
         for _ in rt.forever() {
-            // read before the snapshot is made: where the flag is raised, that has all commits
+            // read before the snapshot is made: if the flag is up by now, the snapshot has all commits
             let is_last = told.is_over.load(Ordering::SeqCst);
             let Some(commits) = look_behind(rt, alloc, self.desk, looker, from) else {
                 return;

@@ -1,4 +1,4 @@
-//! Whether a reader got what it should.
+//! Checks that a reader got exactly what it should.
 ghost use Rattle.std.specs.Prelude.{◌≡◌, ◌↔◌, IsTrue, IfOk, IfErr};
 ghost use Rattle.std.specs.List.{list_all};
 ghost use Rattle.change_list.specs.Listings.{is_mark, without_marks};
@@ -22,7 +22,7 @@ pub enum Verdict {
     Missing,
 }
 
-/// Whether each client is whole.
+/// Whether every verdict is `Whole`.
 pub(crate) fn are_whole(verdicts: &[Verdict]) -> bool
     ensures { result ≡ list_all is_whole verdicts.now }
 {
@@ -46,7 +46,7 @@ pub(crate) fn is_mark<K: Copy>(item: Item<K>) -> bool
     matches!(item, Item::Mark(_))
 }
 
-/// The items that are no marks.
+/// The items without the marks.
 fn without_marks<K: Copy>(alloc: Global, items: &[Item<K>]) -> Result<Vec<Item<K>>, Refusal>
     ensures items { IfOk result (λ left. left.items ≡ without_marks items.now) }
     ensures refusals { IfErr result (λ why. why ≡ Refusal.OutOfMemory) }
@@ -60,8 +60,8 @@ fn without_marks<K: Copy>(alloc: Global, items: &[Item<K>]) -> Result<Vec<Item<K
     Ok(left)
 }
 
-/// Whether items, marks left out, are all that a cursor gives from one commit up to another: the rows of the snapshot at the
-/// first, unless it follows that one, then the later changes in the order of their commits.
+/// Whether items, marks left out, are all that a cursor gives from one commit up to another: the rows of the snapshot
+/// at the first, unless the cursor follows that commit, and then the later changes in commit order.
 pub(crate) fn is_given<C: KeyClass>(
     alloc: Global,
     commits: &View<C::Key>,
@@ -82,11 +82,11 @@ pub(crate) fn is_given<C: KeyClass>(
     is_delivered::<C>(alloc, commits, query, follows, from, left.as_slice())
 }
 
-/// Whether items, marks left out, are a listing of all commits for a query since an opening: the rows of its snapshot, each
-/// once and in any order, then the later changes in the order of their commits.
+/// Whether items, marks left out, are a listing of all commits for a query since an opening: the rows of its
+/// snapshot, each once and in any order, and then the later changes in commit order.
 ///
 /// # Errors
-/// Want of memory.
+/// `OutOfMemory`.
 pub fn is_listing<C: KeyClass>(
     alloc: Global,
     commits: &View<C::Key>,
@@ -129,10 +129,10 @@ pub fn begins<C: KeyClass>(first: &View<C::Key>, commits: &View<C::Key>) -> bool
     true
 }
 
-/// How a reader of a query fared, told by the commits of the whole storm.
+/// How a reader of a query fared, by the commits of the whole storm.
 ///
 /// # Errors
-/// Want of memory.
+/// `OutOfMemory`.
 pub fn judged<C: KeyClass>(
     alloc: Global,
     commits: &View<C::Key>,

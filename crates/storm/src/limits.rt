@@ -1,4 +1,4 @@
-//! How large a storm is.
+//! The size of a storm.
 ghost use Rattle.std.specs.Prelude.{◌≡◌, ◌↔◌, ◌+◌, ◌*◌, IsTrue};
 ghost use Rattle.storm.specs.Sizes.{IsStorm, hosts_of};
 
@@ -28,12 +28,12 @@ pub struct Limits {
     pub pumps: u32,
     /// How many leaves are swept meanwhile: 0 to 1,000.
     pub sweeps: u32,
-    /// From which the keys are drawn.
+    /// The seed of the generator from which keys are drawn.
     pub seed: u32,
 }
 
 impl Limits {
-    /// Whether each number lies in its range.
+    /// Whether each number is in its range.
     pub fn is_within(&self) -> bool
         ensures { IsTrue result ↔ IsStorm self.now }
     {
@@ -68,7 +68,7 @@ impl Limits {
         (self.writers + self.readers + self.lookers + self.hosts()) as usize
     }
 
-    /// How many commits it makes where nothing is refused.
+    /// How many commits it makes if nothing is refused.
     pub fn commits(&self) -> u64
         requires { IsStorm self.now }
         ensures { result ≡ self.now.writers * (self.now.inserts + self.now.deletes) }

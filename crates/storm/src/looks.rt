@@ -1,4 +1,4 @@
-//! Whether a looker found what it should.
+//! Checks that a looker found exactly what it should.
 ghost use Rattle.std.specs.Prelude.{◌≡◌, ◌↔◌, ◌≤◌, [], IsTrue, IfOk, IfErr, length, map};
 ghost use Rattle.std.specs.List.{list_any};
 ghost use Rattle.std.specs.List.Sorted.{IsNonDecreasingBy};
@@ -16,9 +16,9 @@ use std::alloc::Global;
 pub struct Look<K> {
     /// How many commits the snapshot had.
     pub commits: u64,
-    /// The rows that it found, in the order in which it found them.
+    /// The rows that it found, in the order found.
     pub rows: Vec<Row<K>>,
-    /// The changes after the commits of its snapshot before, or after the beginning where this one is its first.
+    /// The changes since the look before, or since the beginning for the first look.
     pub changes: Vec<Item<K>>,
 }
 
@@ -28,7 +28,7 @@ fn has_mark<K: Copy>(items: &[Item<K>]) -> bool
     items.iter().any(|item| is_mark(*item))
 }
 
-/// Whether no row has a lower number than one before it.
+/// Whether the numbers of the rows never fall.
 fn are_rising<K>(rows: &[Row<K>]) -> bool
     ensures { IsTrue result ↔ IsNonDecreasingBy (λ row. row.row) rows.now }
 {
@@ -54,7 +54,7 @@ fn row_items<K: Copy>(alloc: Global, rows: &[Row<K>]) -> Result<Vec<Item<K>>, Re
     Ok(items)
 }
 
-/// Whether rows are those that live after so many commits and match, by rising number.
+/// Whether rows are the matching ones that are live after this many commits, by rising number.
 fn are_found<C: KeyClass>(
     alloc: Global,
     commits: &View<C::Key>,
@@ -99,7 +99,7 @@ pub(crate) fn are_changes<C: KeyClass>(
     is_given::<C>(alloc, commits, query, true, from, upto, items)
 }
 
-/// Whether what was found in a snapshot is true behind one of so many commits.
+/// Whether what was found in a snapshot is right, after a look at `from` commits.
 fn is_true_look<C: KeyClass>(
     alloc: Global,
     commits: &View<C::Key>,
@@ -120,7 +120,7 @@ fn is_true_look<C: KeyClass>(
     are_changes::<C>(alloc, commits, query, from, number, look.changes.as_slice())
 }
 
-/// Whether what was found in each snapshot is true behind the one before, and the last had all commits.
+/// Whether each look is right after the one before, and the last had all commits.
 fn are_true_looks<C: KeyClass>(
     alloc: Global,
     commits: &View<C::Key>,
@@ -140,12 +140,12 @@ fn are_true_looks<C: KeyClass>(
     Ok(from == commits.len() as u64)
 }
 
-/// How a looker with a query fared, told by the commits of the whole storm: it is whole where each find gave exactly the rows
-/// that lived after the snapshot's commits and matched, where between two snapshots it took exactly the changes between
-/// them, and where the last snapshot had all commits.
+/// How a looker with a query fared, by the commits of the whole storm. It is whole if each search found exactly the
+/// matching rows that were live after the snapshot's commits, if between two snapshots it took exactly the changes
+/// between them, and if the last snapshot had all commits.
 ///
 /// # Errors
-/// Want of memory.
+/// `OutOfMemory`.
 pub fn looker_judged<C: KeyClass>(
     alloc: Global,
     commits: &View<C::Key>,

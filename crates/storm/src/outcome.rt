@@ -1,4 +1,4 @@
-//! A whole storm.
+//! A whole storm, from its start to the verdicts.
 ghost use Rattle.std.specs.Prelude.{◌≡◌, ◌↔◌, ◌+◌, Err, IfErr, IfOk, IsTrue, OnOk, length};
 ghost use Rattle.desk.specs.Weaving.{Woven};
 ghost use Rattle.key_class.specs.Refusals.{IsEither};
@@ -33,10 +33,10 @@ const CONFIG: Config = Config {
     commits: MAX_COMMITS,
 };
 
-/// How many orders wait for a pump at most.
+/// The most orders that wait for pumps.
 const ORDERS: usize = 64;
 
-/// Lets every cursor be turned at any time.
+/// A gate that is always open.
 #[derive(Drop)]
 struct Open;
 
@@ -46,12 +46,12 @@ impl Gate for Open {
     }
 }
 
-/// What came of a storm.
+/// The outcome of a storm.
 #[derive(Drop)]
 pub struct Outcome {
     /// How many commits were made.
     pub commits: u64,
-    /// What each reader took, in the order of their seats; none where its cursor wasn't opened.
+    /// What each reader took, in the order of their seats; `None` if its cursor couldn't be opened.
     pub readings: Vec<Option<Reading<Interval>>>,
     /// How each reader fared, in the same order.
     pub readers: Vec<Verdict>,
@@ -65,7 +65,7 @@ pub struct Outcome {
     pub subscribers: Vec<Verdict>,
     /// What each seat was answered.
     pub stamps: Vec<Vec<Stamped<Interval>>>,
-    /// Whether the stamps of all seats are the commits.
+    /// Whether the stamps of all seats are exactly the commits.
     pub is_woven: bool,
 }
 
@@ -86,7 +86,7 @@ impl Outcome {
     }
 }
 
-/// Lets all clients and the pumps work, until the last client has ended.
+/// Lets all clients and the pumps work, until the last client is done.
 fn run_all<L, R>(
     rt: &R,
     alloc: Global,
@@ -118,7 +118,7 @@ where
     Ok(())
 }
 
-/// Some seats as readers.
+/// Makes readers of some seats.
 fn readers_of<L: Ledger + Naming>(
     alloc: Global,
     seats: Vec<Seat<Intervals, L>>,
@@ -135,7 +135,7 @@ fn readers_of<L: Ledger + Naming>(
     Ok(readers)
 }
 
-/// Some seats as lookers.
+/// Makes lookers of some seats.
 fn lookers_of<L: Ledger + Naming>(
     alloc: Global,
     seats: Vec<Seat<Intervals, L>>,
@@ -195,7 +195,7 @@ fn verdicts_of(
     Ok(verdicts)
 }
 
-/// How lookers with a query fared, told by the commits.
+/// How lookers with a query fared, by the commits.
 fn sights_of(
     alloc: Global,
     commits: &ChangeList<Interval>,
@@ -300,7 +300,7 @@ fn outcome_by<L: Ledger + Naming>(
     })
 }
 
-/// What came of it, where all seats came back.
+/// The outcome, if every seat came back.
 fn outcome_of<L: Ledger + Naming, R: Wait>(
     rt: &R,
     alloc: Global,
@@ -334,7 +334,7 @@ fn outcome_of<L: Ledger + Naming, R: Wait>(
 /// given is compared with the commits.
 ///
 /// # Errors
-/// `BadConfig` where a number lies out of its range, or want of memory.
+/// `BadConfig` if a number is out of range, or `OutOfMemory`.
 pub fn run_storm<L, R>(
     rt: &R,
     alloc: Global,
@@ -450,7 +450,7 @@ fn take_hearings<L: Ledger + Naming>(
     Ok(hearings)
 }
 
-/// Puts the seats of readers behind others, and gives what the readers read.
+/// Puts the seats of readers back with the others, and gives what the readers read.
 fn take_readings<L: Ledger + Naming>(
     alloc: Global,
     seats: &mut Vec<Seat<Intervals, L>>,
@@ -468,7 +468,7 @@ fn take_readings<L: Ledger + Naming>(
     Ok(readings)
 }
 
-/// Puts the seats of lookers behind others, and gives what the lookers found.
+/// Puts the seats of lookers back with the others, and gives what the lookers found.
 fn take_looks<L: Ledger + Naming>(
     alloc: Global,
     seats: &mut Vec<Seat<Intervals, L>>,
