@@ -1,4 +1,4 @@
--- What a seat was answered stands in what it was told.
+-- A seat's stamps stand in what it was told.
 use Rattle.std.proofs.Common.{◌≡◌, ◌+◌, ◌-◌, ◌<◌, ◌≤◌, ◌⊎◌, inl, inr, ℕ, suc, false, List, [], ◌∷◌, ◌++◌, length, length-append, Some, refl, sym, ap, subst, ◌∙◌, arith}
 use Rattle.std.specs.Prelude.{nat_eq, Option, None, Result, Ok, Err, IfOk, IfSome}
 use Rattle.std.specs.List.{All, AllByRecursion}
@@ -27,7 +27,7 @@ module _ {K : Type 0} where
       let some : nat_eq n 0 ≡ false = search (arith, found.0) in
       rw some (prefix_get xs ys (n - 1) write begins found.2)
 
-  -- the last commit has the number of all
+  -- the number of the last commit is that of all commits
   last_commit : (xs : List (Write K)) (write : Write K) → commit_at (xs ++ write ∷ []) (length (xs ++ write ∷ [])) ≡ Some write
   last_commit xs write =
       let all : length (xs ++ write ∷ []) ≡ length xs + 1 = length-append xs (write ∷ []) in
@@ -35,38 +35,38 @@ module _ {K : Type 0} where
       let place : length (xs ++ write ∷ []) - 1 ≡ length xs = omega (arith, all) in
       rw (some, place) (slice_get_end xs write)
 
-  -- numbers go on rising by one that is above all of them
+  -- numbers still rise with one more that is above all of them
   rises_more : (stamps : List (Stamp K)) (last most : ℕ) (s : Stamp K) → Rises last stamps → All (λ t. t.number ≤ most) stamps → last ≤ most → most < s.number → Rises last (stamps ++ s ∷ [])
   rises_more [] last most s rise within from above = (omega (arith, from, above), tt)
   rises_more (t ∷ ts) last most s rise within from above =
       (rise.0, rises_more ts t.number most s rise.1 (λ k d inside. within (suc k) d (omega (arith, inside))) (within 0 t (omega arith)) above)
 
-  -- answers stand in what goes on
+  -- stamps that stand in a list stand in any longer one that begins with it
   pub answers_on : (xs ys : List (Write K)) (stamps : List (Stamp K)) → IsPrefix xs ys → AreAnswers xs stamps → AreAnswers ys stamps
   answers_on xs ys stamps begins answers = record {
     stand = All-weaker (Stands xs) (Stands ys) (λ s h. commit_on xs ys s.number s.write begins h) stamps answers.stand;
     rise = answers.rise;
   }
 
-  -- what is still the same begins with itself
+  -- what didn't change begins with itself
   pub same_told : (xs ys : List (Write K)) → ys ≡ xs → IsPrefix xs ys
   same_told xs ys same = subst (λ l. IsPrefix xs l) (sym same) (prefix_self xs)
 
-  -- what was told after nothing more had been
+  -- what was told, after nothing more had been told
   pub told_on : (xs ys zs : List (Write K)) → ys ≡ xs → IsPrefix ys zs → IsPrefix xs zs
   told_on xs ys zs same begins = subst (λ l. IsPrefix l zs) same begins
 
-  -- a seat's stamps stand in a snapshot that it was told
+  -- a seat's stamps stand in the commits of a snapshot that it was told
   pub shown_stand : {E : Type 0} (r : Result (List (Write K)) E) (commits : List (Write K)) (s : Seated K) → IfOk r (λ l. l ≡ commits) → AreAnswers commits s.stamps → IfOk r (λ l. SeatStands l s)
   shown_stand (Ok l) commits s is answers = record { each = subst (λ c. All (Stands c) s.stamps) (sym is) answers.stand }
   shown_stand (Err e) commits s is answers = tt
 
-  -- and in a view
+  -- and in those of a view
   pub viewed_stand : (o : Option (List (Write K))) (commits : List (Write K)) (s : Seated K) → IfSome o (λ l. l ≡ commits) → AreAnswers commits s.stamps → IfSome o (λ l. SeatStands l s)
   viewed_stand (Some l) commits s is answers = record { each = subst (λ c. All (Stands c) s.stamps) (sym is) answers.stand }
   viewed_stand None commits s is answers = tt
 
-  -- the seats' stamps stand in all of which each was told a beginning
+  -- the seats' stamps stand in a list of which each was told a beginning
   pub all_stand : (commits : List (Write K)) (seats : List (Seated K)) → AllByRecursion (λ s. IsPastOf s.told commits) seats → AllByRecursion (λ s. AreAnswers s.told s.stamps) seats
       → AllByRecursion (SeatStands commits) seats
   all_stand commits [] told answers = tt
@@ -95,7 +95,7 @@ module _ {K A : Type 0} (rules : Rules K A) where
             (omega arith) (omega (arith, seen, all, made.did.1));
       }
 
-  -- a commit that was made where nothing more had been told
+  -- a commit that was made after nothing more had been told
   pub committed_on : (xs ys zs : List (Write K)) (s : Stamp K) → ys ≡ xs → IsCommitted rules ys zs s → IsCommitted rules xs zs s
   committed_on xs ys zs s same made = subst (λ l. IsCommitted rules l zs s) same made
 
@@ -103,7 +103,7 @@ module _ {K A : Type 0} (rules : Rules K A) where
   refuses_move world row why (inl full) = inl (inr (inr (inr full)))
   refuses_move world row why (inr wanting) = inr wanting
 
-  -- what keeps an insertion from a split keeps a move from it
+  -- why an insertion's split is refused is also why a move's is
   pub move_refused : (told : List (Write K)) (row : ℕ) (why : Refusal) → OutOfMemoryOr (IsInsertRefused rules told) why → OutOfMemoryOr (IsMoveRefused rules told row) why
   move_refused told row why (inl wanting) = inl wanting
   move_refused told row why (inr visit) = inr (record {
@@ -126,7 +126,8 @@ module _ {K A : Type 0} (rules : Rules K A) where
   committed_seen xs ys s made = subst (IsPrefix xs) (sym made.did.0 ∙ made.did.3) (prefix_trans xs made.old.commits (made.old.commits ++ s.write ∷ []) made.did.2 (s.write ∷ [], refl))
 
 module _ {K : Type 0} where
-  -- stamps that stand in what their seats were told, which begins the commits, are the commits where each number is told once
+  -- stamps that stand in what their seats were told, which begins the commits, are the commits if each number is told
+  -- once
   pub woven_of : (commits history : List (Write K)) (seats kept : List (Seated K)) (n : ℕ) → history ≡ commits → kept ≡ seats → n ≡ length commits
       → AllByRecursion (λ s. IsPastOf s.told history) kept → AllByRecursion (λ s. AreAnswers s.told s.stamps) kept → NamesEachOnce n kept → Woven commits seats
   woven_of commits history seats kept n one same count told answers once =

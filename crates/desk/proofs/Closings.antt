@@ -11,16 +11,16 @@ use Rattle.desk.specs.declared.ending.Ended.{Ended}
 use Rattle.desk.specs.declared.ending.Ended.TheVariants as ended
 
 module _ {K A : Type 0} (rules : Rules K A) where
-  -- a visit that does more tells less
+  -- a visit that does more also does less
   pub visit_less : (P Q : State K A → State K A → Type 0) → ((old new : State K A) → P old new → Q old new) → IsVisit rules P → IsVisit rules Q
   visit_less P Q less v = record { old = v.old; new = v.new; found = v.found; did = less v.old v.new v.did; left = v.left }
 
--- a receipt of the commits that a view has tells those of which the view is
+-- a receipt with the commits of a view tells the same commits as the view
 pub of_view : {K : Type 0} (e : Ended K) (commits list : List (Write K)) → IfReceipt e (λ r. r.commits ≡ commits) → commits ≡ list → IfReceipt e (λ r. r.commits ≡ list)
 of_view (ended.Receipt r) commits list is same = is ∙ same
 of_view ended.NoReceipt commits list is same = tt
 
--- a receipt of the commits that a view has has no fewer than stand in the view
+-- a receipt with the commits of a view has no fewer commits than the view
 pub no_fewer : {K : Type 0} (e : Ended K) (commits : List (Write K)) (n : ℕ) → IfReceipt e (λ r. r.commits ≡ commits) → n ≤ length commits → IfReceipt e (λ r. n ≤ length r.commits)
 no_fewer (ended.Receipt r) commits n is less = rw is less
 no_fewer ended.NoReceipt commits n is less = tt

@@ -23,6 +23,6 @@ module _ {K A : Type 0} (rules : Rules K A) (old new : State K A) (seat : ℕ) (
     left = left;
   }
 
--- the book rises by one with a commit
+-- the book's total rises by one with a commit
 pub counted : {X : Type 0} (x : X) (old new : List X) (t u v : ℕ) → new ≡ old ++ x ∷ [] → length old ≡ t → u ≡ t + 1 → v ≡ u → length new ≡ v
 counted x old new t u v adds before more same = omega (arith, ap length adds, length-append old (x ∷ []), before, more, same)

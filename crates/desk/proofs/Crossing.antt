@@ -1,4 +1,4 @@
--- Which types of a desk may cross threads, as a set for `search`.
+-- Which types of a desk may cross threads, as a rule set for `search`.
 use denote.Ref.{NamedLft}
 use denote.RattleType.{RattleType}
 use denote.Struct.Declared.{shape}

@@ -18,7 +18,7 @@ use Rattle.feed.proofs.Giving.{items_under-append, under_other, under_same}
 use Rattle.feed.proofs.Keeping.{all_given}
 
 module _ {K A : Type 0} (rules : Rules K A) (commits : List (Write K)) where
-  -- what is due up to a commit is all changes, or nothing where a subscription begins later
+  -- what is due up to a commit is all changes, or nothing if the subscription begins later
   is_given : (later : ℕ) (s : Subscription A) (items : List (Item K)) → later ≤ length commits → items ≡ due_upto rules commits later s → IsGivenUpto rules commits later s items
   is_given later s items within is = record {
     changes = λ l.
@@ -41,14 +41,14 @@ module _ {K A : Type 0} (rules : Rules K A) (commits : List (Write K)) where
     no_others = λ serial none. gives serial ∙ ap (λ o. option_map_or (due_upto rules commits later) o []) none;
   }
 
--- what was missed, told to one serial after the other
+-- what was missed is told to one serial after the other
 module _ {A X : Type 0} (missed : ℕ × Registration A → List X) (registrations : List (ℕ × Registration A)) where
-  -- what a serial has missed
+  -- what the subscription with a serial has missed
   abbrev pub missed_by : ℕ → List X
   missed_by serial = option_map_or missed (member serial_of serial registrations) []
 
 module _ {K A : Type 0} (missed : ℕ × Registration A → List (Item K)) (registrations : List (ℕ × Registration A)) where
-  -- each serial up to n was told what it has missed
+  -- each serial up to n was told what it had missed
   abbrev pub TellsUpto : ℕ → List (ℕ × Item K) → Type 0
   TellsUpto n given = (serial : ℕ) → items_under serial given ≡ cond (nat_le serial n) (missed_by missed registrations serial) []
 
@@ -59,7 +59,7 @@ module _ {K A : Type 0} (missed : ℕ × Registration A → List (Item K)) (regi
       by_test true e = let within : serial ≤ n = search (arith, e) in sym (nothing serial within)
       by_test false e = refl
 
-  -- the next serial is nobody's
+  -- the next serial belongs to no subscription
   pub tells_nobody : (n : ℕ) (given : List (ℕ × Item K)) → TellsUpto n given → member serial_of (n + 1) registrations ≡ None → TellsUpto (n + 1) given
   tells_nobody n given told none serial = told serial ∙ by_test (nat_le serial n) refl (nat_le serial (n + 1)) refl
     where
@@ -73,7 +73,7 @@ module _ {K A : Type 0} (missed : ℕ × Registration A → List (Item K)) (regi
           sym (ap (missed_by missed registrations) one ∙ ap (λ o. option_map_or missed o []) none)
       by_test false e false f = refl
 
-  -- the next serial is told
+  -- the subscription with the next serial is told
   pub tells_next : (n : ℕ) (given : List (ℕ × Item K)) (x : ℕ × Registration A) → TellsUpto n given → member serial_of (n + 1) registrations ≡ Some x → TellsUpto (n + 1) (given ++ under (n + 1) (missed x))
   tells_next n given x told is serial = items_under-append serial given (under (n + 1) (missed x)) ∙ ap (λ l. l ++ items_under serial (under (n + 1) (missed x))) (told serial) ∙ by_test (nat_eq serial (n + 1)) refl
     where

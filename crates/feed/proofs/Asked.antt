@@ -1,4 +1,4 @@
--- The topics that a commit is to ask.
+-- The topics that a commit has to test.
 use Rattle.std.proofs.Common.{◌≡◌, ◌⊎◌, ℕ, true, List, ◌++◌, map, Option, Some, None, refl, sym, ap, ◌∙◌, subst, inl, inr}
 use Rattle.std.specs.Prelude.{Contains, option_map, slice_index_or}
 use Rattle.std.proofs.lemmas.List.Elements.{All-contains, Contains-append_left, Contains-append_right}
@@ -24,7 +24,7 @@ use Rattle.feed.proofs.Members.{some_passes}
 use Rattle.feed.proofs.Tending.{tag_found}
 
 module _ {K A : Type 0} (rules : Rules K A) (reach_of : A → Option K) (overlap_with : K → A) (law : MatchesOverlap rules.is_match reach_of overlap_with) where
-  -- who is planted is found by each key that its query wants
+  -- a planted topic is found by each key that satisfies its query
   pub planted_found : (tree : List (Write K)) (query : Query A) (number : ℕ) (row : Row K) → IsPlantedIn reach_of rules.size_of tree query number → satisfies rules query row.key ≡ true → Contains (tags_at rules overlap_with tree (Some row)) number
   planted_found tree query number row p wanted =
       let some = some_passes (rules.is_match (overlap_with row.key)) p.keys (satisfied_overlap rules.is_match reach_of overlap_with rules.size_of law query p.keys row.key p.reaches wanted) in
@@ -55,7 +55,7 @@ module _ {K A : Type 0} (rules : Rules K A) (reach_of : A → Option K) (overlap
     shown_from number query None e is = absurd (cc)
     shown_from number query (Some t) e is = (t, e, (cc))
 
-    -- each query for which the commit has an item is among those that are asked
+    -- each query for which the commit has an item is among those that are tested
     pub all_concerned : AreAllConcerned rules commits (map (option_map topic_state) topics) place numbers
     all_concerned number query found =
         let f = shown_from number query (slice_index_or topics number None) refl (sym (ap (option_map (λ (t : TopicState A). t.query)) (topic_shown topics number)) ∙ found) in
@@ -74,6 +74,6 @@ module _ {K A : Type 0} (rules : Rules K A) (reach_of : A → Option K) (overlap
         by_item t is (Some item) e = inr (by_way t is item e (h.asked number t is))
 
 module _ {K A : Type 0} (rules : Rules K A) (commits : List (Write K)) (topics : List (Option (TopicState A))) (place : ℕ) where
-  -- others among which the same numbers are
+  -- other numbers, which include the same ones
   pub concerned_among : (numbers others : List ℕ) → ((number : ℕ) → Contains numbers number → Contains others number) → AreAllConcerned rules commits topics place numbers → AreAllConcerned rules commits topics place others
   concerned_among numbers others stays all number query found = elim (all number query found) [ inl none ↦ inl none | inr c ↦ inr (stays number c) ]

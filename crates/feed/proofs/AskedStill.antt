@@ -1,4 +1,4 @@
--- What becomes of those that are asked while topics begin and end.
+-- Topics begin and end, and the others are still tested.
 use Rattle.std.proofs.Common.{◌≡◌, ◌≢◌, ◌+◌, ◌<◌, ℕ, Bool, true, false, List, Option, Some, None, refl, sym, ap, ◌∙◌, arith, subst, inl, inr}
 use Rattle.std.specs.Prelude.{Contains, nat_eq, slice_index_or}
 use Rattle.key_class.specs.Queries.{Query, query_of}
@@ -12,7 +12,7 @@ module _ {K A : Type 0} (reach_of : A → Option K) (size_of : K → ℕ) where
   planted_stays : (tag : ℕ) (commits later : List (Write K)) (query : Query A) (number : ℕ) → Tends tag commits later → number ≢ tag → IsPlantedIn reach_of size_of commits query number → IsPlantedIn reach_of size_of later query number
   planted_stays tag commits later query number t apart p = record { keys = p.keys; reaches = p.reaches; rows = rows_stay tag number p.keys commits later t apart p.rows }
 
-  -- another topic's query is asked as it was
+  -- another topic's query is tested as before
   asked_stays : (tag : ℕ) (commits later : List (Write K)) (before after : List ℕ) (query : Query A) (number : ℕ) → Tends tag commits later → ((other : ℕ) → other ≢ tag → Contains before other → Contains after other) → number ≢ tag
       → IsAsked reach_of size_of commits before query number → IsAsked reach_of size_of later after query number
   asked_stays tag commits later before after query number t stay apart asked = elim asked [
@@ -22,7 +22,7 @@ module _ {K A : Type 0} (reach_of : A → Option K) (size_of : K → ℕ) where
 
   module _ (commits later : List (Write K)) (before after : List ℕ) (old new : List (Option (Topic A))) (h : AreEnrolled reach_of size_of commits before old) (tag : ℕ) (t : Tends tag commits later)
       (stay : (other : ℕ) → other ≢ tag → Contains before other → Contains after other) (same : (other : ℕ) → other ≢ tag → slice_index_or new other None ≡ slice_index_or old other None) where
-    -- where the one with the tag, if there is one, is asked, all are
+    -- if the topic with the tag, when there is one, is tested, all are
     pub enrolled_changed : ((u : Topic A) → slice_index_or new tag None ≡ Some u → IsAsked reach_of size_of later after (query_of u.query) tag) → AreEnrolled reach_of size_of later after new
     enrolled_changed here = record { legal = t.legal; asked = λ number u is. by_number number u is (nat_eq number tag) refl }
       where
@@ -34,7 +34,7 @@ module _ {K A : Type 0} (reach_of : A → Option K) (size_of : K → ℕ) where
             let apart : number ≢ tag = λ one. let t : nat_eq number tag ≡ true = search (arith, one) in let c : true ≡ false = sym t ∙ e in absurd (cc) in
             asked_stays tag commits later before after (query_of u.query) number t stay apart (h.asked number u (sym (same number apart) ∙ is))
 
-  -- the queries of topics are asked up to a number
+  -- the queries of topics with numbers below this one are tested
   abbrev pub AskedUpto : List (Write K) → List ℕ → List (Option (Topic A)) → ℕ → Type 0
   AskedUpto commits always slots n = (number : ℕ) (t : Topic A) → number < n → slice_index_or slots number None ≡ Some t → IsAsked reach_of size_of commits always (query_of t.query) number
 
@@ -54,7 +54,7 @@ module _ {K A : Type 0} (reach_of : A → Option K) (size_of : K → ℕ) where
           let less : number < n = search (arith, within, e) in
           asked_stays n commits later before after (query_of u.query) number tends (λ other away has. enrolled.stay other has) apart (upto number u less is)
 
-  -- there is no next one
+  -- there is no next topic
   pub next_nothing : (commits : List (Write K)) (always : List ℕ) (slots : List (Option (Topic A))) (n : ℕ) → AskedUpto commits always slots n → slice_index_or slots n None ≡ None → AskedUpto commits always slots (n + 1)
   next_nothing commits always slots n upto none number u within is = by_number (nat_eq number n) refl
     where

@@ -1,4 +1,4 @@
--- What a change is to a query.
+-- What a change means for a query.
 use Rattle.std.proofs.Common.{◌≡◌, ◌+◌, ◌-◌, ℕ, Bool, true, false, List, take, Option, Some, None, refl, sym, ap, ◌∙◌, arith}
 use Rattle.std.specs.Prelude.{nat_eq, slice_get, option_and_then, option_map, if◌then◌else◌}
 use Rattle.change_list.specs.declared.item.Item.{Item}
@@ -18,7 +18,7 @@ module _ {K : Type 0} where
       let f : place + 1 - 1 ≡ place = omega arith in
       rw (e, f) refl
 
-  -- the item of a commit, by the rows that a query sees: the one that it ends and the one that it makes
+  -- the item of a commit, from the rows that a query sees: the one that it ends and the one that it makes
   abbrev pub item_between : ℕ → Option (Row K) → Option (Row K) → Option (Item K)
   item_between number (Some old) (Some new) = Some (Moved new old.row)
   item_between number (Some old) None = Some (Deleted number old.row)
@@ -61,7 +61,7 @@ module _ {K : Type 0} where
       by_rows (Some (Delete row)) e = item_of_delete wanted commits place row legal e ∙ deleted_seen (place + 1) (row_at commits row)
       by_rows (Some (Move row key)) e = item_of_move wanted commits place row key legal e ∙ moved_seen (place + 1) key (row_at commits row)
 
-    -- the item of a commit is told by what it changes
+    -- the item of a commit depends only on what it changes
     pub item_seen : (commits : List (Write K)) (place : ℕ) (change : Change K) → IsChangeOf commits place change
         → item_at wanted commits place ≡ item_between change.number (asked_row wanted change.ended) (asked_row wanted change.made)
     item_seen commits place change is =

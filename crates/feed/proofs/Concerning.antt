@@ -10,7 +10,7 @@ use Rattle.feed.specs.Changing.{IsChangeOf, asked_row}
 use Rattle.feed.proofs.Changing.{item_seen}
 
 module _ {K : Type 0} (wanted : K → Bool) where
-  -- the key of a row that ends or begins is wanted
+  -- the key of a row that ends or begins satisfies the query
   pub record Concerns (ended made : Option (Row K)) : Type 0 where
     pub row : Row K
     pub touched : (ended ≡ Some row) ⊎ (made ≡ Some row)
@@ -24,7 +24,7 @@ module _ {K : Type 0} (wanted : K → Bool) where
       by_test true e = inr (r, refl, e)
       by_test false e = inl refl
 
-  -- a commit that has an item for a query ends or makes a row whose key the query wants
+  -- a commit that has an item for a query ends or makes a row whose key satisfies the query
   pub item_concerns : (commits : List (Write K)) (place : ℕ) (change : Change K) → IsChangeOf commits place change → (item : Item K) → item_at wanted commits place ≡ Some item → Concerns change.ended change.made
   item_concerns commits place change of item is = by_rows (is_asked change.ended) (is_asked change.made)
     where

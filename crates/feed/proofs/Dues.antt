@@ -39,11 +39,11 @@ module _ {K A : Type 0} (rules : Rules K A) (commits : List (Write K)) (upto pas
     found_due : (serial : ℕ) (x : ℕ × Registration A) → member serial_of serial registrations ≡ Some x → option_map_or (due_at rules commits place) (subscription_of (feed_state upto passed last registrations) serial) [] ≡ cond (nat_le x.1.from place) (option_to_list (item_at (satisfies rules (query_of x.1.query)) commits place)) []
     found_due serial x found = ap (λ o. option_map_or (due_at rules commits place) o []) (one_shown upto passed last serial registrations x found) ∙ due_shown x
 
-  -- what is due to a registration up to where the feed stands
+  -- what is due to a subscription up to where the feed is
   abbrev pub missed : ℕ × Registration A → List (Item K)
   missed x = due_upto rules commits upto (shown upto passed x)
 
-  -- one that has missed nothing
+  -- a subscription that has missed nothing
   none_missed : (x : ℕ × Registration A) → x.0 ≤ passed → missed x ≡ []
   none_missed x within =
       let e : nat_le x.0 passed ≡ true = search (arith, within) in
@@ -51,14 +51,14 @@ module _ {K A : Type 0} (rules : Rules K A) (commits : List (Write K)) (upto pas
       let same : max (shown_at upto passed x) upto ≡ shown_at upto passed x = omega (arith, at) in
       ap (λ n. changes (satisfies rules (query_of x.1.query)) (shown_at upto passed x) n commits) same ∙ changes_none (satisfies rules (query_of x.1.query)) (shown_at upto passed x) commits
 
-  -- one that may have missed something
+  -- a subscription that may have missed something
   pub all_missed : (x : ℕ × Registration A) → passed < x.0 → missed x ≡ changes (satisfies rules (query_of x.1.query)) x.1.from (max x.1.from upto) commits
   all_missed x behind =
       let e : nat_le x.0 passed ≡ false = search (arith, behind) in
       let at : shown_at upto passed x ≡ x.1.from = ap (λ b. cond b (max x.1.from upto) x.1.from) e in
       ap (λ n. changes (satisfies rules (query_of x.1.query)) n (max n upto) commits) at
 
-  -- a serial up to the one passed has missed nothing
+  -- a serial up to `passed` has missed nothing
   pub nothing_missed : (serial : ℕ) → serial ≤ passed → missed_by missed registrations serial ≡ []
   nothing_missed serial within = by_member (member serial_of serial registrations) refl
     where
@@ -66,7 +66,7 @@ module _ {K A : Type 0} (rules : Rules K A) (commits : List (Write K)) (upto pas
       by_member None e = refl
       by_member (Some x) e = none_missed x (omega (arith, within, member_serial serial_of serial registrations x e))
 
-  -- who was told what it has missed was given what is due up to where the feed stands
+  -- a subscription that was told what it missed was given what is due up to where the feed is
   pub missed_gives : (given : List (ℕ × Item K)) → ((serial : ℕ) → items_under serial given ≡ missed_by missed registrations serial) → Gives (due_upto rules commits upto) (feed_state upto passed last registrations) given
   missed_gives given told serial =
       told serial ∙ shown_due (member serial_of serial registrations) ∙ ap (λ o. option_map_or (due_upto rules commits upto) o []) (sym (found_shown upto passed last serial registrations))
@@ -75,7 +75,7 @@ module _ {K A : Type 0} (rules : Rules K A) (commits : List (Write K)) (upto pas
       shown_due None = refl
       shown_due (Some x) = refl
 
--- what a commit gives to registrations, by what each hears of
+-- what a commit gives to subscriptions, by the queries that they listen to
 module _ {K A : Type 0} (rules : Rules K A) (commits : List (Write K)) (topics : List (Option (TopicState A))) (upto passed last place : ℕ) (registrations : List (ℕ × Registration A)) (h : IsHolding topics passed last registrations) (further : upto ≤ place) (before after : List (ℕ × Item K)) (told : TellsCommit rules commits topics place before after) where
   pub commit_gives : GivesInto (due_at rules commits place) (feed_state upto passed last registrations) before after
   commit_gives = record { given = told.given; is = told.is; gives = λ serial. by_member serial (member serial_of serial registrations) refl }

@@ -73,7 +73,7 @@ module _ {K A : Type 0} (rules : Rules K A) (commits : List (Write K)) where
           let m : max s.at place ≡ max s.at (place + 1) = omega (arith, l) in
           append-nil (changes (satisfies rules s.query) s.at (max s.at place) commits) ∙ ap (λ k. changes (satisfies rules s.query) s.at k commits) m
 
--- the changes of a query after a commit, up to another, under a serial behind what there was
+-- the changes of a query after a commit up to another, under a serial, after what there was
 module _ {K : Type 0} (wanted : K → Bool) (serial from : ℕ) (commits : List (Write K)) (old : List (ℕ × Item K)) where
   pub passed_none : old ≡ old ++ under serial (changes wanted from from commits)
   passed_none = sym (ap (λ l. old ++ under serial l) (changes_none wanted from commits) ∙ append-nil old)
@@ -100,9 +100,9 @@ module _ {K : Type 0} (wanted : K → Bool) (serial from : ℕ) (commits : List 
       → told ≡ old ++ under serial (changes wanted from (max from upto) commits)
   passed_all place upto told l h e is = is ∙ ap (λ n. old ++ under serial (changes wanted from n commits)) (let same : place ≡ max from upto = omega (arith, l, h, e) in same)
 
--- lists for numbers that rise, of which one at most has elements
+-- lists for rising numbers, at most one of which isn't empty
 module _ {X : Type 0} (part : ℕ → List X) (number : ℕ) (elsewhere : (other : ℕ) → other ≢ number → part other ≡ []) where
-  -- where the one isn't among them, or has none
+  -- if that one isn't among them, or is empty
   flat_none : (numbers : List ℕ) → part number ≡ [] → flat_map part numbers ≡ []
   flat_none [] none = refl
   flat_none (n ∷ numbers) none = ap (λ l. l ++ flat_map part numbers) (by_test (nat_eq n number) refl) ∙ flat_none numbers none
@@ -142,18 +142,18 @@ module _ {X : Type 0} (part : ℕ → List X) (number : ℕ) (elsewhere : (other
     | inr among ↦ flat_once numbers (AllPairs-from_increasing numbers rising) among
   ]
 
--- what one who listens to a query is given by a commit
+-- what a commit gives to a listener of a query
 module _ {K A : Type 0} (rules : Rules K A) (commits : List (Write K)) (place : ℕ) (query : Query A) where
   none_due : (b : Bool) (o : Option (Item K)) → o ≡ None → cond b (option_to_list o) [] ≡ []
   none_due true o e = ap option_to_list e
   none_due false o e = refl
 
-  -- nothing, where the commit has no item for it
+  -- nothing, if the commit has no item for the query
   pub nothing_due : (begin : Option ℕ) → item_for rules commits query place ≡ None → due_to rules commits place (option_map (λ from. (query, from)) begin) ≡ []
   nothing_due None none = refl
   nothing_due (Some from) none = none_due (nat_le from place) (item_for rules commits query place) none
 
-  -- the item, where it has one and comes later
+  -- the item, if it has one and comes later
   pub listener_due : (number : ℕ) → number ≡ place + 1 → (item : Item K) (begin : Option ℕ) → item_for rules commits query place ≡ Some item → told_after number item begin ≡ due_to rules commits place (option_map (λ from. (query, from)) begin)
   listener_due number next item None is = refl
   listener_due number next item (Some from) is = by_test (nat_le from place) refl
@@ -170,11 +170,11 @@ module _ {K A : Type 0} (rules : Rules K A) (commits : List (Write K)) (place : 
 
 -- what the topics of a commit were told, one after the other
 module _ {K A : Type 0} (rules : Rules K A) (commits : List (Write K)) (topics : List (Option (TopicState A))) (place : ℕ) where
-  -- what one is given by the topic with a number
+  -- what a listener is given by the topic with a number
   abbrev pub given_by : ℕ → ℕ → List (Item K)
   given_by serial number = due_to rules commits place (heard topics number serial)
 
-  -- what was put behind the entries of a list tells each what these topics give
+  -- what was appended to a list tells each listener what these topics give
   pub record TellsThose (numbers : List ℕ) (before after : List (ℕ × Item K)) : Type 0 where
     pub given : List (ℕ × Item K)
     pub is : after ≡ before ++ given

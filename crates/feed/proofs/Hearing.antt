@@ -1,4 +1,4 @@
--- What each hears while topics begin, change and end.
+-- Who listens to which query, while topics begin, change and end.
 use Rattle.std.proofs.Common.{◌≡◌, ◌≢◌, ℕ, zero, suc, List, [], ◌∷◌, map, Option, Some, None, refl, sym, ap, ◌∙◌, arith}
 use Rattle.std.specs.Prelude.{option_map, option_and_then, slice_index_or}
 use Rattle.std.proofs.lemmas.Bool.Decides.{nat_tests}
@@ -20,11 +20,11 @@ module _ {A : Type 0} where
   pub none_shown : (slots : List (Option (Topic A))) (number : ℕ) → slice_index_or slots number None ≡ None → topic_at (map (option_map topic_state) slots) number ≡ None
   none_shown slots number is = topic_shown slots number ∙ ap (option_map topic_state) is
 
-  -- where slots are the same, topics are
+  -- if slots are the same, topics are
   pub same_shown : (old new : List (Option (Topic A))) (number : ℕ) → slice_index_or new number None ≡ slice_index_or old number None → topic_at (map (option_map topic_state) new) number ≡ topic_at (map (option_map topic_state) old) number
   same_shown old new number same = topic_shown new number ∙ ap (option_map topic_state) same ∙ sym (topic_shown old number)
 
-  -- nobody hears of what isn't there
+  -- nobody listens to a topic that doesn't exist
   pub none_heard : (topics : List (Option (TopicState A))) (number serial : ℕ) → topic_at topics number ≡ None → heard topics number serial ≡ None
   none_heard topics number serial none = ap (option_and_then (heard_of serial)) none
 
@@ -35,7 +35,7 @@ module _ {A : Type 0} (old new : List (Option (TopicState A))) (number serial : 
   elsewhere_same : (other listener : ℕ) → other ≢ number → heard new other listener ≡ heard old other listener
   elsewhere_same other listener apart = ap (option_and_then (heard_of listener)) (same other apart)
 
-  -- somebody comes to the listeners of a topic, or goes from them
+  -- a listener joins or leaves a topic
   pub hearing_changed : (t u : TopicState A) (begin : Option ℕ) → topic_at old number ≡ Some t → topic_at new number ≡ Some u → u.query ≡ t.query → ChangesBegin t.listeners serial begin u.listeners
       → ChangesHearing old number serial (option_map (λ from. (t.query, from)) begin) new
   hearing_changed t u begin was is query changes = record {
@@ -46,7 +46,7 @@ module _ {A : Type 0} (old new : List (Option (TopicState A))) (number serial : 
     elsewhere = elsewhere_same;
   }
 
-  -- a topic begins, with one who listens
+  -- a topic begins, with its first listener
   pub hearing_begun : (u : TopicState A) (from : ℕ) → topic_at old number ≡ None → topic_at new number ≡ Some u → u.listeners ≡ (serial, from) ∷ [] → ChangesHearing old number serial (Some (u.query, from)) new
   hearing_begun u from was is alone = record {
     changed = one_heard new number serial u is ∙ ap (λ l. option_map (λ f. (u.query, f)) (begin_of l serial)) alone ∙ ap (option_map (λ f. (u.query, f))) here;
@@ -62,7 +62,7 @@ module _ {A : Type 0} (old new : List (Option (TopicState A))) (number serial : 
       nowhere : (other : ℕ) → other ≢ serial → begin_of ((serial, from) ∷ []) other ≡ None
       nowhere other apart = grind (arith, nat_tests)
 
-  -- a topic ends to which nobody else listens
+  -- a topic ends that has no other listener
   pub hearing_ended : topic_at new number ≡ None → IsHeardBy old number serial → ChangesHearing old number serial None new
   hearing_ended none alone = record {
     changed = none_heard new number serial none;

@@ -1,4 +1,4 @@
--- How a feed holds its subscriptions while it changes.
+-- How a feed keeps its subscriptions while it changes.
 use Rattle.std.proofs.Common.{◌≡◌, ◌≢◌, ◌⊎◌, ◌+◌, ◌<◌, ◌≤◌, ℕ, max, Bool, true, false, not, cond, List, [], ◌∷◌, ◌++◌, map, filter, Option, Some, None, refl, sym, ap, ◌∙◌, arith, subst, inl, inr}
 use Rattle.std.specs.Prelude.{nat_eq, nat_le, option_map}
 use Rattle.std.proofs.lemmas.List.{map-append}
@@ -84,21 +84,21 @@ module _ {A : Type 0} where
       by_place number serial = refl
 
 module _ {A : Type 0} (topics : List (Option (TopicState A))) (passed last : ℕ) (registrations : List (ℕ × Registration A)) (h : IsHolding topics passed last registrations) where
-  -- who never subscribed hears nothing
+  -- a serial that was never given has no topic
   pub unheard : (number serial : ℕ) → last < serial → heard topics number serial ≡ None
   unheard number serial new = elim (h.nobody_else number serial) [
     | inl none ↦ none
     | inr l ↦ absurd (omega (arith, new, (member_within serial_of serial 0 last registrations l.registration h.rise l.is).1))
   ]
 
-  -- who isn't subscribed hears nothing
+  -- a serial that isn't subscribed has no topic
   pub missing_unheard : (number serial : ℕ) → member serial_of serial registrations ≡ None → heard topics number serial ≡ None
   missing_unheard number serial none = elim (h.nobody_else number serial) [
     | inl n ↦ n
     | inr l ↦ let both : None ≡ Some l.registration = sym none ∙ l.is in absurd (cc)
   ]
 
-  -- who is hears nothing elsewhere
+  -- a subscription has no topic but its own
   pub unheard_elsewhere : (serial : ℕ) (s : ℕ × Registration A) → member serial_of serial registrations ≡ Some s → (number : ℕ) → number ≢ s.1.topic → heard topics number serial ≡ None
   unheard_elsewhere serial s is number apart = elim (h.nobody_else number serial) [
     | inl none ↦ none
@@ -108,7 +108,7 @@ module _ {A : Type 0} (topics : List (Option (TopicState A))) (passed last : ℕ
         absurd (apart (sym l.topic ∙ ap (λ (x : ℕ × Registration A). x.1.topic) (sym same)))
   ]
 
-  -- while each hears what it heard
+  -- while each listener has the topics that it had
   pub holding_same : (later : List (Option (TopicState A))) → ((number serial : ℕ) → heard later number serial ≡ heard topics number serial) → IsHolding later passed last registrations
   holding_same later same = record {
     rise = h.rise;
@@ -117,7 +117,7 @@ module _ {A : Type 0} (topics : List (Option (TopicState A))) (passed last : ℕ
     nobody_else = λ number serial. elim (h.nobody_else number serial) [ inl none ↦ inl (same number serial ∙ none) | inr l ↦ inr l ];
   }
 
-  -- once one that never subscribed came and went
+  -- once a subscription that never was opened came and went
   pub holding_restored : (mid later : List (Option (TopicState A))) (number serial : ℕ) (what : Option (Query A × ℕ)) → last < serial → ChangesHearing topics number serial what mid → ChangesHearing mid number serial None later
       → IsHolding later passed last registrations
   holding_restored mid later number serial what new came went = holding_same later (λ n s. by_number n s (nat_eq n number) refl (nat_eq s serial) refl)
@@ -133,7 +133,7 @@ module _ {A : Type 0} (topics : List (Option (TopicState A))) (passed last : ℕ
           ap (λ m. heard later m s) here ∙ went.others s other ∙ came.others s other ∙ sym (ap (λ m. heard topics m s) here)
       by_number n s false e c f = let other : n ≢ number = not_same n number e in went.elsewhere n s other ∙ came.elsewhere n s other
 
-  -- once a registration is gone, and listens no longer
+  -- once a subscription is gone, and listens no longer
   pub holding_without : (later : List (Option (TopicState A))) (serial : ℕ) (gone : ℕ × Registration A) → member serial_of serial registrations ≡ Some gone → ChangesHearing topics gone.1.topic serial None later
       → IsHolding later passed last (without serial_of serial registrations)
   holding_without later serial gone was changes = record {
@@ -143,7 +143,7 @@ module _ {A : Type 0} (topics : List (Option (TopicState A))) (passed last : ℕ
     nobody_else = λ number other. by_serial number other (nat_eq other serial) refl;
   }
     where
-      -- others hear what they heard
+      -- others have the topics that they had
       kept : (number other : ℕ) → other ≢ serial → heard later number other ≡ heard topics number other
       kept number other apart = by_test (nat_eq number gone.1.topic) refl
         where
@@ -162,7 +162,7 @@ module _ {A : Type 0} (topics : List (Option (TopicState A))) (passed last : ℕ
           let apart : other ≢ serial = not_same other serial e in
           kept s.1.topic other apart ∙ h.listens other s (sym (without_other serial_of serial other registrations apart) ∙ is)
 
-      -- the one that is gone hears nothing
+      -- the subscription that is gone has no topic
       silent : (number : ℕ) → heard later number serial ≡ None
       silent number = by_test (nat_eq number gone.1.topic) refl
         where
@@ -179,7 +179,7 @@ module _ {A : Type 0} (topics : List (Option (TopicState A))) (passed last : ℕ
             | inr l ↦ inr (record { registration = l.registration; is = without_other serial_of serial other registrations apart ∙ l.is; topic = l.topic })
           ]
 
-  -- with one registration more, who listens
+  -- with one more subscription, which listens
   pub holding_more : (later : List (Option (TopicState A))) (s : ℕ × Registration A) → s.0 ≡ last + 1 → ChangesHearing topics s.1.topic s.0 (Some (query_of s.1.query, s.1.from)) later → IsHolding later passed s.0 (registrations ++ s ∷ [])
   holding_more later s is changes = record {
     rise = rise_push serial_of 0 last registrations s (omega (arith, is)) h.rise;

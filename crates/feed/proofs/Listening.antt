@@ -1,4 +1,4 @@
--- What each who listens is told.
+-- What each listener is told.
 use Rattle.std.proofs.Common.{◌≡◌, ℕ, Bool, true, false, List, [], ◌∷◌, None, refl, sym, ap, ◌∙◌, arith}
 use Rattle.std.specs.Prelude.{nat_eq, nat_lt}
 use Rattle.std.specs.BTreeMap.{is_at}
@@ -20,7 +20,7 @@ pub at_serial : (serial other : ℕ) → is_at (nat_cmp serial) other ≡ nat_eq
 at_serial serial other = grind (arith, nat_tests)
 
 module _ {K : Type 0} (number : ℕ) (item : Item K) (serial : ℕ) where
-  -- one more, where it isn't among those behind it
+  -- one more listener, which isn't among those after it
   pub told_step : (l : ℕ × ℕ) (ls : List (ℕ × ℕ)) → items_under serial (item_to number item ls) ≡ told_after number item (begin_of ls serial)
       → (is_at (nat_cmp serial) l.0 ≡ true → begin_of ls serial ≡ None) → items_under serial (item_to number item (l ∷ ls)) ≡ told_after number item (begin_of (l ∷ ls) serial)
   told_step l ls rest once = by_test (nat_eq l.0 serial) refl (nat_lt l.1 number) refl
@@ -46,7 +46,7 @@ module _ {K : Type 0} (number : ℕ) (item : Item K) (serial : ℕ) where
       told_step l ls (told_rising ls rise.1)
       (λ here. lookup-none (is_at (nat_cmp serial)) ls (none_past_head (eq_by_cmp_equiv nat_cmp_total) serial l ls (IsDistinct-from_sorted nat_cmp (keys_of (l ∷ ls)) rise) here))
 
-  -- each who listens is told once
+  -- each listener is told once
   pub told_once : (first from : ℕ) (others : List (ℕ × ℕ)) → AreApart first others → items_under serial (item_to number item ((first, from) ∷ others)) ≡ told_after number item (begin_of ((first, from) ∷ others) serial)
   told_once first from others apart =
       told_step (first, from) others (told_rising others apart.rise)

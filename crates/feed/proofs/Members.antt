@@ -59,7 +59,7 @@ module _ {X Y : Type 0} where
   contains_map f [] y c = absurd (omega (arith, c.1))
   contains_map f (x ∷ xs) y c = contains_cases x y xs c (λ e. contains_head (f x) (f y) (map f xs) (ap f e)) (λ t. contains_tail (f x) (f y) (map f xs) (contains_map f xs y t))
 
--- the others stay where one is taken out
+-- the others stay when one is removed
 pub removed_stays : (gone other : ℕ) (ks : List ℕ) → other ≢ gone → Contains ks other → Contains (remove_key (is_at (nat_cmp gone)) ks) other
 removed_stays gone other [] apart c = absurd (omega (arith, c.1))
 removed_stays gone other (k ∷ ks) apart c = contains_cases k other ks c (λ e. here (nat_eq k gone) refl e) (λ t. further (is_at (nat_cmp gone) k) t (removed_stays gone other ks apart t))
@@ -74,7 +74,7 @@ removed_stays gone other (k ∷ ks) apart c = contains_cases k other ks c (λ e.
     further true t rest = t
     further false t rest = contains_tail k other (remove_key (is_at (nat_cmp gone)) ks) rest
 
--- one that is put among others is there, and they stay
+-- one that is inserted is there, and the others stay
 pub inserted_here : (k : ℕ) (ks : List ℕ) → Contains (insert_key nat_cmp ks k) k
 inserted_here k [] = contains_head k k [] refl
 inserted_here k (x ∷ xs) = by_order (nat_cmp k x) (nat_eq x k) refl (at_serial k x) (inserted_here k xs)

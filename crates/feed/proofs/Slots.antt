@@ -10,7 +10,7 @@ use Rattle.feed.specs.Holding.{topic_state}
 use Rattle.feed.specs.Listening.{ChangesBegin}
 use Rattle.feed.proofs.Hearing.{hearing_changed, same_shown, some_shown}
 
--- two things hold where there is a value
+-- both hold if there is a value
 pub both_ok : {T E : Type 0} (P Q : Type 0) (r : Result T E) → OnOk r P → OnOk r Q → OnOk r (P × Q)
 both_ok P Q (Ok value) p q = (p, q)
 both_ok P Q (Err why) p q = tt

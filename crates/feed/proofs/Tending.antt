@@ -174,7 +174,7 @@ module _ {K A : Type 0} (matching : A → K → Bool) (tag : ℕ) (old new : Sto
   tree_deleted row (Err why) tagged ok err = tends_same tag old.commits new.commits legal err.commits
 
 module _ {K A : Type 0} (matching : A → K → Bool) (old new : StoreState K A) where
-  -- a sweep, whether memory stops it or not, leaves the commits
+  -- a sweep, even if memory runs out during it, leaves the commits unchanged
   pub tree_swept : (result : Result ℕ Refusal) → IfOk result (λ n. SweepsStore matching old n new) → OnErr result (SweepsStorePart matching old new) → new.commits ≡ old.commits
   tree_swept (Ok n) ok err = ok.rest.commits
   tree_swept (Err why) ok err = err.rest.commits

@@ -1,4 +1,4 @@
--- How far a conversation has come: the lines that were answered, and what is held of the next.
+-- How far a conversation has got: the lines that were answered, and what is held of the next one.
 use Rattle.std.proofs.Common.{◌≡◌, ◌≢◌, ◌<◌, ℕ, Bool, true, false, List, [], ◌∷◌, ◌++◌, length, Option, Some, None, arith, refl, sym, ap, ◌∙◌, subst, append_assoc, length-append}
 use Rattle.std.specs.List.{flat_map, AllByRecursion}
 use Rattle.std.specs.Prelude.{nat_eq}
@@ -13,7 +13,7 @@ use Rattle.front.specs.Conversations.{Exchange, AnswersLine, AnswersLines, Answe
 use Rattle.front.proofs.Bytes.{no_feed_append}
 use Rattle.front.proofs.Writing.{gathers, writes_both, writes_then_nothing, all_written, fails_behind, fails_in}
 
--- all bytes of the line that is being read, of which these are held
+-- all bytes of the line being read, of which these are held
 abbrev pub Holds : Bool → List ℕ → List ℕ → Type 0
 Holds false rest part = part ≡ rest
 Holds true rest part = (gone : List ℕ) × (part ≡ gone ++ rest) × (4096 < length gone) × HasNoFeed gone
@@ -26,7 +26,7 @@ lines_append : (xs ys : List (List ℕ)) → AllByRecursion HasNoFeed xs → All
 lines_append [] ys h k = k
 lines_append (x ∷ xs) ys h k = (h.0, lines_append xs ys h.1 k)
 
--- any bytes are lines and a rest
+-- any bytes are whole lines and a rest
 record Split (bytes : List ℕ) : Type 0 where
   lines : List (List ℕ)
   rest : List ℕ
@@ -58,7 +58,7 @@ flat_map_both : (xs ys : List (List ℕ)) → flat_map ended (xs ++ ys) ≡ flat
 flat_map_both [] ys = refl
 flat_map_both (x ∷ xs) ys = ap (λ l. ended x ++ l) (flat_map_both xs ys) ∙ sym (append_assoc (ended x) (flat_map ended xs) (flat_map ended ys))
 
--- lines in front of lines
+-- more lines in front of lines
 lines_before : (front : List (List ℕ)) (bytes : List ℕ) (lines : List (List ℕ)) (rest : List ℕ) → AllByRecursion HasNoFeed front → AreLines bytes lines rest → AreLines (flat_map ended front ++ bytes) (front ++ lines) rest
 lines_before front bytes lines rest n a = record {
   joined = ap (λ l. flat_map ended front ++ l) a.joined ∙ sym (append_assoc (flat_map ended front) (flat_map ended lines) rest) ∙ ap (λ l. l ++ rest) (sym (flat_map_both front lines));
@@ -86,7 +86,7 @@ holds_filled held part bytes n h = go (nat_eq (length held.rest) 4097) refl held
         let r : with_room held ≡ held = rw e refl in
         subst (λ (w : Held). Holds w.overlong (w.rest ++ bytes) (part ++ bytes)) (sym r) (stays held.overlong h)
 
--- the whole line of which this is held, and what is held behind it
+-- the whole line of which this is held, and the bytes held after it
 pub record HoldsLine (overlong : Bool) (line rest part : List ℕ) : Type 0 where
   pub whole : List ℕ
   pub is_rest : IsRestOf overlong whole line
@@ -102,7 +102,7 @@ holds_line true held line rest part e n h = record {
   is = h.1 ∙ ap (λ l. h.0 ++ l) e ∙ sym (append_assoc h.0 line (10 ∷ rest)) ∙ sym (append_assoc (h.0 ++ line) (10 ∷ []) rest);
 }
 
--- the last line, which no line feed ends
+-- the last line, which has no line feed
 pub record HoldsLast (overlong : Bool) (rest part : List ℕ) : Type 0 where
   pub is_rest : IsRestOf overlong part rest
   pub no_feed : HasNoFeed part
@@ -119,7 +119,7 @@ pub keeps_itself : (r : Option (List ℕ)) → Keeps r r
 keeps_itself None = tt
 keeps_itself (Some xs) = refl
 
--- at the reader's end what is held has no line feed, as before
+-- at the reader's end what is held still has no line feed
 pub no_feed_at_end : (r r' : Option (List ℕ)) (held held' : Held) → HasNoFeed held.rest → FillsHeld r r' held false held' → HasNoFeed held'.rest
 no_feed_at_end r r' held held' n f =
     let z = (f.none_at_end refl).0 in
@@ -130,7 +130,7 @@ no_feed_at_end r r' held held' n f =
     go true e = rw e tt
     go false e = rw e n
 
--- what went in and out, of what a reader had left and has left, and what a writer had and has
+-- what went in and out, from what the reader had left and has left, and what the writer had and has
 abbrev pub went : Option (List ℕ) → Option (List ℕ) → Option (List ℕ) → Option (List ℕ) → Exchange
 went r r' w w' = record { had_left = r; has_left = r'; had = w; has = w' }
 
@@ -171,7 +171,7 @@ module _ {S : Type 0} (answers : ℕ → S → List Placed → List ℕ → S �
     }
 
     module _ (r w : Option (List ℕ)) (gathered : List ℕ) (s : S) (held : Held) (p : Progress r w gathered s held) where
-      -- every line that was answered stands
+      -- every line answered so far counts as carried out
       pub stands_now : (w' : Option (List ℕ)) → WritesBeginning w w' (gathered ++ []) → AnsweredFirst answers s0 s (went r0 r w0 w')
       stands_now w' h =
           let l = split_lines p.part in
@@ -253,7 +253,7 @@ module _ {S : Type 0} (answers : ℕ → S → List Placed → List ℕ → S �
               wrote = writes_both w0 w w' [] gathered gathered' p.text a.0 p.wrote a.2;
             }
 
-        -- the line was carried out, though not all of the answer was written
+        -- the line was carried out, but not all of its answer was written
         pub stands_after : (w' : Option (List ℕ)) → IsAnswered s s' held.overlong line (λ text. WritesBeginning w w' (gathered ++ text)) → AnsweredFirst answers s0 s' (went r0 r w0 w')
         stands_after w' f =
             let h = next_whole in
@@ -280,7 +280,7 @@ module _ {S : Type 0} (answers : ℕ → S → List Placed → List ℕ → S �
         last_are : AreLines (flat_map ended p.lines ++ p.part) p.lines p.part
         last_are = record { joined = refl; lines_have_none = p.lines_have_none; rest_has_none = last_whole.no_feed }
 
-        -- the last line was answered, and all was written
+        -- the last line was answered, and everything was written
         pub ended_all : (w' w'' : Option (List ℕ)) (gathered' gathered'' : List ℕ) → IsAnswered s s' held.overlong held.rest (λ text. Writes w gathered w' gathered' text) → Writes w' gathered' w'' gathered'' [] → gathered'' ≡ [] → IsAtEnd r
             → AnsweredAll answers s0 s' (went r0 r w0 w'')
         ended_all w' w'' gathered' gathered'' f h e end =

@@ -6,7 +6,7 @@ use Rattle.std.proofs.lemmas.List.{take_all}
 use Rattle.memchr.specs.Find.{IsFirstByte, Nowhere, Passes, is_byte}
 use Rattle.front.specs.Lines.{HasNoFeed, IsFirstFeed}
 
--- where no byte of the first n is a line feed
+-- if no byte of the first n is a line feed
 no_feed_within : (xs : List ℕ) (n : ℕ) → n ≤ length xs → Nowhere (Passes (is_byte 10) xs) 0 n → HasNoFeed (take n xs)
 no_feed_within [] zero l h = tt
 no_feed_within [] (suc n) l h = absurd (omega (arith, l))
@@ -14,7 +14,7 @@ no_feed_within (x ∷ xs) zero l h = tt
 no_feed_within (x ∷ xs) (suc n) l h =
     ((λ p. h zero (omega arith) (omega arith) (ap (λ y. y == 10) p)), no_feed_within xs n (omega (arith, l)) (λ k m o. h (suc k) (omega arith) (omega (arith, o))))
 
--- the line feed stands between the bytes before and those behind it
+-- the line feed is between the bytes before it and those after it
 feed_stands : (xs : List ℕ) (k : ℕ) → k < length xs → Passes (is_byte 10) xs k → xs ≡ take k xs ++ 10 ∷ drop (k + 1) xs
 feed_stands [] k l p = absurd (omega (arith, l))
 feed_stands (x ∷ xs) zero l p = ap (λ y. y ∷ xs) (eqb-true x 10 p)

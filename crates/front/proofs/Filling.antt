@@ -1,4 +1,4 @@
--- Bytes that a read puts behind those that are held.
+-- Bytes that a read appends to those that are held.
 use Rattle.std.proofs.Common.{◌≡◌, ℕ, suc, zero, ◌+◌, ◌-◌, ◌<◌, ◌≤◌, Bool, true, false, List, [], ◌∷◌, ◌++◌, length, take, drop, Option, arith, refl, sym, ap, ◌∙◌}
 use Rattle.std.specs.Prelude.{nat_eq, nat_lt}
 use Rattle.std.specs.Io.KnownBytes.{Consumes, IsAtEnd}
@@ -17,13 +17,13 @@ holding items start end overlong = record { rest = take (end - start) (drop star
 held_length : (items : List ℕ) (start end : ℕ) → start ≤ end → end ≤ length items → length (take (end - start) (drop start items)) ≡ end - start
 held_length items start end o w = omega (arith, length-take (end - start) (drop start items), length-drop start items, o, w)
 
--- with room behind them they stay
+-- with room after them they stay
 pub room_kept : (items : List ℕ) (start end : ℕ) (overlong : Bool) → start ≤ end → end ≤ length items → end - start < 4097 → with_room (holding items start end overlong) ≡ holding items start end overlong
 room_kept items start end overlong o w l =
     let t : nat_eq (length (take (end - start) (drop start items))) 4097 ≡ false = search (arith, held_length items start end o w, l) in
     rw t refl
 
--- without it they are let go
+-- without room they are dropped
 pub room_made : (items : List ℕ) (start end : ℕ) (overlong : Bool) → start ≤ end → end ≤ length items → end - start ≡ 4097 → with_room (holding items start end overlong) ≡ record { rest = []; overlong = true }
 room_made items start end overlong o w l =
     let t : nat_eq (length (take (end - start) (drop start items))) 4097 ≡ true = search (arith, held_length items start end o w, l) in

@@ -1,4 +1,4 @@
--- A client that was once told that the pages are full knows it from then on.
+-- Once a client was told that the pages are full, it stays told.
 use Rattle.std.proofs.Common.{◌≡◌, ℕ, Bool, true, List, [], ◌∷◌, length, Option, Result, Ok, Err, inl, inr, ap, ◌∙◌}
 use Rattle.key_class.specs.Queries.{Query}
 use Rattle.key_class.specs.declared.refusal.Refusal.{Refusal}

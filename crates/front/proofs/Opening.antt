@@ -1,4 +1,4 @@
--- A cursor opened or closed, told to its client.
+-- A cursor is opened or closed, and its client is told.
 use Rattle.std.proofs.Common.{◌≡◌, ◌≢◌, ◌+◌, ◌-◌, ◌<◌, ◌≤◌, ℕ, Bool, true, false, not, cond, ◌||◌, List, [], ◌∷◌, ◌++◌, length, filter, Option, Some, None, Ok, Err, refl, sym, ap, ◌∙◌, arith, subst, length-append}
 use Rattle.std.specs.Prelude.{nat_eq, nat_lt, IsPermutation, if◌then◌else◌}
 use Rattle.key_class.specs.Queries.{Query}
@@ -50,7 +50,7 @@ module _ {K A : Type 0} where
       go false e r = rw e (ap (λ o. cond (nat_eq k.serial d) (Some k) o) r)
 
   module _ (rules : Rules K A) (old : StoreState K A) (told : Told K A) (t : IsAsTold rules old told) where
-    -- the client's new cursor is as the store's, which follows a commit or has a snapshot
+    -- the client's new cursor agrees with the store's, which follows a commit or has a snapshot
     pub record IsBegun (from : Option ℕ) (follows : Bool) (opened : ℕ) : Type 0 where
       pub follows_is : (query : Query A) → (client_cursor told query from).follows ≡ follows
       pub opened_is : (query : Query A) → (client_cursor told query from).opened ≡ opened

@@ -13,12 +13,12 @@ use Rattle.front.specs.AsTold.{IsAsTold}
 use Rattle.front.specs.Conversations.{Exchange, AnswersLine, AnswersLines, AnsweredAll, AnsweredWhole, AnsweredFirst}
 use Rattle.front.specs.Sessions.{AnswersTokens, AnswersTold, ToldAll, ToldWhole, ToldFirst}
 
--- what follows where all went well
+-- a consequence, in the case where all went well
 pub if_well : {A E : Type 0} (r : Result A E) {P Q : Type 0} → (P → Q) → OnOk r P → OnOk r Q
 if_well (Ok x) f h = f h
 if_well (Err e) f h = h
 
--- no serial was given yet
+-- no serial has been given yet
 none_given : (c : ℕ) → (nat_eq c 0 || nat_lt 0 c) ≡ true
 none_given zero = refl
 none_given (suc c) = let h : nat_lt 0 (suc c) ≡ true = search arith in rw h (or_true (nat_eq (suc c) 0))
@@ -27,7 +27,7 @@ none_given (suc c) = let h : nat_lt 0 (suc c) ≡ true = search arith in rw h (o
     or_true true = refl
     or_true false = refl
 
--- a new store is as is told before the first line
+-- a new store agrees with what is told before the first line
 pub new_as_told : {K A : Type 0} (rules : Rules K A) (store : StoreState K A) → (config : Config) × (store ≡ new_store config) → IsAsTold rules store (nothing_told store.limit store.page_limit)
 new_as_told {K} {A} rules store h = subst (λ (s : StoreState K A). IsAsTold rules s (nothing_told s.limit s.page_limit)) (sym h.1) (record {
   limit = refl;
@@ -41,7 +41,7 @@ new_as_told {K} {A} rules store h = subst (λ (s : StoreState K A). IsAsTold rul
   pages = λ full. cc;
 })
 
--- A conversation told another way: where each line that is answered in one state tells as much in the other, so do all.
+-- A conversation seen through another relation: if it holds for each line, it holds for all lines.
 module _ {S T : Type 0} (answers : ℕ → S → List Placed → List ℕ → S → Type 0) (tells : ℕ → T → List Placed → List ℕ → T → Type 0) (Alike : S → T → Type 0)
     (step : (len : ℕ) (old new : S) (ts : List Placed) (text : List ℕ) (told : T) → answers len old ts text new → Alike old told → (after : T) × tells len told ts text after × Alike new after) where
   tells_line : (old new : S) (line text : List ℕ) (told : T) → AnswersLine answers old line text new → Alike old told → (after : T) × AnswersLine tells told line text after × Alike new after

@@ -73,13 +73,13 @@ module _ {K A : Type 0} (rules : Rules K A) (old new : StoreState K A) (told : T
         told_full rules old told t new k finders a.1,
       )
 
-  -- the clauses by which a row doesn't end
+  -- the clauses about why a row isn't ended
   pub record EndRefusals (row : ℕ) (r : Result ℕ Refusal) : Type 0 where
     pub never : (r ≡ Err refusal.NoSuchRow) ↔ (status_of old.commits row ≡ NeverIssued)
     pub already : (r ≡ Err refusal.AlreadyDeleted) ↔ (status_of old.commits row ≡ Dead)
     pub full : (r ≡ Err refusal.CommitsFull) ↔ ((status_of old.commits row ≡ Live) × (old.limit ≤ length old.commits))
 
-  -- where it isn't by its row, the row is live
+  -- if the refusal isn't because of its row, the row is live
   lives : (row : ℕ) (r : Result ℕ Refusal) → EndRefusals row r → (r ≡ Err refusal.NoSuchRow → ⊥) → (r ≡ Err refusal.AlreadyDeleted → ⊥) → status_of told.commits row ≡ Live
   lives row r d n a = ap (λ l. status_of l row) t.commits ∙ go (status_of old.commits row) refl
     where
@@ -91,7 +91,7 @@ module _ {K A : Type 0} (rules : Rules K A) (old new : StoreState K A) (told : T
   room_left : (row : ℕ) (r : Result ℕ Refusal) → EndRefusals row r → status_of told.commits row ≡ Live → (r ≡ Err refusal.CommitsFull → ⊥) → IsFullAsTold told → ⊥
   room_left row r d l n h = n (d.full.1 (ap (λ c. status_of c row) (sym t.commits) ∙ l, full_told.1 h))
 
-  -- a row that ended was live, and there was a place for a commit
+  -- a row that was ended was live, and there was room for a commit
   may_end : (row n : ℕ) (r : Result ℕ Refusal) → r ≡ Ok n → EndRefusals row r → (status_of told.commits row ≡ Live) × (IsFullAsTold told → ⊥)
   may_end row n r e d =
       let l = lives row r d (λ x. let y : Ok n ≡ Err refusal.NoSuchRow = sym e ∙ x in cc) (λ x. let y : Ok n ≡ Err refusal.AlreadyDeleted = sym e ∙ x in cc) in
@@ -121,7 +121,7 @@ module _ {K A : Type 0} (rules : Rules K A) (old new : StoreState K A) (told : T
     other : (x y : Refusal) → why ≡ x → (x ≡ y → ⊥) → r ≡ Err y → ⊥
     other x y a q s = let z : Err why ≡ Err y = sym e ∙ s in let f : why ≡ y = cc in q (sym a ∙ f)
 
-    -- refused for another reason than its row, it is live, and there is a place for a commit
+    -- refused for a reason other than its row: the row is live, and there was room for a commit
     may_else : (x : Refusal) → why ≡ x → (x ≡ refusal.NoSuchRow → ⊥) → (x ≡ refusal.AlreadyDeleted → ⊥) → (x ≡ refusal.CommitsFull → ⊥) → (status_of told.commits row ≡ Live) × (IsFullAsTold told → ⊥)
     may_else x a never already full = let l = lives row r d (other x refusal.NoSuchRow a never) (other x refusal.AlreadyDeleted a already) in (l, room_left row r d l (other x refusal.CommitsFull a full))
 
@@ -129,7 +129,7 @@ module _ {K A : Type 0} (rules : Rules K A) (old new : StoreState K A) (told : T
         → (after : Told K A) × RefusesToEnd row why told after × IsAsTold rules new after
     end_refused w k u n = says w
       where
-        -- refused so, it uses up no finder
+        -- such a refusal uses up no finder
         alike : (x : Refusal) → why ≡ x → (x ≡ refusal.OutOfMemory → ⊥) → RefusesToEnd row x told told → (after : Told K A) × RefusesToEnd row why told after × IsAsTold rules new after
         alike x a q said = (told, subst (λ y. RefusesToEnd row y told told) (sym a) said, told_kept rules old told t new told.finders k (omega (arith, t.finders, u (λ z. q (sym a ∙ z)))))
 
@@ -158,7 +158,7 @@ module _ {K A : Type 0} (rules : Rules K A) (old new : StoreState K A) (told : T
           told_full rules old told t new k finders w.1,
         )
 
-  -- the clauses of an opening's refusals, for a query that is not too deep
+  -- the clauses about why an opening is refused, for a query that is not too deep
   bad_room : (query : Query A) (room : ℕ) → depth_of query ≤ 32 → IsBadOpening query room ↔ IsBadRoom room
   bad_room query room s = (
     λ h. ⊎_elim (λ (a : room ≡ 0). inl a) (λ (b : (4096 < room) ⊎ (32 < depth_of query)). ⊎_elim (λ (x : 4096 < room). inr x) (λ (x : 32 < depth_of query). absurd (omega (arith, s, x))) b) h,
@@ -171,7 +171,7 @@ module _ {K A : Type 0} (rules : Rules K A) (old new : StoreState K A) (told : T
     λ h. ⊎_elim (λ (a : 256 ≤ told.open_cursors). inl (omega (arith, a, t.open_cursors))) (λ (b : 4294967295 ≤ told.last). inr (omega (arith, b, t.last))) h,
   )
 
-  -- when a cursor's opening is refused, by what was told: by the room, then by the commit that it follows, if any
+  -- when opening a cursor is refused, by what was told: first for the room, then for the commit to follow, if any
   record IsRefusedBy (room : ℕ) (from : Option ℕ) (query : Query A) (r : Result ℕ Refusal) : Type 0 where
     pub shallow : depth_of query ≤ 32
     pub bad : (r ≡ Err refusal.BadConfig) ↔ IsBadOpening query room
@@ -179,7 +179,7 @@ module _ {K A : Type 0} (rules : Rules K A) (old new : StoreState K A) (told : T
     pub full : (r ≡ Err refusal.CursorsFull) ↔ ((¬ IsBadOpening query room) × (¬ IsAhead told from) × IsFullOf old)
 
   module _ (room : ℕ) (from : Option ℕ) (query : Query A) (r : Result ℕ Refusal) (by : IsRefusedBy room from query r) where
-    -- with another answer than these refusals the cursor may begin, and one is left
+    -- if the answer is none of these refusals, the cursor may begin, and a serial was left
     may_begin : (r ≡ Err refusal.BadConfig → ⊥) → (r ≡ Err refusal.FromFuture → ⊥) → MayBegin told room from
     may_begin b f =
         let good : IsBadOpening query room → ⊥ = λ h. b (by.bad.1 h) in
@@ -246,7 +246,7 @@ module _ {K A : Type 0} (rules : Rules K A) (old new : StoreState K A) (told : T
       never x (inr (inl a)) h = let z : refusal.CursorsFull ≡ refusal.FromFuture = sym a ∙ h in cc
       never x (inr (inr a)) h = let z : refusal.OutOfMemory ≡ refusal.FromFuture = sym a ∙ h in cc
 
-  -- behind a commit
+  -- after a commit
   by_commit : (room commit : ℕ) (query : Query A) (r : Result ℕ Refusal) → depth_of query ≤ 32 → ((r ≡ Err refusal.BadConfig) ↔ IsBadOpening query room)
       → ((r ≡ Err refusal.FromFuture) ↔ IsFromFuture old query room commit) → ((r ≡ Err refusal.CursorsFull) ↔ HasNoFollowerFor old query room commit) → IsRefusedBy room (Some commit) query r
   by_commit room commit query r s b f c =
@@ -305,7 +305,7 @@ module _ {K A : Type 0} (rules : Rules K A) (old new : StoreState K A) (told : T
       let k = told_closed rules old told t c new n in
       (record told { cursors = with_client_cursor told.cursors c (Err refusal.CursorClosed); open_cursors = told.open_cursors - 1 }, (k.0, k.1, refl), k.2)
 
--- a query whose text is refused, or for which memory was wanting
+-- a query whose text is refused, or for which memory ran out
 pub refused_query : {K A : Type 0} (texts : Texts K A) (rules : Rules K A) (old : StoreState K A) (told : Told K A) → IsAsTold rules old told → (len : ℕ) (ts : List Placed) (replies : Query A → Reply K → Told K A → Told K A → Type 0) (why : Refusal) → IsParseRefusal why
     → ((place : ℕ) → why ≡ refusal.QueryText place → RefusesTokens texts len ts place) → (after : Told K A) × WithQuery texts len ts replies (reply.Refused why) told after × IsAsTold rules old after
 refused_query texts rules old told t len ts replies why (inl memory) refuses = (told, inr (inr (ap reply.Refused memory, refl)), t)

@@ -1,4 +1,4 @@
--- What a call of the store does, told to its client.
+-- A call of the store is made, and its client is told.
 use Rattle.std.proofs.Common.{◌≡◌, ◌≢◌, ◌+◌, ◌<◌, ◌≤◌, ℕ, suc, Bool, true, false, List, [], ◌∷◌, ◌++◌, length, Some, None, Result, Ok, Err, ◌⊎◌, inl, inr, ⊎_elim, refl, sym, ap, ◌∙◌, arith, subst}
 use Rattle.std.specs.Prelude.{nat_eq, IsPermutation, if◌then◌else◌}
 use Rattle.std.specs.List.{AllByRecursion}
@@ -21,7 +21,7 @@ use Rattle.front.specs.Told.{ClientCursor, Told, with_client_cursor, DiedAfterOp
 use Rattle.front.specs.AsTold.{IsSameCursor, AreSame, IsAsTold}
 
 module _ {K A : Type 0} (rules : Rules K A) where
-  -- a cursor that a call left alone is still as told
+  -- a cursor that a call didn't touch still agrees with what was told
   stays_same : (commits later : List (Write K)) (x y : Result (CursorState K A) Refusal) (f : Result (ClientCursor K A) Refusal)
       → SameOrStays rules.is_match commits later x y → AreSame rules commits x f → AreSame rules later y f
   stays_same commits later (Ok before) (Ok after) (Ok f) s a = record { query = a.query ∙ sym s.query; follows = a.follows ∙ sym s.follows; opened = a.opened ∙ sym s.opened; asked = a.asked ∙ sym s.asked; fits = s.fits f.given a.fits }
@@ -76,7 +76,7 @@ module _ {K A : Type 0} (rules : Rules K A) where
       pages = λ full. omega (arith, t.pages full, c.pages);
     }
 
-    -- a call that was refused for want of pages
+    -- a call was refused because the pages are full
     pub told_full : (new : StoreState K A) → Keeps rules.is_match old new → new.finders ≤ told.finders → new.pages_left < 2 → IsAsTold rules new (record told { pages_full = true })
     told_full new c f few =
         let h = told_kept new told.finders c f in
@@ -111,7 +111,7 @@ module _ {K A : Type 0} (rules : Rules K A) where
     each_needed [] h = tt
     each_needed (d ∷ ds) h = (needed_told d h.0, each_needed ds h.1)
 
-    -- the cursor with a serial is told by its client
+    -- the client's picture of the cursor with a serial
     pub record IsToldAs (c : ℕ) (k : CursorState K A) : Type 0 where
       pub f : ClientCursor K A
       pub is : told.cursors c ≡ Ok f
@@ -131,7 +131,7 @@ module _ {K A : Type 0} (rules : Rules K A) where
         go (Ok f) e a = absurd a
         go (Err other) e a = e ∙ ap Err (sym a)
 
-    -- one cursor changed, and is told as it is now
+    -- one cursor changed, and the client was told how it is now
     changed : (c : ℕ) (before after : CursorState K A) (f : ClientCursor K A) → cursor_of old c ≡ Ok before → after.serial ≡ before.serial → IsSameCursor rules old.commits after f
         → (d : ℕ) → AreSame rules old.commits (cursor_of (states.with_open_cursor old after) d) (with_client_cursor told.cursors c (Ok f) d)
     changed c before after f o s a d = go (nat_eq d c) refl
@@ -167,7 +167,7 @@ module _ {K A : Type 0} (rules : Rules K A) where
             step true r = refl
             step false r = ap suc r
 
-    -- one cursor got on, and its client was told nothing
+    -- one cursor got on, but its client was told nothing
     pub told_unchanged : (c : ℕ) (before after : CursorState K A) (f : ClientCursor K A) (new : StoreState K A) → cursor_of old c ≡ Ok before → after.serial ≡ before.serial → IsSameCursor rules old.commits after f
         → told.cursors c ≡ Ok f → new ≡ states.with_open_cursor old after → IsAsTold rules new told
     told_unchanged c before after f new o s a i e =
@@ -181,12 +181,12 @@ module _ {K A : Type 0} (rules : Rules K A) where
             subst (λ x. AreSame rules new.commits (cursor_of new d) x) k h
         back d false e h = subst (λ x. AreSame rules new.commits (cursor_of new d) x) (rw e refl) h
 
-    -- a cursor that got on, and its client, which was told this
+    -- a cursor that got on, and its client, which was given these items
     same_after : (k after : CursorState K A) (f : ClientCursor K A) (items : List (Item K)) → after.query ≡ k.query → after.follows ≡ k.follows → after.opened ≡ k.opened → IsSameCursor rules old.commits k f → Fits rules.is_match old.commits after items
         → IsSameCursor rules old.commits after (record f { given = items; asked = after.asked })
     same_after k after f items q w o a fits = record { query = a.query ∙ sym q; follows = a.follows ∙ sym w; opened = a.opened ∙ sym o; asked = refl; fits = fits }
 
-    -- what a listing of the cursor is, is one for the client
+    -- a listing of the cursor is a listing for the client
     module _ (k after : CursorState K A) (f : ClientCursor K A) (a : IsSameCursor rules old.commits k f) (q : after.query ≡ k.query) (w : after.follows ≡ k.follows) (o : after.opened ≡ k.opened) where
       client_begins : (items : List (Item K)) → Fits rules.is_match old.commits after items → BeginsListingFor f.follows (client_wants rules f) f.opened (length told.commits) told.commits (without_marks items)
       client_begins items fits =
@@ -238,7 +238,7 @@ module _ {K A : Type 0} (rules : Rules K A) where
               (same_after n.before n.after k.f (k.f.given ++ given ∷ []) n.gives.query n.gives.follows n.gives.opened k.same fits) n.is;
         }
 
-    -- what the client is told where nothing is left to give
+    -- what the client is told if nothing is left to give
     pub record IsEmptied (c : ℕ) (new : StoreState K A) : Type 0 where
       pub f : ClientCursor K A
       pub is : told.cursors c ≡ Ok f

@@ -70,7 +70,7 @@ limits_given names given limits taken read = record {
   seed = number_from names storm_table (codes "seed") given 1 limits.seed (λ value. refl) refl taken read.seed;
 }
 
--- what was met on words that clap took: the words, and that it is what they spell
+-- what clap found in words that it accepts: the words spell just that
 abbrev pub Meets : List Text → Option (Text × List Row) → Type 0
 Meets words met = (names : ClassNames) × AreClassNames names × (sp : Spelled names words) × (met ≡ Some (sp.command, map (option_row names (table_of sp.command)) sp.given))
 
@@ -83,13 +83,13 @@ meets line words met gist faults matches =
     let s : Spelled names words = spelled names words (subst (λ (l : App). fault_of l words ≡ []) e none) in
     (names, gist.1, s, matches (ap is_simple e ∙ is_plain names) ∙ ap (λ (l : App). subcommand_of l words) e ∙ s.found)
 
--- the command that was met is one of those that there are
+-- the command that was found is one that exists
 pub names_command : (words : List Text) (met : Option (Text × List Row)) (command : Text) → Meets words met → Some command ≡ option_map (λ (p : Text × List Row). p.0) met → IsCommand command
 names_command words met command m is =
     let both : Some command ≡ Some m.2.command = is ∙ ap (option_map (λ (p : Text × List Row). p.0)) m.3 in
     subst IsCommand (sym (ap (λ (o : Option Text). unwrap_or o command) both)) m.2.is_command
 
--- what was read of the rows of a command is what its words give
+-- what was read from the rows of a command is what its words give
 module _ (words : List Text) (met : Option (Text × List Row)) (command : Text) (rows : List Row) (m : Meets words met)
     (command_is : Some command ≡ option_map (λ (p : Text × List Row). p.0) met) (rows_are : Some rows ≡ option_map (λ (p : Text × List Row). p.1) met) where
   gives_options : (own : Text) → command ≡ own → (Read : List Row → Type 0) (Given : List (Text × Text) → Type 0)

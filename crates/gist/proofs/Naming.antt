@@ -1,4 +1,4 @@
--- Words without a fault name a command first, and its options are the words behind it.
+-- Words without a fault name a command first, and its options are the words after it.
 use Rattle.std.proofs.Common.{◌≡◌, ◌∙◌, ◌||◌, Bool, true, false, cond, refl, sym, ap, subst, List, [], ◌∷◌, ◌++◌, map, drop, inl, inr, ◌⊎◌, Option, Some, None, codes, true≢false}
 use Rattle.std.specs.Option.{is_some, option_map, option_map_or}
 use Rattle.std.specs.List.{find, fold}
@@ -101,7 +101,7 @@ module _ (names : ClassNames) where
     words_are : words ≡ command ∷ rest
     stop_is : stop ≡ Some (command, rest)
 
-  -- what a word comes to, by the command that it names
+  -- where the walk goes on after a word, by the command that it names
   abbrev After : Text → Option Text → Walk
   After word met = after_step top.rules word (at no_rows idle) (subcommand_or_other top.rules met idle 1 word no_rows).0 (subcommand_or_other top.rules met idle 1 word no_rows).1
 
@@ -136,7 +136,7 @@ module _ (names : ClassNames) where
   no_default [] rows = kept_rows (has_row (codes "help") rows) rows
   no_default (o ∷ table) rows = ap (λ (rs : List Row). fold with_default rs (rules names table)) (kept_rows (has_row o.0 rows) rows) ∙ no_default table rows
 
-  -- how the walk goes over the name of a command
+  -- how the walk goes past the name of a command
   pub record Enters (command : Text) : Type 0 where
     pub turn : turn_fault top commands (walk_from nothing_held) command ≡ []
     pub walk : walked top.rules commands (walk_from nothing_held) command ≡ stopped_at command []
@@ -159,7 +159,7 @@ module _ (names : ClassNames) where
   enters command (inr (inl is)) = subst Enters (sym is) enters_replay
   enters command (inr (inr is)) = subst Enters (sym is) enters_storm
 
-  -- the words are a command and options; what was found behind the command are those options
+  -- the words are a command and options; what was found after the command are those options
   pub record Spelled (words : List Text) : Type 0 where
     pub command : Text
     pub rest : List Text

@@ -1,4 +1,4 @@
--- A number that clap read of a text.
+-- A number that clap read from a text.
 use Rattle.std.proofs.Common.{◌≡◌, ◌∙◌, ℕ, List, Option, Some, None, Result, Ok, Err, refl}
 use Rattle.std.specs.Option.{unwrap_or}
 use Rattle.std.specs.Str.Parse.{ParsesUnsigned}

@@ -1,4 +1,4 @@
--- Words behind a command that have no fault spell options, and the options found are those.
+-- Words after a command that have no fault spell options, and the options found are those.
 use Rattle.std.proofs.Common.{◌≡◌, ◌∙◌, ◌&&◌, ◌||◌, ℕ, Bool, true, false, cond, refl, sym, ap, subst, arith, List, [], ◌∷◌, ◌++◌, map, length, inl, inr, ◌⊎◌, Option, Some, None, codes, true≢false}
 use Rattle.std.specs.Option.{option_map_or}
 use Rattle.std.specs.Prelude.{⊤, slice_get, nat_lt, ◌==◌}
@@ -32,7 +32,7 @@ help = with_index 1 (filled help_rule)
 abbrev pub version : Rule
 version = with_index 1 (filled version_rule)
 
--- what asks for a text: the help or the version
+-- a rule that asks for the help or the version
 abbrev pub IsRequest : Rule → Type 0
 IsRequest rule = (rule ≡ help) ⊎ (rule ≡ version)
 
@@ -73,7 +73,7 @@ added id change missing (r ∷ rows) none = go (bytes_eq r.id id) none (added id
     go true h rest = absurd (true≢false h)
     go false h rest = ap (λ rs. r ∷ rs) (rest h)
 
--- what stands behind one hyphen names no rule, or one that asks for a text, as `-h` does
+-- what follows one hyphen names no rule, or one that asks for help or the version, as `-h` does
 abbrev pub IsShortRule : Option Rule → Type 0
 IsShortRule o = (o ≡ None) ⊎ ((rule : Rule) × IsRequest rule × (o ≡ Some rule))
 
@@ -162,7 +162,7 @@ module _ (names : ClassNames) (table : List (Text × OptionKind)) where
   abbrev pub reading_named : Text → Reading
   reading_named name = option_map_or reading_by (arg_by_id all name) reading.AsWritten
 
-  -- what is held of an option that was read
+  -- the row of an option that was read
   abbrev pub option_row : Text × Text → Row
   option_row o = record { id = o.0; values = o.1 ∷ []; count = None; source = Some CommandLine; reading = reading_named o.0 }
 
@@ -172,12 +172,12 @@ module _ (names : ClassNames) (table : List (Text × OptionKind)) where
   abbrev pub rows_at_end : Walk → List Text → List Row
   rows_at_end w words = settled_rows all (fold (walked all []) w words).held.pending (fold (walked all []) w words).held.rows
 
-  -- each option is used once, behind these rows, and its value passes
+  -- each option is used once, after these rows, and its value passes
   abbrev pub Taken : List Row → List (Text × Text) → Type 0
   Taken rows [] = ⊤
   Taken rows (o ∷ given) = (takes : ValueParser) × (arg_by_id all o.0 ≡ Some (value_rule o.0 takes)) × (use_fault false (value_rule o.0 takes) (o.1 ∷ []) rows ≡ []) × Taken (rows ++ option_row o ∷ []) given
 
-  -- the words spell options, which are the rows at the end behind those that were there
+  -- the words spell options, whose rows are at the end, after those that were there
   abbrev pub Found : List Text → List Row → Option (Text × List Text) → List Row → Type 0
   Found words rows p end = (given : List (Text × Text)) × SpellsOptions words given × (settle_fault all false (H rows p) ≡ []) × (end ≡ settled_rows all p rows ++ map option_row given) × Taken (settled_rows all p rows) given
 
@@ -200,7 +200,7 @@ module _ (names : ClassNames) (table : List (Text × OptionKind)) where
       unused true h = absurd (faulty kind.ArgumentConflict [] h)
       unused false h = refl
 
-  -- an option that waits for its value can't be used
+  -- an option that waits for its value can't be used yet
   unsettled : (name : Text) (takes : ValueParser) (rows : List Row) → arg_by_id all name ≡ Some (value_rule name takes) → settle_fault all false (H rows (Some (name, []))) ≡ [] → ⊥
   unsettled name takes rows by_id e =
       faulty kind.InvalidValue [] (subst (λ (o : Option Rule). option_map_or (λ a. use_fault false a [] rows) o [] ≡ []) by_id e)
@@ -219,11 +219,11 @@ module _ (names : ClassNames) (table : List (Text × OptionKind)) where
   waiting_is_faulty name takes rows by_id other o (inr (inr r)) None f =
       unsettled name takes rows by_id (subst (λ (a : Option Rule). long_fault all false a None (H rows (Some (name, []))) ≡ []) (r.1 ∙ ap (λ (a : Rule). Some a) r.2.1) f)
 
-  -- what a word comes to, by whether it is the mark and how it names an option
+  -- where the walk goes after a word, by whether the word is `--` and how it names an option
   abbrev pub word_step : Text → Held → Waiting → Bool → Option (Text × Option Text) → Held × Step
   word_step word h waiting b l = cond b (h, trailing 1) (long_or_other all waiting word l h)
 
-  -- the rows behind an option and its value
+  -- the rows after one more option and its value
   one_more : (option_given : Text × Text) (given : List (Text × Text)) (rows used_rows end : List Row) → used_rows ≡ rows ++ option_row option_given ∷ [] → end ≡ used_rows ++ map option_row given
       → end ≡ rows ++ map option_row (option_given ∷ given)
   one_more o given rows used_rows end is e = e ∙ ap (λ rs. rs ++ map option_row given) is ∙ append_assoc rows (option_row o ∷ []) (map option_row given)
@@ -254,13 +254,13 @@ module _ (names : ClassNames) (table : List (Text × OptionKind)) where
     stray h e =
         faulty kind.UnknownArgument [] (subst (λ (o : Option Rule). option_map_or (λ a. positional_fault s.rules s.args_override_self a h) o (stray_fault s) ≡ []) (no_positional names table) e)
 
-    -- behind the mark no word may follow
+    -- after `--` no word may follow
     behind_mark_is_nothing : (h : Held) (waiting : Waiting) (words : List Text) → walk_fault s [] (behind_mark h waiting) words ≡ [] → words ≡ []
     unfolding walk_fault
     behind_mark_is_nothing h waiting [] e = refl
     behind_mark_is_nothing h waiting (w ∷ words) e = absurd (stray h (earlier (step_fault s 1 h lone_word) _ e))
 
-    -- the word behind an option is its value
+    -- the word after an option is its value
     abbrev ValueDone : Text → List Text → List Row → Text → Held × Step → Type 0
     ValueDone v words rows name met =
         walk_fault s [] (after_step all v (at (H rows (Some (name, []))) (option name)) met.0 met.1) words ≡ []

@@ -16,7 +16,7 @@ second (k ∷ ks) b e =
     let bad : length (k ∷ ks) ≡ 0 = ap length e in
     absurd (omega (arith, bad))
 
--- a shape without a fault in the last checks was given the subcommand that it wants
+-- a shape that passes the last checks was given the subcommand that it requires
 pub checked : (s : Shape) (rows : List Row) (b : Bool) → s.subcommand_required ≡ true → s.arg_required_else_help ≡ false → check_fault s rows b ≡ [] → b ≡ true
 checked s rows true wanted help e = refl
 checked s rows false wanted help e =

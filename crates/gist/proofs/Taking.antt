@@ -85,7 +85,7 @@ module _ (names : ClassNames) (table : List (Text × OptionKind)) (command : Tex
   abbrev Passes : Walk → List Text → Type 0
   Passes w words = (walk_fault (s names table command) [] w words ≡ []) × Ends names table w words
 
-  -- what is left to pass behind a word
+  -- what is still to be checked after a word
   abbrev After : Text → List Text → Held → Waiting → Bool → Option (Text × Option Text) → Type 0
   After word words h waiting b l =
       (or_else (or_else (cond b [] (flag_word_fault (rules names table) false l word h)) (step_fault (s names table command) 1 (word_step names table word h waiting b l).0 (word_step names table word h waiting b l).1))
@@ -205,7 +205,7 @@ module _ (names : ClassNames) (command : Text) where
       both (walk_fault (top names) (commands names) (walk_from nothing_held) (command ∷ rest)) _ walking
       (both (entered_fault (line names) end_at_top.stopped) _ below (last _ held_is _ met))
 
--- well-formed words are refused for memory alone
+-- well-formed words are refused only if memory runs out
 pub only_memory : (program : App) (words : List Text) (why : ErrorKind) → IsGistLine program
     → (is_simple_and_free program ≡ true → (why ≡ OutOfMemory) ⊎ IsAmong why (fault_of program words)) → AreWellFormed words → why ≡ OutOfMemory
 only_memory program words why gist fails well =

@@ -14,7 +14,7 @@ prefix_self (x ∷ xs) = (let r = prefix_self xs in r.0, ap (λ ys. x ∷ ys) (p
 pub prefix_trans : {A : Type 0} (xs ys zs : List A) → IsPrefix xs ys → IsPrefix ys zs → IsPrefix xs zs
 prefix_trans xs ys zs p q = (p.0 ++ q.0, sym (append_assoc xs p.0 q.0) ∙ (ap (λ w. w ++ q.0) p.1 ∙ q.1))
 
--- of two beginnings of one list the shorter begins the longer
+-- of two beginnings of one list, the shorter begins the longer
 pub prefix_shorter : {A : Type 0} (xs ys zs : List A) → IsPrefix xs zs → IsPrefix ys zs → length xs ≤ length ys → IsPrefix xs ys
 prefix_shorter [] ys zs p q le = (ys, refl)
 prefix_shorter (x ∷ xs) [] zs p q le = absurd (omega arith)
@@ -42,7 +42,7 @@ prefix_get (y ∷ xs) [] k x p h = absurd (cc (p.1))
 prefix_get (y ∷ xs) (z ∷ ys) zero x p h = cc (p.1, h)
 prefix_get (y ∷ xs) (z ∷ ys) (suc k) x p h = prefix_get xs ys k x (p.0, cc (p.1)) h
 
--- the lengths of two beginnings of one list tell whether one begins the other
+-- of two beginnings of one list, the lengths tell which begins the other
 pub prefix_test : {A : Type 0} (xs ys zs : List A) → IsPrefix xs zs → IsPrefix ys zs → (a b : ℕ) → a ≡ length xs → b ≡ length ys
     → (t : Bool) → leb a b ≡ t → IsTrue t ↔ IsPastOf xs ys
 prefix_test xs ys zs p q a b la lb true is =
@@ -50,7 +50,7 @@ prefix_test xs ys zs p q a b la lb true is =
     (λ _. record { begins = prefix_shorter xs ys zs p q le }, λ _. refl)
 prefix_test xs ys zs p q a b la lb false is = (λ no. absurd (cc no), λ pre. absurd (let l = prefix_length xs ys pre.begins in grind (arith, nat_tests)))
 
--- of two beginnings of one list one begins the other
+-- of two beginnings of one list, one begins the other
 pub prefix_either : {A : Type 0} (xs ys zs : List A) → IsPrefix xs zs → IsPrefix ys zs → (a b : ℕ) → a ≡ length xs → b ≡ length ys
     → (t : Bool) → leb a b ≡ t → MatchBool t (IsPrefix xs ys) (IsPrefix ys xs)
 prefix_either xs ys zs p q a b la lb true is =

@@ -1,4 +1,4 @@
--- Ends that are in order have a key, and others have none.
+-- Ends that are in order have a key; others have none.
 use Rattle.std.proofs.Common.{◌≡◌, ℤ, ◌<ℤ◌, ◌≤ℤ◌, ⊎_elim, sym, arith}
 use Rattle.std.proofs.lemmas.Int.{ints}
 use Rattle.std.specs.Prelude.{Some, None, int_le, ◌⊎◌}

@@ -1,4 +1,5 @@
--- A handle that is had in memory is what a handle that is lent has there, and the right to free what it leads to.
+-- Owning a handle in memory is the same as owning what a lent handle has there, with the right to free what it points
+-- to.
 use base.Fraction.{full_share}
 use base.Fml.{Lft, GName, Share, Fml, Incl-refl, ftrue, fsep, fobs, fauth, fbor, flft, fdead, fseps, fwand, fupd}
 use base.Logic.{ent, sep, emp, wand, upd, upd_i, emp∗, id⊢, snd∗}

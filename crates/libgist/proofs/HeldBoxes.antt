@@ -1,4 +1,4 @@
--- A pointer and the parts of a box own what a box at the same types owns.
+-- A pointer with the parts of a box owns what a box of the same types owns.
 use mir.Syntax.{impl, tnil, dnil}
 use mathlib.Core.List.{[]}
 use denote.Signature.{Slot, plain}

@@ -1,5 +1,6 @@
--- A walk by hand that takes the handles at raw pointers as references, for as long as they are lent, and hands all else on to a function of this crate.
--- An export that reads a handle walks so. What such a walk cites stands here once.
+-- A hand-written walk that turns the handles at raw pointers into references, for as long as they are lent, and
+-- passes everything else on to a function of this crate.
+-- Exports that read a handle are proved by such a walk. What these proofs share is stated here once.
 pub use Rattle.std.proofs.Common.{ℕ, List, [], ◌∷◌, refl, w32, w64, Bor}
 pub use mir.Syntax.{named}
 pub use mir.Val.{Val, vptr}
@@ -84,7 +85,7 @@ module _ {M : Type 1} {𝓤 : Ura M} (𝓛 : Logic 𝓤) (S : Signature) (c : Sp
         (comm∗ 𝓤 (wand 𝓤 R (Q y.0.4)) R))
         (apply∗ 𝓤 R (Q y.0.4)))
 
--- what was lent for a call comes back beside what the call ensures
+-- what was lent for a call comes back, together with what the call ensures
 pub comes_back : {M : Type 1} (𝓤 : Ura M) {X : Type 0} (L P : X → SProp 𝓤) (T : SProp 𝓤)
     → ent 𝓤 (sep 𝓤 T (ex 𝓤 (λ (x : X). sep 𝓤 (L x) (P x)))) (ex 𝓤 (λ (x : X). sep 𝓤 (L x) (sep 𝓤 T (P x))))
 comes_back 𝓤 {X} L P T =
@@ -94,7 +95,7 @@ comes_back 𝓤 {X} L P T =
     (via 𝓤 (sep 𝓤 (L x) (sep 𝓤 (P x) T)) (assoc∗ 𝓤 (L x) (P x) T) (mono_r 𝓤 (L x) (comm∗ 𝓤 (P x) T)))
     (ex_i 𝓤 (λ (x' : X). sep 𝓤 (L x') (sep 𝓤 T (P x'))) x)))
 
--- a handle that is lent lies in a block, and is had there as a reference, beside the share of the loan's time
+-- a lent handle is in a block, and is available there as a reference, with a share of the loan's lifetime
 abbrev pub lent_ref : ℕ → ℕ → Loan → Bor (the_row).Denot
 lent_ref b o loan = record { ref_ptr = (b, o); now = loan.handle }
 

@@ -1,4 +1,4 @@
--- Finds of many keys: a block that is written into a buffer, and one list more.
+-- Searches for many keys: a block of rows that is written into a buffer, and one more list.
 use Rattle.std.proofs.Common.{◌≡◌, ℕ, zero, suc, ◌+◌, ◌<◌, ◌≤◌, List, [], ◌∷◌, ◌++◌, length, map, take, drop, set, ap, refl, sym, subst, ◌∙◌, arith}
 use Rattle.std.specs.Prelude.{Result, Ok, Some, slice_get, ◌⊎◌, min}
 use Rattle.libgist.specs.declared.denied.Denied.{Denied}
@@ -22,7 +22,7 @@ module _ {X : Type 0} where
       let f : suc at + (i + 1) ≡ suc (at + (i + 1)) = omega arith in
       rw (e, f) (ap (λ (rest : List X). b ∷ rest) (put_next at items buffer i x found (omega (arith, inside))))
 
-  -- a block behind the items that stand over a buffer's first places
+  -- a block after the items in a buffer's first places
   pub put_behind : (items more buffer : List X) (n k : ℕ) → length items ≡ n → length more ≡ k
       → take n (items ++ drop n buffer) ++ (more ++ drop (n + k) (items ++ drop n buffer)) ≡ (items ++ more) ++ drop (n + k) buffer
   put_behind items more buffer n k e f =
@@ -45,7 +45,7 @@ module _ {X : Type 0} where
   ends_count place [] = refl
   ends_count place (xs ∷ xss) = ap suc (ends_count (place + length xs) xss)
 
-  -- where the next list ends, behind where the others do
+  -- where the next list ends, after the ends of the others
   pub ends_step : (xss : List (List X)) (xs : List X) (ends buffer : List ℕ) (place end n : ℕ) → length xss ≡ place → length (joined xss) ≡ end → n ≡ length xs → place < length buffer
       → ends ≡ ends_from 0 xss ++ drop place buffer → set ends place (end + n) ≡ ends_from 0 (xss ++ xs ∷ []) ++ drop (place + 1) buffer
   ends_step xss xs ends buffer place end n count used more inside is =
@@ -62,7 +62,7 @@ module _ {X : Type 0} where
   pub over_is : (items buffer : List X) (n : ℕ) → length items ≡ n → n ≤ length buffer → items ++ drop n buffer ≡ written_over items buffer
   over_is items buffer n count fits = rw (← count, take_all items (length buffer) (omega (arith, count, fits))) refl
 
--- rows behind the others in a buffer
+-- rows after the others in a buffer
 pub rows_step : {X R : Type 0} (f : X → R) (xss : List (List X)) (xs : List X) (first rows new : List R) (end n : ℕ) → n ≡ length xs → length (joined xss) ≡ end
     → rows ≡ map f (joined xss) ++ drop end first → new ≡ take end rows ++ (map f xs ++ drop (end + length xs) rows) → new ≡ map f (joined (xss ++ xs ∷ [])) ++ drop (end + n) first
 rows_step f xss xs first rows new end n more used is written =

@@ -1,4 +1,4 @@
--- Threads may read what a handle has at once, while it is lent, whatever it is of.
+-- Threads may read what a handle owns at once, while it is lent, whatever its kind and class.
 use base.Fml.{Lft, ftrue}
 use base.Shift.{Keyless}
 use denote.RattleType.{RattleType}

@@ -1,4 +1,4 @@
--- A store may go to another thread, whatever its class, and so may what owns it behind a pointer.
+-- A store may be moved to another thread, whatever its class, and so may a pointer that owns it.
 use mir.Raw.{raw}
 use base.Fraction.{full_share}
 use base.Shift.{Keyless}

@@ -42,7 +42,7 @@ module _ {A : Type 0} where
           ends.others other apart ∙ with_others old query n other (λ s. apart (s ∙ sym is))
 
 module _ {K A : Type 0} (rules : Rules K A) where
-  -- what was sent stays right while more is told and the subscription stays
+  -- what was sent stays right while more is told and the subscription stays open
   stands_on : (feed new : FeedState A) (told more : List (Write K)) (serial : ℕ) (supply : SupplyState K A) (aside : Option ℕ) → subscription_of new serial ≡ subscription_of feed serial → IsPrefix told more
       → StandsAt rules feed told serial supply aside → StandsAt rules new more serial supply aside
   stands_on feed new told more serial supply (Some at) is begins stands = record {
@@ -187,7 +187,7 @@ module _ {K A : Type 0} (rules : Rules K A) (old : BoardState K A) (held : IsBoa
         record { learns = learns; next = is; feed = grown; supply = changes },
       )
 
-  -- one was opened, had no ring, and ended at once
+  -- one was opened, got no ring, and ended at once
   pub unopened : (copy : Query A) (n serial : ℕ) (feed new : FeedState A) (supplies : List (ℕ × SupplyState K A)) → feed ≡ with_subscription old.feed copy n → serial ≡ old.feed.last + 1 → EndsOpen serial feed new → supplies ≡ old.supplies
       → IsBoard rules (record { feed = new; told = old.told; supplies = supplies }) × SubscribesNone old (record { feed = new; told = old.told; supplies = supplies })
   unopened copy n serial feed new supplies went is ends same =
@@ -198,7 +198,7 @@ module _ {K A : Type 0} (rules : Rules K A) (old : BoardState K A) (held : IsBoa
         none_done old new old.told supplies stays same,
       )
 
-  -- nothing was done but that more may have been told
+  -- nothing was done, except that more may have been told
   pub undone : (feed : FeedState A) (told : List (Write K)) → feed ≡ old.feed → IsPrefix old.told told → IsBoard rules (record { feed = feed; told = told; supplies = old.supplies }) × SubscribesNone old (record { feed = feed; told = told; supplies = old.supplies })
   undone feed told same begins =
       let stays : SubscriptionsStay old.feed feed = stay_same old.feed feed same in

@@ -73,7 +73,7 @@ module _ {K A : Type 0} where
           };
         }
 
--- what holds in any case holds of a refusal
+-- what holds anyway holds after a refusal
 pub on_err : {T E : Type 0} {P : Type 0} (r : Result T E) → P → OnErr r P
 on_err (Ok x) p = tt
 on_err (Err e) p = p

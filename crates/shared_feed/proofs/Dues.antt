@@ -1,4 +1,4 @@
--- What is still to be handed to rings while it is handed to them.
+-- What is still to be sent to rings, while it is being sent.
 use Rattle.std.proofs.Common.{◌≡◌, ◌≢◌, ◌⊎◌, ◌-◌, ◌<◌, ◌≤◌, ℕ, max, Bool, true, false, List, [], ◌∷◌, ◌++◌, Option, Some, None, refl, sym, ap, ◌∙◌, arith, subst, inl, inr, append_assoc}
 use Rattle.std.specs.Prelude.{nat_eq, nat_le, option_map}
 use Rattle.std.proofs.lemmas.List.{append-nil}
@@ -27,7 +27,7 @@ module _ {K : Type 0} where
   under_there : (serial other : ℕ) (item : Item K) (rest : List (ℕ × Item K)) → nat_eq serial other ≡ false → items_under other ((serial, item) ∷ rest) ≡ items_under other rest
   under_there serial other item rest apart = rw apart refl
 
-  -- changes of a list are those of one that begins with it
+  -- changes of a list are also those of a longer one that begins with it
   pub changes_on : (wanted : K → Bool) (s n : ℕ) (commits told : List (Write K)) (items : List (Item K)) → IsPrefix commits told → AreChanges wanted s n commits items → AreChanges wanted s n told items
   changes_on wanted s n commits told items begins are = subst (λ l. AreChanges wanted s n l items) begins.1 (listing_stays wanted true s n commits begins.0 items are)
 
@@ -38,7 +38,7 @@ module _ {A : Type 0} where
 
 module _ {K A : Type 0} (rules : Rules K A) where
   module _ (feed : FeedState A) (told : List (Write K)) where
-    -- where nothing is to be handed on any more each ring was sent what it should
+    -- when nothing is left to send, each ring was sent exactly what it should have been
     stands_at : (aside : Option ℕ) (serial : ℕ) (supply : SupplyState K A) → IsDueAt rules feed told aside serial supply [] → StandsAt rules feed told serial supply aside
     stands_at (Some at) serial supply due = due
     stands_at None serial supply due = record {
@@ -52,7 +52,7 @@ module _ {K A : Type 0} (rules : Rules K A) where
     all_stand supplies due serial supply is = stands_at supply.aside serial supply (due serial supply is)
 
   module _ (told : List (Write K)) where
-    -- those that stay with what is due to them
+    -- the rings that don't change, with what is due to them
     same_due : (feed new : FeedState A) (aside : Option ℕ) (serial : ℕ) (supply : SupplyState K A) (items later : List (Item K)) → subscription_of new serial ≡ subscription_of feed serial → items ≡ later
         → IsDueAt rules feed told aside serial supply items → IsDueAt rules new told aside serial supply later
     same_due feed new (Some at) serial supply items later is same due = record { ended = is ∙ due.ended; sent = due.sent }
@@ -63,7 +63,7 @@ module _ {K A : Type 0} (rules : Rules K A) where
       due = subst (λ l. AreChanges (satisfies rules supply.query) supply.from due.subscription.at told (supply.sent ++ l)) same due.due;
     }
 
-    -- one to whom an item is handed
+    -- the ring to which an item is sent
     handed_due : (feed new : FeedState A) (aside : Option ℕ) (serial : ℕ) (old supply : SupplyState K A) (item : Item K) (rest : List (Item K)) (full : Bool) → old.aside ≡ aside → HandsTo aside old item full supply → EndsOpenWhere full serial feed new
         → IsDueAt rules feed told aside serial old (item ∷ rest) → IsDueAt rules new told supply.aside serial supply rest
     handed_due feed new (Some at) serial old supply item rest false is h ends due =
@@ -99,7 +99,7 @@ module _ {K A : Type 0} (rules : Rules K A) where
         let same : s ≡ supply = cc in
         handed_due feed new old.aside serial old supply item rest full refl (subst (HandsTo old.aside old item full) same h) ends (due old refl)
 
-    -- an item was handed on
+    -- an item was sent
     pub due_less : (feed new : FeedState A) (supplies handed : List (ℕ × SupplyState K A)) (serial : ℕ) (item : Item K) (rest : List (ℕ × Item K)) → HandsOn serial item feed supplies new handed
         → AreDue rules feed told supplies ((serial, item) ∷ rest) → AreDue rules new told handed rest
     due_less feed new supplies handed serial item rest h due other supply is = by_test (nat_eq other serial) refl
@@ -152,7 +152,7 @@ module _ {K A : Type 0} (rules : Rules K A) where
     pub all_due : (supplies : List (ℕ × SupplyState K A)) → AllStand rules old before supplies → AreDue rules new told supplies given
     all_due supplies stand serial supply is = given_due serial supply supply.aside (stand serial supply is)
 
-  -- the same, where a list has what it gave
+  -- the same, for a list to which the feed appended it
   pub into_due : (old new : FeedState A) (before commits told : List (Write K)) (most : ℕ) (list filled slice : List (ℕ × Item K)) → AdvancesInto rules old commits most list filled new → list ≡ [] → slice ≡ filled → IsPrefix before told → IsPrefix commits told
       → (supplies : List (ℕ × SupplyState K A)) → AllStand rules old before supplies → AreDue rules new told supplies slice
   into_due old new before commits told most list filled slice went empty is begins begun supplies stand =
@@ -198,7 +198,7 @@ module _ {K A : Type 0} where
         aside = (still_aside old.aside at old item full s refl (ap (λ (t : SupplyState K A). t.aside) same ∙ aside) h).0;
       }
 
-  -- an item was handed on
+  -- an item was sent
   pub ended_more : (first feed new : FeedState A) (supplies handed : List (ℕ × SupplyState K A)) (serial : ℕ) (item : Item K) → EndAside first feed supplies → HandsOn serial item feed supplies new handed → EndAside first new handed
   ended_more first feed new supplies handed serial item before h other = by_test (nat_eq other serial) refl
     where

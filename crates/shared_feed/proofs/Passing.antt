@@ -1,4 +1,4 @@
--- Items that are handed to rings, one after the other.
+-- Items that are sent to rings, one after the other.
 use Rattle.std.proofs.Common.{◌≡◌, ◌∙◌, ◌+◌, ◌<◌, ◌≤◌, ℕ, List, ◌∷◌, length, drop, get_or, refl, sym, ap, subst, Bool, true, false}
 use Rattle.std.proofs.lemmas.List.{drop_more}
 use Rattle.key_class.specs.Rules.{Rules}
@@ -13,7 +13,7 @@ use Rattle.shared_feed.proofs.Dues.{all_stand, due_less, ended_more, none_ended}
 use Rattle.shared_feed.proofs.Supplies.{further_more, further_none}
 
 module _ {K A : Type 0} (rules : Rules K A) (told : List (Write K)) (first : FeedState A) (before : List (ℕ × SupplyState K A)) where
-  -- these items are still to be handed on, and the others were
+  -- these items are still to be sent, and the others were
   pub record IsHanding (feed : FeedState A) (supplies : List (ℕ × SupplyState K A)) (rest : List (ℕ × Item K)) : Type 0 where
     pub due : AreDue rules feed told supplies rest
     pub further : GoFurther before supplies
@@ -44,7 +44,7 @@ module _ {K A : Type 0} (rules : Rules K A) (told : List (Write K)) (first : Fee
         last = same.1 ∙ h.last;
       }
 
-  -- the one at a place was handed on
+  -- the item at a place was sent
   pub handing_more : (feed new : FeedState A) (supplies handed : List (ℕ × SupplyState K A)) (given : List (ℕ × Item K)) (place : ℕ) (one : ℕ × Item K) → place < length given → one ≡ get_or given place one
       → IsHanding feed supplies (drop place given) → HandsOn one.0 one.1 feed supplies new handed → IsHanding new handed (drop (place + 1) given)
   handing_more feed new supplies handed given place one there is h on =

@@ -1,5 +1,5 @@
--- A feed under a lock may be shared by threads. A search that goes down through all its fields runs out of steps, so each type that
--- has many has its own.
+-- Threads may share a feed that is under a lock. A search through all its fields runs out of steps, so each type with
+-- many fields is proved separately.
 use denote.RattleType.{RattleType}
 use denote.Struct.Declared.{shape}
 use denote.Param.Send.{IsSend, IsSync, sendable, view_send, recorded_send, struct_send, recorded_sync, struct_sync}

@@ -1,4 +1,4 @@
--- Rings that are handed items.
+-- Rings that are sent items.
 use Rattle.std.proofs.Common.{◌≡◌, ◌≢◌, ◌⊎◌, ℕ, Bool, true, false, List, [], ◌∷◌, Option, Some, None, refl, sym, ap, ◌∙◌, arith, subst, inl, inr}
 use Rattle.std.specs.Prelude.{nat_eq}
 use Rattle.history.proofs.Pasts.{prefix_self, prefix_trans}

@@ -1,4 +1,4 @@
--- What is told of clients, one after the other.
+-- Verdicts on clients, one after the other.
 use Rattle.std.proofs.Common.{append_assoc, drop, get_or, ◌<◌, ◌≤◌, ◌+◌, ◌≡◌, ◌↔◌, ℕ, Bool, List, [], ◌∷◌, ◌++◌, length, append-nil, Result, Ok, Err, IfOk, IsTrue, sym, ap, ◌∙◌, subst}
 use Rattle.std.proofs.lemmas.List.{drop_more}
 use Rattle.key_class.specs.declared.refusal.Refusal.{Refusal}
@@ -6,17 +6,17 @@ use Rattle.listing.proofs.Cuts.{drop_past}
 use Rattle.storm.specs.Judging.{TellsEach}
 use Rattle.storm.specs.declared.judge.Verdict.{Verdict}
 
--- what is told of one statement is told of another that says the same
+-- a verdict on one statement is one on another that says the same
 pub told_alike : (told : Result Bool Refusal) (P Q : Type 0) → IfOk told (λ b. IsTrue b ↔ P) → P ↔ Q → IfOk told (λ b. IsTrue b ↔ Q)
 told_alike (Ok b) P Q told same = (λ yes. same.0 (told.0 yes), λ q. told.1 (same.1 q))
 told_alike (Err why) P Q told same = tt
 
 module _ {X : Type 0} (Tells : X → Verdict → Type 0) (clients : List X) (place : ℕ) (told : List Verdict) where
-  -- with verdicts on the clients from a place on, some verdicts tell of all
+  -- verdicts on the clients before a place, and some verdicts on all from there on, are verdicts on all
   abbrev pub TellsUpTo : Type 0
   TellsUpTo = (rest : List Verdict) → TellsEach Tells (drop place clients) rest → TellsEach Tells clients (told ++ rest)
 
-  -- one more client is told of
+  -- one more client gets its verdict
   pub one_told : (client : X) (verdict : Verdict) → place < length clients → client ≡ get_or clients place client → Tells client verdict → TellsUpTo
       → (rest : List Verdict) → TellsEach Tells (drop (place + 1) clients) rest → TellsEach Tells clients ((told ++ verdict ∷ []) ++ rest)
   one_told client verdict there is fate before rest left =

@@ -1,4 +1,4 @@
--- What rows that rise and items without marks are.
+-- Properties of rising rows and of items without marks.
 use Rattle.std.proofs.Common.{◌≤◌, ◌+◌, ◌≡◌, ◌↔◌, ℕ, suc, zero, Bool, false, List, [], ◌∷◌, ◌++◌, length, map, append-nil, Option, Some, None, refl, sym, ap, ◌∙◌, subst, arith}
 use Rattle.std.specs.Prelude.{IfSome, IsPermutation, filter_map, slice_index_or}
 use Rattle.std.specs.List.{AllAdjacentBelow, cons_option, list_any}
@@ -25,12 +25,12 @@ module _ {X : Type 0} (n : X → ℕ) where
       let next : suc (k + 1) ≡ suc k + 1 = omega arith in
       subst (λ m. n (slice_index_or xs k d) ≤ n (slice_index_or (x ∷ xs) m d)) next (adjacent xs rises.1 k d (omega (arith, there)))
 
-  -- numbers that rise don't fall
+  -- rising numbers never fall
   rises_sorted : (xs : List X) → Rises n xs → IsNonDecreasingBy n xs
   rises_sorted xs rises = IsNonDecreasingBy-from_all_adjacent n xs (adjacent xs rises)
 
 module _ {K : Type 0} where
-  -- items of which none is a mark are all left without marks
+  -- leaving out the marks changes nothing if there are none
   pub unmarked : (items : List (Item K)) → list_any is_mark items ≡ false → without_marks items ≡ items
   unmarked [] none = refl
   unmarked (item.Mark n ∷ items) none = absurd (cc none)
@@ -62,7 +62,7 @@ module _ {K : Type 0} where
       cc (first, same)
 
 module _ {K : Type 0} (wanted : K → Bool) (commits : List (Write K)) where
-  -- changes have no mark among them
+  -- changes contain no mark
   pub changes_unmarked : (from upto : ℕ) (items : List (Item K)) → AreChanges wanted from upto commits items → list_any is_mark items ≡ false
   changes_unmarked from upto items are = ap (list_any is_mark) are.is ∙ no_change_marked (item_at wanted commits) (item_is_change wanted commits) _
 
@@ -88,7 +88,7 @@ module _ {K : Type 0} (wanted : K → Bool) (commits : List (Write K)) where
       is = rows_no_marks rows ∙ sym (append-nil (map item.Row rows)) ∙ ap (λ t. map item.Row rows ++ t) (sym (changes_none wanted n commits));
     }
 
-    -- rows that rise are a snapshot's exactly where they are a listing from it up to it
+    -- rising rows are exactly a snapshot's rows if they are a listing from its commit up to it
     pub found_alike : n ≤ length commits → IsNonDecreasingBy (λ (r : Row K). r.row) rows
         → IsListing wanted n n commits (without_marks (map item.Row rows)) ↔ (rows ≡ snapshot wanted n commits)
     found_alike within rising = (found rising, listed within)

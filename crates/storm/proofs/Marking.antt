@@ -1,4 +1,4 @@
--- Items without marks, and one mark behind them.
+-- Items without marks, with one mark after them.
 use Rattle.std.proofs.Common.{◌≤◌, ◌≡◌, ◌↔◌, ℕ, Bool, true, false, List, [], ◌∷◌, ◌++◌, length, refl, sym, ap, ◌∙◌, subst, arith}
 use Rattle.change_list.specs.declared.write.Write.{Write}
 use Rattle.change_list.specs.declared.item.Item.{Item}
@@ -34,7 +34,7 @@ module _ {K : Type 0} where
   no_cut [] after n e = cc
   no_cut (x ∷ before) after n e = cc
 
-  -- a mark behind items without marks is the only one
+  -- a mark after items without marks is the only one
   only_mark : (items before after : List (Item K)) (n m : ℕ) → HasNoMark items → items ++ item.Mark n ∷ [] ≡ before ++ item.Mark m ∷ after → (before ≡ items) × (m ≡ n)
   only_mark [] [] after n m none e = (refl, cc)
   only_mark [] (x ∷ before) after n m none e =
@@ -77,6 +77,6 @@ module _ {K : Type 0} (wanted : K → Bool) (s n : ℕ) (commits : List (Write K
               subst (λ k. IsListingFor follows wanted s k commits (without_marks before)) (sym only.1) (subst (λ i. IsListingFor follows wanted s n commits i) (sym same) l);
         }
 
-    -- a mark behind the items tells that they are all that is given up to its commit
+    -- a mark after the items says that they are all that is given up to its commit
     pub by_mark : IsDelivered follows wanted s commits (without_marks items ++ item.Mark n ∷ []) ↔ IsListingFor follows wanted s n commits (without_marks items)
     by_mark = (from_delivered, to_delivered)

@@ -13,12 +13,12 @@ one_or_two (suc zero) small some = inr refl
 one_or_two (suc (suc zero)) small some = inl refl
 one_or_two (suc (suc (suc n))) small some = absurd (omega arith)
 
--- an error that asks for a text is not want of memory
+-- an error that asks for help or the version isn't `OutOfMemory`
 is_no_want : (kind : ErrorKind) → IsForText kind → kind ≢ OutOfMemory
 is_no_want kind (inl help) memory = let bad : DisplayHelp ≡ OutOfMemory = sym help ∙ memory in cc
 is_no_want kind (inr version) memory = let bad : DisplayVersion ≡ OutOfMemory = sym version ∙ memory in cc
 
--- words that name nothing are refused, but not to show a text
+-- words that give nothing are refused, but not in order to show a text
 no_text : (words : List Text) (kind : ErrorKind) → (kind ≢ OutOfMemory → Refuses words kind) → NameNothing words → ¬ IsForText kind
 no_text words kind refused nothing asks = nothing.1 (kind, asks, refused (is_no_want kind asks))
 
@@ -32,7 +32,7 @@ returns-in-Err-clause-wrong_words g c = λ wrong.
     let w = c.show.ensures.wrong.0 wrong in
     (kind_of c.in-Err.error, c.in-Err.ensures.refused w.1, w.0)
 
--- an error that asks for no text leaves the writer alone
+-- an error that doesn't ask for help or the version leaves the writer unchanged
 other_than_text : (words : List Text) (e : Error) → RefusesUnlessMemory words e → (AreWellFormed words → LacksMemory e) → NameNothing words ⊎ NameBadLimits words → ¬ IsForText (kind_of e)
 other_than_text words e refused taken (inl nothing) asks = no_text words (kind_of e) refused nothing asks
 other_than_text words e refused taken (inr bad) asks = is_no_want (kind_of e) asks (taken bad.0)

@@ -4,7 +4,7 @@ use Rattle.key_class.specs.Rules.{satisfies}
 use Rattle.storm.specs.Looking.{AreTrueLooks}
 use Rattle.storm.proofs.looks.are_true_looks.Given as goal
 
--- all looks are true exactly where those that are left are
+-- all looks are right exactly if those that are left are
 abbrev pub invariant-loop-look : goal.invariant-loop-look
 invariant-loop-look g l =
     let wanted = satisfies g.C.KeyClass.rules (query_of l.query) in

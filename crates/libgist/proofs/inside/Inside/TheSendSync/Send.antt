@@ -1,4 +1,4 @@
--- A handle of a store may go to another thread.
+-- A handle may be moved to another thread.
 use denote.Param.Send.{IsSend}
 use Rattle.libgist.specs.contracts.inside.Inside.{the_row}
 use Rattle.libgist.proofs.Threads.{inside_send}

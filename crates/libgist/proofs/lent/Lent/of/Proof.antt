@@ -1,4 +1,4 @@
--- A borrow of a handle is made one of what a loan has, and that a loan.
+-- A borrow of a handle becomes a borrow of what a loan has, and that becomes a loan.
 use Rattle.std.proofs.Common.{List, [], ◌∷◌, refl, Bor}
 use Rattle.std.proofs.raw_atomic.Walks.{proved}
 use mir.Syntax.{named}

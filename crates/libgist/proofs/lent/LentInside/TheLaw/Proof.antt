@@ -1,4 +1,4 @@
--- A `&` to what is lent is made where one to its value is, and of nothing where there is none.
+-- A reference to what is lent is made from one to its value, or from nothing if there is no value.
 use Rattle.std.specs.Prelude.{Option, Some, None}
 use base.Fraction.{full_share}
 use base.Fml.{Lft, ftrue}

@@ -1,4 +1,4 @@
--- `held` follows the pointer to what the handle has, which the loan shows.
+-- `held` follows the pointer to what the handle owns, which the loan allows it to read.
 use Rattle.std.proofs.Common.{ℕ, ◌+◌, List, [], ◌∷◌, ◌++◌, refl, sym, ap, Bor}
 use Rattle.std.specs.Global.{Global}
 use Rattle.std.specs.Prelude.{◌≢◌, Option, Some, None}
