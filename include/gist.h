@@ -1,14 +1,15 @@
 /*
- * gist: rows in memory that are found by intervals, boxes or sets, and followed as they change.
+ * gist: an in-memory index of rows by intervals, boxes or sets, whose readers can follow every change.
  *
- * A store has rows. Each row has a key, a number and a tag, which is a number of the caller's own. Each insert, delete
- * or move that succeeds is a commit with the next number: 1, 2, 3 and so on. A row's number is that of the commit that
+ * A store has rows. Each row has a key, a number and a tag, a number that the caller chooses. Each insert, delete or
+ * move that succeeds is a commit with the next number: 1, 2, 3 and so on. A row's number is that of the commit that
  * made it; a move ends a row and makes another, which has the new key and the same tag.
  *
- * A snapshot is a store's commits as they stood when it was taken, whatever follows. A find in it gives the rows that a
- * query asks for. A cursor of a store gives them one by one and then goes on: it gives each later change that the query
- * asks for, in the order of the commits, without a gap and without a repetition, whatever is done meanwhile. A feed does
- * that for many queries at once: it goes from snapshot to snapshot and tells each change to those who asked for it.
+ * A snapshot is a store's commits as they stood when it was taken; later commits don't change it. A find in it gives
+ * the rows that match a query. A cursor of a store gives them one by one and then goes on: it gives each later change
+ * that matters to the query, in the order of the commits, without a gap and without a repetition, whatever is done
+ * meanwhile. A feed does that for many queries at once: it goes from snapshot to snapshot and gives each change to the
+ * subscriptions that it matters to.
  *
  *     gist_store store = GIST_NONE;
  *     gist_snapshot now = GIST_NONE;
@@ -25,26 +26,27 @@
  *
  * What every caller must keep
  * ---------------------------
- * - A handle is set to GIST_NONE before its first use. Its fields are the library's: no caller reads or writes them, and
- *   a handle isn't copied, since two copies would be two owners. What a handle has is dropped by gist_destroy,
+ * - Set a handle to GIST_NONE before its first use. Its fields belong to the library: don't read or write them, and
+ *   don't copy a handle, since both copies would own the same thing. What a handle holds is freed by gist_destroy,
  *   gist_drop, gist_forget or gist_end.
- * - A pointer points to a value of its type that may be read, and written where it isn't const, and that no other
- *   pointer of the call points to. A buffer has as many places as its length says, and isn't null.
- * - A call has a handle to itself where its pointer isn't const. Behind a const pointer a handle is only read, and any
- *   number of calls read one at once, on any threads, but none while another call has it to itself. So threads share a
- *   snapshot and the queries that they ask it. Threads that share a store take a lock of their own round each call (one
- *   for readers and writers will do), or hand it on by a thread's start or end; the library has no lock and starts no
- *   thread. A snapshot is a handle of its own, which is searched beside any call of the store and of other snapshots.
+ * - Each pointer points to a valid value of its type, which may be written if the pointer isn't const, and no two
+ *   pointers of a call point to the same value. A buffer has as many places as its length says, and isn't null.
+ * - While a call has a non-const pointer to a handle, no other call may use that handle. Through const pointers any
+ *   number of calls, on any threads, may read a handle at once. So threads may share a snapshot and the queries that
+ *   they ask it. Threads that share a store must put a lock of their own around each call (a readers-writer lock will
+ *   do), or hand the store on at the start or end of a thread; the library has no lock and starts no thread. A snapshot
+ *   is a handle of its own: it may be searched during any call on the store or on other snapshots.
  * - No call is made from a signal handler, nor from the forked child of a process with threads.
- * - Memory comes from malloc, realloc and free. They are of one allocator, and align a block to each power of two up to
- *   16 that divides its size. The words of a key are little-endian.
+ * - Memory comes from malloc, realloc and free. These belong to one allocator, and align blocks as the C standard asks:
+ *   to 16 bytes if the size is a multiple of 16, to 8 if it is a multiple of 8, and so on. The machine is
+ *   little-endian, as the words of a key are.
  *
  * What every call answers
  * -----------------------
- * 0 (GIST_OK), or the number of the refusal. A call that is refused changes neither the commits nor what a cursor has
- * still to give, and leaves what its pointers point to as it was, but for `fault` where a query's text is refused.
- * Every call is refused with GIST_NO_HANDLE where a handle has not what the call is for, and with GIST_OTHER_CLASS where
- * a query, a feed or a snapshot is for keys of another class.
+ * 0 (GIST_OK), or the number of the refusal. A refused call changes neither the commits nor what a cursor still has to
+ * give. It doesn't write through its pointers, except for `fault` when a query's text is refused. Every call is refused
+ * with GIST_NO_HANDLE if a handle doesn't hold what the call is for, and with GIST_OTHER_CLASS if a query, a feed or a
+ * snapshot is for keys of another class.
  */
 #ifndef GIST_H
 #define GIST_H
@@ -66,11 +68,11 @@ extern "C" {
 /* The GIST_VERSION of the library that the program runs with. */
 uint32_t gist_version(void);
 
-/* What a call answers. The numbers between these name refusals that no call of this header gives. */
+/* What a call answers. The numbers left out are refusals that no call of this header gives. */
 enum {
     GIST_OK = 0,
-    GIST_OUT_OF_MEMORY = 1,    /* memory was wanting in this call */
-    GIST_BAD_CONFIG = 2,       /* no such class or relation, or a handle that is to have nothing has something */
+    GIST_OUT_OF_MEMORY = 1,    /* the call ran out of memory */
+    GIST_BAD_CONFIG = 2,       /* no such class or relation, or a handle that should be empty isn't */
     GIST_PAGES_FULL = 3,       /* fewer than two pages are left */
     GIST_COMMITS_FULL = 4,     /* there are as many commits as the limit */
     GIST_CURSORS_FULL = 5,     /* 256 cursors are open, or 4,294,967,295 were opened */
@@ -79,19 +81,20 @@ enum {
     GIST_ALREADY_DELETED = 15, /* the row was deleted or moved */
     GIST_NO_SUCH_CURSOR = 16,  /* the number was never given to a cursor */
     GIST_CURSOR_CLOSED = 17,   /* the cursor is closed */
-    GIST_QUERY_TEXT = 21,      /* the query's text is refused at the byte `fault` */
+    GIST_QUERY_TEXT = 21,      /* the query's text is wrong at the byte `fault` */
     GIST_FROM_FUTURE = 23,     /* there are fewer commits than the one to be followed */
     GIST_FEED_FULL = 24,       /* 1,000,000 subscriptions are open, or 4,294,967,295 were opened */
     GIST_NOT_SUBSCRIBED = 25,  /* no subscription with the number is open */
-    GIST_BAD_ENDS = 26,        /* the ends of a key are out of order */
-    GIST_OTHER_CLASS = 27,     /* keys of another class */
-    GIST_NO_HANDLE = 28,       /* a handle of nothing, or of something else */
-    GIST_BAD_LIMITS = 29       /* a limit is out of its range */
+    GIST_BAD_ENDS = 26,        /* an end of a key is below its start */
+    GIST_OTHER_CLASS = 27,     /* the handles are for different classes of keys */
+    GIST_NO_HANDLE = 28,       /* a handle is empty, or holds something of another kind */
+    GIST_BAD_LIMITS = 29       /* a limit is out of range */
 };
 
 /*
- * Puts the name of a refusal into a buffer, as "CommitsFull", and a 0 behind it, as far as there is room, and gives the
- * name's length, which is 0 where no refusal has the number. No name is longer than 14 bytes, so 16 always suffice.
+ * Writes the name of a refusal, such as "CommitsFull", and a 0 after it into a buffer, as far as there is room, and
+ * returns the name's length, which is 0 if no refusal has the number. No name is longer than 14 bytes, so a buffer of
+ * 16 always suffices.
  */
 size_t gist_refusal_name(uint32_t refusal, char *name, size_t room);
 
@@ -101,7 +104,7 @@ typedef struct gist_snapshot { bool is_open; void *inside; } gist_snapshot;
 typedef struct gist_query { bool is_open; void *inside; } gist_query;
 typedef struct gist_feed { bool is_open; void *inside; } gist_feed;
 
-#define GIST_NONE {false, NULL} /* what a handle is before its first use: it has nothing */
+#define GIST_NONE {false, NULL} /* an empty handle; every handle must be so before its first use */
 
 /* The classes of keys. */
 enum {
@@ -110,7 +113,7 @@ enum {
     GIST_SETS = 3       /* sets of the numbers from 0 to 127 */
 };
 
-/* A key: 16 bytes whatever the class, which the store knows. */
+/* A key: 16 bytes in every class. The store knows which member of the union its class uses. */
 typedef union gist_key {
     struct {
         int64_t lo, hi;
@@ -132,7 +135,7 @@ static inline gist_key gist_interval(int64_t lo, int64_t hi) {
     return key;
 }
 
-/* The whole numbers from lo up to those below end, which is above the least int64_t. */
+/* The whole numbers from lo to end - 1. `end` must be above INT64_MIN. */
 static inline gist_key gist_interval_until(int64_t lo, int64_t end) {
     return gist_interval(lo, end - 1);
 }
@@ -147,7 +150,7 @@ static inline gist_key gist_box(int32_t x1, int32_t y1, int32_t x2, int32_t y2) 
     return key;
 }
 
-/* The set of the numbers whose bits stand in two masks. */
+/* The set of the numbers whose bits are set in two masks. */
 static inline gist_key gist_set(uint64_t low, uint64_t high) {
     gist_key key;
     key.set.low = low;
@@ -155,7 +158,7 @@ static inline gist_key gist_set(uint64_t low, uint64_t high) {
     return key;
 }
 
-/* A row to be added. */
+/* A row to add. */
 typedef struct gist_entry {
     gist_key key;
     uint64_t tag;
@@ -170,15 +173,15 @@ typedef struct gist_row {
 
 /* What an item tells. */
 enum {
-    GIST_NOTHING = 0,  /* there is none; all else is 0 */
+    GIST_NOTHING = 0,  /* no item, no commit; all other fields are 0 */
     GIST_ROW = 1,      /* a row that was there at the opening: its number, key and tag */
     GIST_INSERTED = 2, /* a later row: its number, key and tag */
     GIST_DELETED = 3,  /* the commit `number` ended the row `ended`, whose key and tag these are */
     GIST_MOVED = 4,    /* the commit `number` ended the row `ended` and made one with this number, key and tag */
-    GIST_MARK = 5      /* all up to the commit `number` was given */
+    GIST_MARK = 5      /* everything up to the commit `number` was given */
 };
 
-/* An item, or a commit. What it doesn't tell is 0. */
+/* An item, or a commit. Fields that don't apply are 0. */
 typedef struct gist_item {
     uint32_t kind;
     uint64_t number;
@@ -192,7 +195,7 @@ typedef struct gist_item {
 /* The limits of a store. For many rows, 32 and 12 are good for fan and least. */
 typedef struct gist_limits {
     uint32_t fan;     /* how many entries a page may have: 4 to 64 */
-    uint32_t least;   /* how many each side of a split has at least: 2 to half of fan */
+    uint32_t least;   /* the least number of entries on each side of a split: 2 to half of fan */
     uint32_t pages;   /* how many pages there may be: 1 to 65,536 */
     uint32_t commits; /* how many commits there may be: 1 to 16,777,216 */
 } gist_limits;
@@ -200,26 +203,26 @@ typedef struct gist_limits {
 #define GIST_LIMITS {32, 12, 65536, 16777216} /* the greatest limits, for many rows */
 
 /*
- * Makes an empty store of a class for a handle that has nothing.
+ * Makes an empty store of a class, for an empty handle.
  *
- * GIST_BAD_CONFIG where no class has the number or the handle has something, GIST_BAD_LIMITS; GIST_OUT_OF_MEMORY.
+ * GIST_BAD_CONFIG if no class has the number or the handle isn't empty, GIST_BAD_LIMITS; GIST_OUT_OF_MEMORY.
  */
 uint32_t gist_create(gist_store *store, uint32_t key_class, const gist_limits *limits);
 
-/* Drops what a handle has, if it has something. It has nothing then. */
+/* Frees what a handle holds, if it holds something, and leaves it empty. */
 void gist_destroy(gist_store *store);
 
-/* How far a store has come, and what is left to it. */
+/* The figures of a store: its progress, and its limits. */
 typedef struct gist_figures {
     uint64_t commits;
     uint64_t commit_limit;
     uint64_t pages;
     uint64_t page_limit;
     uint64_t cursors; /* how many are open */
-    uint64_t horizon; /* the commit up to which a sweep removes what ended */
+    uint64_t horizon; /* a sweep removes the rows that ended up to this commit */
 } gist_figures;
 
-/* Tells how far a store has come. */
+/* Gives the figures of a store. */
 uint32_t gist_stats(const gist_store *store, gist_figures *figures);
 
 /* Where an open cursor stands. All is 0 where there is none. */
@@ -234,10 +237,10 @@ typedef struct gist_standing {
 uint32_t gist_standing_of(const gist_store *store, uint64_t place, gist_standing *standing);
 
 /*
- * Adds n rows one after the other, until one is refused, and tells how many were added. Their numbers are the next ones.
- * Where fewer were added than there are, a call with the others tells why.
+ * Adds n rows one after the other, until one is refused, and gives how many were added. Their numbers are the next
+ * ones. If fewer than n were added, a call with the remaining rows tells why.
  *
- * Where the first row is refused: GIST_BAD_ENDS; GIST_COMMITS_FULL; GIST_PAGES_FULL; GIST_OUT_OF_MEMORY.
+ * If the first row is refused: GIST_BAD_ENDS; GIST_COMMITS_FULL; GIST_PAGES_FULL; GIST_OUT_OF_MEMORY.
  */
 uint32_t gist_insert(gist_store *store, const gist_entry *rows, size_t n, uint64_t *added);
 
@@ -250,24 +253,24 @@ uint32_t gist_insert(gist_store *store, const gist_entry *rows, size_t n, uint64
 uint32_t gist_move(gist_store *store, uint64_t row, gist_key key, uint64_t *moved);
 
 /*
- * Deletes n rows one after the other, until one is refused, and tells how many were deleted. Each is a commit.
+ * Deletes n rows one after the other, until one is refused, and gives how many were deleted. Each is a commit.
  *
- * Where the first row is refused: GIST_NO_SUCH_ROW, else GIST_ALREADY_DELETED, else GIST_COMMITS_FULL, else
+ * If the first row is refused: GIST_NO_SUCH_ROW, else GIST_ALREADY_DELETED, else GIST_COMMITS_FULL, else
  * GIST_FINDERS_FULL; GIST_OUT_OF_MEMORY.
  */
 uint32_t gist_delete(gist_store *store, const uint64_t *rows, size_t n, uint64_t *deleted);
 
 /*
- * Removes the ended rows that no open cursor needs any more, and tells how many they were. That makes room for later
+ * Removes the ended rows that no open cursor needs any more, and gives how many there were. That makes room for later
  * rows.
  *
- * GIST_OUT_OF_MEMORY; some of them may be removed then.
+ * GIST_OUT_OF_MEMORY; some of them may have been removed by then.
  */
 uint32_t gist_sweep(gist_store *store, uint64_t *removed);
 
 /* --- queries --- */
 
-/* The relations of a row's key to a key that is asked for. Each is that of the same word in a query. */
+/* The relations of a row's key to a key that is asked for. Each has the meaning of the same word in a query's text. */
 enum {
     GIST_OVERLAPS = 1, /* they have a point, or an element, in common */
     GIST_WITHIN = 2,   /* the row's key is within the key that is asked for */
@@ -276,84 +279,84 @@ enum {
 };
 
 /*
- * Reads a query once, for a handle that has nothing. It may then be asked as often as wanted.
+ * Parses the text of a query, for an empty handle. The query may then be used any number of times.
  *
- * A query is a text of ASCII bytes, which no 0 has to end: `overlaps`, `within`, `holds` and `same` with a key, and
- * `and`, `or`, `not` and round brackets, at most 32 deep and 4,096 bytes long. Keys are written `(9 17)`,
- * `(x1 y1 x2 y2)` and `{2 5 64}`: "overlaps (9 17) and not within (0 9)".
+ * A query is a text of ASCII bytes, which needs no 0 at its end: `overlaps`, `within`, `holds` and `same` with a key,
+ * and `and`, `or`, `not` and round brackets, at most 32 deep and 4,096 bytes long. Keys are written `(9 17)`, `(x1 y1
+ * x2 y2)` and `{2 5 64}`: "overlaps (9 17) and not within (0 9)".
  *
- * GIST_BAD_CONFIG where no class has the number or the handle has something; GIST_QUERY_TEXT, and `fault` gets the place
- * of the byte at which the text is refused, counted from 0; GIST_OUT_OF_MEMORY.
+ * GIST_BAD_CONFIG if no class has the number or the handle isn't empty; GIST_QUERY_TEXT, and `fault` gets the place of
+ * the first wrong byte, counted from 0; GIST_OUT_OF_MEMORY.
  */
 uint32_t gist_prepare(gist_query *query, uint32_t key_class, const char *text, size_t length, uint64_t *fault);
 
 /*
- * Makes the query that asks for a relation to a key, for a handle that has nothing.
+ * Makes the query for the keys that have a relation to a key, for an empty handle.
  *
- * GIST_BAD_CONFIG where no class or no relation has the number or the handle has something, else GIST_BAD_ENDS;
+ * GIST_BAD_CONFIG if no class or no relation has the number or the handle isn't empty, else GIST_BAD_ENDS;
  * GIST_OUT_OF_MEMORY.
  */
 uint32_t gist_ask(gist_query *query, uint32_t key_class, uint32_t relation, gist_key key);
 
-/* Drops what a handle has, if it has something. It has nothing then. */
+/* Frees what a handle holds, if it holds something, and leaves it empty. */
 void gist_forget(gist_query *query);
 
 /* --- snapshots --- */
 
-/* Takes a snapshot of a store, for a handle that has nothing. GIST_BAD_CONFIG where it has something; GIST_OUT_OF_MEMORY. */
+/* Takes a snapshot of a store, for an empty handle. GIST_BAD_CONFIG if it isn't empty; GIST_OUT_OF_MEMORY. */
 uint32_t gist_take(const gist_store *store, gist_snapshot *snapshot);
 
-/* Drops what a handle has, if it has something. It has nothing then. */
+/* Frees what a handle holds, if it holds something, and leaves it empty. */
 void gist_drop(gist_snapshot *snapshot);
 
-/* How many commits there were. */
+/* Gives how many commits there were. */
 uint32_t gist_commits(const gist_snapshot *snapshot, uint64_t *commits);
 
-/* Gives the row with a number, and tells whether it lived. GIST_NO_SUCH_ROW; GIST_OUT_OF_MEMORY. */
+/* Gives the row with a number, and whether it was live. GIST_NO_SUCH_ROW; GIST_OUT_OF_MEMORY. */
 uint32_t gist_row_of(const gist_snapshot *snapshot, uint64_t number, gist_row *row, bool *lives);
 
-/* Tells the commit with a number, as an item of the kind GIST_INSERTED, GIST_DELETED or GIST_MOVED, or GIST_NOTHING. */
+/* Gives the commit with a number, as an item of the kind GIST_INSERTED, GIST_DELETED or GIST_MOVED, or GIST_NOTHING. */
 uint32_t gist_commit_of(const gist_snapshot *snapshot, uint64_t number, gist_item *commit);
 
 /*
- * Puts the rows that lived and that a query asks for into a buffer, by rising number, as many as fit, and tells how many
- * there are. What is behind them in the buffer stays.
+ * Writes the live rows that match a query into a buffer, by rising number, as many as fit, and gives how many there are
+ * in all. The rest of the buffer is left alone.
  *
  * GIST_OUT_OF_MEMORY.
  */
 uint32_t gist_find(const gist_snapshot *snapshot, const gist_query *query, gist_row *rows, size_t room, uint64_t *found);
 
-/* Counts the rows that lived and that a query asks for. GIST_OUT_OF_MEMORY. */
+/* Counts the live rows that match a query. GIST_OUT_OF_MEMORY. */
 uint32_t gist_count(const gist_snapshot *snapshot, const gist_query *query, uint64_t *count);
 
 /*
- * Puts the rows that lived and have a relation to each of n keys into a buffer, those of a key behind those of the key
- * before, and tells how many keys were answered. The rows of the key with the place i, counted from 0, end before the
- * place ends[i] of the buffer, and begin where those of the key before end. A key isn't answered, nor is any behind it,
- * where its rows don't all fit, where `ends` has no place for it, or where it is refused and isn't the first.
+ * Finds the live rows that have a relation to each of n keys. Writes them into a buffer, key after key, and gives how
+ * many keys were answered. The rows of key i, counted from 0, end before place ends[i] of the buffer, and begin where
+ * those of the key before end. It stops before a key whose rows don't all fit, for which `ends` has no place, or which
+ * is refused and isn't the first.
  *
- * Where the first key is refused: GIST_BAD_CONFIG where no relation has the number, else GIST_BAD_ENDS;
- * GIST_OUT_OF_MEMORY.
+ * If the first key is refused: GIST_BAD_CONFIG if no relation has the number, else GIST_BAD_ENDS; GIST_OUT_OF_MEMORY.
  */
 uint32_t gist_find_each(const gist_snapshot *snapshot, uint32_t relation, const gist_key *keys, size_t n, gist_row *rows,
                         size_t room, uint64_t *ends, size_t places, uint64_t *answered);
 
 /*
- * Puts the changes after the commit `from` that a query asks for into a buffer, in the order of the commits, until it is
- * full, and tells how many they are and up to which commit all were given: from that one a further call goes on.
+ * Writes the changes of a query after the commit `from` into a buffer, in the order of the commits, until it is full.
+ * Gives how many were written, and up to which commit they are complete: a further call goes on from there.
  *
- * GIST_FROM_FUTURE where there were fewer commits than `from`; GIST_OUT_OF_MEMORY.
+ * GIST_FROM_FUTURE if there were fewer commits than `from`; GIST_OUT_OF_MEMORY.
  */
 uint32_t gist_changes(const gist_snapshot *snapshot, const gist_query *query, uint64_t from, gist_item *items,
                       size_t room, uint64_t *given, uint64_t *upto);
 
 /*
- * Makes a store for a handle that has nothing, with the rows that lived in a snapshot, their keys and tags, and with no
- * other commit: as those of a store that has hardly any commits left. The rows are numbered anew, from 1 on, in the order
- * of their numbers. Puts the numbers that they had into a buffer, as many as fit, and tells how many rows there are.
+ * Makes a new store of the rows that were live in a snapshot, for an empty handle: for when a store has hardly any
+ * commits left. The rows keep their keys and tags, and are numbered from 1 again, in the same order; their inserts are
+ * the store's only commits. Writes the numbers that they had into a buffer, as many as fit, and gives how many rows
+ * there are.
  *
- * GIST_BAD_CONFIG where the handle has something, GIST_BAD_LIMITS; GIST_COMMITS_FULL and GIST_PAGES_FULL where the limits
- * are too small for the rows; GIST_OUT_OF_MEMORY.
+ * GIST_BAD_CONFIG if the handle isn't empty, GIST_BAD_LIMITS; GIST_COMMITS_FULL or GIST_PAGES_FULL if the limits are
+ * too small for the rows; GIST_OUT_OF_MEMORY.
  */
 uint32_t gist_renew(const gist_snapshot *snapshot, const gist_limits *limits, gist_store *store, uint64_t *numbers,
                     size_t room, uint64_t *living);
@@ -362,32 +365,32 @@ uint32_t gist_renew(const gist_snapshot *snapshot, const gist_limits *limits, gi
 
 /*
  * Opens a cursor on a query, and gives its number, which no other cursor of the store gets. The cursor gives the rows
- * that match now, in some order, and then the later changes. The query stays as it is, and may be forgotten.
+ * that match now, in some order, and then the later changes. The query isn't kept: it may be freed with gist_forget.
  *
  * GIST_CURSORS_FULL; GIST_OUT_OF_MEMORY.
  */
 uint32_t gist_open(gist_store *store, const gist_query *query, uint64_t *cursor);
 
 /*
- * Opens a cursor that follows a commit: it gives the changes after that commit and no row that was there. Of a mark's
- * number it goes on where the mark was given. All changes that there are follow commit 0.
+ * Opens a cursor that follows a commit: it gives only the changes after that commit. With a mark's number it goes on
+ * where the mark was given; with 0 it gives all changes from the beginning.
  *
- * GIST_FROM_FUTURE where there are fewer commits than that; else as gist_open.
+ * GIST_FROM_FUTURE if there are fewer commits than that; else as gist_open.
  */
 uint32_t gist_follow(gist_store *store, const gist_query *query, uint64_t commit, uint64_t *cursor);
 
 /*
- * Gives a cursor's next items, until the buffer is full, nothing is left or the next is refused, and tells how many
- * they are. Where they are fewer than there is room for, the next call tells whether nothing is left: it gives none
- * then. A room of 0 asks for nothing, and is refused for nothing but a handle of no store.
+ * Gives a cursor's next items, until the buffer is full, nothing is left or the next is refused, and how many they are.
+ * If it gives fewer than there is room for, call it again: no items and GIST_OK means that nothing is left. A room of 0
+ * asks for nothing, and is refused only if the handle holds no store.
  *
- * Where the first is refused: GIST_NO_SUCH_CURSOR, GIST_CURSOR_CLOSED; GIST_OUT_OF_MEMORY, and the next call goes on.
+ * If the first is refused: GIST_NO_SUCH_CURSOR, GIST_CURSOR_CLOSED; GIST_OUT_OF_MEMORY, and the next call goes on.
  */
 uint32_t gist_next(gist_store *store, uint64_t cursor, gist_item *items, size_t room, uint64_t *given);
 
 /*
- * Asks a cursor for a mark: an item with the number of a commit, which shows that all up to that commit was given. It
- * comes once what was there is given. GIST_NO_SUCH_CURSOR, GIST_CURSOR_CLOSED.
+ * Asks a cursor for a mark: an item with the number of a commit, which shows that everything up to that commit was
+ * given. It comes after everything that is due before it. GIST_NO_SUCH_CURSOR, GIST_CURSOR_CLOSED.
  */
 uint32_t gist_mark(gist_store *store, uint64_t cursor);
 
@@ -403,38 +406,38 @@ typedef struct gist_told {
 } gist_told;
 
 /*
- * Makes a feed of a class, without subscriptions, for a handle that has nothing. It has gone over no commit.
+ * Makes a feed of a class, for an empty handle. It has no subscriptions, and has gone over no commit yet.
  *
- * GIST_BAD_CONFIG where no class has the number or the handle has something; GIST_OUT_OF_MEMORY.
+ * GIST_BAD_CONFIG if no class has the number or the handle isn't empty; GIST_OUT_OF_MEMORY.
  */
 uint32_t gist_begin(gist_feed *feed, uint32_t key_class);
 
-/* Drops what a handle has, if it has something. It has nothing then. */
+/* Frees what a handle holds, if it holds something, and leaves it empty. */
 void gist_end(gist_feed *feed);
 
 /*
- * Subscribes to the changes of a query that come after a commit, and gives the subscription's number. What came before
- * the commit up to which the feed has gone is given by its next advance.
+ * Subscribes to the changes of a query that come after a commit, and gives the subscription's number. If the feed has
+ * already gone past that commit, its next advance gives what was missed.
  *
  * GIST_FEED_FULL; GIST_OUT_OF_MEMORY.
  */
 uint32_t gist_subscribe(gist_feed *feed, const gist_query *query, uint64_t from, uint64_t *subscription);
 
-/* Ends a subscription. It may still be given what waits. GIST_NOT_SUBSCRIBED. */
+/* Ends a subscription. Items for it that already wait are still given. GIST_NOT_SUBSCRIBED. */
 uint32_t gist_unsubscribe(gist_feed *feed, uint64_t subscription);
 
 /*
- * Goes over at most that many further commits of a snapshot, and puts what they give to each subscription into a buffer.
- * What doesn't fit waits, and is given by the next calls before the feed goes on: nothing waits where fewer are given
- * than there is room for. Tells how many are given, and up to which commit the feed has gone. All snapshots that a feed
- * goes over are of one store.
+ * Goes over at most `most` further commits of a snapshot, and writes what they give to each subscription into a buffer.
+ * What doesn't fit waits, and is given by the next calls before the feed goes on; nothing waits if fewer items are
+ * given than there is room for. Gives how many items were written, and up to which commit the feed has gone. All
+ * snapshots that a feed goes over must be of one store.
  *
- * GIST_FROM_FUTURE where the snapshot has fewer commits than the feed has gone over; GIST_OUT_OF_MEMORY.
+ * GIST_FROM_FUTURE if the snapshot has fewer commits than the feed has gone over; GIST_OUT_OF_MEMORY.
  */
 uint32_t gist_advance(gist_feed *feed, const gist_snapshot *snapshot, uint64_t most, gist_told *told, size_t room,
                       uint64_t *given, uint64_t *upto);
 
-/* A key is two words, and what has one has no gap before it. */
+/* The library relies on this layout: a key is two words, and no padding comes before it. */
 #ifdef __cplusplus
 static_assert(sizeof(gist_key) == 16 && sizeof(gist_entry) == 24 && sizeof(gist_item) == 48, "gist_key");
 #else

@@ -1,14 +1,14 @@
 /*
- * gist for C++17: the stores, queries, snapshots, cursors and feeds of gist.h, which drop what they own.
+ * gist for C++17: the stores, queries, snapshots, cursors and feeds of gist.h, as objects that free what they own.
  *
  *     gist::Store<gist::Interval> rooms;
  *     rooms.insert({9, 17}, 4711);
  *     for (const auto &row : rooms.snapshot().find(gist::overlaps(gist::Interval{12, 13})))
  *         std::cout << row.tag << '\n';
  *
- * What a call does, and when it is refused, stands in gist.h at the call of that name. A refusal is thrown as a
- * gist::Error. Objects are moved and not copied; one that was moved away may be assigned to or destroyed, and no more.
- * What the header says of handles and threads is so of these objects; a const function only reads its handle.
+ * What a call does, and when it is refused, is told in gist.h at the call of the same name. A refusal is thrown as a
+ * gist::Error. Objects can be moved but not copied; a moved-from object may only be assigned to or destroyed. What the
+ * header says about handles and threads holds for these objects, too; a const function only reads its handle.
  */
 #ifndef GIST_HPP
 #define GIST_HPP
@@ -29,13 +29,13 @@ inline void need(uint32_t answer, uint64_t fault = 0, uint64_t done = 0) {
     if (answer != GIST_OK)
         throw Error(answer, fault, done);
 }
-/* What a call gives by its last pointer. */
+/* The value that a call gives through its last pointer. */
 template <class Call, class... Parts> uint64_t given(Call call, Parts... parts) {
     uint64_t number = 0;
     need(call(parts..., &number));
     return number;
 }
-/* What has a handle, whose address stays, and drops what the handle has. */
+/* Owns a handle, whose address never changes, and frees what the handle holds. */
 template <class Raw, void (*drop)(Raw *)> class Owner {
     struct Drop {
         void operator()(Raw *raw) const noexcept {
@@ -56,7 +56,7 @@ template <class Key> Item<Key> item_of(const gist_item &it) {
 }
 } // namespace detail
 
-/* A query, which is read once and asked as often as wanted. */
+/* A query, which is parsed once and may be used any number of times. */
 template <class Key> struct Query : detail::Owner<gist_query, gist_forget> {
     explicit Query(std::string_view text) {
         uint64_t at = 0;
@@ -77,7 +77,7 @@ template <class Key> Query<Key> same(const Key &key) { return {Relation::Same, k
 template <class Key> struct Snapshot : detail::Owner<gist_snapshot, gist_drop> {
     uint64_t commits() const { return detail::given(gist_commits, this->raw()); }
     uint64_t count(const Query<Key> &query) const { return detail::given(gist_count, this->raw(), query.raw()); }
-    /* The row with a number, and whether it lived. */
+    /* The row with a number, and whether it was live. */
     Known<Key> row(uint64_t number) const {
         gist_row row;
         bool lives = false;
@@ -90,7 +90,7 @@ template <class Key> struct Snapshot : detail::Owner<gist_snapshot, gist_drop> {
         detail::need(gist_commit_of(this->raw(), number, &item));
         return item.kind == GIST_NOTHING ? std::nullopt : std::optional(detail::item_of<Key>(item));
     }
-    /* The rows that lived and that a query asks for, by rising number. */
+    /* The live rows that match a query, by rising number. */
     std::vector<Row<Key>> find(const Query<Key> &query) const {
         std::vector<gist_row> rows(detail::room);
         for (uint64_t found = 0;; rows.resize(found)) {
@@ -99,7 +99,7 @@ template <class Key> struct Snapshot : detail::Owner<gist_snapshot, gist_drop> {
                 return Span<gist_row>(rows.data(), found).made(detail::row_of<Key>);
         }
     }
-    /* For each key, the rows that lived and have a relation to it. Error::done keys were answered. */
+    /* For each key, the live rows that have a relation to it. If it throws, Error::done keys were answered. */
     std::vector<std::vector<Row<Key>>> find_each(Relation relation, Span<Key> keys) const {
         const auto asked = keys.made([](const Key &it) { return it.key(); });
         std::vector<gist_row> rows(detail::room);
@@ -116,7 +116,7 @@ template <class Key> struct Snapshot : detail::Owner<gist_snapshot, gist_drop> {
         }
         return all;
     }
-    /* The next changes after a commit, at most so many, and the commit from which a further call goes on. */
+    /* The next changes after a commit, at most `most`, and the commit from which a further call goes on. */
     Changes<Key> changes(const Query<Key> &query, uint64_t from, size_t most = 4096) const {
         std::vector<gist_item> items(most + 1);
         uint64_t count = 0, upto = from;
@@ -125,7 +125,7 @@ template <class Key> struct Snapshot : detail::Owner<gist_snapshot, gist_drop> {
     }
 };
 
-/* A cursor of Store::open or Store::follow. It is closed with the object, and is one more owner of the store. */
+/* A cursor of Store::open or Store::follow. Destroying it closes the cursor. It shares the ownership of the store. */
 template <class Key> class Cursor {
     std::shared_ptr<detail::OwnStore> store;
     uint64_t number;
@@ -143,7 +143,7 @@ template <class Key> class Cursor {
             gist_close(store->raw(), number);
     }
     void mark() { detail::need(gist_mark(store->raw(), number)); }
-    /* The next items, at most so many. There are none only where nothing is left. */
+    /* The next items, at most `most`. There are none only if nothing is left. */
     std::vector<Item<Key>> next(size_t most = detail::room) {
         std::vector<gist_item> items(most + 1);
         std::vector<Item<Key>> all(most);
@@ -156,7 +156,7 @@ template <class Key> class Cursor {
 
 template <class Key> class Store {
     std::shared_ptr<detail::OwnStore> owner = std::make_shared<detail::OwnStore>();
-    /* Makes a call until all are done, and gives the number of the first commit. */
+    /* Repeats a call until all rows are done, and gives the number of the first commit. */
     template <class Call, class Each> uint64_t all(Call call, Span<Each> each) {
         const uint64_t first = stats().commits + 1;
         for (uint64_t done = 0, more = 0; done < each.size; done += more)
@@ -166,7 +166,8 @@ template <class Key> class Store {
 
   public:
     explicit Store(const Limits &limits = GIST_LIMITS) { detail::need(gist_create(raw(), Key::key_class, &limits)); }
-    /* By gist_renew: the rows that lived in a snapshot are rows 1, 2 and so on, and `numbers` gets those they had. */
+    /* By gist_renew: the rows that were live in a snapshot become rows 1, 2 and so on, and `numbers` gets their old
+     * numbers. */
     Store(const Snapshot<Key> &from, std::vector<uint64_t> &numbers, const Limits &limits = GIST_LIMITS) {
         numbers.resize(from.commits() + 1);
         numbers.resize(detail::given(gist_renew, from.raw(), &limits, raw(), numbers.data(), numbers.size()));
@@ -189,12 +190,13 @@ template <class Key> class Store {
         detail::need(gist_take(raw(), now.raw()));
         return now;
     }
-    /* Adds rows one after the other, and gives the number of the first. Error::done were added. */
+    /* Adds rows one after the other, and gives the number of the first. If it throws, Error::done were added. */
     uint64_t insert(Span<Entry<Key>> entries) {
         return all(gist_insert, Span(entries.made([](const auto &it) { return gist_entry{it.key.key(), it.tag}; })));
     }
     uint64_t insert(const Key &key, uint64_t tag) { return insert({{key, tag}}); }
-    /* Deletes rows one after the other, and gives the number of the first commit. Error::done were deleted. */
+    /* Deletes rows one after the other, and gives the number of the first commit. If it throws, Error::done were
+     * deleted. */
     uint64_t erase(Span<uint64_t> rows) { return all(gist_delete, rows); }
     uint64_t erase(uint64_t row) { return erase({&row, 1}); }
     uint64_t move(uint64_t row, const Key &key) { return detail::given(gist_move, raw(), row, key.key()); }
@@ -211,14 +213,14 @@ template <class Key> struct Feed : detail::Owner<gist_feed, gist_end> {
         return detail::given(gist_subscribe, this->raw(), query.raw(), from);
     }
     void unsubscribe(uint64_t subscription) { detail::need(gist_unsubscribe(this->raw(), subscription)); }
-    /* Goes over at most so many commits, puts all that they give behind what `told` has, also where an Error comes in
-     * between, and gives the commit up to which the feed has gone. */
+    /* Goes over at most `most` commits, appends what they give to `told`, and returns the commit up to which the feed
+     * has gone. If it throws, what was given before is in `told`. */
     uint64_t advance(const Snapshot<Key> &snapshot, std::vector<Told<Key>> &told, uint64_t most = -1) {
         gist_told buffer[detail::room];
         uint64_t given = detail::room, upto = 0;
         for (; given == detail::room; most = 0) {
             const size_t before = told.size();
-            told.resize(before + detail::room); /* so that nothing that was given finds no memory */
+            told.resize(before + detail::room); /* reserved before the call, so that no item is lost for lack of memory */
             const auto answer = gist_advance(this->raw(), snapshot.raw(), most, buffer, detail::room, &given, &upto);
             told.resize(before + (answer == GIST_OK ? given : 0));
             detail::need(answer);

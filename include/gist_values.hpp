@@ -21,8 +21,8 @@ class Error : public std::runtime_error {
   public:
     const uint32_t number;  /* as GIST_COMMITS_FULL */
     const std::string name; /* as "CommitsFull" */
-    const uint64_t fault;   /* of GIST_QUERY_TEXT: the byte at which the text is refused, counted from 0 */
-    const uint64_t done;    /* of a call for many: how many were done before the one that is refused */
+    const uint64_t fault;   /* of GIST_QUERY_TEXT: the place of the first wrong byte, counted from 0 */
+    const uint64_t done;    /* of a call for many rows or keys: how many were done before the refused one */
 
     Error(uint32_t refusal, uint64_t at, uint64_t before)
         : std::runtime_error("gist: " + name_of(refusal) + " (" + std::to_string(refusal) + ")" +
@@ -87,14 +87,14 @@ template <class Key> struct Told { uint64_t subscription; Item<Key> item; };
 template <class Key> struct Known { Row<Key> row; bool lives; };
 template <class Key> struct Changes { std::vector<Item<Key>> items; uint64_t upto; };
 
-/* Some values one after the other: (pointer, size), a vector or {a, b, c}. */
+/* A view of contiguous values: (pointer, size), a vector or {a, b, c}. */
 template <class T> struct Span {
     const T *data;
     size_t size;
     Span(const T *first, size_t n) : data(first), size(n) {}
     Span(const std::vector<T> &all) : Span(all.data(), all.size()) {}
     Span(std::initializer_list<T> all) : Span(all.begin(), all.size()) {}
-    template <class Make> auto made(Make make) const { /* what each becomes */
+    template <class Make> auto made(Make make) const { /* the values, each converted */
         std::vector<decltype(make(*data))> all(size);
         std::transform(data, data + size, all.begin(), make);
         return all;

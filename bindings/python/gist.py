@@ -1,4 +1,4 @@
-"""Rows in memory that are found by intervals, boxes or sets, and followed as they change.
+"""An in-memory index of rows by intervals, boxes or sets, whose readers can follow every change.
 
     >>> from gist import Interval, Store, overlaps
     >>> rooms = Store(Interval)
@@ -10,15 +10,16 @@
     ...     now.find(overlaps(Interval(11, 15)))
     [Row(number=1, key=Interval(lo=9, hi=11), tag=71), Row(number=2, key=Interval(lo=14, hi=16), tag=72)]
 
-A store has rows, each with a key, a number and a tag, which is a number of the caller's own. Each insert, delete or move
-is a commit with the next number: 1, 2, 3 and so on; a row's number is that of the commit that made it. A snapshot is the
-commits as they stood when it was taken. A cursor gives the rows that match and then each later change, without a gap and
-without a repetition; a feed does that for many queries at once.
+A store has rows, each with a key, a number and a tag, a number that the caller chooses. Each insert, delete or move is
+a commit with the next number: 1, 2, 3 and so on; a row's number is that of the commit that made it. A snapshot is the
+commits as they stood when it was taken. A cursor gives the rows that match and then each later change, without a gap
+and without a repetition; a feed does that for many queries at once.
 
-Any thread may call any object. Those that read snapshots and queries run at once, and so do the calls of two objects; the
-calls of a store or of a feed take turns. Each object is closed by `close`, by `with`, or once nothing refers to it. A call that is refused raises `Error`, and changes nothing.
+Any thread may call any object. Calls that read snapshots and queries run at the same time, and so do calls of different
+objects; the calls of one store or one feed take turns. An object is closed by `close`, by `with`, or when nothing
+refers to it any more. A refused call raises `Error`, and changes nothing.
 
-The module calls libgist.so, out of the folder that the variable GIST_LIB_DIR names, or else beside this file, or else
+The module loads libgist.so from the folder that the variable GIST_LIB_DIR names, else from beside this file, else from
 where the system looks.
 """
 from __future__ import annotations
@@ -70,7 +71,7 @@ K = TypeVar("K", Interval, Box, Set)
 
 
 class Relation(enum.IntEnum):
-    """The relations of a row's key to a key that is asked for. Each is that of the same word in a query."""
+    """The relations of a row's key to a key that is asked for, each with the meaning of the same word in a query's text."""
 
     OVERLAPS = 1
     """They have a point, or an element, in common."""
@@ -83,7 +84,7 @@ class Relation(enum.IntEnum):
 
 
 class Kind(enum.IntEnum):
-    """What an item tells."""
+    """The kinds of items."""
 
     ROW = 1
     """A row that was there at the opening: its number, key and tag."""
@@ -94,7 +95,7 @@ class Kind(enum.IntEnum):
     MOVED = 4
     """The commit `number` ended the row `ended` and made one with this number, key and tag."""
     MARK = 5
-    """All up to the commit `number` was given."""
+    """Everything up to the commit `number` was given."""
 
 
 class Row(NamedTuple):
@@ -106,7 +107,7 @@ class Row(NamedTuple):
 
 
 class Item(NamedTuple):
-    """An item of a cursor, a commit, or a change. What it doesn't tell is 0, and the key of a mark is None."""
+    """An item of a cursor, a commit, or a change. Fields that don't apply are 0, and the key of a mark is None."""
 
     kind: Kind
     number: int
@@ -116,7 +117,7 @@ class Item(NamedTuple):
 
 
 class Known(NamedTuple):
-    """A row, and whether it lived."""
+    """A row, and whether it was live."""
 
     row: Row
     lives: bool
@@ -144,12 +145,12 @@ class Advance(NamedTuple):
 
 
 class Limits(NamedTuple):
-    """The limits of a store. Those that stand here are the greatest, and good for many rows."""
+    """The limits of a store. The defaults are the greatest limits, and good for many rows."""
 
     fan: int = 32
     """How many entries a page may have: 4 to 64."""
     least: int = 12
-    """How many each side of a split has at least: 2 to half of fan."""
+    """The least number of entries on each side of a split: 2 to half of fan."""
     pages: int = 65_536
     """How many pages there may be: 1 to 65,536."""
     commits: int = 16_777_216
@@ -157,16 +158,16 @@ class Limits(NamedTuple):
 
 
 class Figures(NamedTuple):
-    """How far a store has come, and what is left to it."""
+    """The figures of a store: its progress, and its limits."""
 
     commits: int
     commit_limit: int
     pages: int
     page_limit: int
     cursors: int
-    """How many are open."""
+    """How many cursors are open."""
     horizon: int
-    """The commit up to which a sweep removes what ended."""
+    """A sweep removes the rows that ended up to this commit."""
 
 
 class Standing(NamedTuple):
@@ -231,8 +232,8 @@ _EXPECTED = {
 class Error(Exception):
     """A refused call.
 
-    `refusal` tells why. `at` is the place of the character at which a query's text is refused, counted from 0, else None.
-    `done` is, of a call for many, how many were done before the one that is refused.
+    `refusal` tells why. `at` is the place of the first wrong character of a query's text, counted from 0, else None.
+    For a call for many rows or keys, `done` is how many were done before the refused one.
     """
 
     def __init__(self, refusal: Refusal, at: Optional[int] = None, done: int = 0) -> None:
@@ -268,7 +269,7 @@ class _Standing(ctypes.Structure):
 
 
 def _load() -> ctypes.CDLL:
-    """Loads the library, or says how to name its folder."""
+    """Loads the library, or raises an error that says how to name its folder."""
     if sys.byteorder != "little":
         raise ImportError("gist: the library's keys are little-endian, and this machine isn't")
     named = os.environ.get("GIST_LIB_DIR")
@@ -333,7 +334,7 @@ _drop = {name: _declared(name, (_pointer,), None) for name in ("destroy", "drop"
 
 
 def _need(answer: int, at: Optional[int] = None, done: int = 0) -> None:
-    """Raises the refusal of an answer that isn't 0."""
+    """Raises the error of a code that isn't 0."""
     if answer:
         raise Error(Refusal(answer), at, done)
 
@@ -345,7 +346,7 @@ def version() -> Tuple[int, int, int]:
 
 
 class _Class:
-    """How keys of a class stand in memory."""
+    """The layout in memory of a class's keys."""
 
     def __init__(self, number: int, key: Type[Any], form: str, everything: Tuple[Relation, Any]) -> None:
         self.number, self.key, self.everything = number, key, everything
@@ -356,7 +357,7 @@ class _Class:
         self.told_form = struct.Struct(f"<QI4xQQQ{form}")
 
     def fields(self, key: Any) -> Any:
-        """The numbers of a key, as they stand in memory."""
+        """The numbers of a key, in the order of that layout."""
         if isinstance(key, range):
             if self.key is not Interval or key.step != 1:
                 raise TypeError(f"expected {self.key.__name__}, not {key!r}")
@@ -364,26 +365,26 @@ class _Class:
         return key
 
     def made(self, *fields: int) -> Any:
-        """The key of some numbers."""
+        """The key with these numbers."""
         return self.key(*fields)
 
     def packed(self, form: struct.Struct, *values: Any) -> bytes:
-        """The bytes of a key, and of a tag behind it."""
+        """The bytes of a key, followed by those of a tag."""
         try:
             return form.pack(*self.fields(values[0]), *values[1:])
         except struct.error:
             raise ValueError(f"expected {self.key.__name__} with numbers of its bits, and a tag of 64 bits, not {values}") from None
 
     def c_key(self, key: Any) -> _Key:
-        """A key, as the library takes it."""
+        """A key, in the library's layout."""
         return _Key.from_buffer_copy(self.packed(self.key_form, key))
 
     def text(self, key: Any) -> str:
-        """A key, as a query's text has it."""
+        """A key, as it is written in a query's text."""
         return f"({' '.join(map(str, self.fields(key)))})"
 
     def rows(self, buffer: Any, first: int, end: int) -> List[Row]:
-        """The rows at some places of a buffer."""
+        """The rows at these places of a buffer."""
         made, size = self.made, self.row_form.size
         rows = self.row_form.iter_unpack(memoryview(buffer).cast("B")[first * size:end * size])
         return [Row(number, made(*key), tag) for number, tag, *key in rows]
@@ -401,7 +402,7 @@ class _Class:
         return [Item(_KINDS[kind], number, ended, tag, None if kind == 5 else made(*key)) for kind, number, ended, tag, *key in items]
 
     def told(self, buffer: Any, count: int) -> List[Told]:
-        """What a feed gave, out of a buffer."""
+        """The items that a feed wrote into a buffer."""
         made, size = self.made, self.told_form.size
         told = self.told_form.iter_unpack(memoryview(buffer).cast("B")[:count * size])
         return [Told(to, Item(_KINDS[kind], number, ended, tag, made(*key))) for to, kind, number, ended, tag, *key in told]
@@ -437,7 +438,7 @@ _CLASSES = {
     Set: _Sets(3, Set, "2Q", (Relation.HOLDS, ())),
 }
 
-# How many places a buffer has at first, and at most where a call may be made again
+# How many places a buffer has at first, and the most it has if a call can be repeated
 _ROOM, _MOST_ROOM = 64, 4_096
 
 
@@ -449,12 +450,12 @@ def _class_of(key_class: Type[Any]) -> _Class:
 
 
 def _words(count: int) -> Any:
-    """A buffer of so many words, and of one where it is none."""
+    """A buffer of this many words, but at least one."""
     return (_u64 * max(count, 1))()
 
 
 class _Readers:
-    """Lets any number of threads read, and closes what they read once none does."""
+    """Lets any number of threads read an object, and closes it when none reads any more."""
 
     def __init__(self) -> None:
         self._changed = threading.Condition(threading.Lock())
@@ -471,25 +472,25 @@ class _Readers:
                 self._changed.notify_all()
 
     def close(self, finalizer: Callable[[], Any]) -> None:
-        """Waits until nobody reads, and closes."""
+        """Waits until no thread reads, and closes."""
         with self._changed:
             self._changed.wait_for(lambda: not self._count)
             finalizer()
 
 
 class _Owner:
-    """What has a handle, and closes it once. The calls that change what it has take turns."""
+    """Owns a handle, and closes it once. Calls that change what it holds take turns."""
 
     def __init__(self, drop: str) -> None:
         self._handle = _Handle(False, None)
         self._turn = threading.RLock()
         self._readers = _Readers()
         self._at = ctypes.addressof(self._handle)
-        # the finalizer keeps the handle, and runs once: at close, or once nothing refers to this object
+        # the finalizer keeps the handle, and runs once: at close, or when nothing refers to this object any more
         self._finalizer = weakref.finalize(self, _drop_handle, _drop[drop], self._handle)
 
     def close(self) -> None:
-        """Gives up what it has. A later call is refused as NoHandle."""
+        """Frees what the handle holds. Later calls are refused as NoHandle."""
         with self._turn:
             self._readers.close(self._finalizer)
 
@@ -514,11 +515,12 @@ def _drop_handle(drop: Callable[[Any], None], handle: _Handle) -> None:
 
 
 class Query(_Owner, Generic[K]):
-    """A question that is asked of keys. It is read once, and may be asked as often as wanted.
+    """A condition on keys. It is parsed once, and may be used any number of times.
 
-    `Query(Interval, "overlaps (9 17) and not within (0 9)")` reads a text: `overlaps`, `within`, `holds` and `same` with a
-    key, and `and`, `or`, `not` and round brackets, at most 32 deep and 4,096 bytes long. Keys are written `(9 17)`,
-    `(x1 y1 x2 y2)` and `{2 5 64}`. `overlaps(key)` and its like make one of a key, and `&`, `|` and `~` join some:
+    `Query(Interval, "overlaps (9 17) and not within (0 9)")` reads a text: `overlaps`, `within`, `holds` and `same`
+    with a key, and `and`, `or`, `not` and round brackets, at most 32 deep and 4,096 bytes long. Keys are written `(9
+    17)`, `(x1 y1 x2 y2)` and `{2 5 64}`. `overlaps(key)` and the like make one from a key, and `&`, `|` and `~` combine
+    queries:
 
     >>> (overlaps(Interval(9, 17)) & ~within(Interval(0, 9))).text
     '(overlaps (9 17)) and (not (within (0 9)))'
@@ -540,7 +542,7 @@ class Query(_Owner, Generic[K]):
 
     @classmethod
     def by(cls, relation: Relation, key: K, key_class: Optional[Type[K]] = None) -> Query[K]:
-        """The query that asks for a relation to a key, whose type tells the class where that isn't told.
+        """The query for the keys that have a relation to a key. Without `of` the key's type tells the class.
 
         Raises Error: BadEnds.
         """
@@ -586,7 +588,7 @@ def same(key: K) -> Query[K]:
 
 
 def _asked(key_class: Type[K], query: Union[Query[K], str]) -> Query[K]:
-    """A query, which may be given as its text."""
+    """A query, made from its text if it isn't one yet."""
     return Query(key_class, query) if isinstance(query, str) else query
 
 
@@ -594,10 +596,10 @@ def _asked(key_class: Type[K], query: Union[Query[K], str]) -> Query[K]:
 
 
 class Snapshot(_Owner, Generic[K]):
-    """A store's commits as they stood when `Store.snapshot` took it, whatever follows.
+    """A store's commits as they stood when `Store.snapshot` took it. Later commits don't change it.
 
-    Its length is how many rows lived, an iteration gives them by rising number, and `snapshot[number]` the one with a
-    number. A query may be given as its text.
+    Its length is the number of live rows; iterating gives them by rising number, and `snapshot[number]` gives the one
+    with a number. A query may be given as its text.
     """
 
     def __init__(self, key_class: Type[K]) -> None:
@@ -631,7 +633,7 @@ class Snapshot(_Owner, Generic[K]):
         return row
 
     def get(self, number: int) -> Optional[Row]:
-        """The row with a number if it lived, else None."""
+        """The row with a number if it was live, else None."""
         try:
             known = self.known(number)
         except Error as error:
@@ -641,7 +643,7 @@ class Snapshot(_Owner, Generic[K]):
         return known.row if known.lives else None
 
     def known(self, number: int) -> Known:
-        """The row with a number, and whether it lived. Raises Error: NoSuchRow where no insert or move has the number."""
+        """The row with a number, and whether it was live. Raises Error: NoSuchRow if no insert or move has the number."""
         row, lives = _words(4), ctypes.c_bool()
         with self._readers:
             _need(_call["row_of"](self._at, _number(number), ctypes.addressof(row), ctypes.addressof(lives)))
@@ -655,7 +657,7 @@ class Snapshot(_Owner, Generic[K]):
         return self._class.item(*self._class.item_form.unpack(item))
 
     def find(self, query: Union[Query[K], str]) -> List[Row]:
-        """The rows that lived and that a query asks for, by rising number."""
+        """The live rows that match a query, by rising number."""
         asked, found, room = _asked(self.key_class, query), _u64(), _ROOM
         while True:
             rows = _words(4 * room)
@@ -666,14 +668,14 @@ class Snapshot(_Owner, Generic[K]):
             room = found.value
 
     def count(self, query: Union[Query[K], str]) -> int:
-        """How many rows lived that a query asks for."""
+        """How many live rows match a query."""
         asked, count = _asked(self.key_class, query), _u64()
         with self._readers, asked._readers:
             _need(_call["count"](self._at, asked._at, ctypes.addressof(count)))
         return count.value
 
     def find_each(self, relation: Relation, keys: Iterable[K]) -> List[List[Row]]:
-        """For each key, the rows that lived and have a relation to it, by rising number.
+        """For each key, the live rows that have a relation to it, by rising number.
 
         Raises Error: BadEnds, with the number of keys before that one as `done`.
         """
@@ -698,10 +700,10 @@ class Snapshot(_Owner, Generic[K]):
         return found
 
     def changes(self, query: Union[Query[K], str], since: int, most: Optional[int] = None) -> Changes:
-        """The first changes after the commit `since` that a query asks for, at most `most`.
+        """The first changes of a query after the commit `since`, at most `most`.
 
-        With the rows that were found in a snapshot of so many commits they are what a cursor gives.
-        Raises Error: FromFuture where there were fewer commits.
+        After the rows found in a snapshot of `since` commits they are what a cursor gives. Raises Error: FromFuture if
+        there were fewer commits.
         """
         asked, buffer = _asked(self.key_class, query), _words(6 * _MOST_ROOM)
         items: List[Item] = []
@@ -718,9 +720,9 @@ class Snapshot(_Owner, Generic[K]):
                 return Changes(items, upto.value)
 
     def renew(self, limits: Limits = Limits()) -> Renewed:
-        """Makes a store of the rows that lived, which are its rows 1, 2 and so on, and with no other commit.
+        """Makes a new store of the live rows, numbered 1, 2 and so on. Their inserts are its only commits.
 
-        Raises Error: BadLimits, and CommitsFull or PagesFull where the limits are too small for the rows.
+        Raises Error: BadLimits, and CommitsFull or PagesFull if the limits are too small for the rows.
         """
         store: Store[K] = Store.__new__(Store)
         _Owner.__init__(store, "destroy")
@@ -761,16 +763,16 @@ class Store(_Owner, Generic[K]):
         self.key_class: Type[K] = key_class
         self._class = _class_of(key_class)
         self._grown = threading.Condition(self._turn)
-        # the cursors that nothing refers to any more
+        # cursors to close: nothing refers to them any more
         self._left: List[int] = []
 
     def _close_left(self) -> None:
-        """Closes the cursors that nothing refers to any more. A collector mustn't wait for a turn, so it leaves that here."""
+        """Closes the cursors that nothing refers to any more. A collector mustn't wait for the lock, so it only lists them."""
         while self._left:
             _call["close"](self._at, self._left.pop())
 
     def figures(self) -> Figures:
-        """How far the store has come, and what is left to it."""
+        """The store's figures."""
         figures = _Figures()
         with self._turn:
             self._close_left()
@@ -797,7 +799,7 @@ class Store(_Owner, Generic[K]):
     def insert_all(self, rows: Iterable[Tuple[K, int]]) -> range:
         """Adds rows one after the other until one is refused, and gives their numbers.
 
-        Raises Error as `insert`, with the number of rows before that one, which were added, as `done`.
+        Raises Error as `insert`; the rows before the refused one were added, and `done` is how many.
         """
         packed, form = self._class.packed, self._class.entry_form
         return self._all("insert", b"".join([packed(form, key, tag) for key, tag in rows]), form.size)
@@ -809,13 +811,13 @@ class Store(_Owner, Generic[K]):
     def delete_all(self, rows: Iterable[int]) -> range:
         """Deletes rows one after the other until one is refused, and gives the commits' numbers.
 
-        Raises Error as `delete`, with the number of rows before that one, which were deleted, as `done`.
+        Raises Error as `delete`; the rows before the refused one were deleted, and `done` is how many.
         """
         numbers = [_number(row) for row in rows]
         return self._all("delete", struct.pack(f"<{len(numbers)}Q", *numbers), 8)
 
     def _all(self, call: str, data: bytes, size: int) -> range:
-        """Makes a call until all are done, and gives the numbers of the commits."""
+        """Repeats a call until all rows are done, and gives the numbers of the commits."""
         count, done, more = len(data) // size, 0, _u64()
         begin = ctypes.cast(ctypes.c_char_p(data), _pointer).value or 0
         with self._turn:
@@ -840,7 +842,7 @@ class Store(_Owner, Generic[K]):
         return moved.value
 
     def sweep(self) -> int:
-        """Removes the ended rows that no open cursor needs any more, and tells how many they were."""
+        """Removes the ended rows that no open cursor needs any more, and gives how many there were."""
         removed = _u64()
         with self._turn:
             self._close_left()
@@ -855,7 +857,7 @@ class Store(_Owner, Generic[K]):
         return snapshot
 
     def wait_past(self, commit: int, seconds: Optional[float] = None) -> Optional[Snapshot[K]]:
-        """Sleeps until there are more commits than that, and takes a snapshot; or gives None after so many seconds."""
+        """Sleeps until there is a commit after `commit`, and takes a snapshot; gives None after `seconds`."""
         end = None if seconds is None else time.monotonic() + seconds
         with self._turn:
             while self.commits() <= commit:
@@ -877,10 +879,10 @@ class Store(_Owner, Generic[K]):
         return Cursor(self, number.value)
 
     def follow(self, query: Union[Query[K], str], commit: int) -> Cursor[K]:
-        """Opens a cursor that gives the changes after a commit, and no row that was there.
+        """Opens a cursor that gives only the changes after a commit.
 
-        After a mark's number it goes on where the mark was given; after 0 it gives all changes that there are.
-        Raises Error: FromFuture where there are fewer commits, CursorsFull.
+        With a mark's number it goes on where the mark was given; with 0 it gives all changes from the beginning. Raises
+        Error: FromFuture if there are fewer commits, CursorsFull.
         """
         asked, number = _asked(self.key_class, query), _u64()
         with self._turn, asked._readers:
@@ -895,7 +897,7 @@ class Store(_Owner, Generic[K]):
 
 
 class Renewed(NamedTuple):
-    """A store that was made anew, and the numbers that its rows had: that of row 1 first."""
+    """A new store made of a snapshot's rows, and the numbers that its rows had before, that of row 1 first."""
 
     store: Any
     numbers: List[int]
@@ -904,8 +906,8 @@ class Renewed(NamedTuple):
 class Cursor(Generic[K]):
     """Gives the rows that match, and then each later change that its query asks for, without a gap or a repetition.
 
-    An iteration goes on until nothing is left; a later one goes on from there. It is closed by `close`, by `with`, or once
-    nothing refers to it, and keeps its store.
+    Iterating ends when nothing is left, and goes on from there later. A cursor is closed by `close`, by `with`, or when
+    nothing refers to it any more, and it keeps its store alive.
 
     >>> rooms = Store(Interval)
     >>> with rooms.open("overlaps (8 18)") as display:
@@ -928,7 +930,7 @@ class Cursor(Generic[K]):
             yield items[0]
 
     def items(self, most: int = 256) -> List[Item]:
-        """The next items by one call, at most so many. There are none only where nothing is left now.
+        """The next items by one call, at most `most`. There are none only if nothing is left now.
 
         Raises Error: CursorClosed; NoHandle where the store is closed.
         """
@@ -938,7 +940,8 @@ class Cursor(Generic[K]):
         return store._class.items(items, given.value)
 
     def mark(self) -> None:
-        """Asks for a mark: an item with the number of a commit, which shows that all up to that commit was given.
+        """Asks for a mark: an item with the number of a commit, which shows that everything up to that commit was
+        given.
 
         Raises Error: CursorClosed; NoHandle where the store is closed.
         """
@@ -962,7 +965,7 @@ class Cursor(Generic[K]):
 
 
 class Feed(_Owner, Generic[K]):
-    """Tells many subscribers of the changes that each asked for, as it goes from snapshot to snapshot of one store.
+    """Gives many subscribers the changes that each asked for, as it goes from snapshot to snapshot of one store.
 
     >>> rooms, feed = Store(Interval), Feed(Interval)
     >>> day = feed.subscribe(overlaps(Interval(8, 18)), 0)
@@ -983,7 +986,7 @@ class Feed(_Owner, Generic[K]):
     def subscribe(self, query: Union[Query[K], str], since: int) -> int:
         """Subscribes to the changes of a query that come after a commit, and gives the subscription's number.
 
-        Who found the rows in a snapshot of n commits subscribes from n. Raises Error: FeedFull.
+        To get the rows first, find them in a snapshot of n commits and subscribe from n. Raises Error: FeedFull.
         """
         asked, number = _asked(self.key_class, query), _u64()
         with self._turn, asked._readers:
@@ -996,9 +999,9 @@ class Feed(_Owner, Generic[K]):
             _need(_call["unsubscribe"](self._at, _number(subscription)))
 
     def advance(self, snapshot: Snapshot[K], most: Optional[int] = None) -> Advance:
-        """Goes over at most so many further commits of a snapshot, and gives each subscription what they are to it.
+        """Goes over at most `most` further commits of a snapshot, and gives each subscription its changes.
 
-        Raises Error: FromFuture where the snapshot has fewer commits than the feed has gone over.
+        Raises Error: FromFuture if the snapshot has fewer commits than the feed has gone over.
         """
         further = 2**64 - 1 if most is None else _number(most)
         buffer, given, upto = _words(7 * _MOST_ROOM), _u64(_MOST_ROOM), _u64()
@@ -1008,22 +1011,22 @@ class Feed(_Owner, Generic[K]):
                     answer = _call["advance"](
                         self._at, snapshot._at, further, ctypes.addressof(buffer), _MOST_ROOM, ctypes.addressof(given), ctypes.addressof(upto)
                     )
-                # what came before a refusal is kept for the next call
+                # what came before an error is kept for the next call
                 _need(answer)
                 self._kept += self._class.told(buffer, given.value)
-                # what waits is given without going over further commits
+                # first what waits, without going over further commits
                 further = 0
             told, self._kept = self._kept, []
         return Advance(told, upto.value)
 
 
 def _limits(limits: Limits) -> _Limits:
-    """Limits as the library takes them. One that doesn't fit is out of its range in any case."""
+    """Limits in the library's layout. One that doesn't fit into 32 bits is out of range anyway."""
     return _Limits(*(limit if 0 <= limit < 2**32 else 0 for limit in limits))
 
 
 def _number(number: int) -> int:
-    """A number of 64 bits."""
+    """A number that fits into 64 bits, unsigned."""
     if not 0 <= number < 2**64:
         raise ValueError(f"expected a number from 0 to {2**64 - 1}, not {number}")
     return number

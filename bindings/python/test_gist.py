@@ -39,17 +39,17 @@ CLASSES = (
 
 
 class Case(unittest.TestCase):
-    """What all tests share."""
+    """Helpers that all tests share."""
 
     def refused(self, refusal: Refusal, call: Any, *values: Any, done: int = 0, at: Any = None, **more: Any) -> Error:
-        """Whether a call is refused so."""
+        """Asserts that a call is refused for this reason."""
         with self.assertRaises(Error) as caught:
             call(*values, **more)
         self.assertEqual((caught.exception.refusal, caught.exception.done, caught.exception.at), (refusal, done, at))
         return caught.exception
 
     def each(self) -> Any:
-        """Each class of keys."""
+        """Every class of keys."""
         for keys in CLASSES:
             with self.subTest(keys.key_class.__name__):
                 yield keys
@@ -176,7 +176,7 @@ class Stores(Case):
         self.assertEqual((error.refusal, error.done), (Refusal.PagesFull, store.commits()))
 
     def refused_at_last(self, store: Any) -> Error:
-        """The refusal of many rows."""
+        """Refusals of calls for many rows."""
         with self.assertRaises(Error) as caught:
             store.insert_all([((n, n), 0) for n in range(1000)])
         return caught.exception
@@ -389,7 +389,7 @@ class Threads(Case):
 
 
 class Numbers(Case):
-    """What is told by numbers and names."""
+    """Numbers, names and versions."""
 
     def test_refusals_have_the_names_of_the_library(self) -> None:
         name = ctypes.create_string_buffer(16)
@@ -418,7 +418,7 @@ class Numbers(Case):
         dice = random.Random(1)
         places = [(dice.randrange(10**6), dice.randrange(10**6)) for _ in range(100_000)]
         rows = [(Box(x, y, x + 9, y + 9), n) for n, (x, y) in enumerate(places)]
-        # the processor's time, since others may use the machine
+        # processor time, since other programs may use the machine
         store, begin = Store(Box), time.process_time()
         self.assertEqual(store.insert_all(rows), range(1, 100_001))
         took = time.process_time() - begin

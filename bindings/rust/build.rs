@@ -1,10 +1,10 @@
-//! Links libgist.a out of the folder that GIST_LIB_DIR names.
+//! Links libgist.a from the folder that GIST_LIB_DIR names.
 
 use std::env;
 use std::path::Path;
 use std::process::exit;
 
-/// Ends the build with what is wrong and what to do.
+/// Ends the build with a message that says what is wrong and what to do.
 fn stop(wrong: &str) -> ! {
     eprintln!(
         "error: {wrong}\n\

@@ -11,8 +11,8 @@ use std::mem;
 /// Gives the rows that match, and then goes on: each later change that its query asks for, in the order of the commits,
 /// without a gap and without a repetition. [`Store::open`] and [`Store::follow`] make one.
 ///
-/// As an iterator it ends where nothing is left, and goes on when there is more. It borrows its store, which can be
-/// written meanwhile, and is closed when it is dropped.
+/// As an iterator it ends when nothing is left, and goes on when there is more. It borrows its store, which can be
+/// written meanwhile. Dropping it closes the cursor.
 ///
 /// ```
 /// use gist::{Interval, Item, Query, Store};
@@ -24,20 +24,15 @@ use std::mem;
 /// let items = display.by_ref().collect::<Result<Vec<_>, _>>()?;
 /// assert!(matches!(items[..], [Item::Row(_), Item::Mark(1)]));
 ///
-/// // who has taken mark 1 may go away, and come back to what followed
-/// drop(display);
-/// rooms.delete(1)?;
-/// let back = rooms.follow(&Query::overlaps(8..18)?, 1)?;
-/// assert_eq!(back.count(), 1);
-/// # Ok::<(), gist::Error>(())
-/// ```
+/// // a client that has taken mark 1 may go away, and come back for what followed drop(display); rooms.delete(1)?; let
+/// back = rooms.follow(&Query::overlaps(8..18)?, 1)?; assert_eq!(back.count(), 1); # Ok::<(), gist::Error>(()) ```
 #[must_use = "a cursor is closed when it is dropped"]
 pub struct Cursor<'a, K: Key> {
     store: &'a Store<K>,
     number: u64,
 }
 
-/// The number of an open cursor that borrows its store no more, as [`Cursor::detach`] gives it.
+/// An open cursor that no longer borrows its store, made by [`Cursor::detach`].
 #[derive(Debug, PartialEq, Eq, Hash)]
 #[must_use = "a cursor that isn't attached again stays open"]
 pub struct CursorNumber(u64);
@@ -55,11 +50,10 @@ impl<'a, K: Key> Cursor<'a, K> {
         Cursor { store, number }
     }
 
-    /// The next items by one call, at most as many as that. There are none only where nothing is left now.
+    /// The next items by one call, at most `most`. There are none only if nothing is left now.
     ///
-    /// # Errors
-    /// [`Error::OutOfMemory`], and the next call goes on. A cursor that was attached to another store than its own is
-    /// refused as [`Error::NoSuchCursor`] or [`Error::CursorClosed`], or is one of that store's.
+    /// # Errors [`Error::OutOfMemory`], and the next call goes on. If the cursor was attached to a store that isn't its
+    /// own, it is refused as [`Error::NoSuchCursor`] or [`Error::CursorClosed`], or stands for a cursor of that store.
     ///
     /// ```
     /// use gist::{Interval, Query, Store};
@@ -87,7 +81,8 @@ impl<'a, K: Key> Cursor<'a, K> {
         Ok(all)
     }
 
-    /// Asks for a mark: an [`Item::Mark`] with the number of a commit, which shows that all up to that commit was given.
+    /// Asks for a mark: an [`Item::Mark`] with the number of a commit, which shows that everything up to that commit
+    /// was given.
     ///
     /// # Errors
     /// As [`Cursor::next_items`].
@@ -106,7 +101,7 @@ impl<'a, K: Key> Cursor<'a, K> {
         told(unsafe { ffi::gist_mark(self.store.handle(), self.number) })
     }
 
-    /// Closes the cursor, as a drop does.
+    /// Closes the cursor, as dropping it does.
     ///
     /// # Errors
     /// As [`Cursor::next_items`].
@@ -169,7 +164,7 @@ impl<K: Key> Iterator for Cursor<'_, K> {
 
 impl<K: Key> Drop for Cursor<'_, K> {
     fn drop(&mut self) {
-        // a cursor that is closed already has nothing to be closed
+        // fails only if the cursor is closed already, so there is nothing to do
         let _closed = unsafe { ffi::gist_close(self.store.handle(), self.number) };
     }
 }

@@ -5,7 +5,7 @@ use std::error;
 use std::fmt;
 use std::ops::Range;
 
-/// Why a call was refused. Neither the commits nor what a cursor has still to give have changed then.
+/// Why a call was refused. A refused call changes neither the commits nor what a cursor still has to give.
 ///
 /// ```
 /// use gist::{Error, Interval, Store};
@@ -20,9 +20,9 @@ use std::ops::Range;
 #[derive(Clone, Copy, Debug, PartialEq, Eq, Hash)]
 #[non_exhaustive]
 pub enum Error {
-    /// Memory was wanting. The same call may be made again.
+    /// Memory ran out. The same call may be made again.
     OutOfMemory,
-    /// A number names no class or no relation, or a handle is used twice. No call of this crate is refused so.
+    /// No class or no relation has the number, or a handle isn't empty. This crate's calls never give it.
     BadConfig,
     /// Fewer than two pages are left of [`Limits::pages`](crate::Limits::pages).
     PagesFull,
@@ -42,10 +42,10 @@ pub enum Error {
     CursorClosed,
     /// The text of a query is refused.
     QueryText {
-        /// The byte at which it is, counted from 0.
+        /// The place of the first wrong byte, counted from 0.
         at: usize,
     },
-    /// There are fewer commits than the one to be followed.
+    /// There are fewer commits than the one to follow.
     FromFuture,
     /// 1,000,000 subscriptions of the feed are open, or 4,294,967,295 were opened.
     FeedFull,
@@ -53,13 +53,13 @@ pub enum Error {
     NotSubscribed,
     /// The ends of a key are out of order.
     BadEnds,
-    /// The keys are of another class. No call of this crate is refused so, since its types tell the classes apart.
+    /// The keys are of another class. This crate's calls never give it, since its types tell the classes apart.
     OtherClass,
-    /// A handle has nothing. No call of this crate is refused so.
+    /// A handle is empty. This crate's calls never give it.
     NoHandle,
-    /// A limit is out of its range, which [`Limits`](crate::Limits) tells.
+    /// A limit is out of range; [`Limits`](crate::Limits) tells the ranges.
     BadLimits,
-    /// A refusal that a later library may have, by its number.
+    /// A refusal of a later version of the library, by its number.
     Unknown {
         /// The number.
         number: u32,
@@ -67,7 +67,7 @@ pub enum Error {
 }
 
 impl Error {
-    /// The refusal with a number; the byte is that of a query's text.
+    /// The refusal with a number. `at` is the wrong byte of a query's text.
     pub(crate) fn of(number: u32, fault: u64) -> Error {
         match number {
             1 => Error::OutOfMemory,
@@ -117,7 +117,7 @@ impl Error {
         }
     }
 
-    /// The name that the library gives the refusal, which is empty for [`Error::Unknown`].
+    /// The library's name of the refusal, empty for [`Error::Unknown`].
     pub fn name(self) -> String {
         let mut name = [0; 16];
         // SAFETY: the buffer has that many bytes.
@@ -164,7 +164,7 @@ impl fmt::Display for Error {
 
 impl error::Error for Error {}
 
-/// A call for many that went on until one of them was refused.
+/// A call for many rows or keys that stopped when one was refused.
 ///
 /// ```
 /// use gist::{Error, Interval, Store};
@@ -206,12 +206,12 @@ impl From<Stopped> for Error {
     }
 }
 
-/// The refusal of an answer that isn't 0.
+/// Turns a code that isn't 0 into an error.
 pub(crate) fn told(answer: u32) -> Result<(), Error> {
     told_at(answer, 0)
 }
 
-/// The refusal of an answer that isn't 0, with the byte of a query's text.
+/// Turns a code that isn't 0 into an error, with the wrong byte of a query's text.
 pub(crate) fn told_at(answer: u32, fault: u64) -> Result<(), Error> {
     match answer {
         0 => Ok(()),

@@ -11,10 +11,11 @@ use std::fmt;
 use std::marker::PhantomData;
 use std::mem;
 
-/// Tells many subscribers of the changes that each asked for. A commit costs work only for those whom it may concern.
+/// Gives many subscribers the changes that each asked for. A commit costs work only for the subscriptions that it may
+/// concern.
 ///
-/// It goes from snapshot to snapshot of one store, and needs the store's lock no more than a snapshot does. Who wants the
-/// rows first finds them in a snapshot of n commits, and subscribes from n.
+/// It goes from snapshot to snapshot of one store, and never needs the store's lock itself. To get the rows first, find
+/// them in a snapshot of n commits and subscribe from n.
 ///
 /// ```
 /// use gist::{BoxKey, Feed, Query, Store};
@@ -34,7 +35,7 @@ use std::mem;
 /// ```
 pub struct Feed<K: Key> {
     handle: Owned<ffi::Feed>,
-    /// What was given before a refusal, and isn't handed on.
+    /// What was given before an error, and hasn't been returned yet.
     kept: Vec<Told<K>>,
     keys: PhantomData<K>,
 }
@@ -48,13 +49,13 @@ pub struct Advance<K> {
     pub upto: u64,
 }
 
-// SAFETY of each call below: the handle is this feed's own and was never copied, `&mut self` keeps every other call away,
-// and each pointer is that of a value that lives through the call.
+// SAFETY of each call below: the handle is this feed's own and was never copied, `&mut self` excludes any other call,
+// and each pointer is to a value that outlives the call.
 impl<K: Key> Feed<K> {
-    /// How many changes one call of the library gives at most.
+    /// The most changes that one call of the library gives.
     const ROOM: usize = 1_024;
 
-    /// A feed without subscriptions, which has gone over no commit.
+    /// A feed without subscriptions, which has gone over no commit yet.
     ///
     /// # Errors
     /// [`Error::OutOfMemory`].
@@ -68,8 +69,8 @@ impl<K: Key> Feed<K> {
         })
     }
 
-    /// Subscribes to the changes of a query that come after a commit. Those up to the commit to which the feed has gone
-    /// are given by its next advance.
+    /// Subscribes to the changes of a query that come after a commit. If the feed has already gone past that commit,
+    /// its next advance gives what was missed.
     ///
     /// # Errors
     /// [`Error::FeedFull`], [`Error::OutOfMemory`].
@@ -99,12 +100,10 @@ impl<K: Key> Feed<K> {
         told(unsafe { ffi::gist_unsubscribe(self.handle.get(), subscription.0) })
     }
 
-    /// Goes over at most so many further commits of a snapshot, and gives each subscription the changes that they are to
-    /// it.
+    /// Goes over at most `most` further commits of a snapshot, and gives each subscription its changes.
     ///
-    /// # Errors
-    /// [`Error::FromFuture`] where the snapshot has fewer commits than the feed has gone over. [`Error::OutOfMemory`];
-    /// nothing is lost then, and the next call gives it.
+    /// # Errors [`Error::FromFuture`] if the snapshot has fewer commits than the feed has gone over.
+    /// [`Error::OutOfMemory`]; nothing is lost then: the next call gives what this one couldn't.
     ///
     /// ```
     /// use gist::{Feed, Interval, Query, Store};
@@ -136,12 +135,12 @@ impl<K: Key> Feed<K> {
                 let told = mem::take(&mut self.kept);
                 return Ok(Advance { told, upto });
             }
-            // what waits is given without going over further commits
+            // first what waits, without going over further commits
             most = 0;
         }
     }
 
-    /// Fills a buffer, as far as there is something to be given.
+    /// Fills a buffer with what there is to give.
     fn advance_into(
         &mut self,
         snapshot: &Snapshot<K>,

@@ -2,7 +2,7 @@
 
 use std::ffi::{c_char, c_void};
 
-/// Each handle has the same two fields, which are the library's own.
+/// Every handle has the same two fields, which belong to the library.
 macro_rules! handles {
     ($($name:ident dropped by $drop:ident;)*) => {
         $(
@@ -16,7 +16,7 @@ macro_rules! handles {
                 const NONE: $name = $name { is_open: false, inside: std::ptr::null_mut() };
 
                 unsafe fn drop_inside(handle: *mut $name) {
-                    // SAFETY: the caller's handle is one of this type.
+                    // SAFETY: the caller's handle is of this type.
                     unsafe { $drop(handle) }
                 }
             }
@@ -26,13 +26,12 @@ macro_rules! handles {
 
 /// A handle of a store, a snapshot, a query or a feed.
 pub trait Handle {
-    /// A handle of nothing.
+    /// An empty handle.
     const NONE: Self;
 
-    /// Drops what a handle has.
+    /// Frees what a handle holds.
     ///
-    /// # Safety
-    /// The pointer is that of a handle which no other call has meanwhile.
+    /// # Safety The pointer is to a handle that no other call uses meanwhile.
     unsafe fn drop_inside(handle: *mut Self);
 }
 
@@ -43,7 +42,7 @@ handles! {
     Feed dropped by gist_end;
 }
 
-/// A key, as two words. C has a union, which is passed in the same way.
+/// A key, as two words. In C it is a union, which is passed in the same way.
 #[repr(C)]
 #[derive(Clone, Copy, Debug, Default)]
 pub struct Key {

@@ -1,12 +1,12 @@
-//! Who has a handle: one thread at a time, or any number of them that only read.
+//! Ownership of handles: by one thread at a time, or shared by any number of threads that only read.
 
 use crate::ffi::Handle;
 use std::cell::UnsafeCell;
 
-/// A handle with one owner, for calls that change what it has. It may go to another thread, and isn't shared by two.
+/// A handle with one owner, for calls that change what it holds. It may be sent to another thread, but not shared.
 pub(crate) struct Owned<H: Handle>(UnsafeCell<H>);
 
-// SAFETY: what a handle has is bound to no thread.
+// SAFETY: what a handle holds is bound to no thread.
 unsafe impl<H: Handle> Send for Owned<H> {}
 
 impl<H: Handle> Owned<H> {
@@ -15,8 +15,8 @@ impl<H: Handle> Owned<H> {
         Owned(UnsafeCell::new(H::NONE))
     }
 
-    /// The handle for one call. An `Owned` isn't `Sync` and no call of the library calls back, so there is no other call
-    /// of it meanwhile.
+    /// The handle, for one call. An `Owned` isn't `Sync` and the library never calls back, so no other call uses the
+    /// handle meanwhile.
     pub fn get(&self) -> *mut H {
         self.0.get()
     }
@@ -29,20 +29,20 @@ impl<H: Handle> Drop for Owned<H> {
     }
 }
 
-/// A handle for calls that only read what it has: any number of threads make them at once.
+/// A handle for calls that only read what it holds; any number of threads may make them at once.
 pub(crate) struct Shared<H: Handle>(Owned<H>);
 
-// SAFETY: `read` is all that can be done with it, and the library lets any number of calls read a handle at once, on any
-// threads. Its drop has it alone.
+// SAFETY: `read` is all that can be done with it, and the library allows any number of calls to read a handle at once,
+// on any threads. Its drop has it exclusively.
 unsafe impl<H: Handle> Sync for Shared<H> {}
 
 impl<H: Handle> Shared<H> {
-    /// Shares what a handle has.
+    /// Shares what a handle holds.
     pub fn new(handle: Owned<H>) -> Shared<H> {
         Shared(handle)
     }
 
-    /// Makes a call that reads, behind a const pointer.
+    /// Makes a call that only reads, through a const pointer.
     pub fn read<R>(&self, call: impl FnOnce(*const H) -> R) -> R {
         call(self.0.get())
     }

@@ -1,4 +1,4 @@
-//! What a store tells of its rows and of their changes.
+//! Rows and their changes, as stores, cursors and feeds give them.
 
 use crate::ffi;
 use crate::key::Key;
@@ -10,12 +10,12 @@ pub struct Row<K> {
     pub number: u64,
     /// The row's key.
     pub key: K,
-    /// The caller's own number of the row, which a move keeps.
+    /// A number that the caller chose. A move keeps it.
     pub tag: u64,
 }
 
-/// What a commit did, or what it means to a query: a row that moves out of what is asked for counts as deleted, and one
-/// that moves into it as inserted.
+/// What a commit did, or what it means for a query: a row that moves out of the query counts as deleted, and one that
+/// moves into it as inserted.
 #[derive(Clone, Copy, Debug, PartialEq, Eq, Hash)]
 pub enum Change<K> {
     /// A row came. The commit has its number.
@@ -27,11 +27,11 @@ pub enum Change<K> {
         /// The row, as it was.
         row: Row<K>,
     },
-    /// A row got another key, and with it a number. The commit has that number.
+    /// A row got another key, and a new number, which is the commit's.
     Moved {
         /// The row as it is now.
         row: Row<K>,
-        /// The number that it had.
+        /// The number that it had before.
         ended: u64,
     },
 }
@@ -45,7 +45,7 @@ impl<K> Change<K> {
         }
     }
 
-    /// The row that came or went, or the one that a move made.
+    /// The row that was inserted or deleted, or the one that a move made.
     pub fn row(&self) -> &Row<K> {
         match self {
             Change::Inserted(row) | Change::Deleted { row, .. } | Change::Moved { row, .. } => row,
@@ -60,7 +60,7 @@ pub enum Item<K> {
     Row(Row<K>),
     /// A later change.
     Change(Change<K>),
-    /// All up to the commit with this number was given.
+    /// A mark: everything up to the commit with this number was given.
     Mark(u64),
 }
 
@@ -84,7 +84,7 @@ impl Subscription {
     }
 }
 
-/// A row, as the library told it.
+/// A row, from the library's layout.
 pub(crate) fn row<K: Key>(told: ffi::Row) -> Row<K> {
     Row {
         number: told.row,
@@ -93,7 +93,7 @@ pub(crate) fn row<K: Key>(told: ffi::Row) -> Row<K> {
     }
 }
 
-/// A change, as the library told it, or none.
+/// A change, from the library's layout, if it is one.
 pub(crate) fn change<K: Key>(told: ffi::Item) -> Option<Change<K>> {
     let row = |number| Row {
         number,
@@ -114,7 +114,7 @@ pub(crate) fn change<K: Key>(told: ffi::Item) -> Option<Change<K>> {
     }
 }
 
-/// An item of a cursor, as the library told it, or none.
+/// An item of a cursor, from the library's layout, if it is one.
 pub(crate) fn item<K: Key>(told: ffi::Item) -> Option<Item<K>> {
     match told.kind {
         1 => Some(Item::Row(Row {

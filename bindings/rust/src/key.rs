@@ -7,14 +7,14 @@ use std::ops::{Range, RangeFrom, RangeFull, RangeInclusive, RangeTo, RangeToIncl
 #[cfg(not(target_endian = "little"))]
 compile_error!("the library's keys are little-endian");
 
-/// A class of keys: [`Interval`], [`BoxKey`] or [`Set`]. No other type is one.
+/// A class of keys: [`Interval`], [`BoxKey`] or [`Set`]. The trait is sealed.
 pub trait Key: Copy + Eq + fmt::Debug + Send + Sync + 'static + class::Class {
-    /// What every key overlaps, or holds: asked for by [`Snapshot::iter`](crate::Snapshot::iter) and its like.
+    /// What every key overlaps, or holds: the query of [`Snapshot::iter`](crate::Snapshot::iter) and the like.
     #[doc(hidden)]
     fn everything() -> (Relation, Self);
 }
 
-/// A relation of a row's key to a key that is asked for. Each is that of the same word in a query.
+/// A relation of a row's key to a key that is asked for, with the meaning of the same word in a query's text.
 #[derive(Clone, Copy, Debug, PartialEq, Eq, Hash)]
 pub enum Relation {
     /// They have a point, or an element, in common.
@@ -23,14 +23,14 @@ pub enum Relation {
     Within = 2,
     /// The row's key holds the key that is asked for.
     Holds = 3,
-    /// They are the same.
+    /// The keys are the same.
     Same = 4,
 }
 
 pub(crate) mod class {
     use crate::ffi;
 
-    /// How a class of keys is told to the library.
+    /// How the keys of a class cross to the library.
     pub trait Class: Sized {
         const NUMBER: u32;
 
@@ -42,8 +42,8 @@ pub(crate) mod class {
 
 /// The whole numbers from `lo` to `hi`, both inside.
 ///
-/// A range is one: `9..=17` and `9..18` have the same numbers. A key whose ends are out of order, as that of an empty
-/// range, is refused where it is used, as [`Error::BadEnds`](crate::Error::BadEnds).
+/// Ranges convert to it: `9..=17` and `9..18` have the same numbers. A key whose ends are out of order, such as that of
+/// an empty range, is refused when it is used, as [`Error::BadEnds`](crate::Error::BadEnds).
 ///
 /// ```
 /// use gist::Interval;
@@ -82,7 +82,7 @@ impl From<RangeInclusive<i64>> for Interval {
     }
 }
 
-/// Of an empty range the ends are out of order.
+/// An empty range gives an interval whose ends are out of order.
 impl From<Range<i64>> for Interval {
     fn from(range: Range<i64>) -> Interval {
         match range.end.checked_sub(1) {
@@ -208,7 +208,7 @@ impl From<(RangeInclusive<i32>, RangeInclusive<i32>)> for BoxKey {
     }
 }
 
-/// The x and the y that a box has. Where a range is empty, its ends are out of order.
+/// The x and the y that a box has. The ends of an empty range are out of order.
 impl From<(Range<i32>, Range<i32>)> for BoxKey {
     fn from((x, y): (Range<i32>, Range<i32>)) -> BoxKey {
         let ends = |range: Range<i32>| match range.end.checked_sub(1) {
@@ -266,10 +266,10 @@ impl Key for BoxKey {
 pub struct Set(u128);
 
 impl Set {
-    /// The set that has no number.
+    /// The empty set.
     pub const EMPTY: Set = Set(0);
 
-    /// The set of the numbers whose bits stand in a mask: bit e for the number e.
+    /// The set of the numbers whose bits are set in a mask: bit e for the number e.
     pub const fn from_bits(bits: u128) -> Set {
         Set(bits)
     }

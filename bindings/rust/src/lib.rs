@@ -1,9 +1,9 @@
-//! Rows in memory that are found by intervals, boxes or sets, and followed as they change.
+//! An in-memory index of rows by intervals, boxes or sets, whose readers can follow every change.
 //!
-//! A [`Store`] has rows, each with a key, a number and a tag, which is a number of the caller's own. A [`Snapshot`] is
-//! what it had at one moment, and is searched by a [`Query`] beside writers. A [`Cursor`] gives the rows that match and
-//! then each later change, without a gap and without a repetition; a [`Feed`] does that for up to a million queries at
-//! once. Threads share a store as a [`SharedStore`].
+//! A [`Store`] has rows, each with a key, a number and a tag, a number that the caller chooses. A [`Snapshot`] is what
+//! it had at one moment, and can be searched with a [`Query`] while writers go on. A [`Cursor`] gives the rows that
+//! match and then each later change, without a gap and without a repetition; a [`Feed`] does that for up to a million
+//! queries at once. Threads share a store as a [`SharedStore`].
 //!
 //! ```
 //! use gist::{Interval, Query, Store};
@@ -19,8 +19,8 @@
 //! # Ok::<(), gist::Error>(())
 //! ```
 //!
-//! The crate calls the library for C, whose calls are proved; the crate itself is tested. `GIST_LIB_DIR` names the folder
-//! with `libgist.a` when it is built: `GIST_LIB_DIR=/usr/local/lib cargo build`.
+//! The crate calls the library for C, whose functions are proved correct; the crate itself is only tested.
+//! `GIST_LIB_DIR` names the folder with `libgist.a` when it is built: `GIST_LIB_DIR=/usr/local/lib cargo build`.
 
 #![deny(missing_docs, unsafe_op_in_unsafe_fn)]
 
@@ -55,7 +55,7 @@ pub use store::{Figures, Limits, Renewed, Standing, Store};
 /// assert_eq!((major, minor), (0, 3));
 /// ```
 pub fn version() -> (u32, u32, u32) {
-    // SAFETY: the call has no conditions.
+    // SAFETY: the call has no preconditions.
     let version = unsafe { ffi::gist_version() };
     (
         version / 1_000_000,

@@ -9,9 +9,9 @@ use std::marker::PhantomData;
 use std::str::FromStr;
 use std::sync::Arc;
 
-/// A question that is asked of keys: a [`Relation`] to a key, or a text that joins some.
+/// A condition on keys: a [`Relation`] to a key, or a text that combines several.
 ///
-/// It is read once and may be asked as often as wanted, by any thread. A clone is the same query.
+/// It is parsed once and may be used any number of times, by any thread. A clone is the same query.
 ///
 /// ```
 /// use gist::{Interval, Query, Store};
@@ -29,11 +29,10 @@ pub struct Query<K: Key> {
 }
 
 impl<K: Key> Query<K> {
-    /// Reads a query: `overlaps`, `within`, `holds` and `same` with a key, and `and`, `or`, `not` and round brackets, at
-    /// most 32 deep and 4,096 bytes long. Keys are written `(9 17)`, `(x1 y1 x2 y2)` and `{2 5 64}`.
+    /// Parses a query: `overlaps`, `within`, `holds` and `same` with a key, and `and`, `or`, `not` and round brackets,
+    /// at most 32 deep and 4,096 bytes long. Keys are written `(9 17)`, `(x1 y1 x2 y2)` and `{2 5 64}`.
     ///
-    /// # Errors
-    /// [`Error::QueryText`] with the byte at which the text is refused, [`Error::OutOfMemory`].
+    /// # Errors [`Error::QueryText`] with the place of the first wrong byte, [`Error::OutOfMemory`].
     ///
     /// ```
     /// use gist::{Error, Interval, Query};
@@ -45,7 +44,7 @@ impl<K: Key> Query<K> {
     /// ```
     pub fn new(text: &str) -> Result<Query<K>, Error> {
         let (handle, mut fault) = (Owned::none(), 0);
-        // SAFETY: the handle has nothing, and the text has that many bytes.
+        // SAFETY: the handle is empty, and the text has that many bytes.
         let answer = unsafe {
             ffi::gist_prepare(
                 handle.get(),
@@ -59,10 +58,9 @@ impl<K: Key> Query<K> {
         Ok(Query::of(handle))
     }
 
-    /// Asks for the rows whose keys have a relation to a key. No text is written or read.
+    /// Asks for the rows whose keys have a relation to a key. It needs no text.
     ///
-    /// # Errors
-    /// [`Error::BadEnds`] where the key's ends are out of order, [`Error::OutOfMemory`].
+    /// # Errors [`Error::BadEnds`] if the key's ends are out of order, [`Error::OutOfMemory`].
     ///
     /// ```
     /// use gist::{Interval, Query, Relation, Store};
@@ -77,7 +75,7 @@ impl<K: Key> Query<K> {
     /// ```
     pub fn by(relation: Relation, key: impl Into<K>) -> Result<Query<K>, Error> {
         let handle = Owned::none();
-        // SAFETY: the handle has nothing.
+        // SAFETY: the handle is empty.
         let answer = unsafe {
             ffi::gist_ask(
                 handle.get(),
@@ -126,7 +124,7 @@ impl<K: Key> Query<K> {
         }
     }
 
-    /// Makes a call that asks this query.
+    /// Makes a call that reads this query.
     pub(crate) fn read<R>(&self, call: impl FnOnce(*const ffi::Query) -> R) -> R {
         self.handle.read(call)
     }

@@ -8,8 +8,8 @@ use std::fmt;
 use std::sync::{Arc, Condvar, Mutex, MutexGuard, PoisonError};
 use std::time::{Duration, Instant};
 
-/// A store for any number of threads: writers take turns, readers search snapshots without the lock, and who follows the
-/// changes sleeps until there are some. A clone is the same store.
+/// A store for any number of threads: writers take turns, readers search snapshots without the lock, and threads that
+/// follow the changes sleep until there are some. A clone is the same store.
 ///
 /// ```
 /// use gist::{Interval, Query, SharedStore, Store};
@@ -34,13 +34,13 @@ struct Shared<K: Key> {
 }
 
 impl<K: Key> Shared<K> {
-    /// The store. Each call of it is whole or refused, so a store stays good where a thread panics beside it.
+    /// The store. Each call of it is done whole or refused, so it stays usable even if a thread panics with the lock.
     fn lock(&self) -> MutexGuard<'_, Store<K>> {
         self.store.lock().unwrap_or_else(PoisonError::into_inner)
     }
 }
 
-/// Wakes those who wait for commits, also where the work that it follows panics.
+/// Wakes the threads that wait for commits, even if the work before it panics.
 struct Wakes<'a>(&'a Condvar);
 
 impl Drop for Wakes<'_> {
@@ -60,17 +60,16 @@ impl<K: Key> SharedStore<K> {
         }
     }
 
-    /// Does some work on the store, which no other thread has meanwhile, and then wakes those who wait for commits.
-    /// Within the work no other call of this shared store may be made: it would wait for ever, or panic.
+    /// Does some work on the store under the lock, and then wakes the threads that wait for commits. The work must not
+    /// call this shared store again: that would deadlock, or panic.
     ///
     /// The store may be replaced, as [`Renewal::finish`](crate::Renewal::finish) does: the numbers of commits begin anew then.
     ///
     /// ```
     /// use gist::{Interval, Query, SharedStore, Store};
     ///
-    /// let rooms = SharedStore::new(Store::<Interval>::new()?);
-    /// // looks and books while no other clerk can
-    /// let booked = rooms.write(|store| {
+    /// let rooms = SharedStore::new(Store::<Interval>::new()?); // checks and books in one step, so that no other clerk
+    /// comes between let booked = rooms.write(|store| {
     ///     let is_free = store.snapshot()?.count(&Query::overlaps(9..12)?)? == 0;
     ///     is_free.then(|| store.insert(9..12, 71)).transpose()
     /// })?;
@@ -90,7 +89,7 @@ impl<K: Key> SharedStore<K> {
         self.shared.lock().snapshot()
     }
 
-    /// Sleeps until there are more commits than that, and takes a snapshot.
+    /// Sleeps until there is a commit after `commit`, and takes a snapshot.
     ///
     /// # Errors
     /// [`Error::OutOfMemory`].
@@ -103,7 +102,8 @@ impl<K: Key> SharedStore<K> {
         grown.unwrap_or_else(PoisonError::into_inner).snapshot()
     }
 
-    /// Sleeps until there are more commits than that, and takes a snapshot; or gives none where so much time went by.
+    /// Sleeps until there is a commit after `commit`, and takes a snapshot; gives `None` once `longest` has
+    /// passed.
     ///
     /// # Errors
     /// [`Error::OutOfMemory`].

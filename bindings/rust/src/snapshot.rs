@@ -12,10 +12,10 @@ use std::marker::PhantomData;
 use std::sync::Arc;
 use std::vec;
 
-/// A store's commits as they stood when it was taken, whatever follows.
+/// A store's commits as they stood when it was taken. Later commits don't change it.
 ///
-/// It goes to any thread and is read by any number of them; a clone is the same snapshot. It keeps the pages and rows
-/// that the store has changed since, for as long as it lives.
+/// It may be sent to and shared by any number of threads; a clone is the same snapshot. As long as it lives it keeps
+/// the memory of pages and rows that the store has changed since.
 ///
 /// ```
 /// use gist::{Query, Set, Store};
@@ -33,7 +33,7 @@ pub struct Snapshot<K: Key> {
     keys: PhantomData<K>,
 }
 
-/// A row, and whether it lived.
+/// A row, and whether it was live.
 #[derive(Clone, Copy, Debug, PartialEq, Eq, Hash)]
 pub struct Known<K> {
     /// The row, as the commit with its number made it.
@@ -47,21 +47,21 @@ pub struct Known<K> {
 pub struct Changes<K> {
     /// The changes.
     pub changes: Vec<Change<K>>,
-    /// The commit up to which all were given: from that one a further call goes on.
+    /// The commit up to which they are complete: a further call goes on from there.
     pub upto: u64,
 }
 
-// SAFETY of each call below: the handle has a snapshot, and was never copied; each call takes it, and a query, behind a
-// const pointer, and nothing changes either before the last of its owners drops it. Each other pointer is that of a value
-// that lives through the call.
+// SAFETY of each call below: the handle holds a snapshot, and was never copied; each call gets it, and a query, through
+// a const pointer, and nothing changes either before its last owner drops it. Each other pointer is to a value that
+// outlives the call.
 impl<K: Key> Snapshot<K> {
-    /// How many rows a search has room for at first.
+    /// How many rows a search has room for at first; it is repeated with more room if that isn't enough.
     const ROOM: usize = 64;
 
-    /// How many changes one call of the library gives at most.
+    /// The most changes that one call of the library gives.
     const MOST_AT_ONCE: usize = 4_096;
 
-    /// The snapshot that a handle has.
+    /// Takes over the snapshot of a handle.
     pub(crate) fn of(handle: Owned<ffi::Snapshot>) -> Snapshot<K> {
         Snapshot {
             handle: Arc::new(Shared::new(handle)),
@@ -82,7 +82,7 @@ impl<K: Key> Snapshot<K> {
         commits
     }
 
-    /// How many rows lived.
+    /// How many rows were live.
     ///
     /// # Errors
     /// [`Error::OutOfMemory`].
@@ -101,7 +101,7 @@ impl<K: Key> Snapshot<K> {
         self.count(&Query::everything()?)
     }
 
-    /// Whether no row lived.
+    /// Whether no row was live.
     ///
     /// # Errors
     /// [`Error::OutOfMemory`].
@@ -109,7 +109,7 @@ impl<K: Key> Snapshot<K> {
         Ok(self.len()? == 0)
     }
 
-    /// The row with a number, if it lived.
+    /// The row with a number, if it was live.
     ///
     /// # Errors
     /// [`Error::OutOfMemory`].
@@ -132,7 +132,7 @@ impl<K: Key> Snapshot<K> {
         }
     }
 
-    /// The row with a number, also where it was ended.
+    /// The row with a number, even if it had ended.
     ///
     /// # Errors
     /// [`Error::NoSuchRow`], [`Error::OutOfMemory`].
@@ -178,7 +178,7 @@ impl<K: Key> Snapshot<K> {
         change(commit)
     }
 
-    /// All rows that lived, by rising number.
+    /// All live rows, by rising number.
     ///
     /// # Errors
     /// [`Error::OutOfMemory`].
@@ -195,7 +195,7 @@ impl<K: Key> Snapshot<K> {
         Ok(self.find(&Query::everything()?)?.into_iter())
     }
 
-    /// The rows that lived and that a query asks for, by rising number.
+    /// The live rows that match a query, by rising number.
     ///
     /// # Errors
     /// [`Error::OutOfMemory`].
@@ -219,7 +219,7 @@ impl<K: Key> Snapshot<K> {
         Ok(rows[..found].iter().copied().map(row).collect())
     }
 
-    /// Fills a buffer with the rows that a query asks for, as many as fit, and tells how many there are.
+    /// Fills a buffer with the live rows that match a query, as many as fit, and gives how many there are in all.
     fn find_into(&self, query: &Query<K>, rows: &mut [ffi::Row]) -> Result<usize, Error> {
         let mut found = 0;
         told(self.read(|it| {
@@ -230,7 +230,7 @@ impl<K: Key> Snapshot<K> {
         Ok(found as usize)
     }
 
-    /// Counts the rows that lived and that a query asks for.
+    /// Counts the live rows that match a query.
     ///
     /// # Errors
     /// [`Error::OutOfMemory`].
@@ -252,10 +252,9 @@ impl<K: Key> Snapshot<K> {
         Ok(count)
     }
 
-    /// For each key, the rows that lived and have a relation to it, by rising number.
+    /// For each key, the live rows that have a relation to it, by rising number.
     ///
-    /// # Errors
-    /// [`Error::BadEnds`] where a key's ends are out of order, [`Error::OutOfMemory`].
+    /// # Errors [`Error::BadEnds`] if a key's ends are out of order, [`Error::OutOfMemory`].
     ///
     /// ```
     /// use gist::{Interval, Relation, Store};
@@ -288,8 +287,8 @@ impl<K: Key> Snapshot<K> {
         Ok(all)
     }
 
-    /// Fills buffers with the rows of the first keys, and with where those of each key end, and tells how many keys were
-    /// answered.
+    /// Fills one buffer with the rows of the first keys and another with where each key's rows end, and gives how many
+    /// keys were answered.
     fn find_each_into(
         &self,
         relation: Relation,
@@ -314,11 +313,10 @@ impl<K: Key> Snapshot<K> {
         Ok(answered as usize)
     }
 
-    /// The first changes after a commit that a query asks for, at most as many as that. With the rows that were found
-    /// in a snapshot of so many commits they are what a cursor would give.
+    /// The first changes of a query after a commit, at most `most`. After the rows found in a snapshot of `from`
+    /// commits they are what a cursor would give next.
     ///
-    /// # Errors
-    /// [`Error::FromFuture`] where there were fewer commits, [`Error::OutOfMemory`].
+    /// # Errors [`Error::FromFuture`] if there were fewer commits, [`Error::OutOfMemory`].
     ///
     /// ```
     /// use gist::{Interval, Query, Store};
@@ -349,8 +347,8 @@ impl<K: Key> Snapshot<K> {
         }
     }
 
-    /// Fills a buffer with the changes after a commit, which becomes the one up to which all were given, and tells how
-    /// many they are.
+    /// Fills a buffer with the changes after a commit, and gives how many there are. `upto` becomes the commit up to
+    /// which they are complete.
     fn changes_into(
         &self,
         query: &Query<K>,
@@ -374,12 +372,11 @@ impl<K: Key> Snapshot<K> {
         Ok(given as usize)
     }
 
-    /// Makes a store of the rows that lived, in the order of their numbers, which has no other commit. So a store whose
-    /// commits are nearly used up goes on.
+    /// Makes a new store of the live rows, in the order of their numbers, for when a store's commits are nearly used
+    /// up. Their inserts are its only commits.
     ///
-    /// # Errors
-    /// [`Error::BadLimits`]; [`Error::CommitsFull`] and [`Error::PagesFull`] where the limits are too small for the
-    /// rows; [`Error::OutOfMemory`].
+    /// # Errors [`Error::BadLimits`]; [`Error::CommitsFull`] or [`Error::PagesFull`] if the limits are too small for
+    /// the rows; [`Error::OutOfMemory`].
     ///
     /// ```
     /// use gist::{Interval, Limits, Store};

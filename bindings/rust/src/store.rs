@@ -1,4 +1,4 @@
-//! Stores, and what a snapshot's rows are renewed to.
+//! Stores, their limits and figures, and renewed stores.
 
 use crate::cursor::{Cursor, CursorNumber};
 use crate::error::{told, Error, Stopped};
@@ -11,7 +11,7 @@ use std::fmt;
 use std::marker::PhantomData;
 use std::ops::Range;
 
-/// The limits of a store. A value out of its range is refused as [`Error::BadLimits`].
+/// The limits of a store. A value out of range is refused as [`Error::BadLimits`].
 ///
 /// ```
 /// use gist::{BoxKey, Limits, Store};
@@ -24,9 +24,10 @@ use std::ops::Range;
 pub struct Limits {
     /// How many entries a page may have: 4 to 64.
     pub fan: u32,
-    /// How many entries each side of a split has at least: 2 to half of `fan`.
+    /// The least number of entries on each side of a split: 2 to half of `fan`.
     pub least: u32,
-    /// How many pages there may be: 1 to 65,536. With fan 32 that many have some 1,450,000 rows.
+    /// How many pages there may be: 1 to 65,536. With fan 32 and the default `least`, 65,536 pages hold about 1,450,000
+    /// rows.
     pub pages: u32,
     /// How many commits there may be: 1 to 16,777,216.
     pub commits: u32,
@@ -49,7 +50,7 @@ impl Limits {
     }
 }
 
-/// The greatest limits, with what is good for many rows.
+/// The greatest limits, with a `fan` and a `least` that are good for many rows.
 impl Default for Limits {
     fn default() -> Limits {
         Limits {
@@ -61,7 +62,7 @@ impl Default for Limits {
     }
 }
 
-/// How far a store has come, and what is left to it.
+/// The figures of a store: its progress, and its limits.
 #[derive(Clone, Copy, Debug, PartialEq, Eq, Hash)]
 pub struct Figures {
     /// How many commits there are.
@@ -96,8 +97,8 @@ pub struct Standing {
 /// Each insert, delete and move is a commit with the next number: 1, 2, 3 and so on. A row's number is that of the commit
 /// that made it, and a move, which is one commit, gives a row another number.
 ///
-/// A store is for one thread at a time, and may go to another; [`SharedStore`](crate::SharedStore) is for several. Its
-/// calls take `&self`, so that cursors may be open meanwhile.
+/// A store is for one thread at a time, and may be sent to another; [`SharedStore`](crate::SharedStore) is for several
+/// threads. Its calls take `&self`, so that they can be made while cursors borrow the store.
 ///
 /// ```
 /// use gist::{Change, Interval, Item, Query, Row, Store};
@@ -120,8 +121,8 @@ pub struct Store<K: Key> {
     keys: PhantomData<K>,
 }
 
-// SAFETY of each call below: the handle is this store's own and was never copied. A store isn't `Sync`, so no other call
-// has the handle meanwhile, and each pointer is that of a value that lives through the call.
+// SAFETY of each call below: the handle is this store's own and was never copied. A store isn't `Sync`, so no other
+// call uses the handle meanwhile, and each pointer is to a value that outlives the call.
 impl<K: Key> Store<K> {
     /// An empty store with the greatest limits.
     ///
@@ -161,7 +162,7 @@ impl<K: Key> Store<K> {
         Ok(Store::of(handle))
     }
 
-    /// The store that a handle has.
+    /// Takes over the store of a handle.
     pub(crate) fn of(handle: Owned<ffi::Store>) -> Store<K> {
         Store {
             handle,
@@ -169,7 +170,7 @@ impl<K: Key> Store<K> {
         }
     }
 
-    /// Tells how far the store has come, and what is left to it.
+    /// Gives the store's figures.
     ///
     /// ```
     /// use gist::{Interval, Store};
@@ -268,8 +269,8 @@ impl<K: Key> Store<K> {
 
     /// Adds rows one after the other until one is refused, and gives their numbers.
     ///
-    /// # Errors
-    /// As [`Store::insert`]; the rows before the one that is refused were added, as [`Stopped::done`] tells.
+    /// # Errors As [`Store::insert`]; the rows before the refused one were added, and [`Stopped::done`] has their
+    /// numbers.
     ///
     /// ```
     /// use gist::{BoxKey, Store};
@@ -291,7 +292,7 @@ impl<K: Key> Store<K> {
         self.add(&rows.into_iter().map(entry).collect::<Vec<_>>())
     }
 
-    /// Adds rows as they are told to the library.
+    /// Adds rows in the library's layout.
     fn add(&self, entries: &[ffi::Entry]) -> Result<Range<u64>, Stopped> {
         self.all(entries, |rest, added| unsafe {
             ffi::gist_insert(self.handle.get(), rest.as_ptr(), rest.len(), added)
@@ -342,8 +343,8 @@ impl<K: Key> Store<K> {
 
     /// Deletes rows one after the other until one is refused, and gives the commits' numbers.
     ///
-    /// # Errors
-    /// As [`Store::delete`]; the rows before the one that is refused were deleted, as [`Stopped::done`] tells.
+    /// # Errors As [`Store::delete`]; the rows before the refused one were deleted, and [`Stopped::done`] has the
+    /// commits' numbers.
     ///
     /// ```
     /// use gist::{Error, Interval, Store};
@@ -361,7 +362,7 @@ impl<K: Key> Store<K> {
         })
     }
 
-    /// Makes a call until all are done or the next is refused, and gives the numbers of the commits.
+    /// Repeats a call until all rows are done or one is refused, and gives the numbers of the commits.
     fn all<T>(
         &self,
         all: &[T],
@@ -380,11 +381,10 @@ impl<K: Key> Store<K> {
         Ok(first..first + all.len() as u64)
     }
 
-    /// Removes the ended rows that no open cursor needs any more, and tells how many they were. That makes room for
+    /// Removes the ended rows that no open cursor needs any more, and gives how many there were. That makes room for
     /// later rows.
     ///
-    /// # Errors
-    /// [`Error::OutOfMemory`]; some of them may be removed then.
+    /// # Errors [`Error::OutOfMemory`]; some of them may have been removed by then.
     ///
     /// ```
     /// use gist::{Interval, Store};
@@ -423,11 +423,10 @@ impl<K: Key> Store<K> {
         Ok(Cursor::of(self, number))
     }
 
-    /// Opens a cursor that gives the changes after a commit, and no row that was there. After a mark's commit it goes on
-    /// where the mark was given; after 0 it gives all changes that there are.
+    /// Opens a cursor that gives only the changes after a commit. With a mark's number it goes on where the mark was
+    /// given; with 0 it gives all changes from the beginning.
     ///
-    /// # Errors
-    /// [`Error::FromFuture`] where there are fewer commits; [`Error::CursorsFull`], [`Error::OutOfMemory`].
+    /// # Errors [`Error::FromFuture`] if there are fewer commits; [`Error::CursorsFull`], [`Error::OutOfMemory`].
     ///
     /// ```
     /// use gist::{Error, Interval, Query, Store};
@@ -447,7 +446,7 @@ impl<K: Key> Store<K> {
         Ok(Cursor::of(self, number))
     }
 
-    /// A cursor of this store that was detached from its borrow.
+    /// Gives a detached cursor of this store its borrow back.
     pub fn attach(&self, cursor: CursorNumber) -> Cursor<'_, K> {
         Cursor::of(self, cursor.number())
     }
@@ -458,8 +457,7 @@ impl<K: Key> Store<K> {
     }
 }
 
-/// # Panics
-/// Where a row is refused. [`Store::insert_all`] gives the refusal.
+/// # Panics If a row is refused; [`Store::insert_all`] returns the error instead.
 impl<K: Key> Extend<(K, u64)> for Store<K> {
     fn extend<I: IntoIterator<Item = (K, u64)>>(&mut self, rows: I) {
         if let Err(stopped) = self.insert_all(rows) {
@@ -474,11 +472,11 @@ impl<K: Key> fmt::Debug for Store<K> {
     }
 }
 
-/// A store that was made anew of a snapshot.
+/// A new store made of a snapshot's rows.
 #[derive(Debug)]
 pub struct Renewed<K: Key> {
-    /// The store. Its rows are 1, 2 and so on, and it has no other commit.
+    /// The store. Its rows are numbered 1, 2 and so on, and their inserts are its only commits.
     pub store: Store<K>,
-    /// The numbers that its rows had: that of row 1 first.
+    /// The numbers that its rows had before, that of row 1 first.
     pub numbers: Vec<u64>,
 }

@@ -58,7 +58,7 @@ const SETS: Keys<Set> = Keys {
     text: "overlaps {1 2}",
 };
 
-/// Tries something with the keys of each class.
+/// Runs a test with the keys of each class.
 macro_rules! for_each_class {
     ($($tried:ident)*) => {
         $(
@@ -457,7 +457,7 @@ fn texts_are_refused_at_a_byte() {
     assert_eq!(at(""), Err(Some(0)));
 }
 
-/// The byte of a refused text.
+/// The place of the wrong byte in a refused text.
 trait At {
     fn place(self) -> Option<usize>;
 }
