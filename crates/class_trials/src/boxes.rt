@@ -37,7 +37,7 @@ const LAST: [i32; 4] = [HIGH, HIGH, HIGH, HIGH];
 
 static SIZES: [([i32; 4], u128); 2] = [(PLANE, 18_446_744_073_709_551_616), ([-1, 0, 1, 4], 15)];
 
-/// A bound, a key, and what the bound gains by the key.
+/// A bound, a key, and by how much the key enlarges the bound.
 static PENALTIES: [([i32; 4], [i32; 4], u128); 3] = [
     (FIRST, LAST, 18_446_744_073_709_551_615),
     (PLANE, LAST, 0),
@@ -89,7 +89,7 @@ fn joins_boxes(rt: HostRuntime) {
     assert!(rt; covers(FIRST, PLANE) == Ok(false));
 }
 
-/// Boxes by their ends x1, y1, x2, y2, the least number for a side, and the side of each box.
+/// Boxes by their ends x1, y1, x2, y2, the least number of entries for a side, and the side of each box.
 struct Split {
     boxes: &'static [[i32; 4]],
     least: usize,
@@ -160,7 +160,7 @@ static SPLITS: [Split; 6] = [
     },
 ];
 
-/// A box whose points are moved, and each of them then made a square of `scale` by `scale` points.
+/// A box that is moved, and whose points are then each enlarged to a square of `scale` by `scale` points.
 fn placed(ends: [i32; 4], moved: i32, scale: i32) -> Result<BoxKey, Fail> {
     let [x1, y1, x2, y2] = ends;
     let first = |at: i32| at.wrapping_add(moved).wrapping_mul(scale);
@@ -168,7 +168,7 @@ fn placed(ends: [i32; 4], moved: i32, scale: i32) -> Result<BoxKey, Fail> {
     Ok(BoxKey::new(first(x1), first(y1), last(x2), last(y2))?)
 }
 
-/// Boxes that are moved and made larger.
+/// Boxes that are moved and enlarged.
 fn all_placed(
     alloc: Global,
     boxes: &[[i32; 4]],
@@ -182,7 +182,7 @@ fn all_placed(
     Ok(keys)
 }
 
-/// Whether boxes that are moved and made larger are put on their sides.
+/// Whether boxes that are moved and enlarged are put on the expected sides.
 fn is_split(alloc: Global, split: &Split, moved: i32, scale: i32) -> Result<bool, Fail> {
     let keys = all_placed(alloc, split.boxes, moved, scale)?;
     Ok(splits::<Boxes>(alloc, &keys, split.least, split.sides))
@@ -190,7 +190,7 @@ fn is_split(alloc: Global, split: &Split, moved: i32, scale: i32) -> Result<bool
 
 #[test]
 fn splits_as_guttman_does(rt: HostRuntime) -> Result<(), Fail> {
-    // Where they are, below 0, and so large that most of them have areas that outgrow 64 bits.
+    // As they are; below 0; and so large that most areas don't fit into 64 bits.
     for (moved, scale) in [(0, 1), (-20, 1), (-6, 300_000_000)] {
         for split in &SPLITS {
             assert!(rt;
@@ -203,7 +203,7 @@ fn splits_as_guttman_does(rt: HostRuntime) -> Result<(), Fail> {
     Ok(())
 }
 
-/// The least number for a side, and the sides of sixty-four boxes.
+/// The least number of entries for a side, and the sides of sixty-four boxes.
 static SIXTY_FOUR: [(usize, &str); 3] = [
     (
         12,
@@ -248,7 +248,7 @@ fn splits_sixty_four_boxes(rt: HostRuntime) -> Result<(), Fail> {
     Ok(())
 }
 
-/// Boxes at the ends of what numbers there are.
+/// Boxes at the ends of the range of numbers.
 static ENDS: [[i32; 4]; 9] = [
     PLANE,
     FIRST,
@@ -261,7 +261,7 @@ static ENDS: [[i32; 4]; 9] = [
     [0, LOW, 0, HIGH],
 ];
 
-/// Which of the boxes at the ends, the least number for a side, and the side of each box.
+/// Which of the boxes at the ends, the least number of entries for a side, and the side of each box.
 static ENDS_SPLIT: [(usize, usize, usize, &str); 3] = [
     (0, 9, 3, "rlrllrrrr"),
     (0, 9, 4, "rlrllrrrl"),
@@ -312,7 +312,7 @@ fn splits_at_the_ends(rt: HostRuntime) -> Result<(), Fail> {
     Ok(())
 }
 
-/// Holds whichever allocation is refused.
+/// Must pass whichever allocation is refused.
 #[test]
 fn answers_want_of_memory(rt: HostRuntime) -> Result<(), Fail> {
     let keys = [

@@ -3,7 +3,7 @@ use key_class::{Grouping, Side};
 use std::alloc::Global;
 use std::test::Fail;
 
-/// How many places there are, how many of them are open, and how many are left and right.
+/// How many places there are, and how many are open, left and right.
 fn counts(groups: &Grouping) -> [usize; 4] {
     [
         groups.len(),
@@ -13,7 +13,7 @@ fn counts(groups: &Grouping) -> [usize; 4] {
     ]
 }
 
-/// Puts an open place on a side. False where the place isn't open.
+/// Puts an open place on a side. False if the place isn't open.
 fn put(groups: &mut Grouping, place: usize, side: Side) -> bool {
     if place >= groups.len() || !groups.is_open(place) {
         return false;
@@ -37,7 +37,7 @@ fn is_open(groups: &Grouping, place: usize) -> Option<bool> {
     Some(groups.is_open(place))
 }
 
-/// Whether the sides are those that letters name once what is open is put on one side.
+/// Whether the sides are the expected letters once all open places are put on one side.
 fn ends_as(groups: Grouping, alloc: Global, rest: Side, wanted: &str) -> Result<bool, Fail> {
     let sides = groups.finish(alloc, rest)?;
     Ok(are(&sides, wanted))

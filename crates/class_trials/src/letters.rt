@@ -1,4 +1,4 @@
-/// The letters of entries whose sides are worked out: l for left, r for right, and this one where an entry is open.
+/// Entries get letters as their sides are worked out: l for left, r for right, and this one while the entry is open.
 pub const OPEN: u8 = b'-';
 
 /// How many entries have a letter.
@@ -28,7 +28,7 @@ pub fn put_rest(letters: &mut [u8], side: u8) {
     }
 }
 
-/// The side that needs all open entries to have enough.
+/// The side, if any, that needs all open entries to reach the least number.
 pub fn needy_side(letters: &[u8], least: usize) -> Option<u8> {
     let open = count(letters, OPEN);
     if count(letters, b'l').saturating_add(open) == least {

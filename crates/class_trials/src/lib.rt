@@ -1,5 +1,5 @@
-//! Trials of key classes: refusals, sides and queries, three classes against vectors and, on random
-//! pages, against plain splits, and the texts of their keys and queries.
+//! Tests of key classes: refusals, sides and queries; the three classes compared with vectors and, on random pages,
+//! with naive splits; and the texts of their keys and queries.
 #![tactic(auto)]
 
 #[cfg(test)]

@@ -1,7 +1,7 @@
 use key_class::{KeyClass, Refusal, Side, Sides};
 use std::alloc::Global;
 
-/// Whether sides are those that letters name: l for left, r for right.
+/// Whether sides are the expected letters: l for left, r for right.
 pub fn are(sides: &Sides, letters: &str) -> bool {
     have_letters(sides, letters.as_bytes())
 }
@@ -27,7 +27,7 @@ pub fn splits<C: KeyClass>(alloc: Global, keys: &[C::Key], least: usize, wanted:
     splits_as::<C>(alloc, keys, least, wanted.as_bytes())
 }
 
-/// The same of the letters one by one.
+/// The same, with the letters as bytes.
 pub fn splits_as<C: KeyClass>(alloc: Global, keys: &[C::Key], least: usize, wanted: &[u8]) -> bool {
     if least < 1 {
         return false;
@@ -38,7 +38,7 @@ pub fn splits_as<C: KeyClass>(alloc: Global, keys: &[C::Key], least: usize, want
     }
 }
 
-/// The same, where want of memory is answered as such, and the split asked for again.
+/// The same. A refused allocation must be answered as such, and the split succeed when it is asked for again.
 pub fn splits_again<C: KeyClass>(
     alloc: Global,
     keys: &[C::Key],

@@ -1,4 +1,4 @@
-//! Guttman's quadratic split of boxes, written as it is told and as slowly, beside that of the class.
+//! Guttman's quadratic split of boxes, written naively from its description, to compare with the class.
 use crate::letters::{OPEN, count, needy_side, put, put_rest};
 use crate::picks::splits_as;
 use crate::random_pages::{PAGES, Shape, Source};
@@ -27,23 +27,23 @@ fn points_along(first: i32, last: i32) -> i128 {
         .wrapping_add(1)
 }
 
-/// The number of points.
+/// The number of points in a box.
 fn size(ends: Ends) -> i128 {
     let [x1, y1, x2, y2] = ends;
     points_along(x1, x2).wrapping_mul(points_along(y1, y2))
 }
 
-/// What the least box over two has beside both.
+/// The area of the least box over two, without the areas of both.
 fn waste(a: Ends, b: Ends) -> i128 {
     size(over(a, b)).wrapping_sub(size(a)).wrapping_sub(size(b))
 }
 
-/// What a bound gains by a box.
+/// By how much a box enlarges a bound.
 fn gain(bound: Ends, ends: Ends) -> i128 {
     size(over(bound, ends)).wrapping_sub(size(bound))
 }
 
-/// The pair that wastes most, of equals the one with the lower first place, then with the lower second place.
+/// The pair that wastes most; among equals the one with the lower first place, then with the lower second place.
 fn seeds(boxes: &[Ends]) -> (usize, usize) {
     let mut pair = (0, 0);
     let mut most = i128::MIN;
@@ -70,14 +70,14 @@ fn bound_of(boxes: &[Ends], letters: &[u8], side: u8) -> Option<Ends> {
     bound
 }
 
-/// By how much a box's gains differ.
+/// By how much the enlargements of the two bounds differ for a box.
 fn difference(left: Ends, right: Ends, ends: Ends) -> i128 {
     gain(left, ends)
         .wrapping_sub(gain(right, ends))
         .wrapping_abs()
 }
 
-/// The open entry whose gains differ most, of equals the one with the lowest place.
+/// The open entry whose enlargements differ most; among equals the one with the lowest place.
 fn most_decided(boxes: &[Ends], letters: &[u8], left: Ends, right: Ends) -> Option<usize> {
     let mut found = None;
     let mut most = -1;
@@ -94,14 +94,15 @@ fn most_decided(boxes: &[Ends], letters: &[u8], left: Ends, right: Ends) -> Opti
     found
 }
 
-/// Where a box goes: where less is gained, then to the smaller bound, then to the side with fewer entries, then left.
+/// The side of a box: the bound that it enlarges less, then the smaller bound, then the side with fewer entries, then
+/// left.
 fn side_of(letters: &[u8], left: Ends, right: Ends, ends: Ends) -> u8 {
     let to_left = (gain(left, ends), size(left), count(letters, b'l'));
     let to_right = (gain(right, ends), size(right), count(letters, b'r'));
     if to_right < to_left { b'r' } else { b'l' }
 }
 
-/// Puts one more entry on a side, or all that are open where one side needs them.
+/// Puts one more entry on a side, or all open ones if one side needs them.
 fn put_next(boxes: &[Ends], letters: &mut [u8], least: usize) {
     if let Some(side) = needy_side(letters, least) {
         return put_rest(letters, side);
@@ -177,7 +178,7 @@ fn keys(alloc: Global, boxes: &[Ends]) -> Result<Vec<BoxKey>, Fail> {
     Ok(keys)
 }
 
-/// Whether the class puts the boxes of the next random page on the sides that they have by the rule.
+/// Whether the class puts the boxes of the next random page on the same sides as the naive split.
 fn splits_next(alloc: Global, source: &mut Source) -> Result<bool, Fail> {
     let shape = source.shape(32);
     let boxes = random_boxes(alloc, source, shape)?;

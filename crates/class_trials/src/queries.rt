@@ -16,7 +16,7 @@ fn either(alloc: Global, left: Pred<u8>, right: Pred<u8>) -> Result<Pred<u8>, Fa
     Ok(Pred::Or(left, Box::new(alloc, right)?))
 }
 
-/// Writes the query with each relation before its parts.
+/// Writes the query in prefix form.
 fn spell(query: &Pred<u8>, text: &mut String) -> Result<(), AllocError> {
     match query {
         Pred::Atom(atom) => {
@@ -43,7 +43,7 @@ fn spell(query: &Pred<u8>, text: &mut String) -> Result<(), AllocError> {
     }
 }
 
-/// Not (1 and not 2) or (3 or 0 and 1).
+/// The query `not (1 and not 2) or (3 or 0 and 1)`.
 fn composed(alloc: Global) -> Result<Pred<u8>, Fail> {
     let right = both(alloc, Pred::Atom(0), Pred::Atom(1))?;
     let right = either(alloc, Pred::Atom(3), right)?;
@@ -69,13 +69,13 @@ fn copies_queries(rt: HostRuntime) -> Result<(), Fail> {
     Ok(())
 }
 
-/// 1 and not 2.
+/// The query `1 and not 2`.
 fn small(alloc: Global) -> Result<Pred<u8>, Fail> {
     let part = negated(alloc, Pred::Atom(2))?;
     both(alloc, Pred::Atom(1), part)
 }
 
-/// A copy, for which memory may be refused once.
+/// A copy; if memory is refused once it is tried again.
 fn copied(alloc: Global, query: &Pred<u8>) -> Result<Pred<u8>, AllocError> {
     match query.copy(alloc) {
         Ok(copy) => Ok(copy),
@@ -83,7 +83,7 @@ fn copied(alloc: Global, query: &Pred<u8>) -> Result<Pred<u8>, AllocError> {
     }
 }
 
-/// Holds whichever allocation of the copy is refused: the query can then be copied again.
+/// Must pass whichever allocation of the copy is refused: the query can then be copied again.
 #[test]
 fn answers_want_of_memory(rt: HostRuntime) -> Result<(), Fail> {
     let query = small(rt.alloc())?;

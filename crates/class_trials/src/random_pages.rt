@@ -15,17 +15,17 @@ pub struct Source {
 pub struct Shape {
     /// How many keys there are.
     pub count: u64,
-    /// The least number of a side.
+    /// The least number of entries for a side.
     pub least: usize,
-    /// What their numbers are counted from.
+    /// The start of the range of their numbers.
     pub start: u64,
     /// The bits in which their numbers differ.
     pub mask: u64,
     /// The bits in which the two ends of a key differ, where they are near to each other.
     pub near: Option<u64>,
-    /// Of so many keys one is a single point. Where that is 0, none is.
+    /// One of this many keys is a single point; none is if this is 0.
     pub points: u64,
-    /// Of so many keys one is one of those before it.
+    /// One of this many keys repeats an earlier one.
     pub repeats: u64,
 }
 
@@ -44,18 +44,18 @@ impl Source {
         self.number().checked_rem(bound).unwrap_or(0)
     }
 
-    /// One of so many times. Never where that is 0.
+    /// True once in `count` times on average; never if `count` is 0.
     pub fn is_one_of(&mut self, count: u64) -> bool {
         count > 0 && self.below(count) == 0
     }
 
-    /// The lowest of a number's bits, at most so many.
+    /// The lowest bits of a number, at most `most` of them.
     fn low_bits(&mut self, most: u64) -> u64 {
         ones(self.below(most.saturating_add(1)))
     }
 
-    /// Where numbers begin that differ in these bits, of numbers below 0 and above with so many bits: at 0, at the least
-    /// number, so that they end at the greatest, or anywhere.
+    /// A start for numbers that differ in these bits, within signed numbers of so many bits: 0, the least number, the
+    /// number for which they end at the greatest, or any.
     fn start(&mut self, mask: u64, bits: u64) -> u64 {
         let greatest = ones(bits.saturating_sub(1));
         match self.below(4) {
@@ -73,8 +73,8 @@ impl Source {
         }
     }
 
-    /// The shape of a page of keys with numbers of so many bits: of 2 keys to 64, as near to each other or as far apart as
-    /// may be, of which some are points or stand there twice.
+    /// A shape for a page of 2 to 64 keys with numbers of so many bits, close together or far apart, some of them
+    /// points or repeated.
     pub fn shape(&mut self, bits: u64) -> Shape {
         let most = if self.is_one_of(2) { 32 } else { 4 };
         let least = self.below(most).saturating_add(1);
@@ -92,7 +92,7 @@ impl Source {
         }
     }
 
-    /// One of the keys that are there, where one is to stand there again.
+    /// One of the keys so far, if one is to be repeated.
     pub fn repeated<K: Copy>(&mut self, shape: Shape, keys: &[K]) -> Option<K> {
         if !self.is_one_of(shape.repeats) {
             return None;
@@ -102,7 +102,7 @@ impl Source {
     }
 }
 
-/// So many bits that are set.
+/// A number whose lowest `count` bits are set.
 fn ones(count: u64) -> u64 {
     let mut bits = 0;
     for _ in 0..count {

@@ -15,7 +15,7 @@ fn mask(numbers: &[u8]) -> Result<u128, Refusal> {
     Ok(Elements::new(numbers)?.mask)
 }
 
-/// The empty set with a number and then with another.
+/// The empty set with a number added, and then another.
 fn with_both(one: u8, other: u8) -> Result<Elements, Refusal> {
     Elements::empty().with(one)?.with(other)
 }
@@ -87,7 +87,7 @@ fn joins_sets(rt: HostRuntime) {
     }
 }
 
-/// Sets by their elements, the least number for a side, and the side of each set.
+/// Sets by their elements, the least number of entries for a side, and the side of each set.
 struct Split {
     sets: &'static [&'static [u8]],
     least: usize,
@@ -168,7 +168,7 @@ fn set_at(place: u32) -> Result<Elements, Refusal> {
     Ok(set)
 }
 
-/// The first so many of sixty-four sets.
+/// The first `count` of sixty-four sets.
 fn first_of_sixty_four(alloc: Global, count: u32) -> Result<Vec<Elements>, Fail> {
     let mut keys = Vec::new(alloc);
     for place in 0..count {
@@ -198,7 +198,7 @@ fn splits_sixty_four_sets(rt: HostRuntime) -> Result<(), Fail> {
     Ok(())
 }
 
-/// Holds whichever allocation is refused.
+/// Must pass whichever allocation is refused.
 #[test]
 fn answers_want_of_memory(rt: HostRuntime) -> Result<(), Fail> {
     let keys = [

@@ -3,7 +3,7 @@ use key_class::{Side, Sides};
 use std::alloc::Global;
 use std::test::Fail;
 
-/// Right, then left.
+/// The sides: right, then left.
 fn two(alloc: Global) -> Result<Sides, Fail> {
     let mut sides = Sides::new(alloc);
     sides.push(Side::Right)?;

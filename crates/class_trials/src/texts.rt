@@ -8,7 +8,8 @@ use query_text::{
 use set_class::Sets;
 use std::alloc::Global;
 
-/// Whether a text is read, printed as expected, and what was printed is read as the same query and printed alike.
+/// Whether a text is parsed and printed as expected, and the printed text is parsed as the same query and printed
+/// alike.
 fn prints<C: ClassText>(alloc: Global, text: &[u8], expected: &[u8]) -> bool {
     let Ok(query) = parse::<C>(alloc, text) else {
         return false;
@@ -22,7 +23,7 @@ fn prints<C: ClassText>(alloc: Global, text: &[u8], expected: &[u8]) -> bool {
     printed.as_slice() == expected && query.same_as::<C>(&again)
 }
 
-/// Texts of queries over intervals, and as they are printed.
+/// Texts of queries over intervals, each with its printed form.
 static PRINTED: [(&str, &str); 12] = [
     (
         "same ( 1  2 )or not(within(0 9)and overlaps(3 3))",
@@ -116,13 +117,13 @@ fn texts_have_one_meaning(rt: HostRuntime) {
     set_texts_name_their_elements();
 }
 
-/// What is printed of a text that is read.
+/// The printed form of a text that is parsed.
 fn reprinted(alloc: Global, text: &[u8]) -> Result<Vec<u8>, Refusal> {
     let query = parse::<Intervals>(alloc, text)?;
     print::<Intervals>(alloc, &query)
 }
 
-/// It holds whichever allocation is refused.
+/// Must pass whichever allocation is refused.
 #[test]
 fn refused_memory_is_answered(rt: HostRuntime) {
     let text = b"not (same(1 1) or same(2 2)) and (within(0 9) or not not holds(4 5))";

@@ -1,4 +1,4 @@
-//! What is done for one client leaves the cursor of another as it was.
+//! Work for one client leaves the cursor of another as it was.
 ghost use Rattle.std.specs.Prelude.{◌≡◌};
 
 use change_list::{Config, Item, Write};
@@ -37,7 +37,8 @@ fn fill<L: Ledger + Naming, R: Wait>(
     Ok(())
 }
 
-/// Whether a cursor of three rows reads their page, sends them and has nothing left to do, within as many turns as that takes.
+/// Whether a cursor on three rows reads their page, sends them and has nothing left to do, in the number of turns
+/// that this takes.
 fn sends_all<L: Ledger + Naming, R: Wait>(
     rt: &R,
     desk: &Desk<Intervals, L>,
@@ -61,7 +62,7 @@ fn taken<L: Ledger + Naming>(taker: &mut Taker<'_, Intervals, L>) -> (u32, u32) 
     (rows, others)
 }
 
-/// Whether a cursor that is asked for a mark sends it with its next turn.
+/// Whether a cursor that was asked for a mark sends it with its next turn.
 fn sends_mark<L: Ledger + Naming, R: Wait>(
     rt: &R,
     desk: &Desk<Intervals, L>,
@@ -72,7 +73,8 @@ fn sends_mark<L: Ledger + Naming, R: Wait>(
         && taken(taker) == (0, 1)
 }
 
-/// Two cursors. The client of the first turns it, asks it for a mark and closes it; then that of the second does as much.
+/// Two cursors. The client of the first turns it, asks it for a mark and closes it; then the client of the second
+/// does the same.
 fn one_after_the_other<L: Ledger + Naming, R: Wait + Abort>(
     rt: &R,
     desk: &Desk<Intervals, L>,

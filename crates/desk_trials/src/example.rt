@@ -13,8 +13,8 @@ use std::sync::ledger::{Blank, Ledger};
 use std::test::*;
 use world::Reply;
 
-/// Inserts a row and follows what overlaps it, until its cursor is idle. How many items came, where a receipt shows that
-/// none is amiss.
+/// Inserts a row and follows what overlaps it, until its cursor is idle. Gives how many items came, if a receipt
+/// shows that they are right.
 fn insert_and_follow<L: Ledger + Naming, R: Wait>(
     rt: &R,
     alloc: Global,

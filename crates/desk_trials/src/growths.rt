@@ -1,5 +1,5 @@
-//! One client after another at a desk, where a growth may be refused: the call that is refused so leaves the lock and the
-//! seats whole, and is made once more.
+//! One client after another at a desk whose allocations may be refused: the call that is refused leaves the lock and
+//! the seats intact, and is made again.
 ghost use Rattle.std.specs.Prelude.{◌≡◌};
 
 use change_list::{Config, Item, Row, Write};
@@ -23,12 +23,12 @@ const CONFIG: Config = Config {
     commits: 1_000,
 };
 
-/// So many calls were refused for want of memory, and were made once more.
+/// How many calls ran out of memory and were made again.
 #[derive(Drop)]
 struct Refusals(u64);
 
 impl Refusals {
-    /// Whether an answer is such a refusal, which is counted.
+    /// Whether an answer is such a refusal; if so, it is counted.
     fn notes(&mut self, why: Option<Refusal>) -> bool {
         let is_want = why == Some(Refusal::OutOfMemory);
         if is_want {
@@ -38,7 +38,7 @@ impl Refusals {
     }
 }
 
-/// A call that changes a seat, and is refused: the seat is as it was.
+/// Checks that a refused call left its seat as it was.
 fn is_kept<L: Ledger + Naming>(seat: &Seat<Intervals, L>, share: u64) -> bool {
     seat.share() == share && seat.stamps().len() as u64 == share
 }
@@ -118,7 +118,7 @@ fn open_from<'d, L: Ledger + Naming, R: Wait>(
     }
 }
 
-/// How many dead rows a sweep of a page takes out. None where it is no leaf, or none at all.
+/// How many dead rows a sweep of a page removes. `None` if it is no leaf, or doesn't exist.
 fn sweep<L: Ledger + Naming, R: Wait>(
     rt: &R,
     desk: &Desk<Intervals, L>,
@@ -131,7 +131,7 @@ fn sweep<L: Ledger + Naming, R: Wait>(
     }
 }
 
-/// How many dead rows a sweep of all pages takes out.
+/// How many dead rows a sweep of all pages removes.
 fn sweep_all<L: Ledger + Naming, R: Wait>(
     rt: &R,
     desk: &Desk<Intervals, L>,
@@ -148,7 +148,7 @@ fn sweep_all<L: Ledger + Naming, R: Wait>(
     Ok(swept)
 }
 
-/// Adds what a cursor sends until it is idle, and tells whether it comes to that.
+/// Appends what a cursor sends until it is idle. False if it doesn't become idle.
 fn take_all<L: Ledger + Naming, R: Wait>(
     rt: &R,
     desk: &Desk<Intervals, L>,
@@ -169,7 +169,7 @@ fn take_all<L: Ledger + Naming, R: Wait>(
     false
 }
 
-/// Whether the last items are a delete of row 2, a move of row 3 to another key, and these further ones.
+/// Whether the last items are a delete of row 2, a move of row 3 to another key, and these.
 fn ends_so(items: &[Item<Interval>], further: &[Item<Interval>]) -> Result<bool, Refusal> {
     let moved = Row {
         row: 9,
@@ -184,7 +184,7 @@ fn ends_so(items: &[Item<Interval>], further: &[Item<Interval>]) -> Result<bool,
     )
 }
 
-/// Whether a closing gave a receipt of nine commits. One that gave none was refused memory.
+/// Whether closing gave a receipt of nine commits. If there is none, it counts as a refusal.
 fn is_received(ended: &Ended<Interval>, opened: u64, refusals: &mut Refusals) -> bool {
     match ended {
         Ended::Receipt(receipt) => receipt.commits() == 9 && receipt.opened() == opened,
@@ -192,7 +192,7 @@ fn is_received(ended: &Ended<Interval>, opened: u64, refusals: &mut Refusals) ->
     }
 }
 
-/// Whether seven rows get the numbers from 1.
+/// Whether seven rows get the numbers from 1 on.
 fn write_all<L: Ledger + Naming, R: Wait>(
     rt: &R,
     desk: &Desk<Intervals, L>,
@@ -207,7 +207,7 @@ fn write_all<L: Ledger + Naming, R: Wait>(
     Ok(true)
 }
 
-/// What a cursor over all rows sends while a client deletes and moves, and whether its closing tells the same.
+/// Whether a cursor on all rows sends what it should while a client deletes and moves, and its closing agrees.
 fn is_served<L: Ledger + Naming, R: Wait>(
     rt: &R,
     desk: &Desk<Intervals, L>,
@@ -226,7 +226,7 @@ fn is_served<L: Ledger + Naming, R: Wait>(
     is_idle && is_received(&ended, 7, refusals) && deleted == Ok(8) && moved == Ok(9)
 }
 
-/// What a cursor sends that follows commit 5, and whether its closing tells the same.
+/// Whether a cursor that follows commit 5 sends what it should, and its closing agrees.
 fn is_followed<L: Ledger + Naming, R: Wait>(
     rt: &R,
     desk: &Desk<Intervals, L>,
@@ -242,7 +242,7 @@ fn is_followed<L: Ledger + Naming, R: Wait>(
     is_idle && is_received(&ended, 5, refusals)
 }
 
-/// Whether both cursors send what they should, and the dead rows are swept behind them.
+/// Whether both cursors send what they should, and the dead rows are then swept.
 fn are_served<L: Ledger + Naming, R: Wait>(
     rt: &R,
     alloc: Global,
@@ -264,7 +264,7 @@ fn are_served<L: Ledger + Naming, R: Wait>(
     )
 }
 
-/// Whether all is whole in the end, and at most one call was refused for want of memory.
+/// Whether everything agrees in the end, and at most one call ran out of memory.
 fn is_whole<L: Ledger + Naming>(finished: Finished<Intervals, L>, refusals: &Refusals) -> bool {
     match finished {
         Finished::Closing(closing) => closing.sum() == 9 && refusals.0 < 2,

@@ -1,4 +1,5 @@
-//! Trials of a desk: clients beside each other, a desk beside a store, snapshots, turns, and the limits of pages, seats and memory.
+//! Tests of a desk: clients beside each other, a desk compared with a store, snapshots, turns, and the limits of
+//! pages, seats and memory.
 #![tactic(auto)]
 
 #[cfg(test)]

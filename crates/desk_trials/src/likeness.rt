@@ -17,7 +17,7 @@ use std::test::*;
 use store::Store;
 use world::Reply;
 
-/// Too few commits for all calls, so that the last of them are refused.
+/// Too few commits for all calls, so the last ones are refused.
 const CONFIG: Config = Config {
     fan: 4,
     least: 2,
@@ -48,7 +48,7 @@ fn insert_alike<L: Ledger + Naming, R: Wait>(
     stamped.map(|stamp| stamp.number()) == store.insert(key, 7)
 }
 
-/// Fifty rows, before a cursor is opened.
+/// Inserts fifty rows at both, before a cursor is opened.
 fn fill_alike<L: Ledger + Naming, R: Wait>(
     rt: &R,
     desk: &Desk<Intervals, L>,
@@ -103,7 +103,7 @@ fn next_of_desk<L: Ledger + Naming, R: Wait>(
     Err(Refusal::Idle)
 }
 
-/// The first of random calls that the desk answers in another way than the store.
+/// The first of some random calls that the desk answers differently from the store.
 fn first_unlike<L: Ledger + Naming, R: Wait>(
     rt: &R,
     desk: &Desk<Intervals, L>,
@@ -137,7 +137,7 @@ fn first_unlike<L: Ledger + Naming, R: Wait>(
     Ok(None)
 }
 
-/// How many items a desk and a store still have for a cursor, where they are the same.
+/// How many items a desk and a store still give to a cursor, if they are the same.
 fn rest_alike<L: Ledger + Naming, R: Wait>(
     rt: &R,
     desk: &Desk<Intervals, L>,
@@ -156,7 +156,7 @@ fn rest_alike<L: Ledger + Naming, R: Wait>(
     None
 }
 
-/// Lets a desk and a store answer the same calls, with a cursor that has been open since fifty rows were in.
+/// Makes the same calls of a desk and of a store, with a cursor open since the first fifty rows.
 fn compare<L: Ledger + Naming, R: Wait + Abort>(
     rt: &R,
     desk: &Desk<Intervals, L>,

@@ -20,7 +20,7 @@ const CONFIG: Config = Config {
     commits: 1_000,
 };
 
-/// Opens a cursor over all rows, and tells at which number of commits.
+/// Opens a cursor on all rows, and gives the number of commits at its opening.
 fn open<L: Ledger + Naming, R: Wait>(
     rt: &R,
     desk: &Desk<Intervals, L>,

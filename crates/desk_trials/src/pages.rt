@@ -1,4 +1,4 @@
-//! A desk that runs out of pages tells so, and serves on.
+//! A desk that runs out of pages says so, and goes on serving.
 ghost use Rattle.std.specs.Prelude.{◌≡◌};
 
 use change_list::{Config, Item, Write};
@@ -15,16 +15,16 @@ use std::sync::ledger::{Blank, Ledger};
 use std::test::*;
 use world::Reply;
 
-/// A call of a desk, which it answers by a number.
+/// A call of a desk, with a number as its answer.
 #[derive(Clone, Copy, Debug)]
 enum Call {
-    /// A key of one number.
+    /// A key of a single number.
     Insert(i64),
     Delete(u64),
     Move(u64, i64),
-    /// Of a page: how many dead rows were there.
+    /// Of a page; answered by how many dead rows were there.
     Sweep(u64),
-    /// Of all rows: how many a cursor sends.
+    /// Of all rows; answered by how many a cursor sends.
     Read,
 }
 
@@ -59,7 +59,7 @@ fn sent<L: Ledger + Naming, R: Wait>(
     Ok(items)
 }
 
-/// How many rows a cursor sends, where a receipt shows that none is amiss.
+/// How many rows a cursor sends, if a receipt shows that they are right.
 fn read<L: Ledger + Naming, R: Wait>(
     rt: &R,
     alloc: Global,
@@ -93,7 +93,7 @@ fn answer<L: Ledger + Naming, R: Wait>(
     }
 }
 
-/// Whether a call is answered so, and leaves its seat as it was where it is refused.
+/// Whether a call has this answer, and leaves its seat as it was if it is refused.
 fn is_answered<L: Ledger + Naming, R: Wait>(
     rt: &R,
     alloc: Global,
@@ -108,7 +108,7 @@ fn is_answered<L: Ledger + Naming, R: Wait>(
     answer == wanted && (answer.is_ok() || is_kept)
 }
 
-/// The first of some calls that isn't answered as wanted.
+/// The first of some calls with another answer.
 fn first_wrong<L: Ledger + Naming, R: Wait>(
     rt: &R,
     alloc: Global,
@@ -124,7 +124,7 @@ fn first_wrong<L: Ledger + Naming, R: Wait>(
     None
 }
 
-/// The root takes four rows, and would grow by two pages, of which there is one.
+/// The root takes four rows. To grow it needs two pages, and only one is left.
 static ONE_LEFT: [(Call, Result<u64, Refusal>); 14] = [
     (Call::Insert(1), Ok(1)),
     (Call::Insert(2), Ok(2)),
@@ -142,7 +142,7 @@ static ONE_LEFT: [(Call, Result<u64, Refusal>); 14] = [
     (Call::Read, Ok(4)),
 ];
 
-/// Two leaves, of which the second has no place for a key that goes there, and the first has two for others.
+/// Two leaves: the second has no room for a key that belongs there, the first has room for two others.
 static NONE_LEFT: [(Call, Result<u64, Refusal>); 21] = [
     (Call::Insert(1), Ok(1)),
     (Call::Insert(2), Ok(2)),
@@ -182,7 +182,7 @@ static LAST_PAGE: [(Call, Result<u64, Refusal>); 11] = [
     (Call::Read, Ok(8)),
 ];
 
-/// Five commits, and no page more than the root: what is wanting first is told.
+/// Five commits, and no page but the root: the limit that is reached first is told.
 static FULL_OF_COMMITS: [(Call, Result<u64, Refusal>); 11] = [
     (Call::Insert(1), Ok(1)),
     (Call::Insert(2), Ok(2)),
@@ -197,7 +197,7 @@ static FULL_OF_COMMITS: [(Call, Result<u64, Refusal>); 11] = [
     (Call::Read, Ok(3)),
 ];
 
-/// Two leaves with a dead row each, of which a sweep takes that of its own.
+/// Two leaves with a dead row each; a sweep of one removes only its own.
 static TWO_LEAVES: [(Call, Result<u64, Refusal>); 10] = [
     (Call::Insert(1), Ok(1)),
     (Call::Insert(2), Ok(2)),
@@ -211,7 +211,7 @@ static TWO_LEAVES: [(Call, Result<u64, Refusal>); 10] = [
     (Call::Read, Ok(3)),
 ];
 
-/// Which pages and commits a desk has room for, and how many of these are made.
+/// How many pages and commits a desk has room for, and how many commits are made.
 #[derive(Clone, Copy, Debug, PartialEq, Eq)]
 enum Room {
     OneLeft,
@@ -247,7 +247,7 @@ fn calls_of(room: Room) -> &'static [(Call, Result<u64, Refusal>)] {
     }
 }
 
-/// How many commits a desk made, where its seats' stamps are these.
+/// How many commits a desk made, if its seats' stamps are exactly these.
 fn closed<L: Ledger + Naming>(finished: Finished<Intervals, L>) -> Option<u64> {
     match finished {
         Finished::Closing(closing) => Some(closing.sum()),

@@ -29,7 +29,7 @@ fn insert<L: Ledger + Naming, R: Wait>(
     Ok(desk.insert(rt, seat, Interval::new(1, 2)?, tag)?.number())
 }
 
-/// A desk of two seats: what each is answered, and that the desk ends only when both are back.
+/// A desk of two seats: what each is answered, and that the desk ends only once both are back.
 fn two_seats<L: Ledger + Naming, R: Wait + Abort>(
     rt: &R,
     alloc: Global,

@@ -23,7 +23,7 @@ const CONFIG: Config = Config {
 
 const KEY: Interval = Interval { lo: 5, hi: 8 };
 
-/// What a client's snapshot tells: how many commits there were, and of how many rows it finds the first and what became of it.
+/// What a client's snapshot shows: how many commits, and of how many rows it finds the first, and its status.
 fn told<L: Ledger + Naming, R: Wait>(
     rt: &R,
     desk: &Desk<Intervals, L>,
@@ -36,7 +36,7 @@ fn told<L: Ledger + Naming, R: Wait>(
     Ok(Some((snapshot.commits(), rows.len(), snapshot.status(1)?)))
 }
 
-/// Whether a snapshot stays while a row is deleted and another is inserted, and a later one has both.
+/// Whether a snapshot doesn't change while a row is deleted and another is inserted, and a later one has both.
 fn stays<L: Ledger + Naming, R: Wait>(
     rt: &R,
     desk: &Desk<Intervals, L>,
@@ -54,8 +54,8 @@ fn stays<L: Ledger + Naming, R: Wait>(
     Ok(before.count(&query)? == 2 && after.count(&query)? == 1 && after.commits() == 4)
 }
 
-/// What who waits is told of a desk with two commits: past the first, the same unless a flag is raised, which isn't, and past
-/// commits that don't come, unless one is raised, which is.
+/// What waiting threads get at a desk with two commits: past the first; past the first unless a flag is raised, which
+/// isn't; and past commits that never come unless a flag is raised, which is.
 fn waited<L: Ledger + Naming, R: Wait>(rt: &R, desk: &Desk<Intervals, L>) -> [u64; 3] {
     let (is_open, is_over) = (AtomicBool::new(false), AtomicBool::new(true));
     desk.wake(rt);

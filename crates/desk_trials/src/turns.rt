@@ -1,4 +1,4 @@
-//! Turns in a row are those that a client would make one by one.
+//! Turns in a row do what a client's single turns would do.
 ghost use Rattle.std.specs.Prelude.{◌≡◌};
 
 use change_list::{Config, Write};
@@ -25,10 +25,10 @@ const CONFIG: Config = Config {
 /// How many items fit into the ring.
 const ROOM: u64 = 3;
 
-/// What the last of some turns was answered.
+/// The last reply of some turns.
 #[derive(Clone, Copy, Debug, PartialEq, Eq)]
 enum Last {
-    /// None was made.
+    /// No turn was made.
     Nothing,
     Offered,
     /// The page was read.
@@ -47,7 +47,7 @@ fn last_of(turns: &TurnsMade<Intervals>) -> Last {
     }
 }
 
-/// So many turns are asked for, so many are made, and the last is answered so.
+/// How many turns are asked for, how many are made, and the last reply.
 static ROUNDS: [(u64, u64, Last); 6] = [
     (0, 0, Last::Nothing),
     (1, 1, Last::Visited(0)),
@@ -58,7 +58,7 @@ static ROUNDS: [(u64, u64, Last); 6] = [
     (4, 0, Last::Refused(Refusal::NoRoom)),
 ];
 
-/// The first of the rounds that doesn't come to what is told.
+/// The first of the rounds with another result.
 fn first_wrong<L: Ledger + Naming, R: Wait>(
     rt: &R,
     desk: &Desk<Intervals, L>,
@@ -85,7 +85,7 @@ fn fill<L: Ledger + Naming, R: Wait>(
     Ok(())
 }
 
-/// Whether a cursor's turns come to what is told.
+/// Whether a cursor's turns have the expected results.
 fn turns_come_to_that<L: Ledger + Naming, R: Wait + Abort>(
     rt: &R,
     desk: &Desk<Intervals, L>,
@@ -97,7 +97,7 @@ fn turns_come_to_that<L: Ledger + Naming, R: Wait + Abort>(
     for _ in 0..ROOM {
         let _item = taker.take();
     }
-    // The two rows that are left, and then nothing.
+    // The two rows that are left, then nothing.
     let rest = desk.turns(rt, taker.cursor(), 100);
     assert!(rt; rest.made == 2 && last_of(&rest) == Last::Refused(Refusal::Idle));
     Ok(())

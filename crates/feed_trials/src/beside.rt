@@ -1,4 +1,4 @@
-//! A feed beside its subscribers' own reading of each snapshot.
+//! A feed, compared with subscribers that read each snapshot themselves.
 use crate::source::{CONFIG, Drawn, Source, commit, deepened, query};
 use box_class::Boxes;
 use change_list::{Item, change_item};
@@ -14,7 +14,7 @@ use store::Store;
 /// How many times the feed goes on.
 const ROUNDS: u64 = 120;
 
-/// A subscriber who also reads each commit by itself.
+/// A subscriber that also reads each commit by itself.
 #[derive(Drop)]
 struct Reader<A> {
     serial: u64,
@@ -22,7 +22,7 @@ struct Reader<A> {
     at: u64,
 }
 
-/// What stands under a serial.
+/// The items under a serial.
 fn under<K: Copy>(
     alloc: Global,
     told: &[(u64, Item<K>)],
@@ -38,7 +38,7 @@ fn under<K: Copy>(
 }
 
 impl<A: Copy + Eq> Reader<A> {
-    /// What it reads up to a commit, which it has read then.
+    /// Reads up to a commit.
     fn read<C: KeyClass<Atom = A>>(
         &mut self,
         alloc: Global,
@@ -56,7 +56,7 @@ impl<A: Copy + Eq> Reader<A> {
     }
 }
 
-/// How many entries the readers find right, where each is given what it reads itself up to a commit.
+/// How many entries are right, when each reader is given exactly what it reads itself up to a commit.
 fn agreeing<C: Drawn>(
     alloc: Global,
     readers: &mut [Reader<C::Atom>],
@@ -75,7 +75,7 @@ fn agreeing<C: Drawn>(
     Ok(Some(count))
 }
 
-/// A store, a feed of its commits, and those who subscribe.
+/// A store, a feed of its commits, and its subscribers.
 #[derive(Drop)]
 struct Trial<C: Drawn> {
     alloc: Global,
@@ -101,7 +101,7 @@ impl<C: Drawn> Trial<C> {
         })
     }
 
-    /// At most four commits.
+    /// Makes at most four commits.
     fn commit_some(&mut self) -> Result<(), Refusal> {
         for _ in 0..self.source.below(5) {
             commit(&mut self.store, &mut self.source)?;
@@ -109,7 +109,7 @@ impl<C: Drawn> Trial<C> {
         Ok(())
     }
 
-    /// A query whose depth is at most 3, or one with up to 28 more levels.
+    /// A query of depth at most 3, sometimes with up to 28 more levels.
     fn query(&mut self) -> Result<Pred<C::Atom>, Refusal> {
         let query = query::<C>(self.alloc, &mut self.source, 3)?;
         let pairs = self.source.below(60);
@@ -119,7 +119,7 @@ impl<C: Drawn> Trial<C> {
         deepened::<C>(self.alloc, query, pairs)
     }
 
-    /// The query that some reader has, or none where there is no reader.
+    /// The query of some reader, or `None` if there is no reader.
     fn query_again(&mut self) -> Result<Option<Pred<C::Atom>>, Refusal> {
         let place = usize::try_from(self.source.below(self.readers.len() as u64)).unwrap_or(0);
         match self.readers.get(place) {
@@ -128,7 +128,7 @@ impl<C: Drawn> Trial<C> {
         }
     }
 
-    /// One time of two the query of a reader, else a further one.
+    /// Half of the time the query of a reader, else a new one.
     fn query_or_again(&mut self) -> Result<Pred<C::Atom>, Refusal> {
         if self.source.below(2) == 0
             && let Some(query) = self.query_again()?
@@ -138,7 +138,7 @@ impl<C: Drawn> Trial<C> {
         self.query()
     }
 
-    /// Somebody subscribes, in two rounds of three.
+    /// In two rounds of three, opens a subscription.
     fn maybe_subscribe(&mut self) -> Result<(), Refusal> {
         if self.source.below(3) == 0 {
             return Ok(());
@@ -151,7 +151,7 @@ impl<C: Drawn> Trial<C> {
         Ok(())
     }
 
-    /// Somebody's subscription ends, in one round of six.
+    /// In one round of six, ends a subscription.
     fn maybe_unsubscribe(&mut self) -> Result<(), Refusal> {
         if self.source.below(6) > 0 || self.readers.is_empty() {
             return Ok(());
@@ -164,7 +164,7 @@ impl<C: Drawn> Trial<C> {
         Ok(())
     }
 
-    /// So many subscriptions begin, of which each ends before the next one begins.
+    /// Opens `count` subscriptions, and ends each before the next one.
     fn come_and_go(&mut self, count: u64) -> Result<(), Refusal> {
         for _ in 0..count {
             let query = Pred::Atom(C::atom(&mut self.source)?);
@@ -174,7 +174,7 @@ impl<C: Drawn> Trial<C> {
         Ok(())
     }
 
-    /// Whether the feed, as it goes on, gives what the readers read.
+    /// Whether the feed gives, as it goes on, exactly what the readers read.
     fn goes_on(&mut self) -> Result<bool, Refusal> {
         let snapshot = self.store.snapshot()?;
         let mut told = Vec::new(self.alloc);
@@ -193,7 +193,7 @@ impl<C: Drawn> Trial<C> {
         Ok(self.goes_on()? && self.feed.len() == self.readers.len())
     }
 
-    /// Whether all entries of all rounds are those that the readers read, and some are.
+    /// Whether all entries of all rounds are those that the readers read, and there are some.
     fn rounds(&mut self) -> Result<bool, Refusal> {
         for _ in 0..ROUNDS {
             if !self.round()? {
@@ -209,8 +209,8 @@ fn goes_beside<C: Drawn>(alloc: Global, seed: u64) -> Result<bool, Refusal> {
     trial.rounds()
 }
 
-/// How many subscriptions come and go between two rounds, so that the tree of queries has more than nine thousand commits after all
-/// rounds, and was planted anew.
+/// How many subscriptions come and go between two rounds: enough for the tree of queries to make more than nine
+/// thousand commits in all rounds, so that it is rebuilt.
 const PASSING: u64 = 60;
 
 /// The same, while many others come and go.

@@ -19,7 +19,7 @@ fn deep(alloc: Global, depth: u32) -> Result<Pred<Atom>, Refusal> {
     Ok(query)
 }
 
-/// Puts rows at the points from 1 up to a number into a store.
+/// Puts rows at the points from 1 to `count` into a store.
 fn put_points(store: &mut Store<Intervals>, count: u32) -> Result<(), Refusal> {
     for at in 0..count {
         let point = i64::from(at) + 1;
@@ -28,14 +28,14 @@ fn put_points(store: &mut Store<Intervals>, count: u32) -> Result<(), Refusal> {
     Ok(())
 }
 
-/// A snapshot of rows at the points from 1 up to a number.
+/// A snapshot of rows at the points from 1 to `count`.
 fn points(alloc: Global, count: u32) -> Result<Snapshot<Intervals>, Refusal> {
     let mut store = Store::new(alloc, CONFIG)?;
     put_points(&mut store, count)?;
     store.snapshot()
 }
 
-/// A call of a feed, which it answers by a number.
+/// A call of a feed, with a number as its answer.
 #[derive(Clone, Copy)]
 enum Call {
     /// Subscribes to what a query of a depth asks for.
@@ -44,9 +44,9 @@ enum Call {
     Overlapping(i64, i64, u64),
     /// Answered by 0.
     Unsubscribe(u64),
-    /// Goes over so many commits of a snapshot that has none.
+    /// Goes over this many commits of a snapshot that has none.
     AdvanceInNone(u64),
-    /// Goes over so many commits of a snapshot that has five.
+    /// Goes over this many commits of a snapshot that has five.
     AdvanceInFive(u64),
 }
 
@@ -87,7 +87,7 @@ impl Caller {
         }
     }
 
-    /// The place of the first call that isn't answered so.
+    /// The place of the first call with another answer.
     fn first_wrong(&mut self, calls: &[(Call, Result<u64, Refusal>)]) -> Option<usize> {
         for (place, (call, answer)) in calls.iter().enumerate() {
             if self.answer(*call) != *answer {
@@ -97,7 +97,7 @@ impl Caller {
         None
     }
 
-    /// Whether it was given inserts of these rows under these serials, and no more.
+    /// Whether it was given inserts of exactly these rows, under these serials.
     fn was_given(&self, wanted: &[(u64, u64)]) -> bool {
         if self.told.len() != wanted.len() {
             return false;
@@ -114,7 +114,7 @@ impl Caller {
     }
 }
 
-/// Whether calls are answered so, and give inserts of these rows under these serials.
+/// Whether the calls have these answers, and give inserts of these rows under these serials.
 fn is_answered(
     alloc: Global,
     calls: &[(Call, Result<u64, Refusal>)],
@@ -161,7 +161,7 @@ static MISSED: [(Call, Result<u64, Refusal>); 6] = [
     (Call::AdvanceInFive(9), Ok(5)),
 ];
 
-/// What those calls give: serials, and rows that were inserted.
+/// The expected inserts: serials, and rows.
 static GIVEN: [(u64, u64); 6] = [(1, 2), (1, 3), (2, 2), (2, 3), (2, 4), (3, 5)];
 
 #[test]
@@ -181,7 +181,7 @@ static EQUAL: [(Call, Result<u64, Refusal>); 8] = [
     (Call::Unsubscribe(3), Ok(0)),
 ];
 
-/// What those calls give: serials, and rows that were inserted.
+/// The expected inserts: serials, and rows.
 static GIVEN_EACH: [(u64, u64); 5] = [(1, 2), (1, 3), (2, 3), (2, 4), (3, 4)];
 
 #[test]

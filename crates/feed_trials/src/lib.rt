@@ -1,4 +1,4 @@
-//! Trials of a feed beside the plain way, which tests each query at each commit, in each class of keys.
+//! Tests of a feed, compared with testing each query at each commit, for each class of keys.
 #![tactic(auto)]
 
 #[cfg(test)]

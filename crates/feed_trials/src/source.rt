@@ -106,7 +106,7 @@ impl Drawn for Sets {
     }
 }
 
-/// A random query of a depth at most.
+/// A random query of at most this depth.
 pub fn query<C: Drawn>(
     alloc: Global,
     source: &mut Source,
@@ -128,7 +128,7 @@ pub fn query<C: Drawn>(
     }
 }
 
-/// The same query under pairs of `not`, which mean nothing.
+/// The same query under pairs of `not`, which cancel out.
 pub fn deepened<C: Drawn>(
     alloc: Global,
     mut query: Pred<C::Atom>,
@@ -141,7 +141,8 @@ pub fn deepened<C: Drawn>(
     Ok(query)
 }
 
-/// Makes a random commit: of three, one is an insert, one a move and one a delete, where the row that is drawn lives.
+/// Makes a random commit: an insert, a move or a delete, each a third of the time; the last two only if the chosen
+/// row is live.
 pub fn commit<C: Drawn>(store: &mut Store<C>, source: &mut Source) -> Result<(), Refusal> {
     let row = source.below(store.commits().saturating_add(1));
     let ended = match source.below(3) {

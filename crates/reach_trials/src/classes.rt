@@ -1,4 +1,4 @@
-//! What the atoms of each class reach.
+//! The reach of the atoms of each class.
 use box_class::{BoxKey, Boxes};
 use interval_class::{Interval, Intervals};
 use key_class::{KeyClass, Refusal, Rel};
@@ -8,8 +8,8 @@ use std::test::Fail;
 
 const RELATIONS: [Rel; 4] = [Rel::Overlaps, Rel::Within, Rel::Holds, Rel::Same];
 
-/// How many of some keys match an atom, where each that does overlaps its reach, if there is one, and each matches the atom that asks
-/// for it.
+/// How many of some keys match an atom. `None` unless each that does overlaps the atom's reach, if it has one, and
+/// matches the atom that asks for the key itself.
 fn matching<C: Reach>(atom: &C::Atom, keys: &[C::Key]) -> Option<usize> {
     let mut count: usize = 0;
     for key in keys {

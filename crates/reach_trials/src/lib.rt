@@ -1,4 +1,4 @@
-//! Trials of where keys lie that match: each class and each relation, and queries made of them.
+//! Tests of where the matching keys of each class and each relation lie, and of queries made of them.
 #![tactic(auto)]
 
 #[cfg(test)]

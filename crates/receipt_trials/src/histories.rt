@@ -26,7 +26,7 @@ const CONFIG: Config = Config {
 
 const KEY: Interval = Interval { lo: 5, hi: 8 };
 
-/// Two snapshots for one seat. The later begins with the earlier.
+/// Two snapshots for one seat. The later one begins with the earlier.
 #[tactic(auto, using(history::proofs::Pasts::prefix_trans))]
 fn snapshots_in_turn<L: Ledger + Naming, R: Wait>(
     rt: &R,
@@ -40,7 +40,8 @@ fn snapshots_in_turn<L: Ledger + Naming, R: Wait>(
     Ok((earlier, later))
 }
 
-/// A snapshot for each of two seats, of which the second was lent the first between. It begins with the other.
+/// A snapshot for each of two seats; between them the second seat learns from the first. Its snapshot begins with the
+/// other.
 #[tactic(auto, using(history::proofs::Pasts::prefix_trans))]
 fn snapshots_by_message<L: Ledger + Naming, R: Wait>(
     rt: &R,

@@ -13,7 +13,7 @@ fn point(at: i64) -> Result<Interval, Refusal> {
 /// The greatest number of commits of a list.
 const MOST_COMMITS: usize = 4_294_967_295;
 
-/// Adds a commit, if a row that it ends lives.
+/// Adds a commit, if the row that it ends is live.
 fn commit(changes: &mut ChangeList<Interval>, write: Write<Interval>) -> Result<(), Refusal> {
     if changes.len() >= MOST_COMMITS {
         return Err(Refusal::CommitsFull);
@@ -34,7 +34,7 @@ fn commit(changes: &mut ChangeList<Interval>, write: Write<Interval>) -> Result<
     Ok(changes.push(write)?)
 }
 
-/// Three inserts, of which the first is deleted before the last of them.
+/// Three inserts; the first row is deleted before the last insert.
 fn commits(alloc: Global) -> Result<ChangeList<Interval>, Refusal> {
     let mut commits = ChangeList::new(alloc);
     commit(&mut commits, Write::Insert(point(1)?, 0))?;
@@ -44,7 +44,8 @@ fn commits(alloc: Global) -> Result<ChangeList<Interval>, Refusal> {
     Ok(commits)
 }
 
-/// What a reader took by letters, and whether it is all that its cursor had to give, which was opened after two commits.
+/// What a reader took, as letters, and whether that is all that its cursor had to give. The cursor was opened after
+/// two commits.
 static READINGS: [(&str, bool); 10] = [
     ("12di", true),
     ("21di", true),
@@ -67,7 +68,7 @@ fn row(number: u64, at: i64) -> Result<Row<Interval>, Refusal> {
     })
 }
 
-/// The item of a letter.
+/// The item for a letter.
 fn item(letter: u8) -> Result<Item<Interval>, Refusal> {
     match letter {
         b'1' => Ok(Item::Row(row(1, 1)?)),
@@ -101,7 +102,7 @@ fn a_judge_tells_what_is_amiss(rt: HostRuntime) -> Result<(), Fail> {
     Ok(())
 }
 
-/// Whether the commits begin with their first two, and with two others.
+/// Whether the commits begin with their first two, and whether with two others.
 fn beginnings(alloc: Global) -> Result<(bool, bool), Refusal> {
     let mut first = ChangeList::new(alloc);
     commit(&mut first, Write::Insert(point(1)?, 0))?;

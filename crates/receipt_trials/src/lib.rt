@@ -1,4 +1,4 @@
-//! Trials of what clients of a desk are told: receipts, the history, orders to pumps, and the judge of a storm.
+//! Tests of what clients of a desk are told: receipts, the history, orders to pumps, and the judge of a storm.
 #![tactic(auto)]
 
 #[cfg(test)]

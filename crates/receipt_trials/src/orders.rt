@@ -28,7 +28,7 @@ const CONFIG: Config = Config {
     commits: 1_000,
 };
 
-/// A runtime that counts pauses of a millisecond, and makes none.
+/// A runtime that counts pauses of a millisecond instead of making them.
 #[derive(Drop)]
 struct Hurried<'r, R> {
     rt: &'r R,
@@ -55,7 +55,7 @@ impl<R: Clock> Clock for Hurried<'_, R> {
     }
 }
 
-/// Counts how often it is asked. It holds cursor 1 for good, and cursor 2 until it is asked for the 10,000th time.
+/// A gate that counts how often it is asked. It never opens for cursor 1, and for cursor 2 only at the 10,000th time.
 #[derive(Drop)]
 struct Counting {
     asks: AtomicU64,
@@ -73,29 +73,29 @@ impl Gate for Counting {
     }
 }
 
-/// Orders to pumps at a desk with three rows, where each of the cursors 1 to 7 has four turns to make, of which 7 has no
-/// room for the last, 8 is closed and 9 was never opened.
+/// Orders to pumps at a desk with three rows. Each of the cursors 1 to 7 has four turns to make; 7 has no room for
+/// the last one, 8 is closed and 9 was never opened.
 #[derive(Clone, Copy, Debug, PartialEq, Eq)]
 enum Orders {
-    /// The first is held for good.
+    /// The first cursor is never let go.
     Held,
-    /// There are more of each than are made.
+    /// More turns are ordered than a cursor can make.
     TooMany,
-    /// A stop before the last two.
+    /// A stop comes before the last two orders.
     Stopped,
-    /// Of no turns, at an open gate and at one that is held.
+    /// Orders of no turns, at an open gate and at a shut one.
     OfNone,
-    /// Of cursors that can't be turned.
+    /// Orders for cursors that can't be turned.
     OfNobody,
-    /// For many pumps.
+    /// Orders for many pumps.
     Many,
-    /// Without a stop.
+    /// No stop.
     Unstopped,
 }
 
 static HELD: [Order; 3] = [Order::Turn(1, 2), Order::Turn(3, 2), Order::Stop];
 
-/// An order that is let go at the last ask.
+/// An order for a cursor whose gate opens at the last question.
 static LET_GO: [Order; 2] = [Order::Turn(2, 1), Order::Stop];
 
 static TOO_MANY: [Order; 4] = [
@@ -141,17 +141,17 @@ fn orders_of(orders: Orders) -> &'static [Order] {
     }
 }
 
-/// What came of orders.
+/// The results of orders.
 #[derive(Clone, Copy, PartialEq, Eq)]
 struct Done {
     turns: u64,
     skipped: u64,
     asks: u64,
-    /// How many orders are left.
+    /// How many orders were left over.
     left: usize,
 }
 
-/// Orders that wait for pumps. Nobody sends any more.
+/// Orders that wait for pumps, from a sender that is gone.
 fn sent<R: Wait>(rt: &R, alloc: Global, orders: &[Order]) -> Result<Receiver<Order>, Refusal> {
     let (to, from) = unbounded(alloc)?;
     for order in orders {
@@ -162,7 +162,7 @@ fn sent<R: Wait>(rt: &R, alloc: Global, orders: &[Order]) -> Result<Receiver<Ord
     Ok(from)
 }
 
-/// Lets so many pumps carry out orders.
+/// Lets this many pumps carry out orders.
 fn carried_out<L: Ledger + Naming + Send + Sync, R: Threads + Wait + Clock + Sync>(
     rt: &R,
     alloc: Global,
@@ -185,7 +185,7 @@ fn carried_out<L: Ledger + Naming + Send + Sync, R: Threads + Wait + Clock + Syn
     })
 }
 
-/// The same with the pauses that were made.
+/// The same, with the number of pauses.
 fn carried_out_and_paused<L: Ledger + Naming + Send + Sync, R: Threads + Wait + Clock + Sync>(
     rt: &R,
     alloc: Global,
@@ -201,7 +201,7 @@ fn carried_out_and_paused<L: Ledger + Naming + Send + Sync, R: Threads + Wait + 
     Ok((done, hurried.pauses.load(Ordering::SeqCst)))
 }
 
-/// Inserts three rows and opens eight cursors on them, of which it closes the last.
+/// Inserts three rows and opens eight cursors on them, and closes the last one.
 fn prepare<L: Ledger + Naming, R: Wait>(
     rt: &R,
     desk: &Desk<Intervals, L>,
@@ -217,7 +217,7 @@ fn prepare<L: Ledger + Naming, R: Wait>(
     Ok(())
 }
 
-/// Whether that comes of orders to so many pumps.
+/// Whether orders to this many pumps have these results.
 fn are_done<L: Ledger + Naming + Send + Sync, R: Threads + Wait + Clock + Sync>(
     rt: &R,
     alloc: Global,
@@ -230,8 +230,8 @@ fn are_done<L: Ledger + Naming + Send + Sync, R: Threads + Wait + Clock + Sync>(
         == wanted)
 }
 
-/// Carries out all orders, one list after the other. An order is skipped after 10,000 asks, and counts once; the next is
-/// carried out. A turn that is refused ends its order, and isn't counted.
+/// Carries out all orders, one list after the other. An order is skipped after 10,000 questions, and counts once;
+/// then comes the next. A turn that is refused ends its order, and isn't counted.
 fn carry_out_all<L: Ledger + Naming + Send + Sync, R: Threads + Wait + Clock + Abort + Sync>(
     rt: &R,
     alloc: Global,
@@ -257,7 +257,7 @@ fn carry_out_all<L: Ledger + Naming + Send + Sync, R: Threads + Wait + Clock + A
     }
 }
 
-/// An order that is let go at the last ask is carried out. Between two asks there was a pause.
+/// An order whose gate opens at the last question is carried out. There is a pause between two questions.
 fn let_go<L: Ledger + Naming + Send + Sync, R: Threads + Wait + Clock + Abort + Sync>(
     rt: &R,
     alloc: Global,

@@ -27,7 +27,7 @@ const CONFIG: Config = Config {
     commits: 1_000,
 };
 
-/// Holds cursor 1 until it is let go.
+/// A gate that is shut for cursor 1 until it is let go.
 #[derive(Drop)]
 struct Held {
     is_open: AtomicBool,
@@ -41,7 +41,7 @@ impl Gate for Held {
 
 /// A client that takes rows.
 trait Taking: Drop {
-    /// Takes an item, where one is seen: the number of its row, 0 for another item.
+    /// Takes an item, if there is one: the number of its row, or 0 for any other item.
     fn take_row(&mut self) -> Option<u64>;
 }
 
@@ -76,7 +76,7 @@ fn take_both<T: Taking, R: Clock>(
     (await_row(rt, &mut first), later)
 }
 
-/// Lets a client take in a thread of its own while pumps run.
+/// Lets a client take items in a thread of its own while pumps run.
 fn pump_and_take<L, T, R>(
     rt: &R,
     alloc: Global,
@@ -162,7 +162,7 @@ fn pumps_work_at_once(rt: HostRuntime) -> Result<(), Fail> {
     two_pumps::<Brand, _>(&rt, rt.alloc(), Blank::new(1), BlankHistory::new())
 }
 
-/// A gate that is open.
+/// A gate that is always open.
 #[derive(Drop)]
 struct Open {}
 

@@ -23,7 +23,7 @@ const CONFIG: Config = Config {
     commits: 16_777_216,
 };
 
-/// What is done to the items that a client took, before it hands them in.
+/// A change to the items that a client took, before they are handed in.
 #[derive(Clone, Copy, Debug, PartialEq, Eq)]
 enum Damage {
     Nothing,
@@ -39,7 +39,7 @@ enum Damage {
     ItemsOfAnotherCursor,
 }
 
-/// The items after the damage.
+/// Applies the change to the items.
 fn damaged(items: &mut Vec<Item<Interval>>, damage: Damage) -> Result<(), Fail> {
     if items.len() != 7 {
         return Err(Refusal::NotHere.into());
@@ -99,7 +99,7 @@ fn insert<L: Ledger + Naming, R: Wait>(
     Ok(desk.insert(rt, seat, key, 0)?.number())
 }
 
-/// How many commits a closing tells of, and after how many its cursor was opened. None without a receipt.
+/// How many commits a receipt has, and the opening of its cursor. `None` without a receipt.
 fn told(ended: Ended<Interval>) -> Option<(u64, u64)> {
     match ended {
         Ended::Receipt(receipt) => Some((receipt.commits(), receipt.opened())),
@@ -119,7 +119,7 @@ fn insert_all<L: Ledger + Naming, R: Wait>(
     Ok(())
 }
 
-/// Two more rows, a delete, and a mark. What the cursor sends.
+/// Two more rows, a delete, and a mark; and what the cursor sends.
 fn followed<L: Ledger + Naming, R: Wait>(
     rt: &R,
     alloc: Global,
@@ -133,7 +133,7 @@ fn followed<L: Ledger + Naming, R: Wait>(
     Ok(sent(rt, alloc, desk, taker)?)
 }
 
-/// What closing a cursor after three rows tells, with damaged items.
+/// What closing a cursor after three rows gives, with changed items.
 fn closed_with<L: Ledger + Naming, R: Wait>(
     rt: &R,
     alloc: Global,
@@ -159,7 +159,7 @@ fn sent_of_all<L: Ledger + Naming, R: Wait>(
     followed(rt, alloc, desk, seat, &mut taker)
 }
 
-/// What closing a cursor tells of the items of another, which matches more.
+/// What closing a cursor gives for the items of another, which matches more.
 fn closed_with_items_of_another<L: Ledger + Naming, R: Wait>(
     rt: &R,
     alloc: Global,
@@ -230,7 +230,7 @@ fn a_receipt_tells_that_nothing_is_amiss(rt: HostRuntime) -> Result<(), Fail> {
     Ok(())
 }
 
-/// A client that closes its cursor. Its cursor is closed, whatever the closing tells.
+/// A client that closes its cursor. The cursor is then closed, whatever closing gives.
 fn is_closed<L: Ledger + Naming, R: Wait>(
     rt: &R,
     desk: &Desk<Intervals, L>,
@@ -264,7 +264,8 @@ fn closing_closes(rt: HostRuntime) -> Result<(), Fail> {
     closing_at_a_desk::<Brand, _>(&rt, rt.alloc(), Blank::new(1), BlankHistory::new())
 }
 
-/// Whether a cursor that is opened and closed while others insert gives a receipt of no fewer commits than the seat's.
+/// Whether a cursor that is opened and closed while others insert gives a receipt with at least as many commits as
+/// the seat's share.
 fn is_received<L: Ledger + Naming, R: Wait>(
     rt: &R,
     desk: &Desk<Intervals, L>,
@@ -279,7 +280,7 @@ fn is_received<L: Ledger + Naming, R: Wait>(
     }
 }
 
-/// What a client does that inserts.
+/// The work of a client that inserts.
 trait Inserts<L: Ledger + Naming> {
     fn insert_rows<R: Wait + Abort>(&self, rt: &R, seat: &mut Seat<Intervals, L>);
 }
@@ -360,7 +361,7 @@ fn begins(list: &View<Interval>, commits: &ChangeList<Interval>) -> bool {
     true
 }
 
-/// Whether what each receipt tells is the beginning of what was committed.
+/// Whether each receipt's commits are a beginning of all commits.
 fn all_begin(receipts: &[Receipt<Interval>], commits: &ChangeList<Interval>) -> bool {
     for receipt in receipts {
         if !begins(receipt.list(), commits) {

@@ -1,4 +1,4 @@
-//! Trials of a feed for a desk.
+//! Tests of a feed for a desk.
 #![tactic(auto)]
 
 #[cfg(test)]

@@ -40,7 +40,7 @@ fn too_deep(alloc: Global) -> Result<Pred<Atom>, AllocError> {
     Ok(query)
 }
 
-/// Why somebody isn't subscribed.
+/// Why a subscription is refused.
 fn refusal<L: Ledger + Naming, R: Wait>(
     rt: &R,
     feed: &SharedFeed<Intervals, L>,
@@ -52,7 +52,7 @@ fn refusal<L: Ledger + Naming, R: Wait>(
     feed.subscribe(rt, seat, query, from, room).err()
 }
 
-/// No subscription begins with a room, a depth or a commit that is out of its range.
+/// A room, a depth or a commit that is out of range is refused.
 fn refusals<L: Ledger + Naming, R: Wait + Abort>(
     rt: &R,
     alloc: Global,

@@ -29,7 +29,7 @@ fn key(number: u32, nth: u32) -> Result<Interval, Refusal> {
     Interval::new(low, low + i64::from(nth % 7))
 }
 
-/// Inserts rows. A cursor that is opened amidst them has an opening that is no less than the seat's share.
+/// Inserts rows. A cursor opened in the middle has an opening that is no less than the seat's share.
 fn insert_rows<L: Ledger + Naming, R: Wait + Abort>(
     rt: &R,
     desk: &Desk<Intervals, L>,
@@ -48,7 +48,7 @@ fn insert_rows<L: Ledger + Naming, R: Wait + Abort>(
     assert!(rt; opened.is_ok_and(|opened| opened >= seat.share()));
 }
 
-/// Deletes some of the rows that a seat inserted, each of which is then refused.
+/// Deletes some of the rows that a seat inserted; deleting them again is refused.
 fn delete_rows<L: Ledger + Naming, R: Wait + Abort>(
     rt: &R,
     desk: &Desk<Intervals, L>,
@@ -85,7 +85,7 @@ fn items_and_mark<L: Ledger + Naming, R: Wait + Abort>(
     (items, mark)
 }
 
-/// What a client does.
+/// The work of a client.
 trait Works<L: Ledger + Naming> {
     /// 250 inserts and 100 deletes for a seat.
     fn work<R: Wait + Abort>(&self, rt: &R, seat: &mut Seat<Intervals, L>);
@@ -122,7 +122,7 @@ fn stamps_of<L: Ledger + Naming>(
     Ok(stamps)
 }
 
-/// Whether the stamps, by their numbers, are the commits.
+/// Whether the stamps, ordered by number, are the commits.
 fn are_the_commits(stamps: &[Stamped<Interval>], commits: &ChangeList<Interval>) -> bool {
     let mut number: u64 = 0;
     for stamp in stamps {
@@ -134,7 +134,7 @@ fn are_the_commits(stamps: &[Stamped<Interval>], commits: &ChangeList<Interval>)
     number == commits.len() as u64
 }
 
-/// Follows all rows by a cursor that has had a ring of four since before they were inserted, up to a mark.
+/// Follows all rows, up to a mark, with a cursor whose ring of four was opened before they were inserted.
 fn follow<L: Ledger + Naming, R: Wait + Abort>(
     rt: &R,
     desk: &Desk<Intervals, L>,
@@ -146,7 +146,7 @@ fn follow<L: Ledger + Naming, R: Wait + Abort>(
     assert!(rt; taker.opened() == 0);
 }
 
-/// How many items a cursor sends before any is taken, and how many then are.
+/// How many items a cursor sends before any is taken, and how many are then taken.
 fn sent_and_taken<L: Ledger + Naming, R: Wait + Abort>(
     rt: &R,
     desk: &Desk<Intervals, L>,

@@ -1,4 +1,4 @@
-//! Trials of threads that work at one desk at once, and of cursors that follow them.
+//! Tests of threads that work at one desk at once, and of cursors that follow them.
 #![tactic(auto)]
 
 #[cfg(test)]

@@ -24,7 +24,7 @@ pub const CONFIG: Config = Config {
     commits: 16_777_216,
 };
 
-/// A desk of two seats that move one row, of which one does.
+/// A desk of two seats that both try to move one row; one of them does.
 fn two_seats<L: Ledger + Naming, R: Wait + Abort>(
     rt: &R,
     alloc: Global,
@@ -63,7 +63,7 @@ fn two_seats_move_one_row(rt: HostRuntime) -> Result<(), Fail> {
     two_seats::<Brand, _>(&rt, rt.alloc(), Blank::new(2), BlankHistory::new())
 }
 
-/// How many rows each of the clients that work at once inserts.
+/// How many rows each of the writers inserts.
 const ROWS: u32 = 100;
 
 /// The key of the nth row of a seat.
@@ -87,7 +87,7 @@ fn insert_rows<L: Ledger + Naming, R: Wait + Abort>(
     }
 }
 
-/// Moves each row that a seat inserted, and then each that it moved.
+/// Moves each row that a seat inserted, and then moves it again.
 fn move_rows<L: Ledger + Naming, R: Wait + Abort>(
     rt: &R,
     desk: &Desk<Intervals, L>,
@@ -109,7 +109,7 @@ fn move_rows<L: Ledger + Naming, R: Wait + Abort>(
     }
 }
 
-/// What the clients of a desk do: writers `W`, and readers that have cursors `T` and what they took of them, `I`.
+/// The work of a desk's clients: writers `W`, and readers with cursors `T` and what they took from them, `I`.
 pub trait Clients<W, T, I> {
     /// Inserts rows and moves them.
     fn write<R: Wait + Abort>(&self, rt: &R, seat: &mut W);
@@ -143,7 +143,7 @@ impl<'d, L: Ledger + Naming> Clients<
     }
 }
 
-/// Lets writers write, each in a thread of its own, while two readers follow, each in a thread of its own.
+/// Lets writers write while two readers follow, each in a thread of its own.
 pub fn at_once<D, W, T, I, R>(
     rt: &R,
     desk: &D,
@@ -195,7 +195,7 @@ pub fn reading<'d, L: Ledger + Naming, R: Wait>(
     }
 }
 
-/// Lets four clients write while two others follow: a cursor with a ring of two, and one with a wide ring.
+/// Lets four clients write while two others follow, one through a ring of two and one through a large ring.
 fn write_and_follow<L: Ledger + Naming + Send + Sync, R: Threads + Wait + Abort + Sync>(
     rt: &R,
     alloc: Global,

@@ -15,14 +15,14 @@ use std::test::*;
 use std::thread;
 use std::thread::Threads;
 
-/// How a row is to end for which two clients race.
+/// How two racing clients try to end a row.
 #[derive(Clone, Copy, Debug, PartialEq, Eq)]
 enum End {
     Deleted,
     Moved,
 }
 
-/// Ends the first row for a seat: the number of the commit.
+/// Ends the first row for a seat, and gives the number of the commit.
 fn end_first_row<L: Ledger + Naming, R: Wait>(
     rt: &R,
     desk: &Desk<Intervals, L>,
@@ -35,9 +35,9 @@ fn end_first_row<L: Ledger + Naming, R: Wait>(
     }
 }
 
-/// A desk at which clients `W` race for the first row.
+/// A desk whose clients `W` race for the first row.
 trait Race<W> {
-    /// Tries to end the row: it is the second commit, or the row has ended.
+    /// Tries to end the row: this makes the second commit, or the row has already ended.
     fn race<R: Wait + Abort>(&self, rt: &R, seat: &mut W, end: End);
 }
 
@@ -58,7 +58,7 @@ where
     thread::for_each_mut(rt, seats, 2, &|_, seat| desk.race(rt, seat, end))
 }
 
-/// Inserts a row, for which all seats of a desk race then.
+/// Inserts a row, for which all seats of a desk then race.
 fn insert_and_race<L: Ledger + Naming + Send + Sync, R: Threads + Wait + Abort + Sync>(
     rt: &R,
     desk: &Desk<Intervals, L>,
@@ -73,8 +73,8 @@ fn insert_and_race<L: Ledger + Naming + Send + Sync, R: Threads + Wait + Abort +
     Ok(())
 }
 
-/// A desk of two seats that race for one row. One commit inserts it, and one ends it: so one seat has a stamp of that, and
-/// the other was told that the row has ended.
+/// A desk of two seats that race for one row. One commit inserts it, and one ends it: so one seat has the stamp of
+/// that commit, and the other was told that the row has ended.
 fn two_seats<L: Ledger + Naming + Send + Sync, R: Threads + Wait + Abort + Sync>(
     rt: &R,
     alloc: Global,

@@ -24,7 +24,7 @@ fn inserted(item: Item<Interval>) -> Option<u64> {
     }
 }
 
-/// An item, so many times.
+/// An item, repeated.
 fn repeated(
     alloc: Global,
     item: Item<Interval>,
@@ -37,7 +37,7 @@ fn repeated(
     Ok(items)
 }
 
-/// Whether there is a receipt, of one that followed this commit.
+/// Whether there is a receipt of a cursor that followed this commit.
 fn is_received(ended: &Ended<Interval>, commit: u64) -> bool {
     match ended {
         Ended::Receipt(receipt) => receipt.follows() && receipt.opened() == commit,
@@ -45,8 +45,9 @@ fn is_received(ended: &Ended<Interval>, commit: u64) -> bool {
     }
 }
 
-/// Follows a commit for one turn, and closes with what that sent, handed in so many times: whether the taker told that it
-/// follows that commit, the number of the row whose insert was sent, and whether a receipt came that tells the commit.
+/// Follows a commit for one turn, and closes with what was sent, handed in so many times. Gives whether the taker
+/// says that it follows that commit, the number of the row whose insert was sent, and whether there is a receipt with
+/// that commit.
 fn followed_once<L: Ledger + Naming, R: Wait>(
     rt: &R,
     alloc: Global,
@@ -66,7 +67,7 @@ fn followed_once<L: Ledger + Naming, R: Wait>(
     Ok((told, inserted(item), is_received(&ended, commit)))
 }
 
-/// Inserts a row of these trials.
+/// Inserts a row.
 fn insert<L: Ledger + Naming, R: Wait>(
     rt: &R,
     desk: &Desk<Intervals, L>,
@@ -76,8 +77,8 @@ fn insert<L: Ledger + Naming, R: Wait>(
     Ok(desk.insert(rt, seat, Interval::new(low, low)?, 0)?.number())
 }
 
-/// Follows commits at a desk with one row: the beginning, with the insert handed in once and twice, the commit that there
-/// is, and one that there isn't.
+/// Follows commits at a desk with one row: from the beginning, with the insert handed in once and twice; from the
+/// only commit; and from one that doesn't exist.
 fn follow_each<L: Ledger + Naming, R: Wait + Abort>(
     rt: &R,
     alloc: Global,
@@ -117,7 +118,7 @@ fn a_client_follows_a_commit(rt: HostRuntime) -> Result<(), Fail> {
     one_seat::<Brand, _>(&rt, rt.alloc(), Blank::new(1), BlankHistory::new())
 }
 
-/// Ten rows, and what a cursor sends of them, up to a mark.
+/// Inserts ten rows, and takes what a cursor sends of them, up to a mark.
 fn up_to_a_mark<L: Ledger + Naming, R: Wait>(
     rt: &R,
     alloc: Global,
@@ -131,7 +132,7 @@ fn up_to_a_mark<L: Ledger + Naming, R: Wait>(
     Ok(reading(rt, desk, seat, taker, Vec::new(alloc)))
 }
 
-/// The number of the mark at which what a reader took ends.
+/// The number of the mark that ends what a reader took.
 fn last_mark(reading: &Reading<Interval>) -> Option<u64> {
     match reading.items.as_slice().last() {
         Some(Item::Mark(number)) => Some(*number),
@@ -156,8 +157,8 @@ fn joined(
     })
 }
 
-/// Lets four clients write while two others follow: one that goes on from a mark, and one that follows the
-/// beginning. What each took.
+/// Lets four clients write while two others follow: one goes on from a mark, and one follows from the beginning.
+/// Gives what each took.
 fn write_and_resume<L: Ledger + Naming + Send + Sync, R: Threads + Wait + Abort + Sync>(
     rt: &R,
     alloc: Global,

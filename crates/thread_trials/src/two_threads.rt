@@ -67,7 +67,7 @@ where
     );
 }
 
-/// How many items a client takes of what another writes meanwhile, where a receipt shows that none is amiss.
+/// How many items a client takes of what another writes meanwhile, if a receipt shows that they are right.
 fn take_all<L: Ledger + Naming + Send + Sync, R: Threads + Wait + Sync>(
     rt: &R,
     alloc: Global,

@@ -25,7 +25,7 @@ fn dead() -> Result<Entry<Interval>, Refusal> {
     Ok(live()?.died_at(8))
 }
 
-/// Which commit deleted the live row, if commit 8 deleted a row with a number.
+/// The commit that deleted the live row, if commit 8 deleted the row with this number.
 fn died(number: u32) -> Result<Option<u32>, Refusal> {
     Ok(live()?.marked(number, 8).died())
 }
@@ -49,7 +49,7 @@ fn tells_versions_of_a_row(rt: HostRuntime) -> Result<(), Fail> {
     Ok(())
 }
 
-/// A leaf with the rows 1 to 3, whose keys begin at their numbers and end at 9.
+/// A leaf with rows 1 to 3, whose keys begin at their numbers and end at 9.
 fn three_rows(alloc: Global) -> Result<Page<Interval>, Fail> {
     let mut page = Page::leaf(alloc, 4)?;
     for row in 1..4 {
@@ -58,7 +58,7 @@ fn three_rows(alloc: Global) -> Result<Page<Interval>, Fail> {
     Ok(page)
 }
 
-/// The second of three to the left.
+/// The sides that put the second of three entries to the left.
 fn second_left(alloc: Global) -> Result<Sides, Fail> {
     let mut sides = Sides::new(alloc);
     for side in [Side::Right, Side::Left, Side::Right] {
@@ -67,7 +67,7 @@ fn second_left(alloc: Global) -> Result<Sides, Fail> {
     Ok(sides)
 }
 
-/// How many entries a page has, if they are few.
+/// How many entries a page has, if there are few.
 fn entry_count(page: &Page<Interval>) -> Option<usize>
     ensures { IfSome result (λ count. count ≡ entries_of page.now) }
 {
@@ -116,7 +116,7 @@ fn lower_left(alloc: Global, page: &Page<Interval>, sides: &Sides) -> Result<Pag
     Ok(page.lower_left::<Intervals>(alloc, sides, 2)?)
 }
 
-/// The left half of the page of three rows, with page 1 to its right.
+/// The left half of the page of three rows, with page 1 as its right sibling.
 fn left_half(alloc: Global) -> Result<Page<Interval>, Fail> {
     let mut page = three_rows(alloc)?;
     let sides = second_left(alloc)?;
@@ -189,7 +189,7 @@ fn branches(alloc: Global) -> Result<Vec<Branch<Interval>>, Fail> {
     Ok(two_branches(alloc, 4, (1, Some(key(2, 9)?)), (2, None))?)
 }
 
-/// A root above the branches.
+/// An inner page with the branches.
 fn root(alloc: Global) -> Result<Page<Interval>, Fail> {
     let branches = branches(alloc)?;
     let mut root = Page::leaf(alloc, 4)?;
@@ -200,7 +200,7 @@ fn root(alloc: Global) -> Result<Page<Interval>, Fail> {
     Ok(root)
 }
 
-/// Widens the branch to page 1, and names page 3 beside it.
+/// Widens the branch to page 1, and adds one to page 3 next to it.
 fn rename(root: &mut Page<Interval>) -> Result<(), Fail> {
     root.widen_branch::<Intervals>(1, key(0, 0)?);
     root.name_both((1, Some(key(2, 9)?)), (3, Some(key(1, 1)?)))?;
@@ -272,7 +272,7 @@ fn sweep(table: &mut PageTable<Interval>, page: u32) -> Result<usize, Fail> {
     Ok(table.sweep(page, 2)?)
 }
 
-/// What is done to a page.
+/// A step on a page.
 #[derive(Clone, Copy)]
 enum Deed {
     Settle,
@@ -302,7 +302,7 @@ fn keeps_pages_by_number(rt: HostRuntime) -> Result<(), Fail> {
     Ok(())
 }
 
-/// Parts the root, by a side for each of its entries.
+/// Splits the root, with a side for each of its entries.
 fn part(
     table: &mut PageTable<Interval>,
     sides: &Sides,
@@ -388,7 +388,7 @@ fn widens_bounds(rt: HostRuntime) -> Result<(), Fail> {
     Ok(())
 }
 
-/// Posts page 2 beside page 1 in page 0.
+/// Adds a branch to page 2 next to the one to page 1, in page 0.
 fn post(table: &mut PageTable<Interval>) -> Result<(), Fail> {
     if table.len() != 3 || table.counter() != 0 {
         return Err(Refusal::NotHere.into());
@@ -420,7 +420,7 @@ fn is_like_the_root(table: &PageTable<Interval>, page: &Page<Interval>) -> Optio
     Some(same_page::<Intervals>(page, table.page(0)))
 }
 
-/// Shares the root, and places a row on it then. Gives what was shared, and the root as it was.
+/// Shares the root, and then places a row on it. Gives the shared page, and the root as it was.
 fn shared_before_a_row(
     table: &mut PageTable<Interval>,
 ) -> Result<(SharedPage<Interval>, Page<Interval>), Fail> {
@@ -434,7 +434,7 @@ fn twin(alloc: Global, page: Page<Interval>) -> Result<SharedPage<Interval>, All
     SharedPage::new(alloc, page)?.share()
 }
 
-/// Settles a shared page at 3, and tells at what it and the page as it was are then settled.
+/// Settles a shared page at 3, and gives where it and the page as it was are then settled.
 fn settled(
     alloc: Global,
     shared: &mut SharedPage<Interval>,

@@ -7,7 +7,7 @@ use std::test::Fail;
 /// The greatest number of commits of a list.
 const MOST_COMMITS: usize = 4_294_967_295;
 
-/// The list with memory for an insert.
+/// The list, with memory reserved for an insert.
 fn reserved(list: ChangeList<u8>) -> Result<RoomyList<u8>, Fail> {
     if list.len() >= MOST_COMMITS {
         return Err(Refusal::CommitsFull.into());
@@ -23,12 +23,12 @@ fn inserted(alloc: Global) -> Result<ChangeList<u8>, Fail> {
     Ok(reserved(ChangeList::new(alloc))?.push())
 }
 
-/// The list with memory for one commit that doesn't come.
+/// The list, after memory was reserved for one commit that doesn't come.
 fn given_back(list: ChangeList<u8>) -> Result<ChangeList<u8>, Fail> {
     Ok(reserved(list)?.into_list())
 }
 
-/// The list and a commit that deletes row 1.
+/// The list, and a commit that deletes row 1.
 fn deleted(list: ChangeList<u8>) -> Result<ChangeList<u8>, Fail> {
     if list.status(1) != Status::Live {
         return Err(Refusal::AlreadyDeleted.into());
@@ -54,7 +54,7 @@ fn has_memory_for_one_commit(rt: HostRuntime) -> Result<(), Fail> {
     Ok(())
 }
 
-/// Adds a commit, if a row that it ends lives.
+/// Adds a commit, if the row that it ends is live.
 fn commit(changes: &mut ChangeList<u8>, write: Write<u8>) -> Result<(), Refusal> {
     if changes.len() >= MOST_COMMITS {
         return Err(Refusal::CommitsFull);
@@ -136,7 +136,7 @@ fn segments_have_256_commits(rt: HostRuntime) -> Result<(), Fail> {
     Ok(())
 }
 
-/// How many commits a view of 256 has after a further one.
+/// How many commits a view of 256, and the list after one more, have.
 fn viewed(alloc: Global) -> Result<(usize, usize), Fail> {
     let mut list = of_inserts(alloc, 256)?;
     let view = list.view()?;
@@ -195,7 +195,7 @@ fn of_keys(alloc: Global) -> Result<ChangeList<Interval>, Fail> {
     Ok(list)
 }
 
-/// The place of the next commit that a query for keys that overlap 300 may ask for.
+/// The next place from which a query for keys that overlap 300 may have an item.
 fn next_place(list: &ChangeList<Interval>, place: u64) -> Result<u64, Fail> {
     let query = Pred::Atom(Atom {
         rel: Rel::Overlaps,

@@ -7,7 +7,7 @@ use row_version::Entry;
 use std::alloc::Global;
 use std::test::Fail;
 
-/// Adds empty leaves until there are so many pages.
+/// Adds empty leaves until there are `pages` pages.
 fn grow(alloc: Global, table: &mut PageTable<Interval>, pages: usize) -> Result<(), Fail> {
     for _ in table.len()..pages {
         if table.len() > 70_000 {
@@ -18,7 +18,7 @@ fn grow(alloc: Global, table: &mut PageTable<Interval>, pages: usize) -> Result<
     Ok(())
 }
 
-/// A table of so many empty leaves.
+/// A table of `pages` empty leaves.
 fn leaves(alloc: Global, pages: usize) -> Result<PageTable<Interval>, Fail> {
     let mut table = PageTable::new(alloc, 1)?;
     grow(alloc, &mut table, pages)?;
@@ -71,7 +71,7 @@ fn part(alloc: Global, table: &mut PageTable<Interval>, page: u32) -> Result<(),
     Ok(())
 }
 
-/// Posts a sibling beside its child in their parent.
+/// Adds a branch to a sibling next to its child, in their parent.
 fn post(
     table: &mut PageTable<Interval>,
     parent: u32,
@@ -125,7 +125,7 @@ fn is_same(table: &PageTable<Interval>, copy: &PageTable<Interval>, page: u32) -
     same_page::<Intervals>(table.page(page), copy.page(page))
 }
 
-/// Which of the first 70,000 pages of a table aren't as they are in its copy.
+/// Which of the first 70,000 pages of a table differ from its copy.
 fn changed(
     alloc: Global,
     table: &PageTable<Interval>,
@@ -210,7 +210,7 @@ fn posts_beside_a_copy(rt: HostRuntime) -> Result<(), Fail> {
     Ok(())
 }
 
-/// Three pages of one chunk, of two chunks and of three, and of three that are large.
+/// Three pages of one chunk, of two and of three chunks, and of three large chunks.
 const PAGES: [(u32, u32, u32); 5] = [
     (1, 2, 3),
     (1, 2, 33),

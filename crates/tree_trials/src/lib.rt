@@ -1,5 +1,5 @@
-//! Trials of the tree below a world: each call of a page, a table, a list of commits and a mailbox once, and the laws that no
-//! program calls.
+//! Tests of the layers below a world: each call of a page, a table, a list of commits and a mailbox once, and the
+//! laws that no program calls.
 #![tactic(auto)]
 
 #[cfg(test)]

@@ -3,7 +3,7 @@ ghost use Rattle.std.specs.Prelude.{max, nat_eq, nat_le};
 use key_class::{KeyClass, Refusal, Sides};
 use std::alloc::Global;
 
-/// Numbers, each of which covers itself and every lesser one. An atom matches the number that it is.
+/// A class of numbers, where each covers itself and every lesser one. An atom matches only its own number.
 #[derive(Clone, Copy)]
 pub struct Limits;
 
@@ -45,7 +45,7 @@ impl KeyClass for Limits {
         u128::from(bound.max(key) - bound)
     }
 
-    /// No page is split here.
+    /// Never called, since no page is split here.
     fn pick_split(_: Global, keys: &[u8], least: usize) -> Result<Sides, Refusal> {
         if keys.len() / 2 < least {
             Err(Refusal::TooFew)

@@ -4,7 +4,7 @@ use rtrb::Consumer;
 use std::alloc::{AllocError, Global};
 use std::test::Fail;
 
-/// Offers a mark with a number; whether it was taken.
+/// Offers a mark with a number. False if the ring is full.
 fn mark(ring: &mut Ring<u8>, number: u64) -> bool {
     ring.offer(Item::Mark(number)).is_ok()
 }
@@ -25,7 +25,7 @@ fn is_emptied_at_the_other_end(rt: HostRuntime) -> Result<(), Fail> {
     Ok(())
 }
 
-/// Whether a ring takes exactly as many marks as its room, which come out of its end in their order.
+/// Whether a ring takes exactly as many marks as it has room for, and they come out at its end in order.
 fn fills_and_empties(ring: &mut Ring<u8>, end: &mut Consumer<Item<u8>>, room: u64) -> bool {
     (0..room).all(|number| mark(ring, number))
         && !mark(ring, room)
@@ -33,7 +33,7 @@ fn fills_and_empties(ring: &mut Ring<u8>, end: &mut Consumer<Item<u8>>, room: u6
         && end.pop().is_err()
 }
 
-/// Whether a new ring with this room does so twice, the second time round its end.
+/// Whether a new ring with this room does so twice, the second time wrapping around.
 fn has_room_for(alloc: Global, room: u32) -> Result<bool, AllocError> {
     let (mut ring, mut end) = <Ring<u8> as Outlet<u8>>::make(alloc, room)?;
     let once = fills_and_empties(&mut ring, &mut end, u64::from(room));

@@ -3,7 +3,7 @@ use mailbox::{Outlet, Taken, Tray};
 use std::alloc::{AllocError, Global};
 use std::test::Fail;
 
-/// Offers a mark with a number; whether it was taken.
+/// Offers a mark with a number. False if the outlet is full.
 fn mark<O: Outlet<u8>>(outlet: &mut O, number: u64) -> bool {
     outlet.offer(Item::Mark(number)).is_ok()
 }
@@ -46,7 +46,7 @@ fn is_emptied_on_its_own_side(rt: HostRuntime) -> Result<(), Fail> {
     Ok(())
 }
 
-/// Whether a tray takes exactly as many marks as its room, and gives them in their order.
+/// Whether a tray takes exactly as many marks as it has room for, and gives them in order.
 fn fills_and_empties(tray: &mut Tray<u8>, room: u64) -> bool {
     (0..room).all(|number| mark(tray, number))
         && hands_back(tray, room)

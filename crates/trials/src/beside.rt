@@ -1,5 +1,5 @@
-//! Four threads that read a snapshot while its store goes on, in each class of keys. What they find is made once more of the
-//! commits, one by one.
+//! Four threads that read a snapshot while its store is written, for each class of keys. What they find is compared
+//! with what the commits give, one by one.
 use box_class::{BoxKey, Boxes};
 use change_list::{Config, Item, Row, Write};
 use interval_class::{Interval, Intervals};
@@ -22,10 +22,10 @@ const CONFIG: Config = Config {
 /// How many snapshots are read.
 const SNAPSHOTS: u64 = 20;
 
-/// How many rows are made and ended beside each, where as many others stay.
+/// How many rows are made and ended beside each snapshot, while as many others stay.
 const ENDED: u64 = 15;
 
-/// A class with keys by number, and with a query that some of them match.
+/// A class with keys by number, and with a query that matches some of them.
 trait Sampled: KeyClass {
     fn nth(number: u64) -> Result<Self::Key, Refusal>;
 
@@ -82,7 +82,7 @@ impl Sampled for Sets {
     }
 }
 
-/// The rows that match after all commits, by rising number.
+/// The matching rows after all commits, by rising number.
 fn rows_made<C: KeyClass>(
     alloc: Global,
     snapshot: &Snapshot<C>,
@@ -102,7 +102,7 @@ fn rows_made<C: KeyClass>(
     Ok(rows)
 }
 
-/// The item of a commit, if it has one.
+/// The item of a commit, if any, from the list of commits.
 fn item_made<C: KeyClass>(
     snapshot: &Snapshot<C>,
     query: &Pred<C::Atom>,
@@ -126,7 +126,7 @@ fn item_made<C: KeyClass>(
     }
 }
 
-/// The items of the commits after one.
+/// The items of the commits after one, from the list of commits.
 fn items_made<C: KeyClass>(
     alloc: Global,
     snapshot: &Snapshot<C>,
@@ -142,7 +142,7 @@ fn items_made<C: KeyClass>(
     Ok(items)
 }
 
-/// Whether a find, a count and the changes after a commit are what the commits make.
+/// Whether a find, a count and the changes after a commit agree with the commits.
 fn reads_right<C: KeyClass>(
     alloc: Global,
     snapshot: &Snapshot<C>,
@@ -160,9 +160,9 @@ fn reads_right<C: KeyClass>(
     )
 }
 
-/// What threads read at once, by a query `Q`.
+/// Something that threads read at once, with a query `Q`.
 trait Reads<Q> {
-    /// Whether all that is read of it is right, where changes are asked for after a commit.
+    /// Whether everything read with the query is right, with the changes after a commit.
     fn reads_right(&self, alloc: Global, query: &Q, from: u64) -> bool;
 
     fn commits(&self) -> u64;
@@ -178,13 +178,13 @@ impl<C: KeyClass> Reads<Pred<C::Atom>> for Snapshot<C> {
     }
 }
 
-/// What goes on while its snapshots `V` are read by a query `Q`.
+/// Something that goes on while its snapshots `V` are read with a query `Q`.
 trait GoesOn<V, Q> {
     fn view(&self) -> Result<V, Refusal>;
 
     fn asked(&self) -> Result<Q, Refusal>;
 
-    /// Makes rows, of which every second one is deleted or moved at once.
+    /// Makes rows, and deletes or moves every second one at once.
     fn write(&mut self, first: u64) -> Result<(), Refusal>;
 }
 
@@ -212,7 +212,7 @@ impl<C: Sampled> GoesOn<Snapshot<C>, Pred<C::Atom>> for Store<C> {
     }
 }
 
-/// Whether each of four threads, which read at once, reads what is right.
+/// Whether all of four threads that read at once read what is right.
 fn all_read_right<V, Q, R>(rt: &R, alloc: Global, view: &V, query: &Q, from: u64) -> bool
 where
     V: Reads<Q> + Sync,
@@ -229,7 +229,7 @@ where
     readers.iter().all(|is_right| *is_right)
 }
 
-/// Has four threads read while this one writes. Whether they read what is right, and what came of the writing.
+/// Lets four threads read while this one writes. Whether they read what is right, and the result of the writing.
 fn read_while<V, Q, R, W>(
     rt: &R,
     alloc: Global,
@@ -249,7 +249,7 @@ where
     thread::join(rt, read, write)
 }
 
-/// Has four threads read a snapshot while its store goes on. How many commits the snapshot has, where all is right.
+/// Lets four threads read a snapshot while its store goes on. How many commits the snapshot has, if all is right.
 fn read_beside<S, V, Q, R>(
     rt: &R,
     alloc: Global,
@@ -270,7 +270,7 @@ where
     Ok(is_right.then_some(view.commits()))
 }
 
-/// How many commits the last of some snapshots has, where all is right.
+/// How many commits the last of some snapshots has, if all is right.
 fn read_all<S, V, Q, R>(rt: &R, alloc: Global, store: &mut S) -> Result<Option<u64>, Refusal>
 where
     S: GoesOn<V, Q>,

@@ -45,24 +45,24 @@ fn limits_of_a_store(rt: HostRuntime) {
     }
 }
 
-/// A store of the usual limits, but for its commits.
+/// A store with the usual limits, except for its commits.
 fn store_of(alloc: Global, commits: u32) -> Result<Store<Intervals>, Refusal> {
     Store::new(alloc, Config { commits, ..CONFIG })
 }
 
-/// A call of a store, which it answers by a number.
+/// A call of a store, with a number as its answer.
 #[derive(Clone, Copy)]
 enum Call {
     Insert(i64, i64, u64),
     Delete(u64),
-    /// Opens a cursor of what overlaps an interval.
+    /// Opens a cursor on what overlaps an interval.
     Open(i64, i64),
     Sweep,
     /// Answered by 0.
     AskMark(u64),
     /// Answered by 0.
     Close(u64),
-    /// Answered by how many items are given.
+    /// Answered by the number of items given.
     Drain(u64),
 }
 
@@ -84,14 +84,14 @@ fn answer(alloc: Global, store: &mut Store<Intervals>, call: Call) -> Result<u64
     }
 }
 
-/// How many items are left to give a cursor.
+/// How many items a cursor still gives.
 fn count_left(alloc: Global, store: &mut Store<Intervals>, cursor: u64) -> Result<u64, Refusal> {
     let mut items = Vec::new(alloc);
     store.drain(cursor, &mut items)?;
     Ok(items.len() as u64)
 }
 
-/// The place of the first of some calls that a store doesn't answer as wanted.
+/// The place of the first call with another answer.
 fn first_wrong(
     alloc: Global,
     store: &mut Store<Intervals>,
@@ -140,7 +140,7 @@ fn finds(store: &Store<Intervals>, lo: i64, hi: i64, numbers: &[u64]) -> Result<
     Ok(rows.iter().map(|row| row.row).eq(numbers.iter().copied()))
 }
 
-/// Calls of a store that has no pages to grow by.
+/// Calls of a store that has no page left to grow.
 static TWO_PAGES: [(Call, Result<u64, Refusal>); 5] = [
     (Call::Insert(5, 5, 1), Ok(1)),
     (Call::Insert(5, 5, 2), Ok(2)),
@@ -162,7 +162,7 @@ fn pages_of_a_store(rt: HostRuntime) -> Result<(), Fail> {
     Ok(())
 }
 
-/// Whether all that is left to give a cursor is these items, and then none.
+/// Whether a cursor still gives exactly these items.
 fn drains(
     alloc: Global,
     store: &mut Store<Intervals>,
@@ -178,7 +178,7 @@ fn next_refusal(store: &mut Store<Intervals>, cursor: u64) -> Option<Refusal> {
     store.next(cursor).err()
 }
 
-/// A row is deleted after cursor 1 was opened, and one comes that the cursor doesn't ask for.
+/// A row is deleted after cursor 1 was opened, and one is inserted that the cursor doesn't ask for.
 static CALLS: [(Call, Result<u64, Refusal>); 7] = [
     (Call::Insert(5, 5, 7), Ok(1)),
     (Call::Open(0, 9), Ok(1)),
@@ -197,7 +197,7 @@ static LATER_CALLS: [(Call, Result<u64, Refusal>); 4] = [
     (Call::Drain(2), Err(Refusal::NoSuchCursor)),
 ];
 
-/// The items that cursor 1 is given.
+/// The items that cursor 1 gives.
 fn items_of_calls() -> Result<[Item<Interval>; 3], Refusal> {
     let row = Row {
         row: 1,

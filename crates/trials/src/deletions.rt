@@ -21,7 +21,7 @@ fn world_of(alloc: Global) -> Result<Trial, Refusal> {
     )
 }
 
-/// Gives a world an event that it is to carry out.
+/// Makes an event, which must not be refused.
 fn step(world: &mut Trial, event: Event<Intervals>) -> Result<(), Refusal> {
     match world.step(event) {
         Reply::Refused(why) => Err(why),
@@ -41,7 +41,7 @@ fn halves(alloc: Global) -> Result<Sides, AllocError> {
     Ok(sides)
 }
 
-/// A world of two leaves, pages 1 and 2, with rows 1 and 2 on the one and rows 3 and 4 on the other.
+/// A world of two leaves: page 1 with rows 1 and 2, page 2 with rows 3 and 4.
 fn two_leaves(alloc: Global) -> Result<Trial, Fail> {
     let mut world = world_of(alloc)?;
     for point in 1..5 {
@@ -51,14 +51,14 @@ fn two_leaves(alloc: Global) -> Result<Trial, Fail> {
     Ok(world)
 }
 
-/// What is done to a world.
+/// A step of a world.
 #[derive(Clone, Copy)]
 enum Deed {
-    /// Answered by the commit that deletes the row.
+    /// Answered by the number of the commit that deletes the row.
     Delete(u64),
-    /// Answered by how many rows it removes.
+    /// Answered by the number of rows removed.
     Sweep,
-    /// Answered by 0, as all that follow.
+    /// Answered by 0, as are all that follow.
     Unfind(u64),
     Seek(u64),
 }
@@ -73,7 +73,7 @@ fn answer(world: &mut Trial, deed: Deed) -> Result<u64, Refusal> {
     Ok(0)
 }
 
-/// The place of the first deed that isn't answered as wanted.
+/// The place of the first step with another answer.
 fn first_wrong(world: &mut Trial, deeds: &[(Deed, Result<u64, Refusal>)]) -> Option<usize> {
     for (place, (deed, wanted)) in deeds.iter().enumerate() {
         if answer(world, *deed) != *wanted {
@@ -83,7 +83,7 @@ fn first_wrong(world: &mut Trial, deeds: &[(Deed, Result<u64, Refusal>)]) -> Opt
     None
 }
 
-/// With 64 finders of row 1: the deletions end their own finders, and nothing else.
+/// With 64 finders of row 1 open: deletions end their own finders, and no others.
 static FULL_FINDERS: [(Deed, Result<u64, Refusal>); 7] = [
     (Deed::Delete(2), Err(Refusal::FindersFull)),
     (Deed::Unfind(9), Ok(0)),

@@ -1,4 +1,4 @@
-//! What a fault of a reader or a writer leaves in a store and in a world. What the program writes then is tried by tools/faults.
+//! What a failing reader or writer leaves in a store and in a world. tools/faults tests what the program then writes.
 use super::runs::{Kind, run};
 use key_class::Fault;
 use std::io::{self, ErrorKind, Read, Write};
@@ -23,7 +23,7 @@ impl<'a> Read for Breaking<'a> {
     }
 }
 
-/// A writer that keeps some bytes at a time, and fails at its last call.
+/// A writer that takes a few bytes at a time, and fails at its last call.
 #[derive(Drop)]
 struct Stopping {
     kept: Vec<u8>,
@@ -49,7 +49,7 @@ impl Write for Stopping {
     }
 }
 
-/// Three lines, with two commits in all, and their answers.
+/// Three lines that make two commits in all, and their answers.
 struct Lines {
     kind: Kind,
     input: &'static [u8],
@@ -68,8 +68,8 @@ static EVENTS: Lines = Lines {
     answers: b"committed 1\nopened 1\ncommitted 2\n",
 };
 
-/// Whether a writer that fails at its last call is a fault, where it hasn't all, and keeps what was written before; the commits
-/// whose answers it doesn't get were made.
+/// Whether a writer that fails before it has everything is told as a fault, and keeps what was written before; the
+/// commits whose answers it doesn't get were made.
 fn stops(rt: HostRuntime, lines: &Lines, at_once: usize, calls: usize) -> Result<bool, Fail> {
     let mut reader = lines.input;
     let mut writer = Stopping {
@@ -87,7 +87,7 @@ fn stops(rt: HostRuntime, lines: &Lines, at_once: usize, calls: usize) -> Result
     Ok(is_due && ending.commits == 2 && is_start(lines.answers, writer.kept.as_slice(), wanted))
 }
 
-/// Whether some bytes are the first so many of a text, or all of it.
+/// Whether the bytes are the first `count` bytes of a text, or all of it.
 fn is_start(text: &[u8], bytes: &[u8], count: usize) -> bool {
     bytes == &text[..text.len().min(count)]
 }

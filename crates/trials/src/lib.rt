@@ -1,4 +1,5 @@
-//! Trials over memory, of what no line reaches: calls of a store, of its snapshots and of a world, and readers and writers that fail.
+//! Tests of what no line of a session reaches: calls of a store, of its snapshots and of a world, and readers and
+//! writers that fail.
 #![tactic(auto)]
 
 #[cfg(test)]

@@ -1,4 +1,4 @@
-//! A store that is made anew from a snapshot has its rows under new numbers.
+//! A renewed store has the rows of its snapshot under new numbers.
 use crate::snapshots::first_part;
 use change_list::{Config, Status};
 use interval_class::Intervals;
@@ -8,7 +8,7 @@ use std::alloc::Global;
 use std::test::Fail;
 use store::{Renewed, Store};
 
-/// As many commits as rows live in the snapshot.
+/// As many commits as the snapshot has live rows.
 const CONFIG: Config = Config {
     fan: 8,
     least: 3,
@@ -20,7 +20,8 @@ fn snapshot(alloc: Global) -> Result<Snapshot<Intervals>, Refusal> {
     first_part(alloc)?.snapshot()
 }
 
-/// The number that the new store's row has in the snapshot, where the first two rows are dead and the second was moved.
+/// The number that the new store's row had in the snapshot: there the first two rows are dead, and the second was
+/// moved.
 fn old_number(number: u64) -> u64 {
     if number == 39 {
         42
@@ -29,7 +30,7 @@ fn old_number(number: u64) -> u64 {
     }
 }
 
-/// Whether a row of the new store is the one that the snapshot has under the other number, and lives.
+/// Whether a row of the new store is live, and is the snapshot's row with the other number.
 fn is_same(
     store: &Store<Intervals>,
     number: u64,
@@ -45,7 +46,7 @@ fn is_same(
         && store.status(number) == Status::Live
 }
 
-/// Whether a store has the rows of the snapshot in the order of their numbers, and tells these.
+/// Whether a store has the rows of the snapshot in the order of their numbers, and gives these numbers.
 fn has_the_rows(renewed: &Renewed<Intervals>, snapshot: &Snapshot<Intervals>) -> bool {
     let mut number: u64 = 0;
     for old in &renewed.old_numbers {
@@ -66,7 +67,7 @@ fn a_store_is_renewed(rt: HostRuntime) -> Result<(), Fail> {
     Ok(())
 }
 
-/// What is changed in the configuration, and why no store is made by it.
+/// A changed configuration, and why it makes no store.
 static REFUSED: [(Config, Refusal); 3] = [
     (Config { fan: 3, ..CONFIG }, Refusal::BadConfig),
     (

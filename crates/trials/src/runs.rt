@@ -14,14 +14,14 @@ const CONFIG: Config = Config {
     commits: 16_777_216,
 };
 
-/// What carries out lines of intervals.
+/// What carries out lines over intervals.
 #[derive(Clone, Copy)]
 pub enum Kind {
     Session,
     Replay,
 }
 
-/// How a run over lines ended, and how many commits there are then.
+/// How a run ended, and how many commits there were then.
 #[derive(Drop)]
 pub struct Ending {
     pub result: Result<(), Fault>,

@@ -30,7 +30,7 @@ fn insert_all(store: &mut Store<Intervals>, first: i64) -> Result<(), Refusal> {
     Ok(())
 }
 
-/// A store of 42 commits: row n stands at point n, row 1 is deleted, and row 2 was moved to point 50.
+/// A store of 42 commits: row n is at point n, row 1 is deleted, and row 2 was moved to point 50.
 pub(crate) fn first_part(alloc: Global) -> Result<Store<Intervals>, Refusal> {
     let mut store = Store::new(alloc, CONFIG)?;
     insert_all(&mut store, 1)?;
@@ -39,13 +39,13 @@ pub(crate) fn first_part(alloc: Global) -> Result<Store<Intervals>, Refusal> {
     Ok(store)
 }
 
-/// What is done behind a snapshot: row 3 is deleted, which is commit 43, and as many rows come as there were.
+/// What happens after a snapshot: commit 43 deletes row 3, and as many rows are inserted as there were.
 fn second_part(store: &mut Store<Intervals>) -> Result<(), Refusal> {
     let _deleted = store.delete(3)?;
     insert_all(store, 60)
 }
 
-/// What a snapshot tells of a number.
+/// The row and the status that a snapshot gives for a number.
 fn told(
     snapshot: &Snapshot<Intervals>,
     number: u64,
@@ -69,7 +69,7 @@ static NUMBERS: [(u64, (bool, Option<u64>, Status)); 8] = [
     (43, (false, None, Status::NeverIssued)),
 ];
 
-/// The first number of which a snapshot tells something else.
+/// The first number for which a snapshot gives something else.
 fn first_wrong(snapshot: &Snapshot<Intervals>) -> Result<Option<u64>, Refusal> {
     for (number, wanted) in &NUMBERS {
         if told(snapshot, *number)? != *wanted {
@@ -79,7 +79,7 @@ fn first_wrong(snapshot: &Snapshot<Intervals>) -> Result<Option<u64>, Refusal> {
     Ok(None)
 }
 
-/// How many rows of a snapshot overlap an interval, where a find and a count agree.
+/// How many rows of a snapshot overlap an interval, if a find and a count agree.
 fn found(snapshot: &Snapshot<Intervals>, lo: i64, hi: i64) -> Result<Option<usize>, Refusal> {
     let query = overlapping(lo, hi)?;
     let rows = snapshot.find(&query)?;
@@ -95,7 +95,7 @@ fn kept(alloc: Global) -> Result<(Snapshot<Intervals>, Store<Intervals>), Refusa
     Ok((snapshot, store))
 }
 
-/// How many rows the two tell, first the snapshot.
+/// How many rows the two have, the snapshot first.
 fn lengths(
     snapshot: &Snapshot<Intervals>,
     store: &Store<Intervals>,
@@ -114,7 +114,7 @@ fn a_snapshot_stays_as_it_was(rt: HostRuntime) -> Result<(), Fail> {
     Ok(())
 }
 
-/// The changes after a commit, of what overlaps an interval, behind those that there are.
+/// Appends the changes after a commit of what overlaps an interval.
 fn change(
     snapshot: &Snapshot<Intervals>,
     items: &mut Vec<Item<Interval>>,
@@ -124,7 +124,7 @@ fn change(
     snapshot.changes(&overlapping(3, 61)?, from, items, most)
 }
 
-/// The changes after the snapshot of 42 commits that a later one gives: three of them.
+/// The changes after the snapshot of 42 commits, from a later one: three of them.
 fn items_since() -> Result<[Item<Interval>; 3], Refusal> {
     let inserted = |row, at| -> Result<Item<Interval>, Refusal> {
         Ok(Item::Inserted(Row {
@@ -136,7 +136,7 @@ fn items_since() -> Result<[Item<Interval>; 3], Refusal> {
     Ok([Item::Deleted(43, 3), inserted(44, 60)?, inserted(45, 61)?])
 }
 
-/// Whether two calls, of which the first gives two items and stands at the commit of the second, give all.
+/// Whether two calls together give all changes, when the first stops after two items.
 fn goes_on(alloc: Global) -> Result<bool, Refusal> {
     let (_, store) = kept(alloc)?;
     let later = store.snapshot()?;
@@ -146,7 +146,7 @@ fn goes_on(alloc: Global) -> Result<bool, Refusal> {
     Ok((upto, end) == (44, 83) && items.as_slice() == items_since()?.as_slice())
 }
 
-/// The refusal of changes after a commit that there isn't, which leaves the items.
+/// The refusal of changes after a commit that doesn't exist; the list of items is unchanged.
 fn future_refusal(alloc: Global) -> Result<(Option<Refusal>, usize), Refusal> {
     let (snapshot, _) = kept(alloc)?;
     let mut items = Vec::new(alloc);

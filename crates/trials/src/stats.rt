@@ -1,4 +1,4 @@
-//! What a store tells of itself.
+//! The figures of a store.
 use crate::snapshots::point;
 use change_list::{Config, Row, Status};
 use interval_class::{Interval, Intervals};
@@ -15,7 +15,7 @@ const CONFIG: Config = Config {
     commits: 20,
 };
 
-/// Three rows, a cursor at them and one that follows commit 1; then a fourth row, and the first is deleted.
+/// Three rows, a cursor on them and one that follows commit 1; then a fourth row, and the first is deleted.
 fn store(alloc: Global) -> Result<Store<Intervals>, Refusal> {
     let mut store = Store::new(alloc, CONFIG)?;
     for at in 1..4 {
@@ -60,7 +60,7 @@ fn a_store_tells_of_itself(rt: HostRuntime) -> Result<(), Fail> {
     for (place, standing) in STANDINGS.iter().enumerate() {
         assert!(rt; store.standing(place as u64) == *standing, "{place}");
     }
-    // The first cursor hasn't read the tree, so the row that was deleted is kept for it.
+    // The first cursor hasn't read the tree yet, so the deleted row is kept for it.
     assert!(rt; store.keeper() == Some(1));
     assert!(rt; store.next(1)?.is_some());
     assert!(rt; store.keeper().is_none() && store.stats().horizon == 5);

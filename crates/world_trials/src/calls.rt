@@ -15,7 +15,7 @@ const CONFIG: Config = Config {
     commits: 9,
 };
 
-/// Whether a reply is that of a commit with a number, a seat and a write.
+/// Whether a reply is that of a commit with this number, seat and write.
 fn commits(
     reply: Reply<Intervals, Tray<Interval>>,
     number: u64,
@@ -34,7 +34,7 @@ fn key() -> Result<Interval, Refusal> {
     Interval::new(3, 4)
 }
 
-/// Whether a place of a row by seat 7 is commit 1.
+/// Whether seat 7 can place a row, as commit 1.
 fn places(alloc: Global, world: &mut Trial) -> Result<bool, Fail> {
     let event = Event::Place(0, key()?, 5).copy(alloc)?;
     Ok(commits(world.step_as(7, event), 1, 7, Write::Insert(key()?, 5)))
@@ -48,13 +48,13 @@ fn finds(world: &mut Trial, row: u64) -> bool {
     }
 }
 
-/// Whether the move of row 1 by seat 9 is commit 2.
+/// Whether seat 9 can move row 1, as commit 2.
 fn moves(alloc: Global, world: &mut Trial) -> Result<bool, Fail> {
     let event = Event::Move(1, 0, key()?).copy(alloc)?;
     Ok(commits(world.step_as(9, event), 2, 9, Write::Move(1, key()?)))
 }
 
-/// Whether the delete of row 2 by seat 8 is commit 3.
+/// Whether seat 8 can delete row 2, as commit 3.
 fn buries(world: &mut Trial) -> bool {
     commits(world.step_as(8, Event::Seek(2)), 3, 8, Write::Delete(2))
 }
@@ -85,7 +85,7 @@ fn is_of(stamp: Option<Stamped<Interval>>, number: u64, seat: u32) -> bool {
     }
 }
 
-/// Whether a row that is placed, moved and deleted by calls leaves two dead ones to a sweep.
+/// Whether a row that is placed, moved and deleted by calls leaves two dead rows to a sweep.
 fn ends_rows(world: &mut Trial) -> Result<bool, Fail> {
     let placed = world.place_row(7, 0, key()?, 5)?;
     let first = world.open_finder(1)?;
@@ -96,8 +96,8 @@ fn ends_rows(world: &mut Trial) -> Result<bool, Fail> {
     Ok(is_of(Some(placed), 1, 7) && is_of(moved, 2, 8) && is_of(deleted, 3, 9) && swept == 2)
 }
 
-/// Whether a new cursor, by calls, visits the root, offers the row that was placed before, which has the number, and then
-/// nothing.
+/// Whether a new cursor visits the root, offers the row that was placed before, which has this number, and then has
+/// nothing more to do; all by calls.
 fn offers_row(alloc: Global, world: &mut Trial, number: u64) -> Result<bool, Fail> {
     let placed = world.place_row(7, 0, key()?, 6)?;
     let (cursor, ()) = world.open_cursor(nested(alloc, 0)?, 1)?;
@@ -114,7 +114,7 @@ fn offers_row(alloc: Global, world: &mut Trial, number: u64) -> Result<bool, Fai
     )
 }
 
-/// Whether a cursor that has nothing to give, by calls, gives a mark, and nothing more once it is closed.
+/// Whether a cursor that has nothing left to give sends a mark, and nothing more once it is closed; all by calls.
 fn marks_and_closes(world: &mut Trial, cursor: u64, commits: u64) -> Result<bool, Fail> {
     let idle = world.turn_cursor(cursor).err();
     world.ask_cursor(cursor)?;
@@ -142,7 +142,7 @@ fn nested(alloc: Global, count: u32) -> Result<Pred<Atom>, Fail> {
     Ok(query)
 }
 
-/// The serial of the cursor that is opened, or why none is, of a query with so many times `not`.
+/// The result of opening a cursor on a query with `nots` times `not`: its serial, or the refusal.
 fn opened(alloc: Global, world: &mut Trial, nots: u32) -> Result<Result<u64, Refusal>, Fail> {
     match world.step(Event::Open(nested(alloc, nots)?, 1)) {
         Reply::Opened(serial, ()) => Ok(Ok(serial)),
@@ -151,7 +151,7 @@ fn opened(alloc: Global, world: &mut Trial, nots: u32) -> Result<Result<u64, Ref
     }
 }
 
-/// The serial of the cursor that follows a commit, by a call, or why there is none.
+/// The result of opening a cursor that follows a commit, by a call: its serial, or the refusal.
 fn followed(alloc: Global, world: &mut Trial, commit: u64) -> Result<Result<u64, Refusal>, Fail> {
     match world.follow_commit(nested(alloc, 0)?, 1, commit) {
         Ok((serial, ())) => Ok(Ok(serial)),
@@ -159,7 +159,7 @@ fn followed(alloc: Global, world: &mut Trial, commit: u64) -> Result<Result<u64,
     }
 }
 
-/// What a world does or tells.
+/// A step of a world, or a check of it.
 #[derive(Clone, Copy)]
 enum Deed {
     Place,
@@ -167,17 +167,17 @@ enum Deed {
     Move,
     Bury,
     TellCommits,
-    /// There are so many pages.
+    /// There are this many pages.
     CountPages(u64),
-    /// A page that holds so many rows, or that isn't there.
+    /// A page holds this many rows, or doesn't exist.
     CountRows(u64, Option<usize>),
-    /// A cursor of a query with so many times `not` is opened, or refused.
+    /// A cursor on a query with so many times `not` is opened, or refused.
     Open(u32, Result<u64, Refusal>),
     /// By calls: a row is placed, moved and deleted.
     EndRows,
-    /// By calls: a row is placed, and a cursor opened, which offers it: the row with this number.
+    /// By calls: a row is placed, and a new cursor offers it: the row with this number.
     OfferRow(u64),
-    /// By calls: the cursor marks that so many commits were given, and is closed.
+    /// By calls: the cursor sends a mark at this many commits, and is closed.
     Mark(u64, u64),
     /// By a call: a cursor that follows a commit is opened, or refused.
     Follow(u64, Result<u64, Refusal>),
@@ -200,7 +200,7 @@ fn is_done(alloc: Global, world: &mut Trial, deed: Deed) -> Result<bool, Fail> {
     }
 }
 
-/// The place of the first of some deeds that a world doesn't do.
+/// The place of the first step that fails.
 fn first_wrong(alloc: Global, world: &mut Trial, deeds: &[Deed]) -> Result<Option<usize>, Fail> {
     for (place, deed) in deeds.iter().enumerate() {
         if !is_done(alloc, world, *deed)? {
@@ -221,7 +221,7 @@ static DEEDS: [Deed; 12] = [
     Deed::CountRows(0, Some(2)),
     Deed::CountRows(1, None),
     Deed::CountRows(4_294_967_296, None),
-    // A query is 32 deep at most.
+    // A query is at most 32 deep.
     Deed::Open(32, Err(Refusal::BadConfig)),
     Deed::Open(31, Ok(1)),
 ];
@@ -251,7 +251,7 @@ fn calls_tell_what_their_events_do(rt: HostRuntime) -> Result<(), Fail> {
     Ok(())
 }
 
-/// How a world is refused, if it is.
+/// The refusal of a configuration, if it is refused.
 fn config_refusal(alloc: Global, config: Config) -> Option<Refusal> {
     new_world(alloc, config).err()
 }

@@ -1,5 +1,5 @@
-//! Trials of worlds over memory: their calls, their tasks among random events, and lists of events that want memory. Lists
-//! whose answers are known, by hand or of a slow model, are replays.
+//! Tests of worlds: their calls, tasks among random events, and lists of events during which memory runs out. Lists
+//! whose answers are known, by hand or from a slow model, are tested as replays.
 #![tactic(auto)]
 
 #[cfg(test)]

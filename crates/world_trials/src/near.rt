@@ -1,4 +1,4 @@
-//! Finders that begin near their rows: how many pages they visit.
+//! Finders that begin near their rows, and how many pages they visit.
 use super::steps::{Ask, Trial, answer_of, new_world};
 use change_list::Config;
 use key_class::Refusal;
@@ -48,13 +48,13 @@ fn visits_near(world: &mut Trial, row: u64) -> Result<Option<u64>, Refusal> {
     visits(world, finder)
 }
 
-/// Why no finder of a row is opened near it.
+/// Why no finder of a row is opened near it, if none is.
 fn refusal(world: &mut Trial, row: u64) -> Option<Refusal> {
     world.open_finder_near(row).err()
 }
 
-/// A row, and how many pages its finder visits. Those that the root held when it grew are sought from the root, until their
-/// page is split and they leave it.
+/// A row, and how many pages its finder visits. Rows that the root held when it grew are sought from the root, until
+/// their page is split and they leave it.
 static VISITS: [(u64, u64); 5] = [(1, 2), (3, 2), (4, 1), (5, 1), (6, 1)];
 
 #[test]

@@ -1,5 +1,5 @@
-//! Random events, with splits and visits that are prepared, worked on and published at later times, beside a world that is
-//! given events alone.
+//! Random events, with splits and visits that are prepared, worked on and published at later times, compared with a
+//! world that is given events only.
 use super::source::{Source, Use};
 use super::steps::{Answer, Ask, Step, Trial, answer_of, new_world};
 use change_list::Config;
@@ -18,13 +18,13 @@ const CONFIG: Config = Config {
     commits: 400,
 };
 
-/// How many lists there are, each from a seed of its own.
+/// How many lists there are, each from its own seed.
 const SEEDS: u64 = 16;
 
 /// How many events and publications a list has.
 const EVENTS: usize = 2_000;
 
-/// A split that is to be published.
+/// A split that will be published.
 #[derive(Drop)]
 struct Parting {
     number: u64,
@@ -34,7 +34,7 @@ struct Parting {
     task: SplitTask<Intervals>,
 }
 
-/// A visit that is to be published.
+/// A visit that will be published.
 #[derive(Drop)]
 struct Visiting {
     cursor: u64,
@@ -44,17 +44,17 @@ struct Visiting {
     task: VisitTask<Intervals>,
 }
 
-/// A world with tasks, and one that answers events alone.
+/// A world with tasks, and one with events only.
 #[derive(Drop)]
 struct Pair {
     world: Trial,
     twin: Trial,
     source: Source,
-    /// How many events were answered, and tasks published.
+    /// How many events were answered and tasks published.
     answered: u64,
     partings: Vec<Parting>,
     visits: Vec<Visiting>,
-    /// How many publications were carried out, and how many were not.
+    /// How many publications succeeded, and how many came too late.
     published: u64,
     stale: u64,
 }
@@ -199,7 +199,7 @@ impl Pair {
         self.note((Ask::Turn(cursor), answer))
     }
 
-    /// Both worlds have the same pages and as many commits.
+    /// Checks that both worlds have the same pages and as many commits.
     fn compare(&self, rt: &impl Abort) -> Result<(), Fail> {
         assert!(rt; self.world.commits() == self.twin.commits());
         assert!(rt; self.world.pages() == self.twin.pages());

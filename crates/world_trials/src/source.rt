@@ -1,4 +1,4 @@
-//! Random events for a world of a fan of four.
+//! Random events for a world whose pages have at most four entries.
 use super::steps::{Answer, Ask, Ends, Query, Step, Trial};
 use interval_class::Interval;
 use node::Page;
@@ -7,7 +7,7 @@ use rand_pcg::Pcg32;
 use std::alloc::Global;
 use std::test::Fail;
 
-/// What a page is named for.
+/// What a page's number is needed for.
 #[derive(Clone, Copy)]
 pub enum Use {
     Placing,
@@ -33,9 +33,9 @@ impl Use {
 #[derive(Drop)]
 pub struct Source {
     generator: Pcg32,
-    /// The greatest serial that was given to a cursor.
+    /// The greatest serial given to a cursor.
     last_cursor: u64,
-    /// The greatest serial that was given to a finder.
+    /// The greatest serial given to a finder.
     last_finder: u64,
     /// The serials of the finders that are open.
     open_finders: Vec<u64>,
@@ -89,12 +89,12 @@ impl Source {
         }
     }
 
-    /// The number of a page that is there or not.
+    /// The number of a page that exists or not.
     fn any_page(&mut self, world: &Trial) -> u64 {
         self.below(world.pages().saturating_mul(2).saturating_sub(1))
     }
 
-    /// Mostly the number of a page that fits.
+    /// The number of a page, mostly one that fits.
     pub fn page(&mut self, world: &Trial, wanted: Use) -> u64 {
         if self.below(5) == 0 {
             return self.any_page(world);
@@ -110,7 +110,7 @@ impl Source {
         self.any_page(world)
     }
 
-    /// Mostly the number of a page that has a branch to a child.
+    /// The number of a page, mostly one that has a branch to the child.
     fn parent(&mut self, world: &Trial, child: u64) -> u64 {
         if self.below(5) == 0 {
             return self.any_page(world);
@@ -125,7 +125,7 @@ impl Source {
         self.any_page(world)
     }
 
-    /// Mostly the number of a child of a page.
+    /// The number of a page, mostly a child of the parent.
     fn child(&mut self, world: &Trial, parent: u64) -> u64 {
         let place = self.below(4) as usize;
         let child = world
@@ -153,7 +153,7 @@ impl Source {
         }
     }
 
-    /// Mostly sides that fit a full page.
+    /// Sides, mostly ones that fit a full page.
     fn letters(&mut self) -> &'static str {
         match self.below(8) {
             0 => "lrrr",
@@ -166,7 +166,7 @@ impl Source {
         }
     }
 
-    /// A number up to twice the last that was given.
+    /// A number up to twice the last one given.
     fn up_to_twice(&mut self, last: u64) -> u64 {
         self.below(last.saturating_mul(2).saturating_add(1))
     }
@@ -180,7 +180,7 @@ impl Source {
         }
     }
 
-    /// Mostly the serial of a finder that is open.
+    /// The serial of a finder, mostly one that is open.
     fn finder(&mut self) -> u64 {
         let count = self.open_finders.len() as u64;
         let place = match self.below(8) {
@@ -194,7 +194,7 @@ impl Source {
         }
     }
 
-    /// Mostly the number of a commit that is there.
+    /// The number of a commit, mostly one that exists.
     fn row(&mut self, world: &Trial) -> u64 {
         if self.below(5) == 0 {
             return self.up_to_twice(world.commits());
@@ -221,7 +221,7 @@ impl Source {
         }
     }
 
-    /// Mostly the number of a commit that is there, or none.
+    /// The number of a commit to follow, mostly one that exists, or none.
     fn followed(&mut self, world: &Trial) -> u64 {
         if self.below(5) == 0 {
             return self.up_to_twice(world.commits());

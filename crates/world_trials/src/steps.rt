@@ -8,7 +8,7 @@ use world::{Event, Reply, World, run};
 
 pub type Trial = World<Intervals, Tray<Interval>>;
 
-/// A world, of which nothing is known.
+/// A new world. A function of its own, so that the checker doesn't follow its state (docs/CHECKING.md).
 pub fn new_world(alloc: Global, config: Config) -> Result<Trial, Refusal> {
     Trial::new(alloc, config)
 }
@@ -21,7 +21,7 @@ pub type Ends = (i64, i64);
 pub enum Query {
     Overlaps(i64, i64),
     Within(i64, i64),
-    /// The key doesn't overlap.
+    /// Not overlaps.
     Misses(i64, i64),
 }
 
@@ -42,7 +42,7 @@ fn atom(rel: Rel, lo: i64, hi: i64) -> Result<Pred<Atom>, Fail> {
     Ok(Pred::Atom(Atom { rel, operand }))
 }
 
-/// An event, told by plain values. A key is told by its ends, and sides by their letters.
+/// An event in plain values: a key by its ends, sides by their letters.
 #[derive(Clone, Copy)]
 pub enum Ask {
     Enlarge(u64, u64, Ends),
@@ -92,7 +92,7 @@ impl Ask {
     }
 }
 
-/// The sides of a word of the letters `l` and `r`.
+/// The sides for a word of the letters `l` and `r`.
 pub fn sides(alloc: Global, letters: &str) -> Result<Sides, Fail> {
     let mut sides = Sides::new(alloc);
     for letter in letters.as_bytes() {
@@ -105,7 +105,7 @@ pub fn sides(alloc: Global, letters: &str) -> Result<Sides, Fail> {
     Ok(sides)
 }
 
-/// A reply, told by plain values.
+/// A reply in plain values.
 #[derive(Clone, Copy, PartialEq, Eq)]
 pub enum Answer {
     Enlarged,
@@ -169,7 +169,7 @@ fn events_of(alloc: Global, asks: &[Ask]) -> Result<Vec<Event<Intervals>>, Fail>
     Ok(events)
 }
 
-/// The replies of a new world, of which nothing is known.
+/// The replies of a new world to a list of events.
 fn replies_to(
     alloc: Global,
     config: Config,
@@ -190,7 +190,7 @@ fn steps_of(
     Ok(steps)
 }
 
-/// What a new world answers to a list of events.
+/// A list of events with a new world's answers.
 pub fn trace_of(alloc: Global, config: Config, asks: &[Ask]) -> Result<Vec<Step>, Fail> {
     let events = events_of(alloc, asks)?;
     let replies = replies_to(alloc, config, &events)?;

@@ -19,7 +19,7 @@ fn answer(world: &mut Trial, event: Event<Intervals>) -> Answer {
     Answer::of(world.step(event))
 }
 
-/// The answer, where memory was not wanting.
+/// The answer, unless memory ran out.
 fn given(world: &mut Trial, event: Event<Intervals>) -> Result<Answer, Refusal> {
     match answer(world, event) {
         Answer::Refused(Refusal::OutOfMemory) => Err(Refusal::OutOfMemory),
@@ -32,7 +32,7 @@ fn place(world: &mut Trial, page: u64, point: i64, tag: u64) -> Result<(), Refus
     Ok(())
 }
 
-/// Grows the root of a new world to two leaves, of which page 1 has four rows.
+/// Grows the root of a new world to two leaves; page 1 has four rows.
 fn grow(alloc: Global, world: &mut Trial) -> Result<(), Fail> {
     for point in 0..8 {
         place(world, 0, point, 0)?;
@@ -47,7 +47,7 @@ fn grown(alloc: Global) -> Result<Trial, Fail> {
     Ok(world)
 }
 
-/// Places four further rows on page 1.
+/// Places four more rows on page 1.
 fn fill(world: &mut Trial) -> Result<(), Refusal> {
     for _ in 0..4 {
         place(world, 1, 1, 7)?;
@@ -55,7 +55,7 @@ fn fill(world: &mut Trial) -> Result<(), Refusal> {
     Ok(())
 }
 
-/// A world with splits and visits that are to be published.
+/// A world, with splits and visits that will be published.
 #[derive(Drop)]
 struct Scene {
     world: Trial,
@@ -63,26 +63,26 @@ struct Scene {
     visits: Vec<VisitTask<Intervals>>,
 }
 
-/// What is done to it, with what comes of it.
+/// A step, with its expected result.
 #[derive(Clone, Copy)]
 enum Deed {
     /// An event is carried out.
     Give(Ask),
-    /// Four further rows come to page 1.
+    /// Four more rows are placed on page 1.
     Fill,
     /// A split of a page is prepared, and worked on or not.
     PrepareSplit(u64, bool),
-    /// The split that was prepared last is published, and makes that page, or is stale.
+    /// The split prepared last is published and makes this page, or is stale.
     PublishSplit(Option<u32>),
     /// No split of a page can be prepared.
     RefuseSplit(u64),
     PrepareVisit(u64, bool),
-    /// The visit that was prepared last is published, and visits that page, or is stale.
+    /// The visit prepared last is published and visits this page, or is stale.
     PublishVisit(Option<u32>),
     RefuseVisit(u64),
-    /// A cursor's next turn visits that page, or none.
+    /// A cursor's next turn visits this page, or none.
     TellPage(u64, Option<u32>),
-    /// There are so many pages.
+    /// There are this many pages.
     Count(u64),
     /// A cursor is closed.
     IsClosed(u64),
@@ -125,7 +125,7 @@ fn give(alloc: Global, world: &mut Trial, ask: Ask) -> Result<(), Fail> {
     Ok(())
 }
 
-/// Whether a deed is done, and what comes of it is as it tells.
+/// Whether a step has the expected result.
 fn is_done(alloc: Global, scene: &mut Scene, deed: Deed) -> Result<bool, Fail> {
     match deed {
         Deed::Give(ask) => give(alloc, &mut scene.world, ask)?,
@@ -145,7 +145,7 @@ fn is_done(alloc: Global, scene: &mut Scene, deed: Deed) -> Result<bool, Fail> {
     Ok(true)
 }
 
-/// Two leaves, of which page 1 has four rows.
+/// A world of two leaves; page 1 has four rows.
 fn grown_scene(alloc: Global) -> Result<Scene, Fail> {
     Ok(Scene {
         world: grown(alloc)?,
@@ -154,7 +154,7 @@ fn grown_scene(alloc: Global) -> Result<Scene, Fail> {
     })
 }
 
-/// The place of the first of some deeds that isn't done.
+/// The place of the first step that fails.
 fn first_wrong(alloc: Global, scene: &mut Scene, deeds: &[Deed]) -> Result<Option<usize>, Fail> {
     for (place, deed) in deeds.iter().enumerate() {
         if !is_done(alloc, scene, *deed)? {
@@ -164,30 +164,30 @@ fn first_wrong(alloc: Global, scene: &mut Scene, deeds: &[Deed]) -> Result<Optio
     Ok(None)
 }
 
-/// The place of the first of some deeds that isn't done in a new scene.
+/// The place of the first step that fails in a new world.
 fn first_wrong_of_new(alloc: Global, deeds: &[Deed]) -> Result<Option<usize>, Fail> {
     let mut scene = grown_scene(alloc)?;
     first_wrong(alloc, &mut scene, deeds)
 }
 
-/// Opens a cursor of all rows.
+/// Opens a cursor on all rows.
 const OPEN: Deed = Deed::Give(Ask::Open(Query::Overlaps(0, 9), 16));
 
-/// What each list shows, and its deeds.
+/// What each list shows, and its steps.
 static LISTS: [(&str, &[Deed]); 4] = [
     (
         "a split is published where the page is as it was",
         &[
             Deed::PrepareSplit(1, true),
             Deed::Fill,
-            // The page got further entries.
+            // The page has got more entries since.
             Deed::PublishSplit(None),
             Deed::Count(3),
             Deed::PrepareSplit(1, false),
             Deed::PublishSplit(None),
             Deed::PrepareSplit(1, true),
             Deed::PublishSplit(Some(3)),
-            // The root and what is no page are never split so.
+            // The root, and a page that doesn't exist, are never split so.
             Deed::RefuseSplit(0),
             Deed::RefuseSplit(9),
         ],
@@ -210,7 +210,7 @@ static LISTS: [(&str, &[Deed]); 4] = [
             OPEN,
             Deed::TellPage(1, Some(0)),
             Deed::PrepareVisit(1, true),
-            // Another cursor's turn falls between.
+            // Another cursor's turn comes between.
             Deed::Give(Ask::Turn(2)),
             Deed::PublishVisit(Some(0)),
             Deed::TellPage(1, Some(1)),
@@ -279,7 +279,7 @@ fn changes_unshared(world: &mut Trial) -> Result<bool, Refusal> {
     Ok(is_enlarged(world)? && sweeps(world, 2, 0) && sweeps(world, 1, 1))
 }
 
-/// An enlargement and a sweep of pages that nobody shares.
+/// Widening and sweeping pages that nobody shares.
 #[test]
 fn unshared_pages_are_changed(rt: HostRuntime) -> Result<(), Fail> {
     let mut world = with_a_dead_row(rt.alloc())?;

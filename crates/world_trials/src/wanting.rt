@@ -11,7 +11,7 @@ const EIGHT: Config = Config {
     commits: 400,
 };
 
-/// Events of each kind that may want memory, each of which is carried out where none is wanting.
+/// Events of each kind that may run out of memory. Each is carried out if there is memory.
 static ASKS: [Ask; 44] = [
     Ask::Place(0, (0, 3), 0),
     Ask::Place(0, (1, 1), 1),
@@ -63,7 +63,7 @@ fn is_refused(answer: Answer) -> bool {
     matches!(answer, Answer::Refused(_))
 }
 
-/// The place of the first event for which memory was wanting.
+/// The place of the first event that ran out of memory.
 fn first_wanting(steps: &[Step]) -> Option<usize> {
     for (place, (_, answer)) in steps.iter().enumerate() {
         if *answer == Answer::Refused(Refusal::OutOfMemory) {
@@ -94,7 +94,7 @@ fn all_but(alloc: Global, left_out: usize) -> Result<Vec<Ask>, Fail> {
     Ok(asks)
 }
 
-/// Whether the events but the one at a place were answered as others were.
+/// Whether the events other than the one at a place were answered as in the other list.
 fn are_answered_alike(steps: &[Step], left_out: usize, others: &[Step]) -> bool {
     let mut other = others.iter();
     for (place, (_, answer)) in steps.iter().enumerate() {
@@ -109,14 +109,14 @@ fn are_answered_alike(steps: &[Step], left_out: usize, others: &[Step]) -> bool 
     other.next().is_none()
 }
 
-/// Whether the events but the one at a place were answered as a new world answers them that isn't given that one.
+/// Whether the events other than the one at a place were answered as by a new world that isn't given that one.
 fn is_as_without(alloc: Global, steps: &[Step], left_out: usize) -> Result<bool, Fail> {
     let others = trace_of(alloc, EIGHT, &all_but(alloc, left_out)?)?;
     Ok(are_answered_alike(steps, left_out, &others))
 }
 
-/// Whichever allocation is refused: where an event wants it, that event alone is refused, and all that follow are carried
-/// out as if it had not been there.
+/// Must pass whichever allocation is refused: the event that needed it is refused, and all that follow are carried
+/// out as if it had never come.
 #[test]
 fn refused_memory_ends_no_list_of_events(rt: HostRuntime) -> Result<(), Fail> {
     let steps = trace_of(rt.alloc(), EIGHT, &ASKS)?;
