@@ -24,8 +24,13 @@ use std::mem;
 /// let items = display.by_ref().collect::<Result<Vec<_>, _>>()?;
 /// assert!(matches!(items[..], [Item::Row(_), Item::Mark(1)]));
 ///
-/// // a client that has taken mark 1 may go away, and come back for what followed drop(display); rooms.delete(1)?; let
-/// back = rooms.follow(&Query::overlaps(8..18)?, 1)?; assert_eq!(back.count(), 1); # Ok::<(), gist::Error>(()) ```
+/// // a client that has taken mark 1 may go away, and come back for what followed
+/// drop(display);
+/// rooms.delete(1)?;
+/// let back = rooms.follow(&Query::overlaps(8..18)?, 1)?;
+/// assert_eq!(back.count(), 1);
+/// # Ok::<(), gist::Error>(())
+/// ```
 #[must_use = "a cursor is closed when it is dropped"]
 pub struct Cursor<'a, K: Key> {
     store: &'a Store<K>,
@@ -52,8 +57,9 @@ impl<'a, K: Key> Cursor<'a, K> {
 
     /// The next items by one call, at most `most`. There are none only if nothing is left now.
     ///
-    /// # Errors [`Error::OutOfMemory`], and the next call goes on. If the cursor was attached to a store that isn't its
-    /// own, it is refused as [`Error::NoSuchCursor`] or [`Error::CursorClosed`], or stands for a cursor of that store.
+    /// # Errors
+    /// [`Error::OutOfMemory`], and the next call goes on. If the cursor was attached to a store that isn't its own, it
+    /// is refused as [`Error::NoSuchCursor`] or [`Error::CursorClosed`], or stands for a cursor of that store.
     ///
     /// ```
     /// use gist::{Interval, Query, Store};

@@ -102,8 +102,9 @@ impl<K: Key> Feed<K> {
 
     /// Goes over at most `most` further commits of a snapshot, and gives each subscription its changes.
     ///
-    /// # Errors [`Error::FromFuture`] if the snapshot has fewer commits than the feed has gone over.
-    /// [`Error::OutOfMemory`]; nothing is lost then: the next call gives what this one couldn't.
+    /// # Errors
+    /// [`Error::FromFuture`] if the snapshot has fewer commits than the feed has gone over. [`Error::OutOfMemory`];
+    /// nothing is lost then: the next call gives what this one couldn't.
     ///
     /// ```
     /// use gist::{Feed, Interval, Query, Store};

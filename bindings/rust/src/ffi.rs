@@ -31,7 +31,8 @@ pub trait Handle {
 
     /// Frees what a handle holds.
     ///
-    /// # Safety The pointer is to a handle that no other call uses meanwhile.
+    /// # Safety
+    /// The pointer is to a handle that no other call uses meanwhile.
     unsafe fn drop_inside(handle: *mut Self);
 }
 

@@ -32,7 +32,8 @@ impl<K: Key> Query<K> {
     /// Parses a query: `overlaps`, `within`, `holds` and `same` with a key, and `and`, `or`, `not` and round brackets,
     /// at most 32 deep and 4,096 bytes long. Keys are written `(9 17)`, `(x1 y1 x2 y2)` and `{2 5 64}`.
     ///
-    /// # Errors [`Error::QueryText`] with the place of the first wrong byte, [`Error::OutOfMemory`].
+    /// # Errors
+    /// [`Error::QueryText`] with the place of the first wrong byte, [`Error::OutOfMemory`].
     ///
     /// ```
     /// use gist::{Error, Interval, Query};
@@ -60,7 +61,8 @@ impl<K: Key> Query<K> {
 
     /// Asks for the rows whose keys have a relation to a key. It needs no text.
     ///
-    /// # Errors [`Error::BadEnds`] if the key's ends are out of order, [`Error::OutOfMemory`].
+    /// # Errors
+    /// [`Error::BadEnds`] if the key's ends are out of order, [`Error::OutOfMemory`].
     ///
     /// ```
     /// use gist::{Interval, Query, Relation, Store};

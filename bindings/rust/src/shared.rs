@@ -68,8 +68,9 @@ impl<K: Key> SharedStore<K> {
     /// ```
     /// use gist::{Interval, Query, SharedStore, Store};
     ///
-    /// let rooms = SharedStore::new(Store::<Interval>::new()?); // checks and books in one step, so that no other clerk
-    /// comes between let booked = rooms.write(|store| {
+    /// let rooms = SharedStore::new(Store::<Interval>::new()?);
+    /// // checks and books in one step, so that no other clerk comes between
+    /// let booked = rooms.write(|store| {
     ///     let is_free = store.snapshot()?.count(&Query::overlaps(9..12)?)? == 0;
     ///     is_free.then(|| store.insert(9..12, 71)).transpose()
     /// })?;

@@ -254,7 +254,8 @@ impl<K: Key> Snapshot<K> {
 
     /// For each key, the live rows that have a relation to it, by rising number.
     ///
-    /// # Errors [`Error::BadEnds`] if a key's ends are out of order, [`Error::OutOfMemory`].
+    /// # Errors
+    /// [`Error::BadEnds`] if a key's ends are out of order, [`Error::OutOfMemory`].
     ///
     /// ```
     /// use gist::{Interval, Relation, Store};
@@ -316,7 +317,8 @@ impl<K: Key> Snapshot<K> {
     /// The first changes of a query after a commit, at most `most`. After the rows found in a snapshot of `from`
     /// commits they are what a cursor would give next.
     ///
-    /// # Errors [`Error::FromFuture`] if there were fewer commits, [`Error::OutOfMemory`].
+    /// # Errors
+    /// [`Error::FromFuture`] if there were fewer commits, [`Error::OutOfMemory`].
     ///
     /// ```
     /// use gist::{Interval, Query, Store};
@@ -375,8 +377,9 @@ impl<K: Key> Snapshot<K> {
     /// Makes a new store of the live rows, in the order of their numbers, for when a store's commits are nearly used
     /// up. Their inserts are its only commits.
     ///
-    /// # Errors [`Error::BadLimits`]; [`Error::CommitsFull`] or [`Error::PagesFull`] if the limits are too small for
-    /// the rows; [`Error::OutOfMemory`].
+    /// # Errors
+    /// [`Error::BadLimits`]; [`Error::CommitsFull`] or [`Error::PagesFull`] if the limits are too small for the rows;
+    /// [`Error::OutOfMemory`].
     ///
     /// ```
     /// use gist::{Interval, Limits, Store};

@@ -269,8 +269,8 @@ impl<K: Key> Store<K> {
 
     /// Adds rows one after the other until one is refused, and gives their numbers.
     ///
-    /// # Errors As [`Store::insert`]; the rows before the refused one were added, and [`Stopped::done`] has their
-    /// numbers.
+    /// # Errors
+    /// As [`Store::insert`]; the rows before the refused one were added, and [`Stopped::done`] has their numbers.
     ///
     /// ```
     /// use gist::{BoxKey, Store};
@@ -343,8 +343,9 @@ impl<K: Key> Store<K> {
 
     /// Deletes rows one after the other until one is refused, and gives the commits' numbers.
     ///
-    /// # Errors As [`Store::delete`]; the rows before the refused one were deleted, and [`Stopped::done`] has the
-    /// commits' numbers.
+    /// # Errors
+    /// As [`Store::delete`]; the rows before the refused one were deleted, and [`Stopped::done`] has the commits'
+    /// numbers.
     ///
     /// ```
     /// use gist::{Error, Interval, Store};
@@ -384,7 +385,8 @@ impl<K: Key> Store<K> {
     /// Removes the ended rows that no open cursor needs any more, and gives how many there were. That makes room for
     /// later rows.
     ///
-    /// # Errors [`Error::OutOfMemory`]; some of them may have been removed by then.
+    /// # Errors
+    /// [`Error::OutOfMemory`]; some of them may have been removed by then.
     ///
     /// ```
     /// use gist::{Interval, Store};
@@ -426,7 +428,8 @@ impl<K: Key> Store<K> {
     /// Opens a cursor that gives only the changes after a commit. With a mark's number it goes on where the mark was
     /// given; with 0 it gives all changes from the beginning.
     ///
-    /// # Errors [`Error::FromFuture`] if there are fewer commits; [`Error::CursorsFull`], [`Error::OutOfMemory`].
+    /// # Errors
+    /// [`Error::FromFuture`] if there are fewer commits; [`Error::CursorsFull`], [`Error::OutOfMemory`].
     ///
     /// ```
     /// use gist::{Error, Interval, Query, Store};
@@ -457,7 +460,8 @@ impl<K: Key> Store<K> {
     }
 }
 
-/// # Panics If a row is refused; [`Store::insert_all`] returns the error instead.
+/// # Panics
+/// If a row is refused; [`Store::insert_all`] returns the error instead.
 impl<K: Key> Extend<(K, u64)> for Store<K> {
     fn extend<I: IntoIterator<Item = (K, u64)>>(&mut self, rows: I) {
         if let Err(stopped) = self.insert_all(rows) {
