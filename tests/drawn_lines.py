@@ -261,7 +261,7 @@ class Drawer:
         return text, draft.refused(len(draft.tokens) - 1, len(text))
 
     def strange_byte(self, draft):
-        """A byte that begins no token, in the place of one."""
+        """A byte that begins no token, instead of one."""
         index = self.random.choice([index for index, token in enumerate(draft.tokens) if token != "from"])
         text, places = joined(self.random, draft.tokens[:index] + ["("])
         byte = self.random.choice(STRANGE)

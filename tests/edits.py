@@ -21,7 +21,7 @@ def word_of(answer):
 
 
 def raised(answer, index, by=1):
-    """An answer with a greater number in the place of one."""
+    """An answer with a greater number instead of one."""
     words = answer.split(" ")
     words[index] = str(int(words[index]) + by)
     return " ".join(words)
@@ -162,7 +162,7 @@ class Steps:
 # What cursors give
 
 def row_doubled(steps):
-    """A row is given again in the place of the next one."""
+    """A row is given again instead of the next one."""
     pair = steps.any_of(steps.pairs(lambda given: given.is_row))
     return pair and steps.changed({pair[1].place: pair[0].item})
 
@@ -177,7 +177,7 @@ def row_given_besides(steps):
 
 
 def change_doubled(steps):
-    """A change is given again in the place of the next one."""
+    """A change is given again instead of the next one."""
     pair = steps.any_of(steps.pairs(lambda given: given.is_change))
     return pair and steps.changed({pair[1].place: pair[0].item})
 
@@ -265,7 +265,7 @@ def given_after_closing(steps):
 
 
 def nothing_after_closing(steps):
-    """A closed cursor has nothing left, in the place of a refusal."""
+    """A closed cursor has nothing left, instead of a refusal."""
     nothing = {"take": "nothing", "next": "empty"}[steps.giving]
     return steps.changed_at_one(steps.refusals([17], [steps.giving]), lambda answer: nothing)
 
@@ -289,7 +289,7 @@ def row_to_follower(steps):
 
 
 def row_after_changes(steps):
-    """A row is given in the place of a change."""
+    """A row is given instead of a change."""
     row = steps.any_of(given.item for given in steps.given() if given.is_row)
     return row and steps.changed_at_one([given.place for given in steps.given() if given.is_change], lambda answer: row)
 
@@ -330,7 +330,7 @@ def other_commit(steps):
 def delete_told_as_move(steps):
     """A delete, or a move out of a query, is told as a move within it."""
     def edit(answer):
-        """What is told in the place of an answer."""
+        """The answer that is given instead."""
         _, commit, number = answer.split(" ")
         row = steps.commits.rows[int(number)]
         return f"moved {commit} {number} {steps.keys.text(row.key)} {row.tag}"
@@ -340,7 +340,7 @@ def delete_told_as_move(steps):
 def move_told_otherwise(steps):
     """A move within a query is told as an insert or as a delete."""
     def edit(answer):
-        """What is told in the place of an answer."""
+        """The answer that is given instead."""
         _, commit, row, rest = answer.split(" ", 3)
         return steps.random.choice((f"inserted {commit} {rest}", f"deleted {commit} {row}"))
     return steps.changed_at_one(steps.places("moved"), edit)
@@ -349,7 +349,7 @@ def move_told_otherwise(steps):
 def insert_told_as_move(steps):
     """An insert, or a move into a query, is told as a move within it."""
     def edit(answer):
-        """What is told in the place of an answer."""
+        """The answer that is given instead."""
         _, commit, rest = answer.split(" ", 2)
         return f"moved {commit} {int(commit) - 1} {rest}"
     return steps.changed_at_one(steps.places("inserted"), edit)
@@ -383,9 +383,9 @@ def cursor_serial_twice(steps):
 
 
 def other_refusal(steps):
-    """Another refusal than the one that is due."""
+    """Another refusal than the expected one."""
     def edit(answer):
-        """What is told in the place of an answer."""
+        """The answer that is given instead."""
         return refusal_line(OTHER_REFUSALS[refused_number(answer)])
     return steps.changed_at_one(steps.refusals(OTHER_REFUSALS), edit)
 
@@ -411,13 +411,13 @@ def wrong_place(steps):
 def fault_of_line(steps):
     """The fault of a query is told as one of the line, or the other way round."""
     def edit(answer):
-        """What is told in the place of an answer."""
+        """The answer that is given instead."""
         return refusal_line(43 - refused_number(answer), answer.split(" ")[3])
     return steps.changed_at_one(steps.refusals([21, 22]), edit)
 
 
 def want_of_memory(steps):
-    """Memory is told to be wanting."""
+    """A line is answered as if memory had run out."""
     return steps.changed_at_one(steps.places("committed", "opened", "swept"), lambda answer: refusal_line(1))
 
 

@@ -1,5 +1,5 @@
 #!/usr/bin/env python3
-"""Random sessions with the library anew, by bindings/python/gist.py, and the slow model as a second witness.
+"""Random sessions with the library anew, by bindings/python/gist.py, compared with the slow model.
 
     GIST_LIB_DIR=FOLDER tests/library_sessions.py [--seeds N] [--seed S] [--lines N] [--verbose]
 
@@ -11,7 +11,7 @@ calls that a session of lines doesn't have, each compared with the model's plain
 - snapshots that are kept for a while: their counts, rows, rows of many keys, rows and commits by their numbers, and the
   changes after any commit, a few at once;
 - a feed with up to 60 subscriptions that come and go, which is advanced by some commits at once;
-- a store that is made anew of a snapshot, in whose place the old one goes on.
+- a store that is renewed from a snapshot, in whose place the old one goes on.
 
 --verbose tells how often each came. The last line is `N passed, M failed`; the status is 0 only where M is 0.
 """
@@ -45,7 +45,7 @@ class Wrong(Exception):
 
 
 def due(what, given, wanted_one):
-    """Refuses what isn't as it is to be."""
+    """Raises an error if something isn't as it should be."""
     if given != wanted_one:
         raise Wrong(f"{what}: {given!r} was given, and {wanted_one!r} is due")
 
@@ -250,7 +250,7 @@ class Run:
         due("what is told beside the subscriptions", {number: some for number, some in given.items() if number in self.subscribed}, {})
 
     def beside_renew(self):
-        """A store of the rows of a snapshot, numbered anew, and the numbers that they had."""
+        """A store of the rows of a snapshot, numbered from 1 again, and the numbers that they had."""
         now, commits = self.some_snapshot(), self.session.commits
         rows = [row for row in commits.rows.values() if commits.lives(row.number, now.commits())]
         with now.renew(gist.Limits(pages=4096, commits=len(rows) + 1)).store as store:

@@ -104,7 +104,7 @@ def shown(place, steps, told):
 
 
 def first_difference(steps, answers):
-    """The first place at which an answer isn't the one that is due, and which is; or none."""
+    """The first place at which an answer isn't the expected one, and which is; or none."""
     differences = ((place, due) for place, ((_, answer), due) in enumerate(zip(steps, answers)) if answer != due)
     return next(((place, f"{due!r} is due") for place, due in differences), None)
 

@@ -203,7 +203,7 @@ class PlainStore:
         return getattr(self, f"answer_{word}")(*values)
 
     def refuse_memory(self, request):
-        """Notes that what a line asks was refused for want of memory: what it did that can't be seen from outside."""
+        """Notes that what a line asks was refused for lack of memory: what it did that can't be seen from outside."""
         word, *values = request
         if word == "sweep":
             self.gone.most = self.totals_gone()[1]

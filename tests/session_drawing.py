@@ -51,7 +51,7 @@ class SessionDrawer(Drawer):
         return answer
 
     def drawn(self):
-        """Draws as many lines as there are to be, and then lets all be given, closes all and sweeps."""
+        """Draws as many lines as wanted, and then lets all be given, closes all and sweeps."""
         acts, weights = zip(*WEIGHTS.items())
         is_crowded = self.seed % 8 != 3
         for _ in range(self.inserts):

@@ -21,7 +21,7 @@ def found_rows(talk, least):
 def found_row_lost(talk):
     """A find leaves out a row, and doesn't count it."""
     def edit(answer):
-        """What is told in the place of an answer."""
+        """The answer that is given instead."""
         lines = answer.split("\n")
         del lines[talk.random.randrange(1, len(lines))]
         return "\n".join([f"found {len(lines) - 1}", *lines[1:]])
@@ -31,7 +31,7 @@ def found_row_lost(talk):
 def found_row_doubled(talk):
     """A find gives a row twice, and counts it twice."""
     def edit(answer):
-        """What is told in the place of an answer."""
+        """The answer that is given instead."""
         lines = answer.split("\n")
         return "\n".join([f"found {len(lines)}", *lines[1:], lines[-1]])
     return talk.changed_at_one(found_rows(talk, 1), edit)
@@ -40,7 +40,7 @@ def found_row_doubled(talk):
 def found_rows_exchanged(talk):
     """A find gives two rows in the other order."""
     def edit(answer):
-        """What is told in the place of an answer."""
+        """The answer that is given instead."""
         lines = answer.split("\n")
         place = talk.random.randrange(1, len(lines) - 1)
         lines[place:place + 2] = lines[place + 1], lines[place]
@@ -51,7 +51,7 @@ def found_rows_exchanged(talk):
 def found_count_wrong(talk):
     """A find tells of one row more than it gives."""
     def edit(answer):
-        """What is told in the place of an answer."""
+        """The answer that is given instead."""
         first, *rows = answer.split("\n")
         return "\n".join([raised(first, 1), *rows])
     return talk.changed_at_one(found_rows(talk, 0), edit)
@@ -78,7 +78,7 @@ def empty_too_early(talk):
 
 
 def mark_for_empty(talk):
-    """A mark is given that wasn't asked for, in the place of `empty`."""
+    """A mark is given that wasn't asked for, instead of `empty`."""
     place = talk.any_of(talk.places("empty"))
     return None if place is None else talk.changed({place: f"mark {talk.counts[place]}"})
 

@@ -123,7 +123,7 @@ class Script:
         return text
 
     def first_difference(self, written):
-        """The first answer that isn't due: its place among the lines, what is due and what came; or None."""
+        """The first answer that isn't due: its place among the lines, what was expected and what came; or None."""
         told = written.decode("ascii", "backslashreplace").split("\n")
         ends_well = told.pop() == ""
         place = 0

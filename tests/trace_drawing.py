@@ -56,7 +56,7 @@ class TraceDrawer(Drawer):
         return self.answers[-1]
 
     def drawn(self):
-        """Draws as many events as there are to be, and then ends and sweeps everything."""
+        """Draws as many events as wanted, and then ends and sweeps everything."""
         acts, weights = zip(*WEIGHTS.items())
         crowds = {3: self.many_cursors, 7: self.many_finders}
         while len(self.asked) < EVENTS:

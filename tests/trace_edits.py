@@ -187,7 +187,7 @@ def finder_serial_twice(trace):
 def finder_refused(trace):
     """A finder of a row that lives isn't opened, or one that is open isn't known or its row is told to have ended."""
     def edit(answer):
-        """What is told in the place of an answer."""
+        """The answer that is given instead."""
         return refusal_line(trace.random.choice((15, 20) if answer == "seeking" else (6, 14, 15)))
     return trace.changed_at_one(trace.places("seeking", "finder"), edit)
 

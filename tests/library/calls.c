@@ -1,9 +1,9 @@
 /*
- * Every function of the library, with every refusal that can be had without a want of memory, for each class.
+ * Every function of the library, with every refusal that can be had without a lack of memory, for each class.
  *
  *     cc -std=c11 -Wall -Wextra -pedantic tests/library/calls.c -IFOLDER FOLDER/libgist.a && ./a.out
  *
- * It prints nothing, and ends with status 0, or tells the line of the first thing that isn't as it is to be.
+ * It prints nothing, and ends with status 0, or tells the line of the first thing that isn't as it should be.
  */
 #include <inttypes.h>
 #include <stdio.h>

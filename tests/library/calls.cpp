@@ -3,7 +3,7 @@
  *
  *     c++ -std=c++17 -Wall -Wextra -pedantic tests/library/calls.cpp -IFOLDER FOLDER/libgist.a && ./a.out
  *
- * It prints nothing, and ends with status 0, or tells the line of the first thing that isn't as it is to be.
+ * It prints nothing, and ends with status 0, or tells the line of the first thing that isn't as it should be.
  */
 #include "gist.hpp"
 

@@ -2,7 +2,7 @@
  * Each limit of the library, reached and passed by one: pages, commits, cursors and subscriptions. What is refused changes
  * nothing, and what has room again is taken.
  *
- * It prints nothing, and ends with status 0, or tells the line of the first thing that isn't as it is to be.
+ * It prints nothing, and ends with status 0, or tells the line of the first thing that isn't as it should be.
  */
 #include "gist.h"
 

@@ -4,7 +4,7 @@
  *
  *     cc -std=c11 -Wall -Wextra -pedantic -pthread tests/library/threads.c -IFOLDER FOLDER/libgist.a && ./a.out
  *
- * It prints nothing, and ends with status 0, or tells the line of the first thing that isn't as it is to be.
+ * It prints nothing, and ends with status 0, or tells the line of the first thing that isn't as it should be.
  */
 #define _XOPEN_SOURCE 700
 

@@ -1,1 +1,1 @@
-"""What the program answers at its limits, beside plain lists."""
+"""What the program answers at its limits, compared with plain lists."""

@@ -19,7 +19,7 @@ ROUNDS = 100
 
 
 class Rows:
-    """What the rows and the commits are to be, in plain lists.
+    """What the rows and the commits should be, in plain lists.
 
     There are as many places as live rows. A place keeps the number of its row; its tag is the place itself. A row's key
     is told by its number.
@@ -112,14 +112,14 @@ def items(changes, query):
 
 
 class Trial:
-    """The program beside the rows that it is to have."""
+    """The program beside the rows that it should have."""
 
     def __init__(self, program, rows, most):
         self.program = program
         self.rows = rows
         self.most = most
         self.began = time.monotonic()
-        # Lines that are still to be given to the program, and the answers that are due
+        # Lines that are still to be given to the program, and the expected answers
         self.lines, self.answers = [], []
 
     def tell(self, what):

@@ -76,7 +76,7 @@ def are_related(relation, key, operand):
 
 
 class Beside:
-    """A session, and the live rows that it is to have, by rising number: the place of the key of each, and its tag."""
+    """A session, and the live rows that it should have, by rising number: the place of the key of each, and its tag."""
 
     def __init__(self, program, keys, related):
         self.program = program

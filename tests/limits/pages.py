@@ -8,7 +8,7 @@ EVERYTHING = "overlaps(0 10000000)"
 
 
 class Filled:
-    """A store that is filled, and the rows and changes that it is to have. Rows behind the filling stand at points.
+    """A store that is filled, and the rows and changes that it should have. Rows behind the filling stand at points.
 
     Each row that fills it stands ten points behind the one before. A full leaf is parted in the middle, so each leaf
     but the last is left with two rows: rows 1 and 2, rows 3 and 4 and so on. Where both stand, two more have room.
@@ -36,7 +36,7 @@ class Filled:
         self.first = last
 
     def fill(self, sure):
-        """Inserts rows until one is refused for want of pages. The first of them can't be: how many is told."""
+        """Inserts rows until one is refused for lack of pages. The first of them can't be: how many is told."""
         self.insert_up_to(sure)
         while True:
             number = self.first + 1

@@ -1,4 +1,4 @@
-"""A program that is running, the lines that it is given, and the answers that are due."""
+"""A program that is running, the lines that it is given, and the expected answers."""
 import os
 import select
 import subprocess
@@ -12,7 +12,7 @@ BLOCK = 1 << 20
 
 
 class Wrong(Exception):
-    """An answer that isn't the one that is due."""
+    """An answer that isn't the expected one."""
 
 
 def text_of(lines):
@@ -21,7 +21,7 @@ def text_of(lines):
 
 
 def first_difference(told, due):
-    """What is told of the first answer that is another one than is due."""
+    """What is told of the first answer that is another one than is expected."""
     told_lines, due_lines = told.split(b"\n"), due.split(b"\n")
     for number, (told_line, due_line) in enumerate(zip(told_lines, due_lines)):
         if told_line != due_line:
@@ -52,7 +52,7 @@ class Program:
                 pass
 
     def read(self, length, due=None):
-        """As many bytes of answers, or fewer where no more come, or where they aren't those that are due."""
+        """As many bytes of answers, or fewer where no more come, or where they aren't the expected ones."""
         blocks, at = [], 0
         output = self.child.stdout.fileno()
         while at < length:
@@ -84,22 +84,22 @@ class Program:
         return told
 
     def answer_text(self, text, due):
-        """Gives a text to the program, and compares the answers with those that are due."""
+        """Gives a text to the program, and compares the answers with the expected ones."""
         told = self.exchange(text, len(due), due)
         if told != due:
             raise Wrong(first_difference(told, due))
 
     def answer(self, lines, answers):
-        """Gives lines to the program, and compares the answers with those that are due."""
+        """Gives lines to the program, and compares the answers with the expected ones."""
         self.lines += len(lines)
         self.answer_text(text_of(lines), text_of(answers))
 
     def answer_all(self, pairs):
-        """Gives lines to the program, each with the answer that is due."""
+        """Gives lines to the program, each with the expected answer."""
         self.answer([line for line, _ in pairs], [answer for _, answer in pairs])
 
     def answer_in_any_order(self, lines, answers):
-        """Gives lines to the program, and compares the answers with those that are due, in any order."""
+        """Gives lines to the program, and compares the answers with the expected ones, in any order."""
         self.lines += len(lines)
         due = sorted(answers)
         told = self.exchange(text_of(lines), sum(len(answer) + 1 for answer in due))

@@ -1,4 +1,4 @@
-"""Lines of a replay that make a tree of pages row by row, with the answers that are due."""
+"""Lines of a replay that make a tree of pages row by row, with the expected answers."""
 
 
 class Growing:
