@@ -1,9 +1,9 @@
 #!/usr/bin/env python3
 """Measures the processor time, the instructions and the memory of `gist serve`.
 
-The lines of one fixed seed are written to a file. The program reads prefixes of that file, each up to the end of a
-phase; what a phase costs is the difference of two runs. The child's own processor time is measured (`os.wait4`), so
-the harness costs nothing. With `--peer` a program over Boost's R-tree gets the same lines in the same run.
+The lines of a fixed seed are written to a file. The program reads prefixes of that file, each up to the end of a phase;
+the cost of a phase is the difference of two runs. Only the child's own processor time is measured (`os.wait4`), so the
+harness costs nothing. With `--peer` a program over Boost's R-tree gets the same lines in the same run.
 """
 
 import argparse
@@ -23,7 +23,7 @@ HERE = os.path.dirname(os.path.abspath(__file__))
 PEER_SOURCE = os.path.join(HERE, "peer", "peer.cpp")
 PEER = os.path.join(HERE, "out", "peer")
 
-# The instructions that gist's code uses too, and not those of the processor that measures. Boost's headers include some
+# The peer may use only the instructions that gist's code uses, not all those of this processor. Boost's headers include some
 # that it calls deprecated; peer.cpp tells what has to wrap.
 PEER_FLAGS = ["-std=c++17", "-O2", "-march=x86-64-v2", "-DNDEBUG", "-DBOOST_ALLOW_DEPRECATED_HEADERS", "-fwrapv"]
 PEER_HEADER = "boost/geometry/index/rtree.hpp"
@@ -31,7 +31,7 @@ PEER_HEADER = "boost/geometry/index/rtree.hpp"
 SEED = 20_240_607
 MOST_COMMITS = 16_777_216
 
-# What is aimed at: microseconds of processor time a line, growth, and bytes a row.
+# The aims: microseconds of processor time a line, growth, and bytes a row.
 INSERT_AIM = 1.5
 FIND_AIM = 5.0
 GROWTH_AIM = 3.0
@@ -39,7 +39,7 @@ BYTES_AIM = 88.0
 
 
 class Intervals:
-    """Points and short intervals on a line, as many a unit for each number of rows."""
+    """Points and short intervals on a line, with the same density for each number of rows."""
 
     name = "interval"
     finds_of = 1
@@ -59,7 +59,7 @@ class Intervals:
 
 
 class Boxes:
-    """Small boxes in a square, as many in an area for each number of rows."""
+    """Small boxes in a square, with the same density for each number of rows."""
 
     name = "box"
     finds_of = 1
@@ -83,7 +83,7 @@ class Boxes:
 class Sets:
     """Sets of eight elements each, and queries for all that hold so many elements that about the wanted rows match.
 
-    Random sets have no bounds that part them, so a find reads nearly every page: there are fewer finds.
+    Bounds separate random sets badly, so a find reads nearly every page. Hence there are fewer finds.
     """
 
     name = "set"
@@ -115,7 +115,7 @@ CLASSES = {kind.name: kind for kind in (Intervals, Boxes, Sets)}
 
 
 class Program:
-    """What answers lines, and the words that start it."""
+    """A program that answers lines, and the command that starts it."""
 
     def __init__(self, name, words):
         self.name = name
@@ -132,7 +132,7 @@ class Phase:
 
 
 def write_lines(path, kind, rows, finds, cursors, items):
-    """Writes the lines, and tells the phases. Without cursors there is nothing of following either."""
+    """Writes the lines, and gives the phases. Without cursors there are no phases of following either."""
     generator = random.Random(SEED)
     keys = kind(rows, generator)
     phases = []
@@ -186,7 +186,7 @@ def run(words, input_path, output_path):
 
 
 def prefix_costs(ends, turns, lines_path, prefix_path, measures):
-    """For each measure the least cost of each prefix: a busy machine adds time and never takes any."""
+    """For each measure the least cost of each prefix, since other work on the machine can only add time."""
     least = [[float("inf")] * len(ends) for _ in measures]
     for _ in range(turns):
         for place, end in enumerate(ends):
@@ -284,7 +284,7 @@ def refused_answers(path):
 
 
 def bytes_a_row(words, inserts_path, rows, answers_path):
-    """What a row takes: the memory of the whole program after the inserts, but for that of an empty one."""
+    """The bytes a row: the memory of the whole program after the inserts, less that of an empty one."""
     few_path = inserts_path + ".few"
     with open(few_path, "wb") as few:
         few.write(b"sweep\n")
@@ -301,7 +301,7 @@ def line_costs(programs, phases, rows, options, lines_path, folder):
         turns = 1
         measures = [lambda words=program.words: instructions(words, prefix_path, folder) for program in programs]
     else:
-        # Short runs are turned more often.
+        # Short runs are repeated more often.
         turns = options.turns * min(1 + 100_000 // rows, 5)
         measures = [lambda words=program.words: run(words, prefix_path, os.devnull) for program in programs]
     return [
@@ -327,14 +327,14 @@ def print_costs(phases, costs, memory, callgrind):
 
 
 def shown_cost(cost, callgrind):
-    """A cost in the unit that is told."""
+    """A cost in its unit."""
     if callgrind:
         return f"{cost:,.0f}"
     return f"{cost * 1e6:.3f}" if cost > 0 else "noise"
 
 
 def ratio(ours, peers):
-    """How many times as much the peer takes, where neither is below the noise."""
+    """How many times as much the peer takes, unless one of them is below the noise."""
     return f"{peers / ours:.2f}" if ours > 0 and peers > 0 else "-"
 
 
@@ -359,7 +359,7 @@ def first_difference(ours_path, peers_path):
 
 
 def require_equal_answers(programs, lines_path, folder):
-    """Ends the measurement where two programs don't give the same bytes for all lines."""
+    """Ends the measurement unless both programs give the same bytes for all lines."""
     paths = [os.path.join(folder, program.name) for program in programs]
     for program, path in zip(programs, paths):
         run(program.words, lines_path, path)
@@ -402,7 +402,7 @@ def told(aim, value, unit):
 
 
 def compare(kind, costs):
-    """Prints the measured numbers beside those aimed at."""
+    """Prints the measured numbers next to the aims."""
     print(f"{kind.name}, beside the aims")
     middle = costs.get(100_000)
     if middle:
@@ -438,7 +438,7 @@ def build_peer():
 
 
 def programs_of(options, name):
-    """What is measured with keys of a class: gist, and behind it the peer where it is asked for."""
+    """The programs measured with keys of a class: gist, and the peer if it is asked for."""
     words = [options.program, "serve", "--class", name, "--fan", str(options.fan), "--least", str(options.least)]
     programs = [Program("gist", words + options.option)]
     if options.peer:

@@ -42,7 +42,7 @@ def build():
 
 
 def measured(program, words, turns):
-    """Of some runs of a program that has readers and a writer, the one in which the readers found most a second."""
+    """Of several runs with readers and a writer, the one in which the readers found most a second."""
     told = [subprocess.run([program, *map(str, words)], stdout=subprocess.PIPE, check=True, text=True).stdout for _ in range(turns)]
     return desks.best([[dict(zip(desks.FIELDS, map(int, line.split()))) for line in lines.splitlines()] for lines in told])
 

@@ -17,7 +17,7 @@ PEER_SOURCE = os.path.join(HERE, "peer", "threads.cpp")
 PEER = os.path.join(OUT, "peer_threads")
 PEER_FLAGS = ["-O2", "-march=x86-64-v2", "-std=c++17", "-DNDEBUG", "-pthread"]
 
-# What is aimed at: instructions of an insert beside those of a store, and instructions of a take.
+# The aims: instructions of an insert compared with a store's, and instructions of a take.
 INSERT_AIM = 1.5
 TAKE_AIM = 60
 
@@ -38,7 +38,7 @@ def build_peer():
 
 
 def parts(words):
-    """What the program tells of each part of a measurement."""
+    """The program's figures for each part of a measurement."""
     told = subprocess.run([PROGRAM, *map(str, words)], stdout=subprocess.PIPE, check=True, text=True).stdout
     return [dict(zip(FIELDS, map(int, line.split()))) for line in told.splitlines()]
 
@@ -61,7 +61,7 @@ def instructions(words):
 
 
 def least(runs, words):
-    """Of some runs the one whose first part was the shortest."""
+    """Of several runs the one whose first part was the shortest."""
     return min((parts(words) for _ in range(runs)), key=lambda told: told[0]["wall"])
 
 
@@ -71,7 +71,7 @@ def waiting(part):
 
 
 def evenness(part):
-    """What the slowest thread of a part did a second, beside what the fastest did, where each had as much to do."""
+    """The rate of the slowest thread of a part over that of the fastest, when all had the same amount to do."""
     return part["shortest"] / part["longest"]
 
 
@@ -96,7 +96,7 @@ def print_threads(options):
 
 
 def print_visits(options):
-    """How long one thread has the lock, with nobody else."""
+    """How long one thread holds the lock when it is alone."""
     keys = least(options.turns, ["keys", options.rows])[0]["wall"]
     bare = least(options.turns, ["visits", options.rows])[0]
     desk = least(options.turns, ["desk", options.rows])[0]["wall"]
@@ -113,7 +113,7 @@ def print_visits(options):
 
 
 def print_prepared(options):
-    """How long a turn that reads a page, and a split, have the lock: made at once, and worked out between two visits."""
+    """How long a turn that reads a page, and a split, hold the lock: made in one visit, and worked out between two visits."""
     clock = least(options.turns, ["clock", 1_000_000])[0]
     tick = clock["wall"] / clock["calls"]
     print("Nanoseconds under the lock, and between two visits to it")
@@ -179,7 +179,7 @@ def print_looks(options):
 
 
 def print_snapshots(options):
-    """What a snapshot of a store costs, and the inserts behind it."""
+    """What a snapshot of a store costs, and the inserts after it."""
     more = min(options.rows, 100_000)
     costs = {
         every: min(

@@ -1,4 +1,4 @@
-"""What the tools share that run programs over the library: how one is built and run, and how what came of it is told."""
+"""Shared by the tools that run programs over the library: building one, running it, and reporting the result."""
 import functools
 import importlib.machinery
 import importlib.util
@@ -30,7 +30,7 @@ def library():
 
 
 class Tally:
-    """How many runs went as they have to, and how many didn't."""
+    """How many runs passed, and how many failed."""
 
     def __init__(self):
         self.passed, self.failed = 0, 0
@@ -45,7 +45,7 @@ class Tally:
 
 @functools.cache
 def has(program):
-    """Whether a program is there. Where it isn't, that is told once."""
+    """Whether a program is installed. If it isn't, that is reported once."""
     if shutil.which(program):
         return True
     print(f"there is no {program}, so what needs it is not run", flush=True)

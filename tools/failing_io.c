@@ -1,6 +1,6 @@
 /*
- * read and write as the C library has them, but for what the environment asks of the calls on standard input and on
- * standard output. It is loaded before a program (LD_PRELOAD).
+ * read and write of the C library, changed for standard input and standard output as the environment asks. It is
+ * preloaded (LD_PRELOAD).
  *
  *   READ_AT_ONCE, WRITE_AT_ONCE   at most so many bytes are moved by a call
  *   SHORT_READ, SHORT_WRITE       the call of that number, counted from 1, moves one byte

@@ -1,7 +1,7 @@
 /*
- * malloc and realloc as the C library has them, but for one request, which finds no memory: the one whose number, counted
- * from 1, the environment names as REFUSED_REQUEST. It is loaded before a program (LD_PRELOAD). When the request comes, a
- * line on standard error says so.
+ * malloc and realloc of the C library, except that one request gets no memory: the one with the number
+ * REFUSED_REQUEST of the environment, counted from 1. It is preloaded (LD_PRELOAD). When the request comes, a line on
+ * standard error says so.
  */
 #include <stddef.h>
 #include <stdlib.h>

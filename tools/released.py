@@ -1,4 +1,4 @@
-"""What the tools share of the released archive: that it is the file that was released, and its files."""
+"""Shared by the tools: checking that the archive is the released one, and reading its files."""
 import contextlib
 import os
 import platform
@@ -38,7 +38,7 @@ def run(*words, **how):
 
 @contextlib.contextmanager
 def unpacked():
-    """The folder with the archive's files, which is there for as long as the block is."""
+    """The folder with the archive's files, which exists during the block."""
     if (platform.system(), platform.machine()) != ("Linux", "x86_64"):
         raise Refused(f"the release is for Linux on x86-64, and this is {platform.system()} on {platform.machine()}")
     path = checked_archive()

@@ -1,4 +1,4 @@
-"""The shared library for programs in C, which is made of the other one, and what pkg-config tells of both."""
+"""The shared library for programs in C, made from the static one, and the file for pkg-config."""
 import os
 
 from released import run
@@ -16,12 +16,12 @@ Libs: -L${{libdir}} -lgist
 
 
 def soname(version):
-    """The name by which programs find the library. The calls of one version 0.N fit each other, so N is a part of it."""
+    """The library's soname. Versions 0.N with the same N are compatible, so N is part of it."""
     return f"libgist.so.{'.'.join(version.split('.')[:2])}"
 
 
 def link_shared(folder, version):
-    """Makes the shared library of a folder's other one, by the toolchain's own linker, so that it is the same on each machine."""
+    """Makes the shared library from a folder's static one, with the toolchain's own linker, so that it is the same on every machine."""
     tools = os.path.join(os.path.dirname(run("rt", "doc").strip()), "toolchain")
     exported, name = f"{folder}/exported", f"libgist.so.{version}"
     with open(exported, "w", encoding="utf-8") as file:

@@ -1,4 +1,4 @@
-"""What the tools share of the repository itself: its crates, the sums of their sources, and what is released."""
+"""Shared by the tools: the repository's crates, the sums of their sources, and what is released."""
 import glob
 import hashlib
 import os
@@ -26,7 +26,7 @@ def sum_of(path):
 
 
 def files_below(folder):
-    """Each file below a folder, in one order wherever it stands."""
+    """Each file below a folder, in an order that doesn't depend on the machine."""
     for at, folders, names in os.walk(folder):
         folders.sort()
         yield from (os.path.join(at, name) for name in sorted(names))
@@ -55,7 +55,7 @@ def crates_of(names):
 
 
 def sum_of_sources():
-    """One sum of all that the program and the library are made from."""
+    """A sum of everything that the program and the library are built from."""
     listed, whole = lines_of_crates(), hashlib.sha256()
     for name in crates_of(RELEASED):
         whole.update(f"{listed[name][0]}\n".encode())

@@ -1,4 +1,4 @@
-"""What the tools share: the toolchain's own commands, and whether a library that it built is that of the present sources."""
+"""Shared by the tools: the toolchain's commands, and whether a library that it built is of the present sources."""
 import functools
 import importlib.machinery
 import importlib.util
