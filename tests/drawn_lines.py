@@ -17,7 +17,7 @@ STRANGE = (b"?", b"A", b"\t", b"\r", b"\0", b"+1", b"-", b"- 1", b"\xff", b"\xc3
 
 
 class Line(NamedTuple):
-    """A line: what it asks (a verb and its arguments), and its text. One that is refused has its answer as argument."""
+    """A line: what it asks (a verb and its arguments), and its text. A refused line has its answer as the argument."""
     verb: str
     arguments: tuple
     text: bytes
@@ -32,7 +32,7 @@ class Draft(NamedTuple):
     query_at: Optional[int] = None
 
     def refused(self, index, place):
-        """The answer to a fault at a token, whose place is given."""
+        """The answer to a fault at the token with this index."""
         is_query = self.query_at is not None and index >= self.query_at
         return refusal_line(NUMBERS["QueryText" if is_query else "Line"], place)
 
@@ -53,7 +53,7 @@ def is_glued(left, right):
 
 
 def spaces(random, token, before):
-    """How many spaces stand before a token."""
+    """How many spaces come before a token."""
     needed = 1 if before is not None and is_glued(before, token) else 0
     if random.random() < 0.04:
         return needed + random.randrange(4)
@@ -73,7 +73,7 @@ def joined(random, tokens):
 
 
 def number_token(random, number):
-    """A number, seldom with leading zeros."""
+    """A number, rarely with leading zeros."""
     if random.random() < 0.02:
         return "-" * (number < 0) + "0" * random.randrange(1, 4) + str(abs(number))
     return str(number)
@@ -123,7 +123,7 @@ class Drawer:
         self.shapes = shapes
 
     def chance(self, probability):
-        """Whether something happens that has a probability."""
+        """True with this probability."""
         return self.random.random() < probability
 
     def set_key(self):
@@ -160,7 +160,7 @@ class Drawer:
         return (*(low for low, _ in ends), *(high for _, high in ends))
 
     def rows(self):
-        """The rows that were made, by their numbers."""
+        """The rows that were made, by number."""
         raise NotImplementedError
 
     def atom(self):

@@ -1,9 +1,8 @@
-"""Edits of what a program answered, by traces and by sessions: each makes right answers wrong ones, wherever it
-applies.
+"""Edits of a program's answers, in traces and in sessions. Wherever an edit applies, it makes right answers wrong.
 
-An edit changes answers, leaves steps out or puts some in. It gives the edited steps, or none where they have no place
-for it. A step is a line and its answer; an answer of several lines is one text. `rows_exchanged` leaves right what
-was right.
+An edit changes answers, or leaves out or inserts steps. It gives the edited steps, or none if it doesn't apply. A step
+is a line and its answer; an answer of several lines is one text. The exception is `rows_exchanged`, after which right
+answers are still right.
 """
 from drawn_lines import Line
 from listings import Commits, is_mark, is_row
@@ -52,7 +51,7 @@ class Given:
 
 
 class History:
-    """What a cursor gave, and where it was asked for marks."""
+    """What a cursor gave, and when it was asked for marks."""
 
     def __init__(self, line):
         self.line = line

@@ -1,8 +1,7 @@
 """Example lines of sessions and replays, which tools/cut-lines cuts and changes at each byte.
 
-Some stand with a class alone: what is answered to them, and to what is made of them, the slow reader and the slow
-models tell. Those with answers or places beside them were worked out by hand: they show that the reader and the models
-are right.
+Some have only a class: the expected answers to them, and to what is made of them, come from the slow reader and the
+slow models. Those with answers or places were worked out by hand: they show that the reader and the models are right.
 """
 
 # Commands that are refused as lines or queries, and one that isn't

@@ -1,9 +1,9 @@
-"""A slow reader of lines, written from the grammar alone: what a line of a session or a replay asks, or its fault.
+"""A slow reader of lines, written only from the grammar: what a line of a session or a replay asks, or its fault.
 
 A line is a run of tokens with spaces before, between and behind them. A token is one of `( ) { }`, a word of the
-letters `a` to `z`, or a number: digits, perhaps with a `-` before them. A word or a number that stands close behind
-another lacks its space, and is no token; nor is a byte that begins none. Lines are read from the left, and the first
-fault is told:
+letters `a` to `z`, or a number: digits, perhaps with a `-` before them. Words and numbers need a space between them;
+one without it is no token, nor is a byte that can't begin one. Lines are read from the left, and the first fault is
+reported:
 
 - from where a query begins: `refused 21 QueryText PLACE`, for any other fault: `refused 22 Line PLACE`;
 - the place is that of the token that can't stand there or whose number is out of its range, of the opening bracket of a
@@ -61,7 +61,7 @@ def kind_of(text):
 
 
 def tokens_of(line):
-    """The tokens of a line. A stray one is the last: nothing behind it is ever read."""
+    """The tokens of a line. A stray one is the last: nothing after it is ever read."""
     tokens, place, is_close = [], 0, False
     while place < len(line):
         if line[place] == ord(" "):
@@ -80,7 +80,7 @@ def tokens_of(line):
 
 
 class Reading:
-    """A line that is read token by token, and how many of its tokens were."""
+    """A line that is read token by token, and how many tokens have been read."""
 
     def __init__(self, class_name, line):
         self.class_name = class_name
@@ -98,7 +98,7 @@ class Reading:
         return Fault(f"refused 21 QueryText {place}" if self.is_in_query else f"refused 22 Line {place}")
 
     def take(self, kind):
-        """The next token, which has to be of a kind."""
+        """The next token, which has to be of this kind."""
         token = self.front()
         if token.kind != kind:
             raise self.fault(token.place)
@@ -112,7 +112,7 @@ class Reading:
         return is_there
 
     def number(self, allowed=UNSIGNED):
-        """The next number, which has to be in its range."""
+        """The next number, which has to be in this range."""
         token = self.take("number")
         number = int(token.text)
         if number not in allowed:
@@ -205,13 +205,13 @@ class Reading:
             raise self.fault(self.front().place)
 
     def opening(self):
-        """What stands behind `open`: the room, the commit that is followed if one is, and the query."""
+        """What follows `open`: the room, the commit that is followed, if any, and the query."""
         room = self.number()
         commit = self.number() if self.takes_word(b"from") else None
         return room, commit, self.query()
 
     def numbers(self, count):
-        """Some numbers behind each other."""
+        """Several numbers, one after the other."""
         return tuple(self.number() for _ in range(count))
 
 
@@ -252,7 +252,7 @@ LANGUAGES = {"serve": COMMANDS, "replay": EVENTS}
 
 @functools.cache
 def read_known(language, class_name, line):
-    """What a line asks, as `read_line` tells it, where bytes that begin no token stand as `?`."""
+    """What a line asks, as `read_line` gives it; bytes that begin no token are replaced by `?`."""
     reading = Reading(class_name, line)
     if not reading.tokens:
         return None
@@ -271,8 +271,8 @@ def read_known(language, class_name, line):
 def read_line(language, class_name, line):
     """What a line asks: None where it has no token, its refusal where it is wrong, else its word and its values.
 
-    The line has no line feed. All bytes that begin no token are alike to the grammar, so they are read as one of them,
-    and what was read is kept: a line that is like another needn't be read again.
+    The line has no line feed. To the grammar all bytes that begin no token are alike, so they are replaced by one of
+    them, and results are cached: a line that is like an earlier one isn't read again.
     """
     if len(line) > MOST_BYTES:
         return f"refused 22 Line {MOST_BYTES}"
@@ -280,5 +280,5 @@ def read_line(language, class_name, line):
 
 
 def forget():
-    """Lets go what was kept of lines that were read."""
+    """Clears the cache of lines that were read."""
     read_known.cache_clear()

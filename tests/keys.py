@@ -115,14 +115,15 @@ def matches(keys, query, key):
 
 
 def wanted(keys, query):
-    """Tells of a key whether it matches a query, and keeps what was told."""
+    """Tests whether keys match a query, and caches the results."""
     return lru_cache(maxsize=None)(lambda key: matches(keys, query, key))
 
 
 def may_match_below(keys, query, bound):
     """Whether a key that a bound covers may match a query.
 
-    A bound tells nothing of the keys outside it, so one below it may always match `not`.
+    That a bound may hold a match of q doesn't mean that all keys below it match q, so some key may always match `not
+    q`.
     """
     if query[0] == "not":
         return True

@@ -4,14 +4,14 @@
     GIST_LIB_DIR=FOLDER tests/library_sessions.py [--seeds N] [--seed S] [--lines N] [--verbose]
 
 For each of 18 seeds, in the three classes, 500 lines are drawn as those of tests/session_drawing.py: inserts, moves, deletes,
-finds, sweeps, cursors that open and follow, their items, marks and closings, with names that are stale or foreign. The
-library makes the call of each, and its answers have to be ones that tests/session_model.py allows. Beside the lines come
-calls that a session of lines doesn't have, each compared with the model's plain lists:
+finds, sweeps, cursors that open and follow, their items, marks and closings, with names that are stale or foreign. The library
+makes the call of each, and its answers have to be ones that tests/session_model.py allows. Between the lines come calls that
+sessions don't have, each compared with the model's plain lists:
 
 - snapshots that are kept for a while: their counts, rows, rows of many keys, rows and commits by their numbers, and the
   changes after any commit, a few at once;
 - a feed with up to 60 subscriptions that come and go, which is advanced by some commits at once;
-- a store that is renewed from a snapshot, in whose place the old one goes on.
+- a store that is renewed from a snapshot; the session then goes on with the old one.
 
 --verbose tells how often each came. The last line is `N passed, M failed`; the status is 0 only where M is 0.
 """

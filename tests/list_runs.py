@@ -35,7 +35,7 @@ SESSION_ANSWERS = {
 
 
 class Outcome:
-    """What came of some tests."""
+    """The results of some tests."""
 
     def __init__(self):
         self.passed = 0
@@ -51,7 +51,7 @@ class Outcome:
             self.failures.append(told)
 
     def add(self, other):
-        """Adds what came of other tests."""
+        """Adds the results of other tests."""
         self.passed += other.passed
         self.failures += other.failures
         self.answers += other.answers
@@ -67,7 +67,7 @@ class Outcome:
 
 
 def text_of(lines):
-    """What a program is given of some lines."""
+    """The input that these lines make."""
     return b"".join(line.text + b"\n" for line in lines)
 
 
@@ -95,7 +95,7 @@ def steps_of(lines, output):
 
 
 def shown(place, steps, told):
-    """What is wrong at a place of some steps."""
+    """The message about a fault at a place of some steps."""
     if place >= len(steps):
         return f"at the end: {told}"
     line, answer = steps[place]
@@ -110,12 +110,12 @@ def first_difference(steps, answers):
 
 
 def note_flaw(outcome, name, steps, flaw):
-    """Notes whether some steps have no flaw."""
+    """Records whether some steps are right."""
     outcome.note(flaw is None, f"{name}: {shown(flaw[0], steps, flaw[1])}" if flaw else "")
 
 
 def try_edits(outcome, name, edited, kinds, first_flaw):
-    """Edits right steps, and notes whether the checker refuses wrong ones and lets right ones pass."""
+    """Edits right steps, and records whether the checker refuses wrong ones and accepts right ones."""
     wrong, right = kinds
     for edit in wrong + right:
         steps = edit(edited)
@@ -128,7 +128,7 @@ def try_edits(outcome, name, edited, kinds, first_flaw):
 
 
 def some_of(edits, seed, each):
-    """Some of the edits: each is tried of one seed among so many."""
+    """Some of the edits: each is tried with one seed in so many."""
     return [edit for index, edit in enumerate(edits) if (index + seed) % each == 0]
 
 
@@ -178,7 +178,7 @@ def try_session(program, seed, each, lines, inserts=0):
 
 
 def try_wrong_world(index, seeds):
-    """Lists that a wrong world answers, of which the checker of traces has to refuse one."""
+    """Lists answered by a wrong world; the checker of traces has to refuse one of them."""
     outcome, world = Outcome(), WORLDS[index]
     for count, seed in enumerate(seeds, 1):
         drawer = TraceDrawer(seed, world).drawn()
@@ -191,13 +191,13 @@ def try_wrong_world(index, seeds):
 
 
 def differs(drawer, world):
-    """Whether a world answers a line of a right list otherwise."""
+    """Whether a world answers a line of a right list differently."""
     pairs = ((line, due) for line, due in zip(drawer.asked, drawer.answers) if due is not None)
     return any(world.step(line) != due for line, due in pairs)
 
 
 def try_wrong_rules(seeds):
-    """Lists of the right world: each world with a wrong rule has to answer one of them otherwise."""
+    """Lists of the right world: each world with a wrong rule has to answer one of them differently."""
     outcome, left = Outcome(), list(RULES)
     for count, seed in enumerate(seeds, 1):
         drawer = TraceDrawer(seed).drawn()
@@ -212,13 +212,13 @@ def try_wrong_rules(seeds):
 
 
 def answers_due():
-    """Each answer that has to come in some list."""
+    """Each answer that has to occur in some list."""
     tables = (("trace", TRACE_ANSWERS), ("session", SESSION_ANSWERS))
     verbs = [(f"{kind}: {verb}", words) for kind, table in tables for verb, words in table.items()]
     return [f"{verb} {told}" for verb, words in verbs for told in words.split(" ")]
 
 
 def edits_due():
-    """Each edit that has to be tried of some list."""
+    """Each edit that has to be tried on some list."""
     tables = (("trace", trace_edits), ("session", session_edits))
     return [f"{kind}: {edit.__name__}" for kind, module in tables for edit in module.EDITS + module.ALLOWED]

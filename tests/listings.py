@@ -1,4 +1,4 @@
-"""Commits, the rows that they leave, and what a client may be given of a query: snapshots, changes and listings.
+"""Commits, the rows that they make, and what a client may be given for a query: snapshots, changes and listings.
 
 Items are the lines that tell them, as `row 1 (5 5) 0`. A commit is a tuple: `insert`, a key and a tag; `delete` and a
 row; `move`, a row and a key.
@@ -53,7 +53,7 @@ class Commits:
         return number
 
     def lives(self, row, count):
-        """Whether a row lives after the first commits, that many."""
+        """Whether a row is live after this many commits."""
         return row <= count and row in self.rows and self.ended.get(row, count + 1) > count
 
     def live_rows(self):
@@ -65,11 +65,11 @@ class Commits:
         return f"row {row.number} {self.keys.text(row.key)} {row.tag}"
 
     def snapshot(self, wanted, count):
-        """The rows that live after the first commits, that many, and whose key is wanted: by rising number."""
+        """The rows that are live after this many commits and whose key is wanted, by rising number."""
         return [self.row_line(row) for row in self.rows.values() if self.lives(row.number, count) and wanted(row.key)]
 
     def change(self, wanted, number):
-        """What a commit means to who wants some keys: its item, or none."""
+        """The item of a commit for these wanted keys, or none."""
         write = self.writes[number - 1]
         new = self.rows.get(number)
         old = None if write[0] == "insert" else self.rows[write[1]]
@@ -115,7 +115,7 @@ class Listing:
     def next_change(self, last):
         """The first change that is left of the commits up to `last`, with its number, or none.
 
-        Commits without an item that were looked at are not looked at again.
+        Commits without an item are looked at only once.
         """
         while self.looked_at < last:
             item = self.commits.change(self.wanted, self.looked_at + 1)

@@ -1,4 +1,4 @@
-"""A slow model of a replay whose only page is page 0, a leaf that never gets full: steps of other pages are refused."""
+"""A slow model of a replay with a single page, page 0, a leaf that never gets full. Steps of other pages are refused."""
 from plain_store import Exactly, OneRowOf, PlainStore
 
 MOST_FINDERS = 64
@@ -30,11 +30,11 @@ class PlainLeaf(PlainStore):
         self.mailboxes = {}
 
     def entries(self):
-        """How many entries the page has: live rows, and dead ones that no sweep took out."""
+        """How many entries the page has: live rows, and dead ones that no sweep removed."""
         return len(self.live) + len(self.ends) - self.gone.least
 
     def why_not_placed(self, page, key):
-        """Why a page takes no row: page 0 alone does, whatever its key, while it isn't full; None where it does."""
+        """Why a page takes no row, or None if it does. Only page 0 takes rows, of any key, unless it is full."""
         if page != 0:
             return Exactly("refused 7 NotHere")
         return Exactly("refused 8 NodeFull") if self.entries() == self.fan else None
@@ -70,7 +70,7 @@ class PlainLeaf(PlainStore):
         return Exactly(f"finder {self.last_finder}")
 
     def why_no_end(self, finder):
-        """Why a finder ends no row; None where it does, for page 0 holds each."""
+        """Why a finder ends no row, or None if it does, since page 0 holds every row."""
         if finder not in self.finders:
             return Exactly("refused 20 NoSuchFinder")
         return None if self.finders[finder] in self.live else Exactly("refused 15 AlreadyDeleted")
@@ -95,7 +95,7 @@ class PlainLeaf(PlainStore):
         return Exactly("unfound")
 
     def answer_sweep(self, page):
-        """The dead rows that no scan needs go."""
+        """Removes the dead rows that no scan needs."""
         if page != 0:
             return Exactly("refused 7 NotHere")
         removed = self.totals_gone()[0] - self.gone.least

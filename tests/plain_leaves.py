@@ -1,4 +1,4 @@
-"""A slow model of a replay whose root has two leaves, pages 1 and 2, of which none gets full, and no cursor is open."""
+"""A slow model of a replay whose root has two leaves, pages 1 and 2, which never get full, without open cursors."""
 from plain_leaf import PlainLeaf
 from plain_store import Exactly, is_within
 
@@ -89,7 +89,7 @@ class PlainLeaves(PlainLeaf):
         return Exactly("refused 9 TooFew" if page in self.leaves else "refused 7 NotHere")
 
     def answer_sweep(self, page):
-        """All dead rows of a leaf go, for no cursor is open."""
+        """Removes all dead rows of a leaf, since no cursor is open."""
         if page not in self.leaves:
             return Exactly("refused 7 NotHere")
         rows = self.leaves[page].rows

@@ -1,8 +1,8 @@
-"""A slow model of a session: the commits, the rows that live and the open cursors, in plain lists.
+"""A slow model of a session: the commits, the live rows and the open cursors, in plain lists.
 
 `PlainStore.answer` takes what a line asks, as grammar.py reads it, and gives an answer that can be compared with what
-the program wrote. Where more than one answer is allowed, which rows of a snapshot come first and how many rows a sweep
-takes out, the answer knows which ones are.
+the program wrote. If more than one answer is allowed (for the order of a snapshot's rows, and for how many rows a sweep
+removes), the answer knows which ones are.
 """
 import bisect
 from typing import NamedTuple
@@ -106,7 +106,7 @@ class Exactly:
 
 
 class OneRowOf:
-    """A row of a snapshot that the cursor hasn't given: any of these. The one that is told is given then."""
+    """A row of a snapshot that the cursor hasn't given yet: any of these. The one in the answer then counts as given."""
 
     def __init__(self, rows):
         self.rows = rows
@@ -127,7 +127,7 @@ class OneRowOf:
 
 
 class Gone:
-    """How many dead rows the sweeps took out so far: a number between two."""
+    """How many dead rows the sweeps have removed so far: a number between two bounds."""
 
     def __init__(self):
         self.least, self.most = 0, 0
@@ -141,8 +141,8 @@ class Gone:
 class Swept:
     """An answer that tells how many dead rows a sweep took out: all that no cursor needs.
 
-    A cursor needs those that ended after its opening, until its scan is over. Of some scans nobody can tell whether
-    they are, so the number lies between two.
+    A cursor needs those that ended after its opening, until its scan is over. For some scans this can't be known, so
+    there are two bounds for the number.
     """
 
     def __init__(self, gone, least, most):

@@ -18,7 +18,7 @@ class Refused(Exception):
 
 
 def refusal_line(number, place=None):
-    """The answer that tells a refusal, with its place where it has one."""
+    """The answer for a refusal, with its place if it has one."""
     return f"refused {number} {NAMES[number]}" + ("" if place is None else f" {place}")
 
 

@@ -1,9 +1,9 @@
-"""A slow model of a session: to each line the answers that it may have.
+"""A slow model of a session: the allowed answers to each line.
 
-All is exact but two things. The rows of a cursor's snapshot come in any order, so `next` may give any that is left.
-And how far a scan is isn't told, but that it is over once something else than a row was given, and that it hasn't
-begun before the first `next`. So `sweep` has one answer for each opening that may be the least of the scans under
-way: it removes the dead rows that died up to that opening, or all where no scan is under way.
+Everything is exact except for two things. The rows of a cursor's snapshot come in any order, so `next` may give any
+that is left. And how far a scan has come isn't known, except that it is over once something other than a row was given,
+and hasn't begun before the first `next`. So `sweep` has one answer for each opening that may be the least of the scans
+under way: it removes the dead rows that died up to that opening, or all where no scan is under way.
 
 An answer of several lines is one text.
 """
@@ -49,7 +49,7 @@ class Cursor:
 
 
 class Session:
-    """What a session told so far."""
+    """What a session has told so far."""
 
     def __init__(self, keys):
         self.keys = keys

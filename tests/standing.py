@@ -1,4 +1,4 @@
-"""A session or a replay that is kept as it was: lines are given to it, and what they change is put back.
+"""A session or a replay that is restored after each example: what the example's lines change is put back.
 
 `Script` writes down lines and the answers that a slow model gives them. Before each example the same three rows live,
 one cursor is open and has given all that there is, and in a replay one finder is open. So a line that is well-formed
@@ -46,7 +46,7 @@ class Script:
             self.put_back()
 
     def state(self):
-        """What is another thing once lines have changed anything."""
+        """A value that differs once lines have changed anything."""
         model = self.model
         is_asked = any(cursor.is_asked or cursor.rows_left for cursor in model.cursors.values())
         items = sum(len(mailbox.items) for mailbox in model.mailboxes.values()) if self.is_replay else 0

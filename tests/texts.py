@@ -1,7 +1,7 @@
 """Texts of sessions and replays, as a user sees them.
 
-A text begins with `$ ./gist serve` or `$ ./gist replay` and options. What is typed stands behind `> `, the answers,
-where they are told, below it. A line of `#` or an empty one says nothing.
+A text begins with `$ ./gist serve` or `$ ./gist replay` and options. Input lines begin with `> `, with their answers,
+if they are given, below. Empty lines and lines that begin with `#` are ignored.
 """
 import re
 

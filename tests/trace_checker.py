@@ -1,12 +1,11 @@
-"""A checker of traces: it sees events and their answers alone, and knows nothing of what pages hold, of links and of
-stacks.
+"""A checker of traces: it sees only events and their answers, and knows nothing of the contents of pages, of links and
+of stacks.
 
-What it demands: commits are numbered 1, 2, 3 and are legal; serials are given once and in their order; what is taken
-of a cursor begins a listing for its query and opening, or the changes after the commit that it follows; what is taken
-before a mark is a listing up to it, and each mark has an asking of its own; a closed cursor is refused. Since a
-mailbox gives first what was offered first, the item that is taken is known to be that of one turn: it can't tell of
-later commits, and a mark tells of just those there were. Each refusal that follows from events and answers alone has
-to come, and nowhere else.
+It demands: commits are numbered 1, 2, 3 and are legal; serials are given once and in order; what is taken from a cursor
+begins a listing for its query and opening, or the changes after the commit that it follows; what is taken before a mark
+is a listing up to it, and each mark was asked for by an event of its own; a closed cursor is refused. Since a mailbox
+is first in, first out, each item taken belongs to a known turn: it can't be about later commits, and a mark's number is
+the number of commits at that turn. Each refusal that follows from events and answers has to come, and nowhere else.
 """
 from collections import deque
 

@@ -1,8 +1,8 @@
 """Random lists of events: the lines that `gist replay` is given, and the answer to each by the slow model of a world.
 
-Events are drawn by what the model holds, so that trees grow, scans and finders meet splits, and mailboxes fill; and
-about one name in seven is drawn from 0 up to twice the greatest that was given, so that it is stale, foreign or by
-chance a fitting one.
+Events are drawn by the model's state, so that trees grow, scans and finders meet splits, and mailboxes fill. About one
+number in seven is drawn from 0 up to twice the greatest that was given, so that it is stale, foreign or valid by
+chance.
 """
 from drawn_lines import Drawer
 from keys import CLASSES

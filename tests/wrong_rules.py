@@ -1,7 +1,7 @@
-"""Worlds with one wrong rule each, which may be faithful all the same: tests in another order, numbers cut, and such.
+"""Worlds with one wrong rule each that may still be faithful: tests in another order, truncated numbers, and the like.
 
-Given the lines of right lists, each has to answer one of them otherwise than the right world. So it is shown that the
-lists reach what tells the rules apart.
+Given the lines of right lists, each has to answer one of them differently from the right world. This shows that the
+lists reach the cases in which the rules differ.
 """
 from keys import may_match_below, matches
 from refusals import Refused

@@ -1,8 +1,7 @@
-"""Worlds with one wrong rule each. Of random lists that such a world answers, the checker of traces has to refuse
-some.
+"""Worlds with one wrong rule each. The checker of traces has to refuse some random lists answered by such a world.
 
-So it is shown that the lists reach what the rules are for, and that the checker sees what goes wrong by answers
-alone.
+This shows that the lists reach the cases for which the rules exist, and that the checker notices the fault from the
+answers alone.
 """
 from keys import atom_matches, matches, may_match_below
 from listings import Row
@@ -11,7 +10,7 @@ from world_model import Branch, Entry, World
 
 
 class WrongWorld(World):
-    """A world whose finders meet their rows even where they have nothing left to visit, as none has in a right one."""
+    """A world whose finders meet their rows even with nothing left to visit, which never happens in a right one."""
 
     def met_by(self, finder):
         """The entry of a finder's row on the page that it visits next, or none."""
@@ -21,7 +20,7 @@ class WrongWorld(World):
 
 
 class WrongScan(WrongWorld):
-    """A world whose cursors visit pages in a wrong way, and whose finders in the right one."""
+    """A world whose cursors visit pages in a wrong way, but whose finders do it right."""
 
     is_scanning = False
 

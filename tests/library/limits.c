@@ -1,6 +1,6 @@
 /*
- * Each limit of the library, reached and passed by one: pages, commits, cursors and subscriptions. What is refused changes
- * nothing, and what has room again is taken.
+ * Each limit of the library, reached and exceeded by one: pages, commits, cursors and subscriptions. A refused call
+ * changes nothing, and once there is room again it succeeds.
  *
  * It prints nothing, and ends with status 0, or tells the line of the first thing that isn't as it should be.
  */

@@ -1,7 +1,7 @@
 /*
- * Every call that asks for memory, for each class. A call that is refused for lack of memory is made again; it has to
- * succeed then, and all is to be as if it had not been refused. tools/examples runs this with each request for memory
- * refused, one in each run.
+ * Every call that requests memory, for each class. A call that is refused for lack of memory is made again; then it has
+ * to succeed, and everything has to be as if it had not been refused. tools/examples runs this with each request for
+ * memory refused, one in each run.
  *
  * It prints nothing, and ends with status 0, or tells the line of the first thing that isn't as it should be.
  */
@@ -22,7 +22,7 @@ static void told(int line, const char *what, uint64_t is, uint64_t wanted) {
 
 #define IS(what, wanted) told(__LINE__, #what, (uint64_t)(what), (uint64_t)(wanted))
 
-/* Makes a call, and makes it again where memory ran out: one request is refused in a run. */
+/* Makes a call, and makes it again if memory ran out: one request is refused in a run. */
 #define NEED(call)                                                                                  \
     do {                                                                                            \
         uint32_t answer = (call);                                                                   \

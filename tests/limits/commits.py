@@ -1,4 +1,4 @@
-"""Commits that are used up: nothing more may be committed, and all else goes on."""
+"""Once the commits are used up nothing more can be committed, and everything else goes on."""
 import time
 
 from .talk import Program
@@ -148,7 +148,7 @@ class Trial:
         self.rows.dead = 0
 
     def go_over(self, step, most):
-        """Commits once for each place, while there are fewer commits than the most."""
+        """Commits once for each place, while there are fewer commits than the limit."""
         for first in range(0, self.rows.count, BATCH):
             left = max(most - self.rows.commits, 0)
             last = min(first + BATCH, self.rows.count, first + left)
@@ -156,7 +156,7 @@ class Trial:
                 self.commit(step(first, last))
 
     def replace(self):
-        """Deletes each row and inserts one anew."""
+        """Deletes each row and inserts a new one."""
         for first in range(0, self.rows.count, BATCH):
             last = min(first + BATCH, self.rows.count)
             self.commit(self.rows.delete(first, last))

@@ -1,4 +1,4 @@
-"""Many rows of one key: each is found, given, deleted and swept by itself."""
+"""Many rows with the same key: each is found, given, deleted and swept by itself."""
 import dataclasses
 
 from .talk import Program

@@ -1,4 +1,4 @@
-"""Pages that are used up: all goes on that needs no page."""
+"""Once the pages are used up everything that needs no page goes on."""
 from .talk import Program, Wrong
 from .trees import Growing
 
@@ -95,7 +95,7 @@ class Filled:
         self.refuse_insert(10 * self.first + 10)
 
     def sweep(self, count):
-        """A sweep takes so many rows."""
+        """A sweep removes this many rows."""
         self.program.answer(["sweep"], [f"swept {count}"])
 
     def find(self):

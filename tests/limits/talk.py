@@ -21,7 +21,7 @@ def text_of(lines):
 
 
 def first_difference(told, due):
-    """What is told of the first answer that is another one than is expected."""
+    """The message about the first unexpected answer."""
     told_lines, due_lines = told.split(b"\n"), due.split(b"\n")
     for number, (told_line, due_line) in enumerate(zip(told_lines, due_lines)):
         if told_line != due_line:
@@ -31,7 +31,7 @@ def first_difference(told, due):
 
 
 class Program:
-    """A running `gist`, with the words behind its name."""
+    """A running `gist`, with its arguments."""
 
     def __init__(self, path, *words):
         pipes = {"stdin": subprocess.PIPE, "stdout": subprocess.PIPE, "stderr": subprocess.PIPE}
@@ -52,7 +52,7 @@ class Program:
                 pass
 
     def read(self, length, due=None):
-        """As many bytes of answers, or fewer where no more come, or where they aren't the expected ones."""
+        """The expected number of bytes of answers, or fewer if no more come or if they aren't the expected ones."""
         blocks, at = [], 0
         output = self.child.stdout.fileno()
         while at < length:
@@ -128,7 +128,7 @@ class Program:
         return (int(fields[11]) + int(fields[12])) / os.sysconf("SC_CLK_TCK")
 
     def end(self):
-        """Ends the lines: no answer is left, and the program ends well and says nothing more."""
+        """Ends the input: no answer is left over, and the program ends well and prints nothing more."""
         self.child.stdin.close()
         left = self.read(1)
         if left:
