@@ -66,7 +66,7 @@ module _ {K : Type 0} where
   viewed_stand (Some l) commits s is answers = record { each = subst (λ c. All (Stands c) s.stamps) (sym is) answers.stand }
   viewed_stand None commits s is answers = tt
 
-  -- the seats' stamps stand in a list of which each was told a beginning
+  -- the seats' stamps stand in a list if each seat was told a beginning of it
   pub all_stand : (commits : List (Write K)) (seats : List (Seated K)) → AllByRecursion (λ s. IsPastOf s.told commits) seats → AllByRecursion (λ s. AreAnswers s.told s.stamps) seats
       → AllByRecursion (SeatStands commits) seats
   all_stand commits [] told answers = tt

@@ -154,7 +154,7 @@ impl<C: KeyClass, L: Ledger + Naming> DeskOver<World<C, Ring<C::Key>>, L> {
     /// Inserts a row for a seat.
     ///
     /// # Errors
-    /// `CommitsFull`, `PagesFull`, or want of memory. No commit is made then.
+    /// `CommitsFull`, `PagesFull`, or `OutOfMemory`. No commit is made then.
     #[tactic(auto, using(crate::proofs::Answering::answers_on, crate::proofs::Answering::last_of))]
     pub fn insert<R: Wait>(
         &self,
@@ -260,8 +260,8 @@ impl<C: KeyClass, L: Ledger + Naming> DeskOver<World<C, Ring<C::Key>>, L> {
     /// Deletes a row for a seat.
     ///
     /// # Errors
-    /// `NoSuchRow`, `AlreadyDeleted`, `CommitsFull`, `FindersFull` once the serials of finders are used up, or want of
-    /// memory. No commit is made then.
+    /// `NoSuchRow`, `AlreadyDeleted`, `CommitsFull`, `FindersFull` once the serials of finders are used up, or
+    /// `OutOfMemory`. No commit is made then.
     #[tactic(auto, using(crate::proofs::Answering::answers_on, crate::proofs::Answering::last_of))]
     pub fn delete<R: Wait>(
         &self,
@@ -375,7 +375,7 @@ impl<C: KeyClass, L: Ledger + Naming> DeskOver<World<C, Ring<C::Key>>, L> {
     ///
     /// # Errors
     /// `NoSuchRow`, `AlreadyDeleted`, `CommitsFull`, `PagesFull`, `FindersFull` once the serials of finders are used up, or
-    /// want of memory. No commit is made then.
+    /// `OutOfMemory`. No commit is made then.
     #[tactic(auto, using(crate::proofs::Answering::answers_on, crate::proofs::Answering::last_of))]
     pub fn move_row<R: Wait>(
         &self,

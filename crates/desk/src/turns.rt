@@ -19,7 +19,7 @@ pub struct TurnsMade<C: KeyClass> {
 }
 
 impl<C: KeyClass, L: Ledger + Naming> DeskOver<World<C, Ring<C::Key>>, L> {
-    /// Makes `times` turns of a cursor, as `turn` does, until one is refused. Each takes the lock anew.
+    /// Makes `times` turns of a cursor, as `turn` does, until one is refused. Each takes the lock again.
     ///
     /// # Errors
     /// Those of `turn`, as the last reply.

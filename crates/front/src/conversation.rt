@@ -23,7 +23,6 @@ pub trait Responder {
     ///
     /// # Errors
     /// `Write` if the writer failed. The line is carried out all the same.
-    /// `Write` where the writer failed. The line is carried out all the same.
     fn answer<W: Write>(
         &mut self,
         alloc: Global,

@@ -55,7 +55,6 @@ struct Anew {
 /// # Errors
 /// `NoHandle` if what is held is no snapshot, `BadLimits` if a limit is out of range, `CommitsFull` or `PagesFull` if
 /// the limits are too small for the rows, or `OutOfMemory`.
-/// are too small for the rows; and want of memory.
 fn renewed(alloc: Global, config: Config, held: &Held) -> Result<Anew, Denied>
     ensures renewal { IsRenewal config held.now (stored result) }
     ensures told { IfOk result (λ anew. anew.old_numbers.items ≡ numbers_in held.now) }

@@ -1,4 +1,4 @@
--- `gist_renew` hands on to `renew_from` what is lent for the call, as a reference, and all else as it came.
+-- `gist_renew` calls `renew_from`, with what is lent for the call as a reference, and everything else unchanged.
 use Rattle.libgist.proofs.Lending.{ℕ, [], ◌∷◌, refl, w32, named, vptr, SProp, id⊢, WpFn, sem, tables, ‵, raw, prop, ◌⊛◌, some, later, ◌$◌, ◌∵◌, !, qed, move, drop, use1, use2, split, join, pick, fsplit, fjoin, regoal, suffices, await, done, whole, sub, agg, and_then, no_more, returns, enter, addr, of_opd, fld, hop, from, stop, alloc_all, pass_all, free_all, look_at, look_in_at, get, get_in, through, sets, lands_as, Is, shows, uint_Lawful, u32, flat, owns, Ptr, block_ptr, rawptr_vals, rawptr_Tells, mut_vals, mut_Tells, shr_vals, shr_Tells, mut_slice_vals, mut_slice_Tells, types_at, nothing, peeks, calls_at, Lasts, said_of, at_exit, alive, triple_of, framed, is_lent, lasts, ends, walked, comes_back, lent_ref, takes_lent}
 use denote.Builtin.{u64}
 use Rattle.libgist.specs.contracts.handle.Handle.{the_row as Handle}

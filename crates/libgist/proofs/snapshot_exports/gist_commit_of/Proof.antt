@@ -1,4 +1,4 @@
--- `gist_commit_of` hands on to `tell_commit` what is lent for the call, as a reference, and all else as it came.
+-- `gist_commit_of` calls `tell_commit`, with what is lent for the call as a reference, and everything else unchanged.
 use Rattle.libgist.proofs.Lending.{ℕ, [], ◌∷◌, refl, w32, w64, named, vptr, SProp, id⊢, WpFn, sem, tables, ‵, raw, prop, ◌⊛◌, some, later, ◌$◌, ◌∵◌, !, qed, move, drop, use1, use2, split, join, pick, fsplit, fjoin, regoal, suffices, await, done, and_then, no_more, returns, enter, addr, of_opd, stop, alloc_all, pass_all, free_all, look_at, get, through, sets, lands_as, Is, shows, uint_vals, uint_Tells, uint_Lawful, u32, flat, owns, Ptr, block_ptr, rawptr_vals, rawptr_Tells, mut_vals, mut_Tells, types_at, nothing, peeks, calls_at, Lasts, said_of, at_exit, alive, triple_of, framed, is_lent, lasts, ends, walked, comes_back, lent_ref, takes_lent}
 use Rattle.libgist.specs.contracts.words.ShownItem.{the_row as ShownItem}
 use Rattle.libgist.specs.contracts.snapshot_exports.gist_commit_of as f

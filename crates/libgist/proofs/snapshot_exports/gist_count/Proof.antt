@@ -1,4 +1,4 @@
--- `gist_count` hands on to `count_rows` what is lent for the call, as two references, and all else as it came.
+-- `gist_count` calls `count_rows`, with what is lent for the call as two references, and everything else unchanged.
 use Rattle.libgist.proofs.Lending.{ℕ, [], ◌∷◌, refl, w32, named, vptr, SProp, id⊢, WpFn, sem, tables, ‵, raw, prop, ◌⊛◌, some, later, ◌$◌, ◌∵◌, !, qed, move, drop, use1, use2, split, join, pick, fsplit, fjoin, regoal, suffices, await, done, and_then, no_more, returns, enter, addr, of_opd, stop, alloc_all, pass_all, free_all, look_at, get, through, sets, lands_as, Is, shows, uint_Lawful, u32, flat, owns, Ptr, block_ptr, rawptr_vals, rawptr_Tells, mut_vals, mut_Tells, types_at, nothing, peeks, calls_at, Lasts, said_of, at_exit, alive, triple_of, framed, are_lent, lasts, both_last, ends, walked, comes_back, lent_ref, takes_lent}
 use denote.Builtin.{u64}
 use Rattle.libgist.specs.contracts.snapshot_exports.gist_count as f

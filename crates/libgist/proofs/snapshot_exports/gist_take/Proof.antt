@@ -1,4 +1,4 @@
--- `gist_take` hands on to `take_snapshot` what is lent for the call, as a reference, and all else as it came.
+-- `gist_take` calls `take_snapshot`, with what is lent for the call as a reference, and everything else unchanged.
 use Rattle.libgist.proofs.Lending.{ℕ, [], ◌∷◌, refl, w32, named, vptr, SProp, id⊢, WpFn, sem, tables, ‵, raw, prop, ◌⊛◌, some, later, ◌$◌, ◌∵◌, !, qed, move, drop, use1, use2, split, join, pick, fsplit, fjoin, regoal, suffices, await, done, and_then, no_more, returns, enter, addr, of_opd, stop, alloc_all, pass_all, free_all, look_at, get, through, sets, lands_as, Is, shows, uint_Lawful, u32, flat, owns, Ptr, block_ptr, rawptr_vals, rawptr_Tells, mut_vals, mut_Tells, types_at, nothing, peeks, calls_at, Lasts, said_of, at_exit, alive, triple_of, framed, is_lent, lasts, ends, walked, comes_back, lent_ref, takes_lent}
 use Rattle.libgist.specs.contracts.handle.Handle.{the_row as Handle}
 use Rattle.libgist.specs.contracts.snapshot_exports.gist_take as f

@@ -1,7 +1,7 @@
 use Rattle.std.proofs.Common.{◌≡◌, ◌++◌, ℕ, IsTrue, List, length, take, drop, arith, length-append, length-drop, length-take}
 use Rattle.storm.proofs.outcome.run_storm.Goals as goal
 
--- a vector of which all elements were lent out has as many when they are back
+-- a vector whose elements were all lent out has as many when they are back
 back : {X : Type 0} (len : ℕ) (lent kept : List X) → length lent ≡ len → length kept ≡ len → length (take len (lent ++ drop (length lent) kept)) ≡ len
 back len lent kept lent_all kept_all =
     omega (arith, length-take len (lent ++ drop (length lent) kept), length-append lent (drop (length lent) kept), length-drop (length lent) kept)
