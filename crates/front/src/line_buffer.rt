@@ -11,7 +11,8 @@ use std::alloc::{AllocError, Global};
 use std::io::Read;
 use std::marker::Model;
 
-/// How many bytes are held: the longest line, and one byte more, by which a line that is too long is noticed.
+/// How many bytes are held: those of the longest line and one more, which is its line feed or shows that the line is
+/// too long.
 const ROOM: usize = 4_097;
 
 /// The bytes that were read but whose lines aren't answered yet.

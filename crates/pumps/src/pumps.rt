@@ -37,7 +37,8 @@ pub trait Gate: Drop {
     fn may_turn(&self, cursor: u64) -> bool;
 }
 
-/// Something whose cursors pumps can turn. Behind a trait, because the pumps don't need to know the desk.
+/// Something whose cursors pumps can turn. The closures that run in threads capture a `D: Turning + Sync`: that a desk
+/// is `Sync` is then proved once, where `run` hands it in (docs/CODE.md).
 trait Turning {
     /// Turns a cursor. False if the turn was refused.
     fn turn_cursor<R: Wait>(&self, rt: &R, cursor: u64) -> bool;
