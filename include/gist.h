@@ -261,8 +261,7 @@ uint32_t gist_move(gist_store *store, uint64_t row, gist_key key, uint64_t *move
 uint32_t gist_delete(gist_store *store, const uint64_t *rows, size_t n, uint64_t *deleted);
 
 /*
- * Removes the ended rows that no open cursor needs any more, and gives how many there were. That makes room for later
- * rows.
+ * Removes the ended rows that no open cursor needs any more, which makes room for others, and gives how many there were.
  *
  * GIST_OUT_OF_MEMORY; some of them may have been removed by then.
  */
