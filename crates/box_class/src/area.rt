@@ -4,9 +4,10 @@ ghost use Rattle.box_class.specs.Boxes.{size_of, union_of, waste_between, distan
 use crate::boxes::BoxKey;
 use crate::methods::{area, height, penalty, union, width};
 
-/// Numbers in which a split reckons areas, exact up to a limit.
+/// The numbers in which a split computes areas, exact up to a limit. Small areas fit narrow numbers, with which a
+/// loop handles several pairs of keys at a time.
 pub trait Area: Copy + Ord {
-    /// Numbers below 0 as well.
+    /// Differences of areas, which may be below 0.
     type Waste: Copy + Ord;
 
     ghost limit: { ℕ };
@@ -20,18 +21,18 @@ pub trait Area: Copy + Ord {
         requires { size_of key ≤ limit }
         ensures { area_of result ≡ size_of key };
 
-    /// What the common bound of two boxes has beside them, less than 0 where they overlap.
+    /// The area of two boxes' common bound, less both boxes' areas: below 0 if they overlap.
     fn waste(a: BoxKey, b: BoxKey) -> Self::Waste
         requires { size_of (union_of a b) ≤ limit }
         ensures { waste_of result ≡ waste_between a b };
 
-    /// What a box of so many columns and rows has beside a key.
+    /// The area of a box of so many columns and rows, less that of a key.
     fn beside(columns: u64, rows: u64, key: BoxKey) -> Self::Waste
         requires small { columns * rows ≤ limit }
         requires key { size_of key ≤ limit }
         ensures { waste_of result ≡ pos (columns * rows) -ℤ pos (size_of key) };
 
-    /// What a bound gains by a key.
+    /// By how much a key enlarges a bound.
     fn gain(bound: BoxKey, key: BoxKey) -> Self
         requires { size_of (union_of bound key) ≤ limit }
         ensures { area_of result + size_of bound ≡ size_of (union_of bound key) };

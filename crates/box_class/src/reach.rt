@@ -5,19 +5,19 @@ use crate::area::Area;
 use crate::boxes::BoxKey;
 use crate::methods::distance;
 
-/// How far a common bound of two of some keys may reach.
+/// How far the common bound of two of these keys may reach.
 #[derive(Clone, Copy, Debug)]
 pub struct Reach {
-    /// Covers them all.
+    /// Covers all keys.
     pub bound: BoxKey,
-    /// The most that one of them has from its first column to its last.
+    /// The greatest distance of a key's first and last column.
     pub across: u32,
-    /// The most that one of them has from its first row to its last.
+    /// The greatest distance of a key's first and last row.
     pub along: u32,
 }
 
 impl Reach {
-    /// The reach of keys in a bound that covers them.
+    /// The reach of keys within a bound that covers them.
     pub fn of_keys(keys: &[BoxKey], bound: BoxKey) -> Reach
         requires { All (λ key. is_cover bound key ≡ true) keys.now }
         ensures bound { result.bound ≡ bound }
@@ -37,7 +37,7 @@ impl Reach {
         }
     }
 
-    /// What the common bound of the key and another has beside the key, at most.
+    /// At most this is the area of the key's common bound with another, less the key's own.
     pub fn most_beside<A: Area>(self, key: BoxKey) -> A::Waste
         requires covered { is_cover self.bound key ≡ true }
         requires across { self.across + 1 ≤ extent_of self.bound.x1 self.bound.x2 }
@@ -47,8 +47,8 @@ impl Reach {
         A::beside(self.columns(key), self.rows(key), key)
     }
 
-    /// The most columns that a common bound of the key and another has. Its ends are both those of one of them, or one end
-    /// is the key's and the other at most the bound's.
+    /// The most columns of a common bound of the key and another. Either both of its ends are those of one of them,
+    /// or one end is the key's and the other is at most the bound's.
     fn columns(self, key: BoxKey) -> u64
         requires covered { is_cover self.bound key ≡ true }
         requires across { self.across + 1 ≤ extent_of self.bound.x1 self.bound.x2 }
@@ -59,7 +59,7 @@ impl Reach {
         u64::from(before.max(behind).max(self.across)) + 1
     }
 
-    /// The most rows that a common bound of the key and another has.
+    /// The most rows of a common bound of the key and another.
     fn rows(self, key: BoxKey) -> u64
         requires covered { is_cover self.bound key ≡ true }
         requires along { self.along + 1 ≤ extent_of self.bound.y1 self.bound.y2 }

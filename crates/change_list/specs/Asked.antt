@@ -1,4 +1,4 @@
--- What commits mean to a query as the program holds it.
+-- The meaning of commits for a query, in the form in which the program stores it.
 use Rattle.std.specs.Prelude.{ℕ, List, Option, option_and_then}
 use Rattle.key_class.specs.declared.pred.Pred.{Pred}
 use Rattle.key_class.specs.Queries.{query_of}
@@ -9,7 +9,7 @@ use Rattle.change_list.specs.declared.item.Item.{Item}
 use Rattle.change_list.specs.Changes.{row_at, deleted_item, moved_item, moved_from, snapshot}
 
 module _ {K A : Type 0} (rules : Rules K A) (query : Pred A) where
-  -- the item of the delete of a row, by commit `number`, where the row's key satisfies the query
+  -- the item of commit `number`, the delete of a row, if the row's key satisfies the query
   abbrev pub deletion_for : List (Write K) → ℕ → ℕ → Option (Item K)
   deletion_for commits number row = option_and_then (deleted_item (satisfies rules (query_of query)) number) (row_at commits row)
 
@@ -17,7 +17,7 @@ module _ {K A : Type 0} (rules : Rules K A) (query : Pred A) where
   abbrev pub move_for : List (Write K) → ℕ → ℕ → K → Option (Item K)
   move_for commits number row key = option_and_then (moved_item (satisfies rules (query_of query)) number key) (row_at commits row)
 
-  -- the item of a move, by the old key, the row that it makes and the number of the one that it ends
+  -- the item of a move, from the old key, the new row and the number of the row that ended
   abbrev pub move_between : K → Row K → ℕ → Option (Item K)
   move_between old new row = moved_from (satisfies rules (query_of query) old) (satisfies rules (query_of query) new.key) new row
 

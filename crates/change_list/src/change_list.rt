@@ -10,11 +10,11 @@ use std::alloc::{AllocError, Global};
 use std::marker::Model;
 use std::mem;
 
-/// A list of commits that only grows. Commit 1 is the first.
+/// A list of commits that only grows. The first commit is 1.
 #[derive(Drop)]
 pub struct ChangeList<K> {
     pub(crate) commits: View<K>,
-    /// At place n - 1, whether a commit ends row n.
+    /// At place n - 1, whether a commit ended row n.
     pub(crate) ended: Vec<bool>,
 }
 
@@ -54,7 +54,7 @@ impl<K: Copy> ChangeList<K> {
         self.commits.get(number)
     }
 
-    /// The row with a number, as its commit made it, whether it lives or not, without a search.
+    /// The row with a number, live or dead, as its commit made it. It takes no search.
     pub fn row(&self, number: u64) -> Option<Row<K>>
         ensures { result ≡ row_at self.now number }
     {
@@ -68,17 +68,18 @@ impl<K: Copy> ChangeList<K> {
         self.commits.segments()
     }
 
-    /// How many commits there are beside those of full segments.
+    /// How many commits come after the full segments.
     pub fn tail_len(&self) -> usize
         ensures { result ≡ length self.now % 256 }
     {
         self.commits.tail_len()
     }
 
-    /// The list as it is now, whatever follows. It shares the full segments and copies the rest, 255 commits at most.
+    /// A view of the list as it is now, which later commits don't change. It shares the full segments and copies the
+    /// rest, at most 255 commits.
     ///
     /// # Errors
-    /// Want of memory.
+    /// `OutOfMemory`.
     pub fn view(&self) -> Result<View<K>, Refusal>
         ensures list { IfOk result (λ view. view ≡ self.now) }
         ensures refused { IfErr result (λ why. why ≡ Refusal.OutOfMemory) }
@@ -89,14 +90,14 @@ impl<K: Copy> ChangeList<K> {
         }
     }
 
-    /// The list, to be read as a view.
+    /// The list as a view, which is borrowed.
     pub fn as_view(&self) -> &View<K>
         ensures { result.now ≡ self.now }
     {
         &self.commits
     }
 
-    /// What became of the row with a number, without a search.
+    /// The status of the row with a number. It takes no search.
     pub fn status(&self, row: u64) -> Status
         ensures { result ≡ status_of self.now row }
     {
@@ -115,7 +116,7 @@ impl<K: Copy> ChangeList<K> {
     /// Adds a commit: an insert, or the delete or the move of a live row.
     ///
     /// # Errors
-    /// Memory was wanting; the list is as it was.
+    /// Memory ran out; the list is unchanged.
     pub fn push(&mut self, write: Write<K>) -> Result<(), AllocError>
         requires follows { MayFollow self.old write }
         requires few { length self.old < 4294967295 }
@@ -135,10 +136,10 @@ impl<K: Copy> ChangeList<K> {
         }
     }
 
-    /// The list with memory for a further commit: an insert, or the delete or the move of a live row.
+    /// Reserves memory for one more commit: an insert, or the delete or the move of a live row.
     ///
     /// # Errors
-    /// Memory was wanting; gives the list back.
+    /// Memory ran out; gives the list back.
     pub fn reserve(self, write: Write<K>) -> Result<RoomyList<K>, ChangeList<K>>
         requires follows { MayFollow self write }
         requires few { length self < 4294967295 }

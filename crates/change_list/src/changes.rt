@@ -12,7 +12,7 @@ use crate::view::View;
 use crate::write::Write;
 use key_class::{KeyClass, Pred};
 
-/// The item of commit `place + 1`, where the query asks for a key that it is about.
+/// The item of commit `place + 1`, if the query asks for one of the commit's keys.
 pub fn change_item<C: KeyClass>(
     commits: &View<C::Key>,
     query: &Pred<C::Atom>,
@@ -36,8 +36,8 @@ pub fn change_item<C: KeyClass>(
     }
 }
 
-/// The place of the next commit that may have an item, from `place` on. Inserts of keys that the query doesn't ask for are
-/// passed, as many as stand in one segment.
+/// The place, from `place` on, of the next commit that may have an item. It skips inserts of keys that the query
+/// doesn't ask for, at most up to the end of the segment.
 pub fn next_asked<C: KeyClass>(commits: &View<C::Key>, query: &Pred<C::Atom>, place: u64) -> u64
     requires exists { place < length commits.now }
     requires countable { length commits.now < 2 ^ 64 }
@@ -58,7 +58,7 @@ fn count_unasked<C: KeyClass>(commits: &[Recorded<C::Key>], query: &Pred<C::Atom
     passed
 }
 
-/// The item of a delete, where the query asks for the key of its row.
+/// The item of a delete, if the query asks for its row's key.
 fn delete_item<C: KeyClass>(
     commits: &View<C::Key>,
     query: &Pred<C::Atom>,
@@ -73,7 +73,7 @@ fn delete_item<C: KeyClass>(
         .then_some(Item::Deleted(number, dead.row))
 }
 
-/// The item of a move, where the query asks for the old or the new key of its row.
+/// The item of a move, if the query asks for its row's old or new key.
 fn move_item<C: KeyClass>(
     commits: &View<C::Key>,
     query: &Pred<C::Atom>,
@@ -92,7 +92,7 @@ fn move_item<C: KeyClass>(
     item_between::<C>(query, old.key, new, old.row)
 }
 
-/// The item of a move from a key to a new row's, which ended the row with a number.
+/// The item of a move from an old key to a new row, which ended the row with a number.
 fn item_between<C: KeyClass>(
     query: &Pred<C::Atom>,
     old: C::Key,

@@ -4,10 +4,10 @@ use std::alloc::{AllocError, Global};
 use std::marker::Model;
 use std::sync::Arc;
 
-/// A list that nobody changes, so that it may have many owners.
+/// An immutable list, so that it can have many owners.
 #[derive(Drop)]
 pub(crate) struct Frozen<T> {
-    /// None where it is empty: that takes no memory.
+    /// `None` if it is empty, which takes no memory.
     items: Option<Arc<Vec<T>>>,
 }
 
@@ -36,10 +36,10 @@ impl<T> Frozen<T> {
         }
     }
 
-    /// One more owner of the same list.
+    /// Another owner of the same list.
     ///
     /// # Errors
-    /// There are too many.
+    /// It has too many owners.
     pub(crate) fn share(&self) -> Result<Frozen<T>, AllocError>
         ensures { IfOk result (λ shared. shared ≡ self.now) }
     {
@@ -53,10 +53,10 @@ impl<T> Frozen<T> {
 }
 
 impl<T: Copy> Frozen<T> {
-    /// Some items and one more.
+    /// A list of some items and one more.
     ///
     /// # Errors
-    /// Memory was wanting.
+    /// Memory ran out.
     pub(crate) fn new(alloc: Global, before: &[T], last: T) -> Result<Frozen<T>, AllocError>
         ensures { IfOk result (λ list. list ≡ before.now ++ last ∷ []) }
     {
@@ -69,10 +69,10 @@ impl<T: Copy> Frozen<T> {
 }
 
 impl<T: Drop> Frozen<Frozen<T>> {
-    /// These lists and one more. Each of them gets one more owner.
+    /// A list of these lists and one more. Each of them gets one more owner.
     ///
     /// # Errors
-    /// Memory was wanting, or a list has too many owners.
+    /// Memory ran out, or a list has too many owners.
     pub(crate) fn with(
         &self,
         alloc: Global,

@@ -13,8 +13,8 @@ type Group<T> = Frozen<Segment<T>>;
 /// How many segments a full group has.
 const GROUP: usize = 256;
 
-/// Segments in full groups and a last group that isn't full. Nobody changes them: a further segment makes other ones, which
-/// share all full groups.
+/// Segments in full groups, and a last group that isn't full. It is immutable: adding a segment makes a new value,
+/// which shares all full groups.
 #[derive(Drop)]
 pub(crate) struct Groups<T> {
     full: Frozen<Group<T>>,
@@ -33,7 +33,7 @@ impl<T> Model for Groups<T> {
 }
 
 impl<T: Drop> Groups<T> {
-    /// No segments. They take no memory.
+    /// No segments, which takes no memory.
     pub(crate) fn empty() -> Groups<T>
         ensures { result ≡ [] }
     {
@@ -56,10 +56,10 @@ impl<T: Drop> Groups<T> {
         &self.last.as_slice()[place - full.len() * GROUP]
     }
 
-    /// One more owner of the same groups.
+    /// Another owner of the same groups.
     ///
     /// # Errors
-    /// There are too many.
+    /// They have too many owners.
     pub(crate) fn share(&self) -> Result<Groups<T>, AllocError>
         ensures { IfOk result (λ shared. shared ≡ self.now) }
     {
@@ -71,7 +71,7 @@ impl<T: Drop> Groups<T> {
     /// These segments and one more.
     ///
     /// # Errors
-    /// Memory was wanting, or a segment or a group has too many owners.
+    /// Memory ran out, or a segment or a group has too many owners.
     pub(crate) fn with(&self, alloc: Global, segment: Segment<T>) -> Result<Groups<T>, AllocError>
         ensures { IfOk result (λ groups. groups ≡ self.now ++ segment ∷ []) }
     {

@@ -1,5 +1,5 @@
-//! The commits of a store in their order, the rows that they leave, and the exact status of each row number. Its
-//! specs have the words on which every promise stands: legal lists of commits, rows, snapshots, changes, listings.
+//! The commits of a store in order, the rows that they make, and the exact status of each row number. Its specs
+//! define what every promise is about: legal lists of commits, rows, snapshots, changes and listings.
 #![tactic(auto)]
 
 mod change_list;

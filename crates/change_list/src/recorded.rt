@@ -6,15 +6,15 @@ ghost use Rattle.change_list.specs.Records.{is_unasked, origin_of, write_of};
 use crate::write::Write;
 use key_class::{KeyClass, Pred};
 
-/// A commit as a list keeps it.
+/// A commit as a list stores it.
 ///
-/// A move has the number of the insert with which the moves of its row began, whose tag it has: so a row's tag is found in
-/// two reads, however often it was moved.
+/// A move has the number of the insert from which its row descends by moves, and whose tag it has. So a row's tag is
+/// found in two reads, however often it was moved.
 #[derive(Clone, Copy)]
 pub(crate) enum Recorded<K> {
     Insert(K, u64),
     Delete(u64),
-    /// The new key, the number of the row that is moved, and that of the insert.
+    /// The new key, the number of the row that is moved, and the number of that insert.
     Move(K, u32, u32),
 }
 
@@ -30,7 +30,7 @@ impl<K: Copy> Recorded<K> {
         }
     }
 
-    /// Whether the commit inserts a key that isn't asked for, so that it has no item.
+    /// Whether the commit inserts a key that the query doesn't ask for, so that it has no item.
     pub(crate) fn is_unasked<C: KeyClass<Key = K>>(&self, query: &Pred<C::Atom>) -> bool
         ensures { result ≡ is_unasked (satisfies C.rules (query_of query.now)) self.now }
     {
@@ -40,7 +40,7 @@ impl<K: Copy> Recorded<K> {
         }
     }
 
-    /// The number of the insert with which the moves of its row began; `number` is that of the commit.
+    /// The number of the insert from which the commit's row descends by moves; `number` is the commit's own.
     pub(crate) fn origin(self, number: u32) -> u32
         ensures { result ≡ origin_of number self }
     {

@@ -9,7 +9,7 @@ use crate::view::View;
 use crate::write::Write;
 use std::marker::Model;
 
-/// A list of commits with memory for one more.
+/// A list of commits with memory reserved for one more.
 #[derive(Drop)]
 pub struct RoomyList<K> {
     pub(crate) kept: RoomySharedList<Recorded<K>>,
@@ -32,7 +32,7 @@ impl<K> Model for RoomyList<K> {
 }
 
 impl<K: Copy> RoomyList<K> {
-    /// The list with the commit. It takes no memory.
+    /// Adds the commit. It needs no memory.
     pub fn push(self) -> ChangeList<K>
         ensures { result ≡ with_write self }
     {
@@ -42,7 +42,7 @@ impl<K: Copy> RoomyList<K> {
         ChangeList { commits, ended }
     }
 
-    /// The list without the commit.
+    /// The list, without the commit.
     pub fn into_list(self) -> ChangeList<K>
         ensures { result ≡ self.list }
     {
@@ -54,7 +54,8 @@ impl<K: Copy> RoomyList<K> {
     }
 }
 
-/// For each number given, whether its row was ended, with a further commit.
+/// The `ended` flags, with one more for the new commit. A delete or a move also sets the flag of the row that it
+/// ends.
 fn with_letter<K: Copy>(ended: Vec<bool>, write: Write<K>) -> Vec<bool>
     requires room { length ended.items < vec_capacity ended }
     requires names { NamesEarlier (length ended.items) write }

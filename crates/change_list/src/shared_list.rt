@@ -9,7 +9,7 @@ use std::marker::Model;
 /// How many elements a segment has.
 const SEGMENT: usize = 256;
 
-/// A list that grows at its end. Its full segments are shared with its copies.
+/// A list that grows at its end. Copies share its full segments.
 #[derive(Drop)]
 pub(crate) struct SharedList<T> {
     full: Groups<T>,
@@ -28,14 +28,14 @@ impl<T> Model for SharedList<T> {
     ghost invariant = { λ l. IsSegmented l.full l.tail.items × (l.count ≡ length (joined l.full l.tail.items)) };
 }
 
-/// A list with memory for one more element.
+/// A list with memory reserved for one more element.
 #[derive(Drop)]
 pub(crate) struct RoomySharedList<T> {
     full: Groups<T>,
     tail: Vec<T>,
     count: usize,
     next: T,
-    /// The full segments with the one that the element fills, where it fills one.
+    /// The full segments including the one that the element completes, if it completes one.
     filled: Option<Groups<T>>,
 }
 
@@ -82,7 +82,7 @@ impl<T: Copy> SharedList<T> {
         at(self.tail.as_slice(), place - full * SEGMENT)
     }
 
-    /// The elements from a place on, up to the end of the segment in which it stands.
+    /// The elements from a place up to the end of its segment.
     pub(crate) fn run(&self, place: usize) -> &[T]
         requires { place < length self.now }
         ensures { IsRun self.now place result.now }
@@ -102,17 +102,17 @@ impl<T: Copy> SharedList<T> {
         self.count / SEGMENT
     }
 
-    /// How many elements it has beside those of its full segments.
+    /// How many elements come after the full segments.
     pub(crate) fn tail_len(&self) -> usize
         ensures { result ≡ length self.now % 256 }
     {
         self.count % SEGMENT
     }
 
-    /// The same list, over the same segments.
+    /// A copy of the list, which shares its full segments.
     ///
     /// # Errors
-    /// Memory was wanting.
+    /// Memory ran out.
     pub(crate) fn copy(&self) -> Result<SharedList<T>, AllocError>
         ensures { IfOk result (λ copy. copy ≡ self.now) }
     {
@@ -122,10 +122,10 @@ impl<T: Copy> SharedList<T> {
         Ok(SharedList { full, tail, count })
     }
 
-    /// The list with memory for a further element.
+    /// Reserves memory for one more element.
     ///
     /// # Errors
-    /// Memory was wanting; gives the list back.
+    /// Memory ran out; gives the list back.
     pub(crate) fn reserve(self, next: T) -> Result<RoomySharedList<T>, SharedList<T>>
         requires few { length self < 4294967295 }
         ensures list { IfOk result (λ roomy. roomy.list ≡ self) }
@@ -154,7 +154,7 @@ impl<T: Copy> SharedList<T> {
 }
 
 impl<T: Copy> RoomySharedList<T> {
-    /// The list with the element. It takes no memory.
+    /// Adds the element. It needs no memory.
     pub(crate) fn push(self) -> SharedList<T>
         ensures { result ≡ with_next self }
     {
@@ -170,7 +170,7 @@ impl<T: Copy> RoomySharedList<T> {
         SharedList { full, tail, count }
     }
 
-    /// The list without the element.
+    /// The list, without the element.
     pub(crate) fn into_list(self) -> SharedList<T>
         ensures { result ≡ self.list }
     {
@@ -184,7 +184,7 @@ impl<T: Copy> RoomySharedList<T> {
     }
 }
 
-/// The elements behind the first `place`.
+/// The elements after the first `place`.
 fn behind<T>(elements: &[T], place: usize) -> &[T]
     requires { place ≤ length elements.now }
     ensures { result.now ≡ drop place elements.now }
@@ -219,10 +219,10 @@ fn longer<T: Copy>(
     }
 }
 
-/// The segments with the one that an element fills, where the tail lacks one to be full.
+/// The segments including the one that an element completes, if the tail is one element short of a segment.
 ///
 /// # Errors
-/// Memory was wanting.
+/// Memory ran out.
 fn filled<T: Copy>(
     alloc: Global,
     full: &Groups<T>,

@@ -11,9 +11,9 @@ use crate::write::Write;
 use std::alloc::{AllocError, Global};
 use std::marker::Model;
 
-/// A list of commits as it was when the view was made. Commit 1 is the first.
+/// A list of commits as it was when the view was made. The first commit is 1.
 ///
-/// Full segments are shared with the list from which the view was made, and with its other views.
+/// Full segments are shared with the list that it was made from, and with other views.
 #[derive(Drop)]
 pub struct View<K> {
     pub(crate) kept: SharedList<Recorded<K>>,
@@ -59,8 +59,8 @@ impl<K: Copy> View<K> {
         }
     }
 
-    /// The row with a number, as its commit made it, whether it lives or not. That takes two reads at most, however often
-    /// the row was moved.
+    /// The row with a number, live or dead, as its commit made it. It takes at most two reads, however often the row
+    /// was moved.
     pub fn row(&self, number: u64) -> Option<Row<K>>
         ensures { result ≡ row_at self.now number }
     {
@@ -82,7 +82,7 @@ impl<K: Copy> View<K> {
         }
     }
 
-    /// The commit with a number, as it is kept.
+    /// The commit with a number, as it is stored.
     fn find(&self, number: u64) -> Option<Recorded<K>>
         ensures { FindsKept self.now number result }
     {
@@ -92,7 +92,7 @@ impl<K: Copy> View<K> {
         self.kept.get((number - 1) as usize)
     }
 
-    /// The commits behind the first `place`, as they are kept, up to the end of a segment.
+    /// The commits after the first `place`, as they are stored, up to the end of a segment.
     pub(crate) fn run(&self, place: usize) -> &[Recorded<K>]
         requires { place < length self.now }
         ensures { IsRun self.now place (writes_of result.now) }
@@ -100,7 +100,7 @@ impl<K: Copy> View<K> {
         self.kept.run(place)
     }
 
-    /// The tag that a commit gives to its row, where it inserts one.
+    /// The tag of the row that a commit inserts, if it inserts one.
     fn inserted_tag(&self, number: u32) -> Option<u64>
         ensures { result ≡ inserted_tag (commit_at self.now number) }
     {
@@ -110,7 +110,7 @@ impl<K: Copy> View<K> {
         }
     }
 
-    /// The number of the insert whose tag a live row has.
+    /// The number of the insert from which a live row descends, whose tag it has.
     fn origin(&self, row: u32) -> u32
         requires { status_of self.now row ≡ Live }
         ensures { HasTagOf self.now row result }
@@ -121,7 +121,7 @@ impl<K: Copy> View<K> {
         }
     }
 
-    /// A commit that may follow, as it is kept.
+    /// How a next commit is to be stored.
     pub(crate) fn record(&self, write: Write<K>) -> Recorded<K>
         requires follows { MayFollow self.now write }
         requires few { length self.now < 4294967295 }
@@ -144,17 +144,17 @@ impl<K: Copy> View<K> {
         self.kept.segments()
     }
 
-    /// How many commits it has beside those of its full segments.
+    /// How many commits come after the full segments.
     pub fn tail_len(&self) -> usize
         ensures { result ≡ length self.now % 256 }
     {
         self.kept.tail_len()
     }
 
-    /// The same list, over the same segments.
+    /// A copy of the view, which shares its full segments.
     ///
     /// # Errors
-    /// Memory was wanting.
+    /// Memory ran out.
     pub(crate) fn copy(&self) -> Result<View<K>, AllocError>
         ensures { IfOk result (λ copy. copy ≡ self.now) }
     {

@@ -1,4 +1,4 @@
-//! Queries of intervals that tests ask.
+//! Queries of intervals for tests.
 #![tactic(auto)]
 
 ghost use Rattle.std.specs.Prelude.{◌≡◌, ◌<ℤ◌, IfErr, IfOk};
@@ -8,10 +8,10 @@ ghost use Rattle.interval_queries.specs.Overlapping.{AsksForOverlaps, highest, l
 use interval_class::{Atom, Interval};
 use key_class::{Pred, Refusal, Rel};
 
-/// What overlaps the interval with these ends, both inside.
+/// Asks for what overlaps the interval with these ends, both inside.
 ///
 /// # Errors
-/// `BadConfig` where `lo` is above `hi`.
+/// `BadConfig` if `lo` is above `hi`.
 pub fn overlapping(lo: i64, hi: i64) -> Result<Pred<Atom>, Refusal>
     ensures asks { IfOk result (AsksForOverlaps lo hi) }
     ensures refused { IfErr result (λ why. (why ≡ BadConfig) × (hi <ℤ lo)) }

@@ -64,7 +64,7 @@ name_of NotSubscribed = codes "NotSubscribed"
 abbrev pub number_and_name : Refusal → List ℕ
 number_and_name refusal = decimal (number_of refusal) ++ (codes " " ++ name_of refusal)
 
--- as it is printed: a fault of a text with its place
+-- as it is printed: followed by the place, for a fault of a text
 abbrev pub refusal_text : Refusal → List ℕ
 refusal_text (QueryText place) = decimal 21 ++ (codes " " ++ (codes "QueryText" ++ (codes " " ++ decimal place)))
 refusal_text (Line place) = decimal 22 ++ (codes " " ++ (codes "Line" ++ (codes " " ++ decimal place)))

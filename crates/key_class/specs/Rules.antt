@@ -2,7 +2,7 @@ use Rattle.std.specs.Prelude.{◌≡◌, ◌↔◌, ℕ, Bool, true, List}
 use Rattle.key_class.specs.Queries.{Query, matches_query, consistent_with_query}
 use Rattle.key_class.specs.declared.sides.Side.{Side}
 
--- what a class of keys means by its calls
+-- the meaning of a class's calls
 pub record Rules (K A : Type 0) : Type 1 where
   -- whether a row's key matches an atom
   pub is_match : A → K → Bool
@@ -14,7 +14,7 @@ pub record Rules (K A : Type 0) : Type 1 where
   pub is_cover : K → K → Bool
   -- how large a key is
   pub size_of : K → ℕ
-  -- which sides a split of these keys gives, with at least so many on each
+  -- which sides a split of these keys may give, with at least this many on each side
   pub picks : List K → ℕ → List Side → Type 0
 
 -- whether a key satisfies a query
@@ -33,7 +33,7 @@ pub record KeyLaws {K : Type 0} (is_cover : K → K → Bool) (union : K → K �
   pub right : (a b : K) → is_cover (union a b) b ≡ true
   pub least : (a b c : K) → is_cover c a ≡ true → is_cover c b ≡ true → is_cover c (union a b) ≡ true
 
--- the laws of the rules, and that tests of equality are exact
+-- the laws of the rules, and that the equality tests are exact
 pub record IsLawful {K A : Type 0} (rules : Rules K A) (same_key : K → K → Bool) (same_atom : A → A → Bool) : Type 0 where
   pub bounds : KeyLaws rules.is_cover rules.union_of
   -- a bound that covers a matching key is consistent with the atom

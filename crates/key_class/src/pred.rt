@@ -19,7 +19,7 @@ pub enum Pred<A> {
 }
 
 impl<A> Pred<A> {
-    /// Whether the depth is at most `limit`. No more levels than `limit` are read, so a query of any depth is safe here.
+    /// Whether the depth is at most `limit`. It reads only `limit` levels, so it is safe for a query of any depth.
     pub fn is_within_depth(&self, limit: u32) -> bool
         ensures { IsTrue result ↔ (depth_of (query_of self.now) ≤ limit) }
     {
@@ -37,10 +37,10 @@ impl<A> Pred<A> {
 }
 
 impl<A: Copy> Pred<A> {
-    /// The same query again.
+    /// A copy of the query.
     ///
     /// # Errors
-    /// Memory was wanting; this query is as it was.
+    /// Memory ran out; this query is unchanged.
     pub fn copy(&self, alloc: Global) -> Result<Pred<A>, AllocError>
         ensures { IfOk result (λ copy. query_of copy ≡ query_of self.now) }
     {
@@ -108,8 +108,8 @@ impl<A: Copy + Eq> Pred<A> {
     }
 }
 
-/// Nothing is done. The clauses say that a bound which covers a matching key is consistent with the query, and so
-/// that a bound which isn't consistent has no matching key below it.
+/// A theorem, no code: a bound that covers a matching key is consistent with the query, so below a bound that isn't
+/// consistent no key matches.
 pub fn bounds_miss_no_match<C: KeyClass>()
     ensures consistent { BoundsAdmitMatches C.rules }
     ensures no_match { NoneSatisfiesBelow C.rules }

@@ -9,17 +9,17 @@ use thiserror::Error;
 /// Why a call was refused. Each refusal has a number and a name, and changes nothing.
 #[derive(Clone, Copy, Debug, PartialEq, Eq)]
 pub enum Refusal {
-    /// Memory was wanting in this call.
+    /// The call ran out of memory.
     OutOfMemory,
-    /// A limit of the configuration, a room, a query's depth, a number of seats or pumps is out of range.
+    /// A limit of the configuration, a room, a query's depth, or the number of seats or pumps is out of range.
     BadConfig,
     /// Fewer pages are left than the step needs.
     PagesFull,
     /// The commit list has the configured length.
     CommitsFull,
-    /// As many cursors are open as may be, or the last serial was given.
+    /// The most cursors are open, or the last serial was given.
     CursorsFull,
-    /// As many finders are open as may be, or the last serial was given.
+    /// The most finders are open, or the last serial was given.
     FindersFull,
     /// The page or entry named doesn't exist or doesn't fit the step.
     NotHere,
@@ -29,11 +29,11 @@ pub enum Refusal {
     TooFew,
     /// The page's cover doesn't cover the key.
     Uncovered,
-    /// The page's sibling is not yet posted.
+    /// The page's sibling isn't posted yet.
     Owed,
-    /// No parent entry names the page yet.
+    /// No parent has a branch to the page yet.
     Unhung,
-    /// The sides have another length than the entries, or a side has too few of them.
+    /// There isn't a side for each entry, or a side has too few of them.
     BadSides,
     /// No insert or move has that number.
     NoSuchRow,
@@ -49,13 +49,13 @@ pub enum Refusal {
     Idle,
     /// No open finder has the serial.
     NoSuchFinder,
-    /// The query's text is refused at that byte.
+    /// The query's text is wrong at that byte.
     QueryText(u64),
-    /// The line is refused at that byte.
+    /// The line is wrong at that byte.
     Line(u64),
-    /// The number to be followed from is greater than the number of commits.
+    /// The commit to follow is greater than the number of commits.
     FromFuture,
-    /// As many subscriptions are open at a feed as may be, or the last serial was given.
+    /// The feed has the most subscriptions, or the last serial was given.
     FeedFull,
     /// No subscription with the serial is open at a feed.
     NotSubscribed,
@@ -111,7 +111,7 @@ impl Refusal {
         }
     }
 
-    /// The name that stands beside the number in an answer.
+    /// The name that follows the number in an answer.
     pub fn name(self) -> &'static str
         ensures { result.now ≡ name_of self }
     {

@@ -10,11 +10,11 @@ use key_class::{KeyClass, Pred, Refusal};
 use std::alloc::Global;
 
 /// Whether a client of a query, opened after so many commits, may have been given these items: the rows of its
-/// snapshot, each once and in any order, then the later changes in the order of their commits, as far as they were
-/// given, and each mark behind all that it stands for. A client that follows that many commits has no rows.
+/// snapshot, each once and in any order, then the later changes in commit order up to some commit, and each mark
+/// after everything that it stands for. A client that follows that many commits has no rows.
 ///
 /// # Errors
-/// Want of memory.
+/// `OutOfMemory`.
 pub fn is_delivered<C: KeyClass>(
     alloc: Global,
     commits: &View<C::Key>,
@@ -36,10 +36,10 @@ pub fn is_delivered<C: KeyClass>(
     is_listed::<C>(alloc, commits, query, opened, items)
 }
 
-/// Whether these items may have been given with the rows of the snapshot.
+/// Whether these items may have been given, with the rows of the snapshot.
 ///
 /// # Errors
-/// Want of memory.
+/// `OutOfMemory`.
 fn is_listed<C: KeyClass>(
     alloc: Global,
     commits: &View<C::Key>,

@@ -8,7 +8,7 @@ use crate::sameness::is_same_item;
 use change_list::{Item, View, change_item};
 use key_class::{KeyClass, Pred};
 
-/// The first place from another on whose commit has an item, or the number of commits where there is none.
+/// The first place, from another on, whose commit has an item; the number of commits if there is none.
 fn next_place<C: KeyClass>(
     commits: &View<C::Key>,
     query: &Pred<C::Atom>,
@@ -42,14 +42,14 @@ fn has_item<C: KeyClass>(
     }
 }
 
-/// Whether a number lies from the first to the last, both allowed.
+/// Whether a number is from the first to the last, both included.
 fn is_from(first: u64, last: u64, number: u64) -> bool
     ensures { IsTrue result ↔ IsFrom first last number }
 {
     first <= number && number <= last
 }
 
-/// Whether the items may be given behind the rows of the snapshot.
+/// Whether the items may be given after the rows of the snapshot.
 pub(crate) fn is_followed<C: KeyClass>(
     commits: &View<C::Key>,
     query: &Pred<C::Atom>,

@@ -1,4 +1,4 @@
-//! Whether the items that a client of a query was given are such as it may be given.
+//! Checks whether the items that a client of a query was given are ones that it may be given.
 #![tactic(auto)]
 
 mod delivery;

@@ -12,10 +12,10 @@ use key_class::{KeyClass, Pred, Refusal};
 use std::alloc::Global;
 use std::marker::Model;
 
-/// The rows of a snapshot that were not yet given.
+/// The rows of a snapshot that haven't been given yet.
 #[derive(Drop)]
 pub(crate) struct Remaining<K> {
-    /// At place n - 1 row n, where it remains.
+    /// At place n - 1 row n, if it remains.
     slots: Vec<Option<Row<K>>>,
 }
 
@@ -53,7 +53,7 @@ impl<K: Copy> Remaining<K> {
     }
 }
 
-/// Whether a row stands in the slot of its number.
+/// Whether a row is in the slot of its number.
 fn has_row<C: KeyClass>(slots: &[Option<Row<C::Key>>], row: Row<C::Key>) -> bool
     ensures { IsTrue result ↔ IsInSlot slots.now row }
 {
@@ -66,7 +66,7 @@ fn has_row<C: KeyClass>(slots: &[Option<Row<C::Key>>], row: Row<C::Key>) -> bool
     }
 }
 
-/// Whether no row stands in the slots.
+/// Whether all slots are empty.
 fn are_empty<K: Copy>(slots: &[Option<Row<K>>]) -> bool
     ensures { IsTrue result ↔ (rows_in slots.now ≡ []) }
 {
@@ -81,7 +81,7 @@ fn are_empty<K: Copy>(slots: &[Option<Row<K>>]) -> bool
 /// The rows of a query's snapshot after so many commits.
 ///
 /// # Errors
-/// Want of memory.
+/// `OutOfMemory`.
 pub(crate) fn snapshot<C: KeyClass>(
     alloc: Global,
     commits: &View<C::Key>,
@@ -104,10 +104,11 @@ pub(crate) fn snapshot<C: KeyClass>(
     Ok(Remaining { slots })
 }
 
-/// The slots with one for a further commit, given the row that it makes. The slot of a row that it ends is emptied.
+/// The slots with one more for a further commit, given the row that it makes. The slot of a row that it ends is
+/// emptied.
 ///
 /// # Errors
-/// Want of memory.
+/// `OutOfMemory`.
 fn with_slot<C: KeyClass>(
     slots: Vec<Option<Row<C::Key>>>,
     query: &Pred<C::Atom>,
@@ -127,7 +128,7 @@ fn with_slot<C: KeyClass>(
     Ok(slots)
 }
 
-/// Takes the rows with which the items begin. Gives how many they are, or nothing where one of them doesn't remain.
+/// Takes the rows with which the items begin. Gives how many there are, or `None` if one of them doesn't remain.
 pub(crate) fn take_rows<C: KeyClass>(
     remaining: &mut Remaining<C::Key>,
     items: &[Item<C::Key>],

@@ -10,7 +10,7 @@ pub(crate) fn is_same_row<C: KeyClass>(a: Row<C::Key>, b: Row<C::Key>) -> bool
     a.row == b.row && a.key == b.key && a.tag == b.tag
 }
 
-/// Whether two items are of one kind and have the same parts.
+/// Whether two items are of the same kind and have the same parts.
 pub(crate) fn is_same_item<C: KeyClass>(a: Item<C::Key>, b: Item<C::Key>) -> bool
     ensures { IsTrue result ↔ (a ≡ b) }
 {

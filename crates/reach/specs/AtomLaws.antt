@@ -21,7 +21,7 @@ use Rattle.set_class.specs.Sets as sets
 use Rattle.reach.specs.Atoms.{interval_reach, overlapping_interval, same_interval, box_reach, overlapping_box, same_box, reach_by, if_some, set_reach, overlapping_set, same_set}
 use Rattle.reach.specs.Reaches.{MatchesItself, MatchesOverlap}
 
--- an interval meets one that it covers, and one that covers it
+-- an interval overlaps one that it covers, and one that covers it
 interval_covers : (outer inner : Interval) → intervals.is_cover outer inner ≡ true → intervals.is_meeting outer inner ≡ true
 interval_covers outer inner h =
     let p = interval_laws.cover_from outer inner h in
@@ -71,17 +71,17 @@ box_overlaps a key reach is h =
     let same : a.operand ≡ reach = cc in
     subst (λ k. boxes.is_meeting k key ≡ true) same (box_related a.rel a.operand key h)
 
--- two sets meet in either order
+-- overlapping is symmetric
 sets_meet : (a b : Elements) → sets.is_meeting a b ≡ true → sets.is_meeting b a ≡ true
 sets_meet a b h = subst (λ m. not (m == 0) ≡ true) (and_comm a.mask b.mask) h
 
--- a set with an element meets each set that holds it
+-- a set with an element overlaps each set that holds it
 set_held : (inner outer : Elements) → (inner.mask == 0) ≡ false → sets.is_cover outer inner ≡ true → sets.is_meeting inner outer ≡ true
 set_held inner outer some h =
     let whole : bit_and inner.mask outer.mask ≡ inner.mask = and_comm inner.mask outer.mask ∙ eqb-true _ _ h in
     rw (whole, some) refl
 
--- what `if_some` gives is the set, which has an element
+-- what `if_some` gives is the set itself, which has an element
 some_given : (set reach : Elements) → if_some set ≡ Some reach → (set ≡ reach) × ((set.mask == 0) ≡ false)
 some_given set reach is = by_test (set.mask == 0) refl
   where

@@ -9,7 +9,7 @@ use Rattle.box_class.specs.declared.atom.Atom as box
 use Rattle.set_class.specs.declared.elements.Elements.{Elements}
 use Rattle.set_class.specs.declared.atom.Atom as set
 
--- an interval has a point, so that whatever its relation to an operand is, it overlaps the operand
+-- an interval has a point, so whatever its relation to an operand is, it overlaps the operand
 abbrev pub interval_reach : interval.Atom → Option Interval
 interval_reach a = Some a.operand
 
@@ -29,11 +29,11 @@ overlapping_box key = record { rel = Overlaps; operand = key }
 abbrev pub same_box : BoxKey → box.Atom
 same_box key = record { rel = Same; operand = key }
 
--- the set where it has an element
+-- the set, if it has an element
 abbrev pub if_some : Elements → Option Elements
 if_some set = if set.mask == 0 then None else Some set
 
--- what is within a set may be empty, and any set holds the empty one, so that neither overlaps anything by that
+-- what is within a set may be empty, and any set holds the empty one, so neither has to overlap anything
 abbrev pub reach_by : Rel → Elements → Option Elements
 reach_by Overlaps operand = Some operand
 reach_by Within operand = None

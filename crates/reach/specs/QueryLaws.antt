@@ -11,7 +11,7 @@ module _ {K A : Type 0} (is_match : A → K → Bool) (reach_of : A → Option K
   list_any-one : (p : K → Bool) (k : K) → p k ≡ true → list_any p (k ∷ []) ≡ true
   list_any-one p k h = rw h refl
 
-  -- what the narrower part has is what one of the two has
+  -- what the narrower of two lists has, one of the two has
   one_of_two : (left right : Option (List K)) (keys : List K) → narrower size_of left right ≡ Some keys → (left ≡ Some keys) ⊎ (right ≡ Some keys)
   one_of_two (Some left) (Some right) keys is = by_test (nat_le (total_size size_of left) (total_size size_of right)) is
     where
@@ -21,7 +21,7 @@ module _ {K A : Type 0} (is_match : A → K → Bool) (reach_of : A → Option K
   one_of_two (Some left) None keys is = inl is
   one_of_two None right keys is = inr is
 
-  -- what both have together is what each of them has
+  -- what two lists have together, one of them has
   both_of_two : (left right : Option (List K)) (keys : List K) → together left right ≡ Some keys
       → (l : List K) × (r : List K) × (left ≡ Some l) × (right ≡ Some r) × (keys ≡ l ++ r)
   both_of_two (Some left) (Some right) keys is = (left, right, refl, refl, (cc))

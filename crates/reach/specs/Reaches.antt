@@ -1,4 +1,4 @@
--- Where the keys lie that match an atom, and those that satisfy a query.
+-- Where the keys are that match an atom, and those that satisfy a query.
 use Rattle.std.specs.Prelude.{◌≡◌, ℕ, ◌-◌, ◌^◌, Bool, true, List, [], ◌∷◌, ◌++◌, min, sum_by, nat_le, Option, Some, None, option_map, if◌then◌else◌}
 use Rattle.std.specs.List.{list_any}
 use Rattle.key_class.specs.Queries.{Query, atom, both, either, never, matches_query}
@@ -18,26 +18,26 @@ abbrev pub greatest_size : ℕ
 greatest_size = 2 ^ 128 - 1
 
 module _ {K : Type 0} (size_of : K → ℕ) where
-  -- how large some keys are together
+  -- the total size of some keys
   abbrev pub total_size : List K → ℕ
   total_size keys = min (sum_by size_of keys) greatest_size
 
-  -- the keys that are smaller together; the first where both are as large, and any where there are no others
+  -- the keys whose total size is smaller; the first list if both are as large; if one is missing, the other
   abbrev pub narrower : Option (List K) → Option (List K) → Option (List K)
   narrower (Some left) (Some right) = if nat_le (total_size left) (total_size right) then Some left else Some right
   narrower (Some left) None = Some left
   narrower None right = right
 
 module _ {K : Type 0} where
-  -- the keys of both; none where one has none
+  -- the keys of both lists; none if one is missing
   abbrev pub together : Option (List K) → Option (List K) → Option (List K)
   together (Some left) (Some right) = Some (left ++ right)
   together (Some left) None = None
   together None right = None
 
 module _ {K A : Type 0} (reach_of : A → Option K) (size_of : K → ℕ) where
-  -- The keys under which a query is looked for, or none where any key may satisfy it: an atom's reach, those of the narrower
-  -- part of an And, those of both parts of an Or.
+  -- The keys under which a query is looked for, or none if any key may satisfy it: an atom's reach, the keys of the
+  -- narrower part of an And, those of both parts of an Or.
   abbrev pub reaches_of : Query A → Option (List K)
   reaches_of (atom a) = option_map (λ key. key ∷ []) (reach_of a)
   reaches_of (both left right) = narrower size_of (reaches_of left) (reaches_of right)

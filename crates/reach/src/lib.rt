@@ -1,5 +1,5 @@
-//! Where the keys that match a query lie: the keys under which it is to be looked for, so that who holds a key finds the
-//! queries that it may match in a tree of such keys.
+//! Where the keys that match a query are: the keys under which the query is to be looked for. In a tree of such keys,
+//! the queries that a given key may match are those found by overlap with it.
 #![tactic(auto)]
 
 mod boxes;

@@ -6,11 +6,11 @@ use crate::reach::Reach;
 use key_class::{KeyClass, Pred};
 use std::alloc::{AllocError, Global};
 
-/// The keys under which a query is to be looked for, or none where any key may satisfy it. Each key that satisfies the query
-/// overlaps one of them.
+/// The keys under which a query is to be looked for, or `None` if any key may satisfy it. Each key that satisfies the
+/// query overlaps one of them.
 ///
 /// # Errors
-/// Want of memory.
+/// `OutOfMemory`.
 pub fn reaches<C: Reach>(
     alloc: Global,
     query: &Pred<C::Atom>,
@@ -46,7 +46,7 @@ pub fn reaches<C: Reach>(
     }
 }
 
-/// The keys that are smaller together, the first where both are as large, and any where there are no others.
+/// The keys whose total size is smaller, the first list if both are as large; if one list is missing, the other.
 fn narrower<C: KeyClass>(
     left: Option<Vec<C::Key>>,
     right: Option<Vec<C::Key>>,
@@ -67,7 +67,7 @@ fn narrower<C: KeyClass>(
     }
 }
 
-/// How large some keys are together. A sum past the greatest number is that number.
+/// The total size of some keys. A sum that is too large is the greatest number.
 fn total_size<C: KeyClass>(keys: &[C::Key]) -> u128
     ensures { result ≡ total_size C.rules.size_of keys.now }
 {

@@ -3,15 +3,15 @@ ghost use Rattle.reach.specs.Reaches.{MatchesItself, MatchesOverlap};
 
 use key_class::KeyClass;
 
-/// A class whose atoms tell where the keys lie that match them.
+/// A class whose atoms tell where the keys are that match them.
 pub trait Reach: KeyClass {
-    /// The key that every key which matches the atom overlaps, or none where there is no such key.
+    /// The key that every matching key overlaps, or none if there is no such key.
     ghost reach_of: { Self.Atom → Option Self.Key };
 
-    /// The atom that a key matches where it overlaps this one.
+    /// The atom for the keys that overlap this one.
     ghost overlap_with: { Self.Key → Self.Atom };
 
-    /// The atom that asks for this key.
+    /// The atom for this key itself.
     ghost same_with: { Self.Key → Self.Atom };
 
     fn reach(atom: &Self::Atom) -> Option<Self::Key>
@@ -23,7 +23,7 @@ pub trait Reach: KeyClass {
     fn same(key: Self::Key) -> Self::Atom
         ensures { result ≡ same_with key };
 
-    /// A key that matches an atom overlaps its reach.
+    /// A key that matches an atom overlaps the atom's reach.
     ghost reaches: { MatchesOverlap Self.rules.is_match reach_of overlap_with };
 
     /// A key matches the atom that asks for it.

@@ -12,7 +12,8 @@ impl Reach for Sets {
 
     ghost same_with = { same_set };
 
-    /// The empty set overlaps nothing. It is within any set, and any set holds it.
+    /// The empty set overlaps nothing, but it is within any set, and any set holds it. So `within` has no reach, and
+    /// neither do `holds` and `same` of the empty set.
     fn reach(atom: &Atom) -> Option<Elements> {
         match atom.rel {
             Rel::Overlaps => Some(atom.operand),

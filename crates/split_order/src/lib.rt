@@ -1,4 +1,4 @@
-//! The order in which a split takes the entries of a page: by the ranks of their keys.
+//! The order in which a split takes the entries of a page: by the rank of their keys, then by place.
 #![tactic(auto)]
 
 mod ranked;
