@@ -1,4 +1,4 @@
--- The steps of an insertion that change pages alone.
+-- The steps of an insertion that change only pages.
 use Rattle.std.specs.Prelude.{◌≡◌, ◌⊎◌, ℕ, ◌+◌, ◌<◌, Bool, length, None, IsPermutation}
 use Rattle.key_class.specs.Rules.{Rules}
 use Rattle.mailbox.specs.Outlets.{Rule}
@@ -14,11 +14,11 @@ use Rattle.world.specs.Resting.{Rests, deaths}
 use Rattle.world.specs.States.{State, with_pages}
 use Rattle.world.specs.Steps.{Posts}
 
--- memory was wanting, or fewer than two pages are left
+-- memory ran out, or fewer than two pages are left
 abbrev pub IsWanting : {K : Type 0} → SearchTree K → Refusal → Type 0
 IsWanting s why = (why ≡ refusal.OutOfMemory) ⊎ ((why ≡ refusal.PagesFull) × (s.limit < length s.tree.pages + 2))
 
--- the same, or there are as many commits as may be
+-- the same, or there are as many commits as allowed
 abbrev pub IsFullOrWanting : {K : Type 0} → SearchTree K → Refusal → Type 0
 IsFullOrWanting s why = (why ≡ refusal.CommitsFull) ⊎ IsWanting s why
 
@@ -27,7 +27,7 @@ abbrev pub MayPlace : {K : Type 0} → (K → K → Bool) → SearchTree K → �
 MayPlace is_cover s leaf key = first_failing (place_tests is_cover s leaf key) ≡ None
 
 module _ {C K A : Type 0} where
-  -- the event changes pages alone, and no test of it fails but for want of pages
+  -- the event changes only pages, and none of its tests fails except for too few pages
   abbrev pub MayMove : (K → K → Bool) → State K A → Event C K A → Type 0
   MayMove is_cover old (event.Enlarge page child key) = first_failing (enlarge_tests is_cover old.search page child key) ≡ None
   MayMove is_cover old (event.Split page sides) = OnlyPagesFull (split_tests old.search page sides)
@@ -35,7 +35,7 @@ module _ {C K A : Type 0} where
   MayMove is_cover old (event.Grow sides) = OnlyPagesFull (grow_tests old.search sides)
   MayMove is_cover old event = ⊥
 
-  -- what such an event makes of a world
+  -- how such an event changes a world
   abbrev pub Moves : (K → K → K) → State K A → Event C K A → State K A → Type 0
   Moves union old (event.Enlarge page child key) new = new ≡ with_pages old (after_enlarge union old.search.tree page child key)
   Moves union old (event.Split page sides) new = new ≡ with_pages old (after_split union old.search.tree page sides)
@@ -44,7 +44,7 @@ module _ {C K A : Type 0} where
   Moves union old event new = ⊥
 
 module _ {K A : Type 0} (rules : Rules K A) (rule : Rule) where
-  -- pages alone have changed, and none of their rows
+  -- only pages have changed, and none of their rows
   pub record MovesPages (old new : State K A) : Type 0 where
     pub rests : Rests rules rule old new
     pub commits : new.commits ≡ old.commits

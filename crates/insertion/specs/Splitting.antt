@@ -1,4 +1,4 @@
--- What comes of a split that a way needs.
+-- The results of a split that a way needs.
 use Rattle.std.specs.Prelude.{◌≡◌, ◌≢◌, ◌⊎◌, ℕ, ◌*◌, ◌<◌, List, Some}
 use Rattle.key_class.specs.Rules.{Rules}
 use Rattle.key_class.specs.declared.refusal.Refusal.{Refusal}
@@ -16,18 +16,18 @@ use Rattle.world.specs.declared.event.Event.TheVariants as event
 use Rattle.insertion.specs.PageSteps.{Moves}
 
 module _ {C K A : Type 0} (rules : Rules K A) (rule : Rule) where
-  -- one of the event's tests fails, and not that of the pages left
+  -- one of the event's tests fails, other than that of the pages left
   pub record IsBarred (s : State K A) (e : Event C K A) : Type 0 where
     pub why : Refusal
     pub fails : FirstFails (tests rules rule s e) why
     pub not_full : why ≢ refusal.PagesFull
 
-  -- the event was made, or it is barred and nothing was done
+  -- the event was made; or it is barred, and nothing was done
   abbrev pub MovesUnlessBarred : State K A → Event C K A → State K A → Type 0
   MovesUnlessBarred old e new = Moves rules.union_of old e new ⊎ (IsBarred old e × (new ≡ old))
 
 module _ {K A : Type 0} where
-  -- the page is the root or isn't there, or has too few entries for two sides
+  -- the page is the root or doesn't exist, or has too few entries for two sides
   abbrev pub HasNoSplit : State K A → ℕ → Type 0
   HasNoSplit s page =
       ((why : Refusal) × FirstFails (prepare_split_tests s page) why) ⊎ (entries_of (page_at s.search.tree page) < 2 * s.search.least)
@@ -39,13 +39,13 @@ module _ (C : Type 0) {K A : Type 0} (rules : Rules K A) (rule : Rule) where
     pub worked : task.sides ≡ Some sides
     pub moves : MovesUnlessBarred {C = C} rules rule old (event.Split task.number sides) new
 
-  -- the page was split by sides that the class picks for it and that part it well, or that is barred
+  -- the page was split by sides that the class picks for it and that split it well, or that is barred
   pub record SplitsUnlessBarred (old : State K A) (page : ℕ) (new : State K A) : Type 0 where
     pub sides : List Side
     pub picked : IsPick rules old.search page sides
     pub parts : PartsPage old.search page sides
     pub moves : MovesUnlessBarred {C = C} rules rule old (event.Split page sides) new
 
-  -- the same, or the page has no split and nothing was done
+  -- the same; or the page can't be split, and nothing was done
   abbrev pub SplitsIfAny : State K A → ℕ → State K A → Type 0
   SplitsIfAny old page new = SplitsUnlessBarred old page new ⊎ (HasNoSplit old page × (new ≡ old))

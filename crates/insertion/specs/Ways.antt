@@ -12,8 +12,8 @@ use Rattle.insertion.specs.PageSteps.{MayPlace, Moves}
 use Rattle.insertion.specs.Visits.{ResumesAt}
 
 module _ (C : Type 0) {K A : Type 0} (rules : Rules K A) (key : K) where
-  -- The step was made from here, and the way goes on at the next page: at the child, at the root that grew, or after a
-  -- posting or a split at the page where it was.
+  -- The step was made from here, and the way goes on at the next page: at the child, at the root that grew, or, after
+  -- a posting or a split, at the page where it was.
   abbrev pub TakesStep : State K A → ℕ → Step → State K A → ℕ → Type 0
   TakesStep old here (step.Down child) new next = (next ≡ child) × (new ≡ old)
   TakesStep old here (step.Enlarge parent child) new next = (next ≡ child) × Moves {C = C} rules.union_of old (event.Enlarge parent child key) new
@@ -22,18 +22,18 @@ module _ (C : Type 0) {K A : Type 0} (rules : Rules K A) (key : K) where
   TakesStep old here (step.Split child sides) new next = ResumesAt rules.is_cover new.search here key next × Moves {C = C} rules.union_of old (event.Split child sides) new
   TakesStep old here (step.Place leaf) new next = ⊥
 
-  -- the way goes on from here by the step that comes next
+  -- the way goes on from here by the next step
   pub record AdvancesTo (old : State K A) (here : ℕ) (new : State K A) (next : ℕ) : Type 0 where
     pub taken : Step
     pub comes_next : IsNextStep rules old.search here key taken
     pub takes : TakesStep old here taken new next
 
-  -- a way of the key that began at the root of the first world has come to this page, and made this world
+  -- a way of the key that began at the root of the first world has reached this page, with this world
   pub data HasCome (first : State K A) : State K A → ℕ → Type 0 where
     begun : HasCome first first 0
     gone_on : {now new : State K A} {here next : ℕ} → HasCome first now here → AdvancesTo now here new next → HasCome first new next
 
-  -- a way has come to a leaf that takes the key, and there the next commit placed the row
+  -- a way has reached a leaf that takes the key, and there the next commit placed the row
   pub record PlacesByWay (first : State K A) (tag : ℕ) (new : State K A) : Type 0 where
     pub now : State K A
     pub leaf : ℕ

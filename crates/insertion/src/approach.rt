@@ -1,4 +1,4 @@
-//! The way of a row by visits to a leaf that takes its key. Between them others may change the world.
+//! The way of a key to a leaf that takes it, made visit by visit. Between visits others may change the world.
 ghost use Rattle.std.specs.Prelude.{◌≡◌, ◌≢◌, ◌<◌, length, IfOk, IfErr, OnErr, IsTrue, IsFalse};
 ghost use Rattle.descent.specs.NextSteps.{HasRoom};
 ghost use Rattle.world.specs.Promises.{KeepsMailboxes};
@@ -20,24 +20,24 @@ use world::{Event, World};
 pub enum Approach {
     /// It goes on at this page.
     On(u32),
-    /// This page is full: once it is split, the way goes on where it was.
+    /// This page is full. Once it is split, the way goes on where it was.
     Split(u32),
     /// This leaf takes the key.
     At(u32),
 }
 
-/// What is to be done next on a way.
+/// What to do next on a way.
 #[derive(Drop)]
 enum Next<C: KeyClass> {
-    /// The event, and then the way goes on at this page.
+    /// Make the event; then the way goes on at this page.
     Make(Event<C>, u32),
-    /// This page is to be split.
+    /// Split this page.
     Split(u32),
     /// This leaf takes the key.
     At(u32),
 }
 
-/// Whether a way for the key may go on at the page.
+/// Whether a way for the key can go on at the page.
 fn may_go_on<C: KeyClass>(search: &SearchTree<C>, page: u32, key: C::Key) -> bool
     ensures may { IsTrue result → MayGoOn C.rules.is_cover search.now page key }
     ensures may_not { IsFalse result → ¬ MayGoOn C.rules.is_cover search.now page key }
@@ -53,7 +53,7 @@ fn may_go_on<C: KeyClass>(search: &SearchTree<C>, page: u32, key: C::Key) -> boo
     search.fan() > here.entry_count()
 }
 
-/// Where a way for the key goes on that has come to the page: there, or at the root where it may not any more.
+/// Where a way for the key that has reached the page goes on: there, or at the root if it can't go on there any more.
 pub(crate) fn resumed<C: KeyClass, O: Outlet<C::Key>>(
     world: &World<C, O>,
     page: u32,
@@ -72,7 +72,7 @@ pub(crate) fn resumed<C: KeyClass, O: Outlet<C::Key>>(
     }
 }
 
-/// What is to be done next on a way that goes on from the page. It goes down as far as branches lead without anything to be done.
+/// What to do next on a way that goes on from the page. It follows branches down as long as there is nothing to do.
 fn next_on_way<C: KeyClass>(
     alloc: Global,
     search: &SearchTree<C>,
@@ -107,12 +107,12 @@ fn next_on_way<C: KeyClass>(
     }
 }
 
-/// One visit of a way to a world, which makes one event or none: it goes down from the page to which the way has come, or
-/// from the root where it may not go on there any more, until an event is due, and makes that. A split is told and not made. At a
-/// leaf that takes the key nothing is done.
+/// One visit of a way to a world, which makes at most one event. From the page that the way has reached, or from the
+/// root if it can't go on there any more, it goes down until an event is due, and makes that. It only reports that a
+/// split is needed. At a leaf that takes the key it does nothing.
 ///
 /// # Errors
-/// `PagesFull`, and want of memory. Nothing is changed then.
+/// `PagesFull` or `OutOfMemory`. Nothing is changed then.
 pub fn approach_leaf<C: KeyClass, O: Outlet<C::Key>>(
     alloc: Global,
     world: &mut World<C, O>,

@@ -1,4 +1,5 @@
-//! Insertions of a row into a world: whole, with the way down the tree and each step that it takes there, and by visits.
+//! Insertion of a row into a world, with the way down the tree and each step on it: as a whole call, or visit by
+//! visit.
 #![tactic(auto)]
 
 mod approach;

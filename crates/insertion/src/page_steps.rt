@@ -12,10 +12,10 @@ use key_class::{KeyClass, Refusal};
 use mailbox::Outlet;
 use world::{Event, Reply, Stamped, World};
 
-/// Carries out a step that changes pages alone, for a seat.
+/// Makes a step that changes only pages, for a seat.
 ///
 /// # Errors
-/// `PagesFull` where fewer than two pages are left, and want of memory. Nothing is changed then.
+/// `PagesFull` if fewer than two pages are left, or `OutOfMemory`. Nothing is changed then.
 pub(crate) fn move_pages<C: KeyClass, O: Outlet<C::Key>>(
     world: &mut World<C, O>,
     seat: u32,
@@ -36,10 +36,10 @@ pub(crate) fn move_pages<C: KeyClass, O: Outlet<C::Key>>(
     }
 }
 
-/// Adds a row to a leaf for a seat.
+/// Adds a row to a leaf, for a seat.
 ///
 /// # Errors
-/// Memory was wanting; nothing is changed then.
+/// Memory ran out; nothing is changed then.
 pub(crate) fn place<C: KeyClass, O: Outlet<C::Key>>(
     world: &mut World<C, O>,
     seat: u32,

@@ -1,4 +1,4 @@
-//! Splits of an insertion by visits: their sides may be worked out beside the world.
+//! Splits for an insertion made visit by visit. Their sides may be worked out without the world.
 ghost use Rattle.std.specs.Prelude.{◌≡◌, ◌≢◌, IfOk, IfErr, IsTrue, OnErr, OnOk};
 ghost use Rattle.key_class.specs.Refusals.{IsEither};
 ghost use Rattle.world.specs.Promises.{KeepsMailboxes};
@@ -12,7 +12,7 @@ use key_class::{KeyClass, Refusal};
 use mailbox::Outlet;
 use world::{Event, Reply, SplitTask, World};
 
-/// Tells a refusal by want of pages or memory; after any other the split is given up.
+/// Passes on a refusal for lack of pages or memory. After any other refusal the split is simply given up.
 fn tell_want(why: Refusal) -> Result<(), Refusal>
     ensures told { IfErr result (λ told. told ≡ why) }
     ensures refusals { IfErr result (IsEither Refusal.OutOfMemory Refusal.PagesFull) }
@@ -26,10 +26,10 @@ fn tell_want(why: Refusal) -> Result<(), Refusal>
     }
 }
 
-/// Makes an event that changes pages alone. Where the state of the pages refuses it, nothing is done.
+/// Makes an event that changes only pages. If the state of the pages refuses it, nothing is done.
 ///
 /// # Errors
-/// `PagesFull`, and want of memory. Nothing is changed then.
+/// `PagesFull` or `OutOfMemory`. Nothing is changed then.
 fn make<C: KeyClass, O: Outlet<C::Key>>(
     world: &mut World<C, O>,
     seat: u32,
@@ -50,11 +50,11 @@ fn make<C: KeyClass, O: Outlet<C::Key>>(
     }
 }
 
-/// Splits a page by a task that was worked on beside the world. Whether it came in time: where the page is no more as the
-/// task has it, nothing is changed. A split that the state of the pages refuses is given up.
+/// Splits a page by a task that was worked out without the world. False if it came too late: then the page has
+/// changed, and nothing is done. A split that the state of the pages refuses is given up.
 ///
 /// # Errors
-/// `PagesFull`, and want of memory. Nothing is changed then.
+/// `PagesFull` or `OutOfMemory`. Nothing is changed then.
 pub fn split_prepared<C: KeyClass, O: Outlet<C::Key>>(
     world: &mut World<C, O>,
     seat: u32,
@@ -79,7 +79,7 @@ pub fn split_prepared<C: KeyClass, O: Outlet<C::Key>>(
     }
 }
 
-/// Tells a refusal by want of memory; after any other the split is given up.
+/// Passes on a refusal for lack of memory. After any other refusal the split is simply given up.
 fn give_up(why: Refusal) -> Result<(), Refusal>
     ensures told { IfErr result (λ told. told ≡ Refusal.OutOfMemory) }
     ensures other { OnOk result (why ≢ Refusal.OutOfMemory) }
@@ -93,7 +93,7 @@ fn give_up(why: Refusal) -> Result<(), Refusal>
 /// Splits a page in one visit. A split that the state of the pages refuses is given up.
 ///
 /// # Errors
-/// `PagesFull`, and want of memory. Nothing is changed then.
+/// `PagesFull` or `OutOfMemory`. Nothing is changed then.
 pub fn split_at_once<C: KeyClass, O: Outlet<C::Key>>(
     world: &mut World<C, O>,
     seat: u32,

@@ -1,4 +1,4 @@
-//! An insertion by visits, between which others may change the world.
+//! An insertion made visit by visit. Between visits others may change the world.
 ghost use Rattle.std.specs.Prelude.{◌≡◌, ◌↔◌, Err, IfOk, IfErr, OnErr};
 ghost use Rattle.world.specs.Promises.{KeepsMailboxes};
 ghost use Rattle.world.specs.States.{IsFullOfCommits, IsSoundWorld};
@@ -18,17 +18,17 @@ use world::{Stamped, World};
 pub enum Way<K> {
     /// Its way goes on at this page.
     On(u32),
-    /// This page is full: once it is split, the way goes on where it was.
+    /// This page is full. Once it is split, the way goes on where it was.
     Split(u32),
     /// The row was placed.
     Placed(Stamped<K>),
 }
 
-/// One visit of an insertion to a world, which makes one event or none: its way goes down to the next event that is due, or to a
-/// leaf that takes the key, and makes the event or places the row.
+/// One visit of an insertion to a world, which makes at most one event. Its way goes down until an event is due, and
+/// makes that; at a leaf that takes the key it places the row.
 ///
 /// # Errors
-/// `CommitsFull` where there are as many commits as may be, `PagesFull`, and want of memory. Nothing is changed then.
+/// `CommitsFull` if there are as many commits as allowed, `PagesFull` or `OutOfMemory`. Nothing is changed then.
 pub fn insert_step<C: KeyClass, O: Outlet<C::Key>>(
     alloc: Global,
     world: &mut World<C, O>,

@@ -13,16 +13,15 @@ use mailbox::Outlet;
 use std::alloc::Global;
 use world::{Event, World};
 
-/// Adds a row to a world, and gives the number of its commit. The way goes down from the root, at each page by the branch
-/// whose bound gains least by the key, to a leaf that takes the row (Guttman 1984). On the way a full root grows, a full
-/// child is split and a sibling that is owed is posted, after which the way goes on at the page where it was, or begins anew
-/// at the root where that page is full now; a child whose bound doesn't cover the key is enlarged (Kornacker, Mohan and
-/// Hellerstein 1997). Each of these is one step of the world, and leaves to open cursors and finders what they have still to
-/// find.
+/// Adds a row to a world, and gives the number of its commit. The way goes down from the root, at each page by the
+/// branch whose bound the key enlarges least, to a leaf that takes the row (Guttman 1984). On the way a full root
+/// grows, a full child is split and a sibling that is owed is posted, after which the way goes on at the page where
+/// it was, or at the root if that page is now full; a child whose bound doesn't cover the key is enlarged (Kornacker,
+/// Mohan and Hellerstein 1997). Each of these is one step of the world, which open cursors and finders survive.
 ///
 /// # Errors
-/// `CommitsFull` where there are as many commits as may be, `PagesFull` where fewer than two pages are left when it
-/// returns, and want of memory. No row is added then; the steps on the way that were made stand.
+/// `CommitsFull` if there are as many commits as allowed, `PagesFull` if fewer than two pages are left when it
+/// returns, or `OutOfMemory`. No row is added then; the steps made on the way are kept.
 pub fn insert<C: KeyClass, O: Outlet<C::Key>>(
     alloc: Global,
     world: &mut World<C, O>,
@@ -51,7 +50,8 @@ pub fn insert<C: KeyClass, O: Outlet<C::Key>>(
 /// Goes down to a leaf that takes the key, with the changes of pages that this needs, and gives the leaf's number.
 ///
 /// # Errors
-/// `PagesFull` where fewer than two pages are left when it returns, and want of memory. The steps that were made stand.
+/// `PagesFull` if fewer than two pages are left when it returns, or `OutOfMemory`. The steps made on the way are
+/// kept.
 pub fn make_way<C: KeyClass, O: Outlet<C::Key>>(
     alloc: Global,
     world: &mut World<C, O>,

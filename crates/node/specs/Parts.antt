@@ -16,7 +16,7 @@ right_part (side ∷ sides) [] = []
 right_part (Left ∷ sides) (x ∷ xs) = right_part sides xs
 right_part (Right ∷ sides) (x ∷ xs) = x ∷ right_part sides xs
 
--- the union of a bound, where there is one, and some keys
+-- the union of a bound, if there is one, and some keys
 abbrev pub joined_bound : {K : Type 0} → (K → K → K) → Option K → List K → Option K
 joined_bound union bound [] = bound
 joined_bound union None (k ∷ ks) = joined_bound union (Some k) ks

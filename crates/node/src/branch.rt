@@ -1,4 +1,4 @@
-/// An entry of an inner page: a child, and a key that covers all that lies below it.
+/// An entry of an inner page: a child, and a key that covers everything below it.
 #[derive(Clone, Copy)]
 pub struct Branch<K> {
     pub key: K,

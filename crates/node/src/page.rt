@@ -16,7 +16,7 @@ use std::marker::Model;
 
 /// A page of the tree: a leaf, of level 0, holds rows, and an inner page branches.
 ///
-/// At most one list of a page has memory of its own.
+/// At most one of its two lists has memory.
 #[derive(Drop)]
 pub struct Page<K> {
     level: u32,
@@ -38,10 +38,10 @@ impl<K> Model for Page<K> {
 }
 
 impl<K> Page<K> {
-    /// A leaf with nothing in it, and with room for `fan` rows.
+    /// An empty leaf with room for `fan` rows.
     ///
     /// # Errors
-    /// Memory was wanting.
+    /// Memory ran out.
     pub fn leaf(alloc: Global, fan: usize) -> Result<Page<K>, AllocError>
         ensures { IfOk result (λ page. page ≡ empty_leaf) }
     {
@@ -58,7 +58,7 @@ impl<K> Page<K> {
         })
     }
 
-    /// How far it is above the leaves.
+    /// Its distance from the leaves.
     pub fn level(&self) -> u32
         ensures { result ≡ self.now.level }
     {
@@ -72,21 +72,21 @@ impl<K> Page<K> {
         self.nsn
     }
 
-    /// The page to which a split moved a part of it.
+    /// The page to which its latest split moved a part of it.
     pub fn right(&self) -> Option<u32>
         ensures { result ≡ self.now.right }
     {
         self.right
     }
 
-    /// Whether it was split and its right sibling is not yet posted.
+    /// Whether it was split and its right sibling isn't posted yet.
     pub fn is_owed(&self) -> bool
         ensures { result ≡ self.now.owed }
     {
         self.owed
     }
 
-    /// Whether a branch of its parent names it.
+    /// Whether its parent has a branch to it.
     pub fn is_hung(&self) -> bool
         ensures { result ≡ self.now.hung }
     {
@@ -105,7 +105,7 @@ impl<K> Page<K> {
         &self.branches
     }
 
-    /// The right link, where a traversal with the memo follows it.
+    /// The right link, if a traversal with this memo follows it.
     pub fn followed(&self, memo: u32) -> Option<u32>
         ensures { option_to_list result ≡ followed self.now memo }
     {
@@ -116,7 +116,7 @@ impl<K> Page<K> {
         }
     }
 
-    /// Whether it has a row that nobody needs who opened at the commit `horizon` or later.
+    /// Whether it has a dead row that no scan opened at commit `horizon` or later needs.
     pub fn has_unneeded(&self, horizon: u32) -> bool
         ensures { result ≡ has_unneeded horizon self.now }
     {
@@ -134,7 +134,7 @@ impl<K> Page<K> {
 }
 
 impl<K: Copy> Page<K> {
-    /// A bound of all that it holds, none for page 0.
+    /// A bound of everything that it holds; none for page 0.
     pub fn cover(&self) -> Option<K>
         ensures { result ≡ self.now.cover }
     {
@@ -149,7 +149,7 @@ impl<K: Copy> Page<K> {
         self.rows.len() + self.branches.len()
     }
 
-    /// Whether the cover covers the key; page 0 has none, and every key counts as covered.
+    /// Whether the cover covers the key. Page 0 has no cover: there every key counts as covered.
     pub fn covers<C: KeyClass<Key = K>>(&self, key: K) -> bool
         ensures { result ≡ is_within C.rules.is_cover self.now.cover key }
     {
@@ -170,7 +170,7 @@ impl<K: Copy> Page<K> {
         add(&mut self.rows, entry)
     }
 
-    /// Marks the row as deleted by that commit. Commits count from 1.
+    /// Marks the row as ended by that commit. Commits count from 1.
     pub fn bury(&mut self, row: u32, commit: u32)
         requires { 0 < commit }
         ensures { self.new ≡ with_rows self.old (map (marked row commit) self.old.rows) }
@@ -178,7 +178,7 @@ impl<K: Copy> Page<K> {
         bury(&mut self.rows, row, commit);
     }
 
-    /// Takes out the dead rows that nobody needs who opened at the commit `horizon` or later, and gives their number.
+    /// Removes the dead rows that no scan opened at commit `horizon` or later needs, and gives their number.
     pub fn sweep(&mut self, horizon: u32) -> usize
         ensures swept { self.new ≡ with_rows self.old (filter (is_needed horizon) self.old.rows) }
         ensures count { result + length self.new.rows ≡ length self.old.rows }
@@ -188,7 +188,7 @@ impl<K: Copy> Page<K> {
         before - self.rows.len()
     }
 
-    /// What a split by sides leaves here: the left entries, and a right sibling to be posted.
+    /// Makes this page the left half of a split: it keeps the left entries and owes its right sibling a posting.
     pub fn keep_left<C: KeyClass<Key = K>>(&mut self, sides: &Sides, sibling: u32)
         requires { entries_of self.old ≡ length sides.now }
         ensures { self.new ≡ split_left C.rules.union_of self.old sides.now sibling }
@@ -200,10 +200,10 @@ impl<K: Copy> Page<K> {
         self.owed = true;
     }
 
-    /// What a split by sides moves to the new sibling: the right entries.
+    /// The right half of a split: a new page with the right entries.
     ///
     /// # Errors
-    /// Memory was wanting.
+    /// Memory ran out.
     pub fn right_half<C: KeyClass<Key = K>>(
         &self,
         alloc: Global,
@@ -227,10 +227,10 @@ impl<K: Copy> Page<K> {
         })
     }
 
-    /// The page of the left entries below a root that grows; its right link leads to page `right`.
+    /// The page of the left entries below a root that grows. Its right link leads to page `right`.
     ///
     /// # Errors
-    /// Memory was wanting.
+    /// Memory ran out.
     pub fn lower_left<C: KeyClass<Key = K>>(
         &self,
         alloc: Global,
@@ -274,7 +274,7 @@ impl<K: Copy> Page<K> {
         Ok(lower)
     }
 
-    /// A root that has grown: one level higher, with those branches in place of its entries.
+    /// Makes this page a root that has grown: one level higher, with these branches instead of its entries.
     pub fn rise(&mut self, alloc: Global, branches: Vec<Branch<K>>)
         requires { self.old.level + 1 < 2 ^ 32 }
         ensures { self.new ≡ risen self.old branches.items }
@@ -284,14 +284,14 @@ impl<K: Copy> Page<K> {
         self.branches = branches;
     }
 
-    /// Has the branch to the child take in the key.
+    /// Widens the branch to the child by the key.
     pub fn widen_branch<C: KeyClass<Key = K>>(&mut self, child: u32, key: K)
         ensures { self.new ≡ enlarge_parent C.rules.union_of child key self.old }
     {
         widen::<C>(&mut self.branches, child, key);
     }
 
-    /// Has the cover take in the key.
+    /// Widens the cover by the key.
     pub fn widen_cover<C: KeyClass<Key = K>>(&mut self, key: K)
         ensures { self.new ≡ enlarge_child C.rules.union_of key self.old }
     {
@@ -300,10 +300,10 @@ impl<K: Copy> Page<K> {
         }
     }
 
-    /// Names a child and its right sibling by their covers.
+    /// Gives a child and its right sibling branches with their covers as keys.
     ///
     /// # Errors
-    /// Memory was wanting; the page is as it was.
+    /// Memory ran out; the page is unchanged.
     pub fn name_both(
         &mut self,
         child: (u32, Option<K>),
@@ -322,7 +322,7 @@ impl<K: Copy> Page<K> {
 impl<K: Copy> Clone for Page<K> {
     ghost is_clone = { λ page copy. copy ≡ page };
 
-    /// The same page, with room for as many entries.
+    /// A copy of the page, with the same room.
     fn clone(&self) -> Result<Page<K>, AllocError> {
         Ok(Page {
             level: self.level,
@@ -338,7 +338,7 @@ impl<K: Copy> Clone for Page<K> {
 }
 
 impl<K> Page<K> {
-    /// Owes nothing any more, and has the number of the posting.
+    /// Marks the page as owing nothing any more, with the number of the posting.
     pub fn settle(&mut self, nsn: u32)
         ensures { self.new ≡ post_child self.old nsn }
     {
@@ -346,7 +346,7 @@ impl<K> Page<K> {
         self.owed = false;
     }
 
-    /// Is named by its parent.
+    /// Marks the page as having a branch to it.
     pub fn hang(&mut self)
         ensures { self.new ≡ post_sibling self.old }
     {

@@ -1,4 +1,4 @@
--- What the changes of several pages at once make of a tree.
+-- The tree after changes of several pages in one step.
 use Rattle.std.specs.Prelude.{ℕ, suc, List, length}
 use Rattle.key_class.specs.Rules.{Rules}
 use Rattle.key_class.specs.declared.sides.Side.{Side}
@@ -12,17 +12,18 @@ module _ {K A : Type 0} (rules : Rules K A) where
   abbrev pub with_part : Tree K → ℕ → List Side → Page K → Tree K
   with_part t p sides right = added (replaced t p (split_left rules.union_of (page_at t p) sides (length t.pages))) right
 
-  -- the key of p's branch to c, and the cover of c, take in the key
+  -- the key of p's branch to c, and the cover of c, are widened by the key
   abbrev pub with_wider : Tree K → ℕ → ℕ → K → Tree K
   with_wider t p c key =
       replaced (replaced t c (enlarge_child rules.union_of key (page_at t c))) p (enlarge_parent rules.union_of c key (page_at t p))
 
 module _ {K : Type 0} where
-  -- two pages more, and page 0 one level higher, with those branches
+  -- two more pages, and page 0 one level higher, with these branches
   abbrev pub with_rise : Tree K → List (Branch K) → Page K → Page K → Tree K
   with_rise t branches left right = added (added (replaced t 0 (risen (page_at t 0) branches)) left) right
 
-  -- p names c and s by their covers, c owes nothing any more and has the number of the posting, s is hung
+  -- p has branches to c and s with their covers as keys, c owes nothing any more and has the number of the posting, s
+  -- is hung
   abbrev pub with_posting : Tree K → ℕ → ℕ → ℕ → Tree K
   with_posting t p c s = record {
     pages = (replaced (replaced (replaced t s (post_sibling (page_at t s))) c (post_child (page_at t c) (suc t.counter)))

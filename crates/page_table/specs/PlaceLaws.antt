@@ -1,4 +1,5 @@
--- Why places with another page in one of them are the list of pages with that page, as each kind of places has to tell.
+-- Why places with another page in one of them are the list of pages with that page, which each kind of places has to
+-- show.
 use Rattle.std.proofs.Common.{◌≡◌, ◌⊎◌, inl, inr, ℕ, zero, suc, ◌+◌, ◌*◌, ◌/◌, ◌%◌, ◌<◌, List, [], ◌∷◌, ◌++◌, length, set, get_or, All, refl, sym, subst, ap, ◌∙◌, arith}
 use Rattle.std.proofs.lemmas.List.{length-append, length-set, get_or-set_same, get_or-set_other, get_or_default, get_or-append-add, get_or_append_left}
 use Rattle.std.proofs.lemmas.List.Elements.{All-head, All-tail}
@@ -27,7 +28,7 @@ module _ {X : Type 0} where
   put_same (y ∷ xs) zero x e = ap (λ z. z ∷ xs) e
   put_same (y ∷ xs) (suc i) x e = ap (λ l. y ∷ l) (put_same xs i x e)
 
--- every number is another or not
+-- any two numbers are equal or not
 pub is_or_not : (q p : ℕ) → (q ≡ p) ⊎ ((q ≡ p) → ⊥)
 is_or_not q p = grind arith
 
@@ -60,7 +61,7 @@ module _ {K : Type 0} where
         let rest = joined_length xs (tail_sizes x xs all) in
         omega (arith, length-append (pages x) (joined pages xs), head_size x xs all, rest, suc-mul (length xs) size)
 
-    -- where a page of the place after q places stands
+    -- the position of a page in the place after q places
     pub moved : (x : X) (q r : ℕ) → length (pages x) ≡ size → suc q * size + r ≡ length (pages x) + (q * size + r)
     moved x q r e = omega (arith, suc-mul q size, e)
 
@@ -78,7 +79,7 @@ module _ {K : Type 0} where
         ∙ get_or-append-add (pages y) (joined pages xs) (q * size + r) d
         ∙ joined_at xs (tail_sizes y xs all) q r x (omega (arith, l)) h e d
 
-    -- one page of a place
+    -- changing one page of a place
     joined_one : (xs : List X) → Sized xs → (q r : ℕ) (x new : X) → q < length xs → r < size → x ≡ get_or xs q x → (p : Page K)
         → pages new ≡ set (pages x) r p → joined pages (set xs q new) ≡ set (joined pages xs) (q * size + r) p
     joined_one [] all q r x new l h e p n = absurd (omega (arith, l))
@@ -123,7 +124,7 @@ module _ {K : Type 0} where
           sym (joined_at pages size xs are.sizes (i / size) (i % size) x place_there page_there e d)
           ∙ ap (λ k. get_or (joined pages xs) k d) sum_is
 
-      -- the place has other pages
+      -- the place gets other pages
       pub set_places : (new : X) → is_full new → length (pages new) ≡ size → ArePlaces pages is_full size n (set xs (i / size) new)
       set_places new full long = record {
         count = length-set xs (i / size) new ∙ are.count;
@@ -137,7 +138,7 @@ module _ {K : Type 0} where
         ];
       }
 
-      -- the place has another page
+      -- the place gets another page
       module _ (new : X) (p : Page K) (becomes : Becomes pages is_full new (set (pages x) (i % size) p)) where
         pub put_places : ArePlaces pages is_full size n (set xs (i / size) new)
         put_places = set_places new becomes.full (ap length becomes.pages ∙ length-set (pages x) (i % size) p ∙ place_size)
@@ -147,7 +148,7 @@ module _ {K : Type 0} where
             joined_one pages size xs are.sizes (i / size) (i % size) x new place_there page_there e p becomes.pages
             ∙ ap (λ k. set (joined pages xs) k p) sum_is
 
-  -- another page in a place, where places tell what becomes of them
+  -- another page in a place, when places say how they change
   module _ {X : Type 0} (pages : X → List (Page K)) (is_full : X → Type 0) (none : X) (put : X → ℕ → Page K → X) (size : ℕ)
       (put_pages_law : (x : X) (i : ℕ) (p : Page K) → is_full x → i < length (pages x) → pages (put x i p) ≡ set (pages x) i p)
       (put_full_law : (x : X) (i : ℕ) (p : Page K) → is_full x → i < length (pages x) → is_full (put x i p)) where
@@ -165,11 +166,11 @@ module _ {K : Type 0} where
             pages = put_pages are l place read (put place (i % size) p) p becomes;
           }
 
-      -- a place with another page, put back
+      -- a place with another page is put back
       pub put_back : (x : X) → x ≡ get_or xs (i / size) x → (p : Page K) → set xs (i / size) (put x (i % size) p) ≡ put_in put none size xs i p
       put_back x e p = ap (λ z. set xs (i / size) (put z (i % size) p)) (e ∙ get_or_default xs (i / size) x none (place_there are l))
 
-      -- the page that stands there, put back
+      -- the same page is put back
       pub put_stays : ((x : X) (j : ℕ) (p : Page K) → is_full x → j < length (pages x) → p ≡ get_or (pages x) j no_page → put x j p ≡ x)
           → (p : Page K) → p ≡ get_or (joined pages xs) i no_page → put_in put none size xs i p ≡ xs
       put_stays law p e =

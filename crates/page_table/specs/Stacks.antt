@@ -14,7 +14,7 @@ pub record StackItem : Type 0 where
 abbrev pub root_stack : ℕ → List StackItem
 root_stack counter = (record { page = 0; memo = counter }) ∷ []
 
--- each item names a page that exists, with a memo up to the counter
+-- each item has a page that exists and a memo up to the counter
 abbrev pub IsStack : {K : Type 0} → Tree K → List StackItem → Type 0
 IsStack t items = All (λ i. (i.page < length t.pages) × (i.memo ≤ t.counter)) items
 
@@ -24,7 +24,8 @@ rows_left t items = flat_map (λ i. rows_under t i.page i.memo) items
 abbrev pub pages_left : {K : Type 0} → Tree K → List StackItem → List ℕ
 pages_left t items = flat_map (λ i. pages_under t i.page i.memo) items
 
--- what a visit of (p, m) pushes, the last to be visited first: the right link with the same memo, then the wanted children with the counter
+-- what a visit of (p, m) pushes, the next to be visited last: the right link with the same memo, then the wanted
+-- children with the counter
 abbrev pub pushed : {K : Type 0} → Tree K → (Branch K → Bool) → ℕ → ℕ → List StackItem
 pushed t wanted p m =
     map (λ r. record { page = r; memo = m }) (followed (page_at t p) m)

@@ -1,4 +1,4 @@
-//! What steps change of several pages at once.
+//! Changes of several pages in one step.
 ghost use Rattle.std.specs.Prelude.{◌≡◌, ◌<◌, OnOk, OnErr};
 ghost use Rattle.node.specs.Pages as model;
 ghost use Rattle.node.specs.Changes.{post_parent, post_child, post_sibling, enlarge_parent, enlarge_child, with_row};
@@ -9,8 +9,8 @@ use node::Page;
 use row_version::Entry;
 use std::alloc::AllocError;
 
-/// A change of two pages at once, an upper and a lower one, and of what is beside them: another page, or nothing. The new value
-/// of each may depend on all.
+/// A change of an upper and a lower page at once, together with something else: another page, or nothing. The new
+/// value of each may depend on all of them.
 pub(crate) trait PageChange<K, B> {
     ghost may: { Self → Type 0 };
 
@@ -38,7 +38,7 @@ pub(crate) trait PageChange<K, B> {
         ensures beside_stays { OnErr result (beside.new ≡ beside.old) };
 }
 
-/// The key of the upper page's branch to the child, and the lower page's cover, take in the key.
+/// Widens the upper page's branch to the child, and the lower page's cover, by the key.
 #[derive(Drop)]
 pub(crate) struct Widening<C: KeyClass> {
     pub(crate) child: u32,
@@ -66,8 +66,8 @@ impl<C: KeyClass> PageChange<C::Key, ()> for Widening<C> {
     }
 }
 
-/// The upper page names the lower one, the child, and the one beside it, its sibling, which is hung by that; the child owes
-/// nothing any more and has the number of the posting.
+/// Gives the upper page branches to the lower one, the child, and to its sibling, which is thereby hung. The child
+/// owes nothing any more and has the number of the posting.
 #[derive(Drop)]
 pub(crate) struct Posting {
     pub(crate) child: u32,
@@ -97,7 +97,7 @@ impl<K: Copy> PageChange<K, Page<K>> for Posting {
     }
 }
 
-/// A row of the upper page is ended by a commit, and the lower page has another row at its end.
+/// Marks a row of the upper page as ended by a commit, and appends another row to the lower page.
 #[derive(Drop)]
 pub(crate) struct Moving<K> {
     pub(crate) row: u32,
@@ -126,7 +126,7 @@ impl<K: Copy> PageChange<K, ()> for Moving<K> {
     }
 }
 
-/// A change of three pages, which gets the second of them first, then the third, and the first one last.
+/// Applies a change of three pages to them in another order: the second, the third, then the first.
 #[derive(Drop)]
 pub(crate) struct Turned<'a, C> {
     pub(crate) change: &'a C,
@@ -151,7 +151,7 @@ impl<'a, K, C: PageChange<K, Page<K>>> PageChange<K, Page<K>> for Turned<'a, C> 
     }
 }
 
-/// A change of three pages, which gets them in the opposite order.
+/// Applies a change of three pages to them in reverse order.
 #[derive(Drop)]
 pub(crate) struct Reversed<'a, C> {
     pub(crate) change: &'a C,

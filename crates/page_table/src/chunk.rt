@@ -1,4 +1,4 @@
-//! Places, which tables share until one of them writes to one.
+//! Chunks of places, which tables share until one of them writes.
 ghost use Rattle.std.specs.Prelude.{◌≡◌, ◌<◌, [], length, slice_index_or, slice_set, IfOk};
 ghost use Rattle.std.specs.Borrow.{LendsIfOk, sem};
 ghost use Rattle.page_table.specs.contracts.chunk.Chunk.{the_row};
@@ -13,7 +13,7 @@ use node::Page;
 use std::alloc::{AllocError, Global};
 use std::marker::Model;
 
-/// Places, each for as many pages as `SIZE` tells.
+/// Places, each with room for `SIZE` pages.
 #[derive(Drop)]
 pub(crate) struct Chunk<T, const SIZE: usize, const LEN: usize> {
     children: ArrayVec<Shared<T>, LEN>,
@@ -32,7 +32,7 @@ impl<T, const SIZE: usize, const LEN: usize> Model for Chunk<T, SIZE, LEN> {
 impl<T: Copied, const SIZE: usize, const LEN: usize> Clone for Chunk<T, SIZE, LEN> {
     ghost is_clone = { λ chunk copy. copy ≡ chunk };
 
-    /// The same places, each with one more owner.
+    /// A copy: the same places, each with one more owner.
     #[cold]
     fn clone(&self) -> Result<Chunk<T, SIZE, LEN>, AllocError> {
         match self.children.as_slice().first_chunk::<LEN>() {
@@ -49,7 +49,7 @@ impl<T: Copied, const SIZE: usize, const LEN: usize> Copied for Chunk<T, SIZE, L
 }
 
 impl<T: Copied, const SIZE: usize, const LEN: usize> Chunk<T, SIZE, LEN> {
-    /// A chunk with these in its places.
+    /// A chunk of these places.
     pub(crate) fn new(children: [Shared<T>; LEN]) -> Chunk<T, SIZE, LEN>
         ensures { result ≡ children }
     {
@@ -65,10 +65,10 @@ impl<T: Copied, const SIZE: usize, const LEN: usize> Chunk<T, SIZE, LEN> {
         &self.children[place]
     }
 
-    /// What is in a place, to write to. Where it has other owners, this one gets a copy of it first.
+    /// The content of a place, for writing. If it has other owners, it is copied first.
     ///
     /// # Errors
-    /// Memory was wanting; the places are as they were.
+    /// Memory ran out; the places are unchanged.
     pub(crate) fn child_mut(&mut self, place: usize) -> Result<&mut T, AllocError>
         requires { place < length self.old }
         ensures* lends { sem 𝓛

@@ -4,7 +4,7 @@ ghost use Rattle.page_table.specs.TraversalLaws.{IsChain, PagesFollowChains, Row
 
 use key_class::KeyClass;
 
-/// Nothing is done. The clauses tell which pages and rows are under a page and a memo in a sound tree.
+/// A theorem, no code: which pages and rows are under a page and a memo in a sound tree.
 pub fn traversals_follow_chains<C: KeyClass>()
     ensures chain { EachSound C.rules.is_cover IsChain }
     ensures pages { EachSound C.rules.is_cover PagesFollowChains }
@@ -12,7 +12,7 @@ pub fn traversals_follow_chains<C: KeyClass>()
     ensures once { EachSound C.rules.is_cover MeetsEachPageOnce }
 {}
 
-/// Nothing is done. The clauses tell what a visit of a page in a sound tree leaves to be visited.
+/// A theorem, no code: what is left to be visited after a visit of a page in a sound tree.
 pub fn visits_lose_nothing<C: KeyClass>()
     ensures pruned { EachSound C.rules.is_cover (CoversRowsBelow C.rules.is_cover) }
     ensures rows { EachSound C.rules.is_cover (VisitsLoseNothing C.rules.is_cover) }
@@ -20,7 +20,7 @@ pub fn visits_lose_nothing<C: KeyClass>()
     ensures stack { EachSound C.rules.is_cover VisitsKeepStacks }
 {}
 
-/// Nothing is done. The clauses tell what a step leaves to a traversal that is under way.
+/// A theorem, no code: what a step leaves to a traversal that is under way.
 pub fn traversals_survive_steps<C: KeyClass>()
     ensures stacks { (t t' : Tree C.Key) → KeepsRows t t' → StacksSurvive t t' }
     ensures leaves { EachSound C.rules.is_cover LeavesChangeAlone }

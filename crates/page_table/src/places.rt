@@ -1,4 +1,4 @@
-//! Places for pages, which tables share until one of them writes to one.
+//! Places for pages, which tables share until one of them writes.
 ghost use Rattle.std.specs.Prelude.{◌≡◌, ◌≢◌, ◌<◌, ◌≤◌, ℕ, List, length, slice_index_or, slice_set, IfOk, OnOk, OnErr};
 ghost use Rattle.std.specs.Borrow.{Array, LendsBoth, LendsIfOk, sem};
 ghost use Rattle.node.specs.Pages as model;
@@ -15,7 +15,7 @@ use node::Page;
 use std::alloc::AllocError;
 use std::marker::Model;
 
-/// Places for pages, and the pages in them by number, from 0.
+/// Places for pages, and the pages in them, numbered from 0.
 pub(crate) trait Places<K>: Copied {
     ghost pages: { Self → List (model.Page K) };
 
@@ -32,10 +32,10 @@ pub(crate) trait Places<K>: Copied {
         requires exists { place < length (pages this.now) }
         ensures { result.now ≡ slice_index_or (pages this.now) place no_page };
 
-    /// A page, to write to. Where it has other owners, or its chunk has, it is copied first.
+    /// A page, for writing. If the page or its chunk has other owners, it is copied first.
     ///
     /// # Errors
-    /// Memory was wanting; the pages are as they were.
+    /// Memory ran out; the pages are unchanged.
     fn page_mut(&mut self, place: usize) -> Result<&mut Page<K>, AllocError>
         requires full { is_full self.old }
         requires exists { place < length (pages self.old) }
@@ -44,10 +44,10 @@ pub(crate) trait Places<K>: Copied {
         ensures value { IfOk result
             (λ page. page.now ≡ slice_index_or (pages self.old) place no_page) };
 
-    /// Changes two pages at once, and what is beside them.
+    /// Changes two pages at once, together with something else.
     ///
     /// # Errors
-    /// Memory was wanting, or both are the same page; the pages are as they were, and so is what is beside them.
+    /// Memory ran out, or both are the same page; everything is unchanged.
     fn change_two<B, C: PageChange<K, B>>(
         &mut self,
         upper: usize,
@@ -72,10 +72,10 @@ pub(crate) trait Places<K>: Copied {
         ensures unchanged { OnErr result (self.new ≡ self.old) }
         ensures beside_stays { OnErr result (beside.new ≡ beside.old) };
 
-    /// Changes three pages at once, of which the one beside the others stands behind them.
+    /// Changes three pages at once. The third has a higher number than the two others.
     ///
     /// # Errors
-    /// Memory was wanting, or two of them are the same page; the pages are as they were.
+    /// Memory ran out, or two of them are the same page; the pages are unchanged.
     fn change_three<C: PageChange<K, Page<K>>>(
         &mut self,
         upper: usize,
@@ -102,7 +102,7 @@ pub(crate) trait Places<K>: Copied {
     ghost put_stays: { (places : Self) (i : ℕ) (page : model.Page K) → is_full places → i < length (pages places) → page ≡ slice_index_or (pages places) i no_page → put places i page ≡ places };
 }
 
-/// A page, which is a place of its own.
+/// A single page, as a place of its own.
 #[derive(Drop)]
 pub(crate) struct Single<K> {
     pub(crate) page: Page<K>,
@@ -146,7 +146,7 @@ impl<K: Copy> Places<K> for Single<K> {
         Ok(&mut self.page)
     }
 
-    /// There is one page alone.
+    /// Always refused, since there is only one page.
     fn change_two<B, C: PageChange<K, B>>(
         &mut self,
         _upper: usize,
@@ -157,7 +157,7 @@ impl<K: Copy> Places<K> for Single<K> {
         Err(AllocError)
     }
 
-    /// There is one page alone.
+    /// Always refused, since there is only one page.
     fn change_three<C: PageChange<K, Page<K>>>(
         &mut self,
         _upper: usize,
@@ -175,10 +175,10 @@ impl<K: Copy> Places<K> for Single<K> {
     ghost put_stays = { page_stays };
 }
 
-/// Changes two pages at once of those in the places, of which each has `SIZE`, and what is beside them.
+/// Changes two of the pages in places of `SIZE` pages each at once, together with something else.
 ///
 /// # Errors
-/// Memory was wanting, or both are the same page; the pages are as they were, and so is what is beside them.
+/// Memory ran out, or both are the same page; everything is unchanged.
 pub(crate) fn change_both<K: Copy, T: Places<K>, B, C: PageChange<K, B>, const SIZE: usize>(
     places: &mut [Shared<T>],
     upper: usize,
@@ -214,11 +214,11 @@ pub(crate) fn change_both<K: Copy, T: Places<K>, B, C: PageChange<K, B>, const S
     change_parted(over, under, upper % SIZE, lower % SIZE, beside, change)
 }
 
-/// Changes two pages at once, which are in places apart, and what is beside them. Where the places have other owners, these
-/// ones get copies of them first.
+/// Changes two pages in different places at once, together with something else. If the places have other owners, they
+/// are copied first.
 ///
 /// # Errors
-/// Memory was wanting; the pages are as they were, and so is what is beside them.
+/// Memory ran out; everything is unchanged.
 fn change_parted<K: Copy, T: Places<K>, B, C: PageChange<K, B>>(
     above: &mut Shared<T>,
     below: &mut Shared<T>,
@@ -257,10 +257,10 @@ fn change_parted<K: Copy, T: Places<K>, B, C: PageChange<K, B>>(
     change.change(over, under, beside)
 }
 
-/// A page of a place, to write to. Where the page or what holds it has other owners, this one gets a copy of it first.
+/// A page of a place, for writing. If the page or what holds it has other owners, it is copied first.
 ///
 /// # Errors
-/// Memory was wanting; the pages are as they were.
+/// Memory ran out; the pages are unchanged.
 fn page_of<K: Copy, T: Places<K>>(
     place: &mut Shared<T>,
     number: usize,
@@ -276,10 +276,11 @@ fn page_of<K: Copy, T: Places<K>>(
     place.get_mut()?.page_mut(number)
 }
 
-/// Changes three pages at once of those in the places, of which each has `SIZE`. The one beside the others stands behind them.
+/// Changes three of the pages in places of `SIZE` pages each at once. The third has a higher number than the two
+/// others.
 ///
 /// # Errors
-/// Memory was wanting, or two of them are the same page; the pages are as they were.
+/// Memory ran out, or two of them are the same page; the pages are unchanged.
 pub(crate) fn change_all<K: Copy, T: Places<K>, C: PageChange<K, Page<K>>, const SIZE: usize>(
     places: &mut [Shared<T>],
     upper: usize,
@@ -335,11 +336,11 @@ pub(crate) fn change_all<K: Copy, T: Places<K>, C: PageChange<K, Page<K>>, const
     change_both::<K, T, Page<K>, C, SIZE>(front, upper, lower, page, change)
 }
 
-/// Changes two pages of one place, and beside them a page of another. Where the places have other owners, these ones get copies
-/// of them first.
+/// Changes two pages of one place, together with a page of another place. If the places have other owners, they are
+/// copied first.
 ///
 /// # Errors
-/// Memory was wanting, or the two are the same page; the pages are as they were.
+/// Memory ran out, or the two are the same page; the pages are unchanged.
 fn change_pair<K: Copy, T: Places<K>, C: PageChange<K, Page<K>>>(
     over: &mut Shared<T>,
     under: &mut Shared<T>,
@@ -374,7 +375,7 @@ fn change_pair<K: Copy, T: Places<K>, C: PageChange<K, Page<K>>>(
     over.get_mut()?.change_two(upper, lower, page, change)
 }
 
-/// Two places at once.
+/// Mutable references to two places at once.
 fn two_of<T>(places: &mut [T], first: usize, second: usize) -> (&mut T, &mut T)
     requires first { first < length places.old }
     requires second { second < length places.old }

@@ -1,4 +1,4 @@
-//! What several owners hold until one of them writes to it.
+//! Copy on write: values that several owners share until one of them writes.
 ghost use Rattle.std.specs.Prelude.{◌≡◌, IfOk};
 ghost use Rattle.std.specs.Borrow.{LendsIfOk, sem};
 ghost use Rattle.page_table.specs.contracts.shared.Shared.{the_row};
@@ -7,12 +7,12 @@ use std::alloc::{AllocError, Global};
 use std::marker::Model;
 use std::sync::Arc;
 
-/// A value whose clone is the same value.
+/// A type whose clone is an equal value.
 pub(crate) trait Copied: Clone + Drop {
     ghost same: { (value copy : Self) → Self.is_clone value copy → copy ≡ value };
 }
 
-/// A value that may have several owners. Who writes to it while there are others gets a copy of it first.
+/// A value that may have several owners. An owner that writes to it while there are others gets its own copy first.
 #[derive(Drop)]
 pub(crate) struct Shared<T> {
     inner: Arc<T>,
@@ -27,10 +27,10 @@ impl<T> Model for Shared<T> {
 }
 
 impl<T> Shared<T> {
-    /// A value that nobody shares yet.
+    /// A value with a single owner.
     ///
     /// # Errors
-    /// Memory was wanting.
+    /// Memory ran out.
     pub(crate) fn new(alloc: Global, value: T) -> Result<Shared<T>, AllocError>
     where
         T: Drop,
@@ -46,10 +46,10 @@ impl<T> Shared<T> {
         &self.inner
     }
 
-    /// One more owner of the same value.
+    /// Another owner of the same value.
     ///
     /// # Errors
-    /// There are too many.
+    /// It has too many owners.
     pub(crate) fn share(&self) -> Result<Shared<T>, AllocError>
         ensures { IfOk result (λ shared. shared ≡ self.now) }
     {
@@ -61,17 +61,17 @@ impl<T> Shared<T> {
 impl<T: Drop> Clone for Shared<T> {
     ghost is_clone = { λ shared copy. copy ≡ shared };
 
-    /// One more owner of the same value.
+    /// Another owner of the same value.
     fn clone(&self) -> Result<Shared<T>, AllocError> {
         self.share()
     }
 }
 
 impl<T: Copied> Shared<T> {
-    /// The value, to write to. Where it has other owners, this one gets a copy of it first.
+    /// The value, for writing. If it has other owners, it is copied first.
     ///
     /// # Errors
-    /// Memory was wanting; the value is as it was.
+    /// Memory ran out; the value is unchanged.
     pub(crate) fn get_mut(&mut self) -> Result<&mut T, AllocError>
         ensures* lends { sem 𝓛 (LendsIfOk (the_row T.row) T.row self.entry result (λ value. value) self.old) }
         ensures value { IfOk result (λ value. value.now ≡ self.old) }
@@ -85,11 +85,11 @@ impl<T: Copied> Shared<T> {
         }
     }
 
-    /// Takes a copy of the value in the place of the shared one. It stands apart, so that who has the value alone pays nothing
+    /// Replaces the shared value by a copy of its own. It is a separate function, so that a sole owner doesn't pay
     /// for the copy's place on the stack.
     ///
     /// # Errors
-    /// Memory was wanting.
+    /// Memory ran out.
     #[cold]
     #[inline(never)]
     fn part(&mut self) -> Result<(), AllocError>

@@ -21,15 +21,15 @@ use std::marker::Model;
 
 /// Pages by number, and the number of the latest posting.
 ///
-/// The pages stand in chunks of chunks, which tables share until one of them writes to a page: then it gets a copy of the two
-/// chunks that lead there.
+/// The pages are in chunks of chunks, which tables share until one of them writes to a page: then the two chunks that
+/// lead there are copied.
 #[derive(Drop)]
 pub struct PageTable<K> {
     chunks: Vec<Shared<Top<K>>>,
-    /// How many pages there are. What stands in the places behind them doesn't count.
+    /// How many pages there are. What is in the places after them doesn't count.
     count: usize,
     counter: u32,
-    /// A chunk of pages with nothing in them.
+    /// A chunk of empty pages, used to fill a new chunk's places.
     filler: Shared<Top<K>>,
 }
 
@@ -45,10 +45,10 @@ impl<K> Model for PageTable<K> {
 }
 
 impl<K: Copy> PageTable<K> {
-    /// The table of a new world: page 0, a leaf with nothing in it and with room for `fan` rows.
+    /// The table of a new world: page 0, an empty leaf with room for `fan` rows.
     ///
     /// # Errors
-    /// Memory was wanting.
+    /// Memory ran out.
     #[tactic(auto, unfolding(crate::specs::Trees::new_tree))]
     pub fn new(alloc: Global, fan: usize) -> Result<PageTable<K>, AllocError>
         ensures { IfOk result (λ table. table ≡ new_tree) }
@@ -86,10 +86,10 @@ impl<K: Copy> PageTable<K> {
         &self.slot(number).get().page
     }
 
-    /// One more owner of a page.
+    /// Another owner of a page.
     ///
     /// # Errors
-    /// There are too many.
+    /// It has too many owners.
     pub fn share(&self, number: u32) -> Result<SharedPage<K>, AllocError>
         requires { number < length self.now.pages }
         ensures { IfOk result (λ shared. shared ≡ page_at self.now number) }
@@ -98,10 +98,10 @@ impl<K: Copy> PageTable<K> {
         Ok(SharedPage { page })
     }
 
-    /// The same table, over the same chunks: each has one more owner, until one of the tables writes to it.
+    /// A copy of the table, which shares its chunks until one of the tables writes to them.
     ///
     /// # Errors
-    /// Memory was wanting, or a chunk has too many owners.
+    /// Memory ran out, or a chunk has too many owners.
     pub fn copy(&self) -> Result<PageTable<K>, AllocError>
         ensures { IfOk result (λ copy. copy ≡ self.now) }
     {
@@ -125,10 +125,10 @@ impl<K: Copy> PageTable<K> {
         Top::slot(&self.chunks[number / TOP], number % TOP)
     }
 
-    /// A page, to write to. Where tasks or other tables hold it too, the table gets a copy of it first.
+    /// A page, for writing. If tasks or other tables hold it too, it is copied first.
     ///
     /// # Errors
-    /// Memory was wanting; the table is as it was.
+    /// Memory ran out; the table is unchanged.
     pub fn page_mut(&mut self, number: u32) -> Result<&mut Page<K>, AllocError>
         requires { number < length self.old.pages }
         ensures* lends { sem 𝓛 (LendsIfOk (the_row K.row) (page_row K.row) self.entry result (λ page. replaced self.old number page) self.old) }
@@ -139,10 +139,10 @@ impl<K: Copy> PageTable<K> {
             .page_mut(number as usize % TOP)
     }
 
-    /// Adds a page under the next number.
+    /// Adds a page under the next number, and gives that.
     ///
     /// # Errors
-    /// Memory was wanting; the table is as it was.
+    /// Memory ran out; the table is unchanged.
     pub fn fresh(&mut self, page: Page<K>) -> Result<u32, AllocError>
         requires { length self.old.pages < 2 ^ 32 }
         ensures number { IfOk result (λ number. number ≡ length self.old.pages) }
@@ -155,11 +155,11 @@ impl<K: Copy> PageTable<K> {
         Ok(number as u32)
     }
 
-    /// Leaves the left entries of a page in it, which owes a posting to the page under the next number, the one given.
-    /// Answers that number.
+    /// Makes a page the left half of a split: it owes a posting to the right half, the page given, which gets the
+    /// next number. Gives that number.
     ///
     /// # Errors
-    /// Memory was wanting; the table is as it was.
+    /// Memory ran out; the table is unchanged.
     pub fn part<C: KeyClass<Key = K>>(
         &mut self,
         page: u32,
@@ -184,10 +184,10 @@ impl<K: Copy> PageTable<K> {
         Ok(number as u32)
     }
 
-    /// Adds two pages under the next numbers, and raises page 0 above them, with those branches.
+    /// Adds two pages under the next numbers, and raises page 0 above them, with these branches.
     ///
     /// # Errors
-    /// Memory was wanting; the table is as it was.
+    /// Memory ran out; the table is unchanged.
     pub fn raise(
         &mut self,
         left: Page<K>,
@@ -211,10 +211,10 @@ impl<K: Copy> PageTable<K> {
         Ok(())
     }
 
-    /// Has the key of the parent's branch to the child, and the child's cover, take in the key.
+    /// Widens the parent's branch to the child, and the child's cover, by the key.
     ///
     /// # Errors
-    /// Memory was wanting; the table is as it was.
+    /// Memory ran out; the table is unchanged.
     pub fn widen<C: KeyClass<Key = K>>(
         &mut self,
         parent: u32,
@@ -235,11 +235,11 @@ impl<K: Copy> PageTable<K> {
         )
     }
 
-    /// Has the parent name the child and its right sibling, which is hung by that; the child owes nothing any more and has
-    /// the number of the posting, the next.
+    /// Gives the parent branches to the child and its right sibling, which is thereby hung. The child owes nothing
+    /// any more and has the number of the posting, which is the next one.
     ///
     /// # Errors
-    /// Memory was wanting; the table is as it was.
+    /// Memory ran out; the table is unchanged.
     pub fn post(&mut self, parent: u32, child: u32, sibling: u32) -> Result<(), AllocError>
         requires parent_exists { parent < length self.old.pages }
         requires child_exists { child < length self.old.pages }
@@ -268,10 +268,10 @@ impl<K: Copy> PageTable<K> {
         Ok(())
     }
 
-    /// Adds a row to a leaf, at the end.
+    /// Appends a row to a leaf.
     ///
     /// # Errors
-    /// Memory was wanting; the table is as it was.
+    /// Memory ran out; the table is unchanged.
     #[tactic(auto, unfolding(crate::specs::Trees::after_rows))]
     pub fn place(&mut self, leaf: u32, entry: Entry<K>) -> Result<(), AllocError>
         requires { leaf < length self.old.pages }
@@ -281,10 +281,10 @@ impl<K: Copy> PageTable<K> {
         self.page_mut(leaf)?.place(entry)
     }
 
-    /// Marks a row of a leaf as deleted by that commit. Commits count from 1.
+    /// Marks a row of a leaf as ended by that commit. Commits count from 1.
     ///
     /// # Errors
-    /// Memory was wanting; the table is as it was.
+    /// Memory ran out; the table is unchanged.
     #[tactic(auto, unfolding(crate::specs::Trees::after_rows))]
     pub fn bury(&mut self, leaf: u32, row: u32, commit: u32) -> Result<(), AllocError>
         requires exists { leaf < length self.old.pages }
@@ -296,11 +296,11 @@ impl<K: Copy> PageTable<K> {
         Ok(())
     }
 
-    /// Marks a row of a leaf as ended by that commit, and adds another row to a leaf, at the end: both or neither. Commits
+    /// Marks a row of a leaf as ended by that commit, and appends another row to a leaf: both or neither. Commits
     /// count from 1.
     ///
     /// # Errors
-    /// Memory was wanting; the table is as it was.
+    /// Memory ran out; the table is unchanged.
     pub fn relocate(
         &mut self,
         from: u32,
@@ -328,10 +328,11 @@ impl<K: Copy> PageTable<K> {
         )
     }
 
-    /// Takes the dead rows out of a leaf that nobody needs who opened at the commit `horizon` or later, and gives their number.
+    /// Removes from a leaf the dead rows that no scan opened at commit `horizon` or later needs, and gives their
+    /// number.
     ///
     /// # Errors
-    /// Memory was wanting, and there is such a row; the table is as it was.
+    /// Memory ran out, and there is such a row; the table is unchanged.
     #[tactic(auto, unfolding(crate::specs::Trees::after_rows))]
     pub fn sweep(&mut self, leaf: u32, horizon: u32) -> Result<usize, AllocError>
         requires { leaf < length self.old.pages }
@@ -347,7 +348,7 @@ impl<K: Copy> PageTable<K> {
     }
 }
 
-/// Marks a row of a page as ended by that commit, and adds another row to the same page, at the end.
+/// Marks a row of a page as ended by that commit, and appends another row to the same page.
 #[tactic(auto, using(crate::proofs::Moving::marked_around))]
 fn move_within<K: Copy>(
     page: &mut Page<K>,

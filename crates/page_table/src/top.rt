@@ -1,4 +1,4 @@
-//! The chunks that a table holds.
+//! The chunks that a table holds directly.
 ghost use Rattle.std.specs.Prelude.{◌≡◌, ◌≢◌, ◌+◌, length, All, IfOk, OnOk, OnErr};
 ghost use Rattle.page_table.specs.Chunks.{ArePlaces, Becomes, HasFiller, HasPlaces, IsFull1024, PutsNext, StaysTo, both_changed, joined, pages_of_1024, three_changed};
 
@@ -9,12 +9,12 @@ use crate::shared::Shared;
 use node::Page;
 use std::alloc::{AllocError, Global};
 
-/// How many pages a chunk has that the table holds.
+/// How many pages each of them has.
 pub(crate) const TOP: usize = 1024;
 
-/// How many pages a chunk of pages has, and how many of these chunks the table's have. A copy of a chunk counts one more owner
-/// of each of its places: pages are seldom in the cache, chunks of them often are, so that the lower chunks are the smaller
-/// ones.
+/// How many pages a lower chunk has, and how many lower chunks an upper one has. Copying a chunk raises the reference
+/// count of each of its places. Pages are seldom in the cache and chunks often are, so the lower chunks, which have
+/// pages, are the smaller ones.
 const LOWER: usize = 16;
 
 const UPPER: usize = 64;
@@ -26,7 +26,7 @@ pub(crate) type Top<K> = Chunk<Lower<K>, LOWER, UPPER>;
 /// Changes two pages at once.
 ///
 /// # Errors
-/// Memory was wanting, or both are the same page; the pages are as they were.
+/// Memory ran out, or both are the same page; the pages are unchanged.
 pub(crate) fn change_pages<K: Copy, C: PageChange<K, ()>>(
     chunks: &mut Vec<Shared<Top<K>>>,
     upper: usize,
@@ -50,7 +50,7 @@ pub(crate) fn change_pages<K: Copy, C: PageChange<K, ()>>(
 /// Changes three pages at once.
 ///
 /// # Errors
-/// Memory was wanting; the pages are as they were.
+/// Memory ran out; the pages are unchanged.
 pub(crate) fn change_three<K: Copy, C: PageChange<K, Page<K>>>(
     chunks: &mut Vec<Shared<Top<K>>>,
     upper: usize,
@@ -84,10 +84,10 @@ pub(crate) fn change_three<K: Copy, C: PageChange<K, Page<K>>>(
     }
 }
 
-/// A chunk of pages with nothing in them.
+/// A chunk of empty pages.
 ///
 /// # Errors
-/// Memory was wanting.
+/// Memory ran out.
 pub(crate) fn filler<K: Copy>(alloc: Global) -> Result<Shared<Top<K>>, AllocError>
     ensures full { IfOk result IsFull1024 }
     ensures size { IfOk result (λ chunk. length (pages_of_1024 chunk) ≡ 1024) }
@@ -99,10 +99,10 @@ pub(crate) fn filler<K: Copy>(alloc: Global) -> Result<Shared<Top<K>>, AllocErro
     Ok(Shared::new(alloc, chunks)?)
 }
 
-/// As many owners of a value as a chunk of pages has places.
+/// As many owners of a value as a lower chunk has places.
 ///
 /// # Errors
-/// There are too many.
+/// It has too many owners.
 fn lower_places<T: Drop>(child: &Shared<T>) -> Result<[Shared<T>; LOWER], AllocError>
     ensures length { IfOk result (λ places. length places ≡ 16) }
     ensures each { IfOk result (All (λ place. place ≡ child.now)) }
@@ -114,10 +114,10 @@ fn lower_places<T: Drop>(child: &Shared<T>) -> Result<[Shared<T>; LOWER], AllocE
     )
 }
 
-/// As many as a chunk of chunks has.
+/// As many owners of a value as an upper chunk has places.
 ///
 /// # Errors
-/// There are too many.
+/// It has too many owners.
 fn upper_places<T: Drop>(child: &Shared<T>) -> Result<[Shared<T>; UPPER], AllocError>
     ensures length { IfOk result (λ places. length places ≡ 64) }
     ensures each { IfOk result (All (λ place. place ≡ child.now)) }
@@ -129,10 +129,10 @@ fn upper_places<T: Drop>(child: &Shared<T>) -> Result<[Shared<T>; UPPER], AllocE
     )
 }
 
-/// Puts a page behind the first `count`. Where there is no place for it, there is a chunk more.
+/// Puts a page after the first `count`. If there is no place for it, a chunk is added.
 ///
 /// # Errors
-/// Memory was wanting; the first pages are as they were.
+/// Memory ran out; the first pages are unchanged.
 pub(crate) fn put_next<K: Copy>(
     chunks: &mut Vec<Shared<Top<K>>>,
     filler: &Shared<Top<K>>,
@@ -148,10 +148,10 @@ pub(crate) fn put_next<K: Copy>(
     Ok(())
 }
 
-/// Makes a place behind the first `count` pages, where there is none.
+/// Makes sure that there is a place after the first `count` pages.
 ///
 /// # Errors
-/// Memory was wanting; the pages are as they were.
+/// Memory ran out; the pages are unchanged.
 fn make_place<K: Copy>(
     chunks: &mut Vec<Shared<Top<K>>>,
     filler: &Shared<Top<K>>,

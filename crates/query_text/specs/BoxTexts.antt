@@ -9,7 +9,7 @@ use Rattle.query_text.specs.Tokens.{Placed, least_i32, most_i32}
 use Rattle.query_text.specs.Keys.{Reading, ◌>>=◌, or_fault_at, when, expected_at, number_at, is_open_bracket, is_close_bracket}
 use Rattle.query_text.specs.ClassTexts.{Texts}
 
--- the box with these ends, where both pairs are in order
+-- the box with these ends, if both pairs are in order
 abbrev pub box_of : ℤ → ℤ → ℤ → ℤ → Option BoxKey
 box_of x1 y1 x2 y2 =
     when (int_le x1 x2) (λ h. when (int_le y1 y2) (λ k. Some (record { x1 = x1; y1 = y1; x2 = x2; y2 = y2; x_ordered = le_z_yes h; y_ordered = le_z_yes k })))

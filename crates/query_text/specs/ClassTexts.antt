@@ -4,15 +4,15 @@ use Rattle.key_class.specs.declared.sides.Rel.{Rel}
 use Rattle.query_text.specs.Tokens.{Placed}
 use Rattle.query_text.specs.Keys.{Reading, ReadsBack}
 
--- how a class's keys are written and read, and what its atoms are made of
+-- how a class's keys are written and read, and how atoms are made of them
 pub record Texts (K A : Type 0) : Type 0 where
-  -- the key at the front of the tokens of a text with so many bytes
+  -- the key at the front of the tokens of a text of so many bytes
   pub key_at : ℕ → List Placed → Reading K
   -- the text of a key
   pub key_text : K → List ℕ
-  -- the atom that asks for a relation to a key
+  -- the atom for a relation to a key
   pub atom_of : Rel → K → A
-  -- what an atom was made of
+  -- the relation that an atom was made of
   pub rel_of : A → Rel
   pub operand_of : A → K
 

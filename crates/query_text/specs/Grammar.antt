@@ -43,7 +43,7 @@ terminal_of _ = terminal.Other
 pub data Level : Type 0 where
   whole conjunction unit : Level
 
--- The tokens begin with a spelling of the query at this level, and then the rest stands.
+-- The tokens begin with a spelling of the query at this level, followed by the rest.
 -- key_at reads the key at the front of tokens, and atom_of makes an atom of a relation and a key.
 pub data Spells {K A : Type 0} (key_at : List Placed → Reading K) (atom_of : Rel → K → A) : Level → List Placed → Query A → List Placed → Type 0 where
   -- query = conjunction | query "or" conjunction
@@ -57,11 +57,11 @@ pub data Spells {K A : Type 0} (key_at : List Placed → Reading K) (atom_of : R
   in_brackets : {ts rest : List Placed} {t u : Placed} {q : Query A} → terminal_of t.token ≡ terminal.Open → Spells key_at atom_of whole ts q (u ∷ rest) → terminal_of u.token ≡ terminal.Close → Spells key_at atom_of unit (t ∷ ts) q rest
   relation_of : {ts rest : List Placed} {t : Placed} {r : Rel} {k : K} → terminal_of t.token ≡ terminal.Relation r → key_at ts ≡ Ok (k, rest) → Spells key_at atom_of unit (t ∷ ts) (atom (atom_of r k)) rest
 
--- before a unit, or behind one
+-- before a unit, or after one
 pub data Point : Type 0 where
   before behind : Point
 
--- what a token does there, under so many open brackets
+-- what a token does there, with this many open brackets
 pub data Move : Type 0 where
   goes : Point → ℕ → Move
   key_follows refused : Move
@@ -75,8 +75,8 @@ move behind d terminal.Or = goes before d
 move behind (suc d) terminal.Close = goes behind d
 move _ _ _ = refused
 
--- The tokens of a text with len bytes are refused at the place: at the first that can't stand where it stands, at a
--- key's first fault, or at the text's end.
+-- The tokens of a text of len bytes are refused at the place: at the first that can't stand there, at a key's first
+-- fault, or at the text's end.
 pub data Refused {K : Type 0} (key_at : List Placed → Reading K) (len : ℕ) : Point → ℕ → List Placed → ℕ → Type 0 where
   ends_before : {d : ℕ} → Refused key_at len before d [] len
   ends_open : {d : ℕ} → Refused key_at len behind (suc d) [] len
@@ -85,12 +85,13 @@ pub data Refused {K : Type 0} (key_at : List Placed → Reading K) (len : ℕ) :
   bad_key : {point : Point} {d place : ℕ} {t : Placed} {ts : List Placed} → move point d (terminal_of t.token) ≡ key_follows → key_at ts ≡ Err place → Refused key_at len point d (t ∷ ts) place
   good_key : {point : Point} {d place : ℕ} {t : Placed} {ts rest : List Placed} {k : K} → move point d (terminal_of t.token) ≡ key_follows → key_at ts ≡ Ok (k, rest) → Refused key_at len behind d rest place → Refused key_at len point d (t ∷ ts) place
 
--- The tokens of a text with len bytes spell the query, which is no deeper than a query may be.
+-- The tokens of a text of len bytes spell the query, which is no deeper than allowed.
 pub record SpellsQuery {K A : Type 0} (texts : Texts K A) (len : ℕ) (ts : List Placed) (q : Query A) : Type 0 where
   pub spelled : Spells (texts.key_at len) texts.atom_of whole ts q []
   pub shallow : depth_of q ≤ most_depth
 
--- The tokens of a text with len bytes are refused as a query at the place; a query that is too deep, at its first token.
+-- The tokens of a text of len bytes are refused as a query at the place; a query that is too deep, at its first
+-- token.
 pub data RefusesTokens {K A : Type 0} (texts : Texts K A) (len : ℕ) : List Placed → ℕ → Type 0 where
   no_spelling : {ts : List Placed} {place : ℕ} → Refused (texts.key_at len) len before 0 ts place → RefusesTokens texts len ts place
   too_deep : {t : Placed} {ts : List Placed} {q : Query A} → Spells (texts.key_at len) texts.atom_of whole (t ∷ ts) q [] → most_depth < depth_of q → RefusesTokens texts len (t ∷ ts) t.place
@@ -108,7 +109,7 @@ pub data RefusesText {K A : Type 0} (texts : Texts K A) : List ℕ → ℕ → T
   refuses_tokens : {text : List ℕ} {ts : List Placed} {place : ℕ} → length text ≤ most_bytes → Cuts false 0 text ts → RefusesTokens texts (length text) ts place → RefusesText texts text place
 
 module _ {K A : Type 0} (texts : Texts K A) where
-  -- the tokens of a text with len bytes spell some query, or are refused at some place
+  -- the tokens of a text of len bytes spell some query, or are refused at some place
   abbrev pub SpellOrAreRefused : ℕ → List Placed → Type 0
   SpellOrAreRefused len ts = ((q : Query A) × SpellsQuery texts len ts q) ⊎ ((place : ℕ) × RefusesTokens texts len ts place)
 
@@ -132,10 +133,10 @@ module _ {K A : Type 0} (texts : Texts K A) where
   abbrev pub LexemesAreRefused : List ℕ → List Lexeme → ℕ → Type 0
   LexemesAreRefused text lexemes place = RefusesTokens texts (length text) (placed text lexemes) place
 
--- where what was returned is that the text is refused at a place, this holds of the place
+-- if the result is that the text is refused at a place, this holds of the place
 abbrev pub IfQueryText : {T : Type 0} → Result T Refusal → (ℕ → Type 0) → Type 0
 IfQueryText returned P = (place : ℕ) → returned ≡ Err (refusal.QueryText place) → P place
 
--- memory was wanting, or a text is refused at some place
+-- memory ran out, or a text is refused at some place
 abbrev pub IsParseRefusal : Refusal → Type 0
 IsParseRefusal why = (why ≡ refusal.OutOfMemory) ⊎ ((place : ℕ) × (why ≡ refusal.QueryText place))

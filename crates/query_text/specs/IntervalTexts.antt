@@ -9,7 +9,7 @@ use Rattle.query_text.specs.Tokens.{Placed, least_i64, most_i64}
 use Rattle.query_text.specs.Keys.{Reading, ◌>>=◌, or_fault_at, when, expected_at, number_at, is_open_bracket, is_close_bracket}
 use Rattle.query_text.specs.ClassTexts.{Texts}
 
--- the interval with these ends, where they are in order
+-- the interval with these ends, if they are in order
 abbrev pub interval_of : ℤ → ℤ → Option Interval
 interval_of lo hi = when (int_le lo hi) (λ h. Some (record { lo = lo; hi = hi; ordered = le_z_yes h }))
 

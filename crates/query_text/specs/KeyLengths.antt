@@ -1,4 +1,4 @@
--- Behind a key that was read fewer tokens are left.
+-- Reading a key leaves fewer tokens.
 use Rattle.std.specs.Prelude.{ℕ, ℤ, ◌<◌, ◌≤◌, Bool, true, false, List, [], ◌∷◌, length, Option, Some, None, Ok, Err, if◌then◌else◌}
 use Rattle.std.proofs.Common.{arith}
 use Rattle.query_text.specs.Tokens.{Token, Placed, number_within, least_i32, most_i32, least_i64, most_i64}

@@ -1,4 +1,4 @@
--- What the reader of queries has read, and what it still waits for.
+-- What the parser has read, and what it still waits for.
 use Rattle.std.specs.Prelude.{◌≡◌, ℕ, suc, ◌<◌, List, [], ◌∷◌, ◌++◌, length, reverse, Result, Ok, Err, IfOk}
 use Rattle.std.specs.Borrow.{Bor}
 use Rattle.key_class.specs.declared.sides.Rel.{Rel}
@@ -23,7 +23,8 @@ open_brackets [] = 0
 open_brackets (Bracket ∷ ps) = suc (open_brackets ps)
 open_brackets (p ∷ ps) = open_brackets ps
 
--- The tokens begin with what is pending, the last of it first in the list, and then a query of this level is due.
+-- The tokens begin with what is pending, the last of it first in the list, and then a query of this level must
+-- follow.
 pub data Waits {K A : Type 0} (key_at : List Placed → Reading K) (atom_of : Rel → K → A) : List (Pending A) → Level → List Placed → List Placed → Type 0 where
   at_start : {ts : List Placed} → Waits key_at atom_of [] whole ts ts
   in_whole : {ps : List (Pending A)} {ts us : List Placed} → Waits key_at atom_of ps whole ts us → Waits key_at atom_of ps conjunction ts us
@@ -33,7 +34,7 @@ pub data Waits {K A : Type 0} (key_at : List Placed → Reading K) (atom_of : Re
   behind_not : {ps : List (Pending A)} {ts vs : List Placed} {t : Placed} → Waits key_at atom_of ps unit ts (t ∷ vs) → terminal_of t.token ≡ terminal.Not → Waits key_at atom_of (Not ∷ ps) unit ts vs
   behind_bracket : {ps : List (Pending A)} {ts vs : List Placed} {t : Placed} → Waits key_at atom_of ps unit ts (t ∷ vs) → terminal_of t.token ≡ terminal.Open → Waits key_at atom_of (Bracket ∷ ps) whole ts vs
 
--- The tokens begin with what is pending and with a spelling of the query at this level, and then the rest stands.
+-- The tokens begin with what is pending and with a spelling of the query at this level, followed by the rest.
 abbrev pub HasRead : {K A : Type 0} → (List Placed → Reading K) → (Rel → K → A) → List (Pending A) → Level → Query A → List Placed → List Placed → Type 0
 HasRead key_at atom_of ps level q ts rest = (us : List Placed) × Waits key_at atom_of ps level ts us × Spells key_at atom_of level us q rest
 
@@ -50,8 +51,8 @@ RefusedAt key_at len ts (At place) = Refused key_at len before 0 ts place
 abbrev pub pending : {A : Type 0} → List (Pending A) → List (Pending A)
 pending ps = reverse ps
 
--- Wherever the one query was read at the first level, in a text of any length, the other was read at the second. The
--- queries stand over what is pending before and after.
+-- Wherever the one query was read at the first level, in a text of any length, the other was read at the second. What
+-- is pending before and after may differ.
 abbrev pub Lifts : {K A : Type 0} → Texts K A → Level → Level → List (Pending A) → List (Pending A) → Pred A → Pred A → Type 0
 Lifts texts from to old new read made =
     (len : ℕ) → Completes (texts.key_at len) texts.atom_of (pending old) from (query_of read) (pending new) to (query_of made)
@@ -68,23 +69,23 @@ RefusedIn texts text lexemes e = RefusedAt (texts.key_at (length text)) (length 
 abbrev pub LosesTop : {X : Type 0} → List X → List X → Type 0
 LosesTop {X = X} old new = (top : X) × (old ≡ new ++ top ∷ [])
 
--- wherever a unit was due, an atom was read, if one was returned, and the rest stands
+-- wherever a unit must follow, an atom was read, if one was returned, followed by the rest
 abbrev pub ReadsUnit : {K A : Type 0} → Texts K A → List ℕ → List Lexeme → List (Pending A) → List (Pending A) → Result (Pred A × Bor (List Lexeme)) ParseError → Type 0
 ReadsUnit texts text lexemes old new returned =
     IfOk returned (λ r. (ts : List Placed) → Waits (texts.key_at (length text)) texts.atom_of (pending old) unit ts (placed text lexemes) → HasRead (texts.key_at (length text)) texts.atom_of (pending new) unit (query_of r.0) ts (placed text r.1.now))
 
--- wherever a unit was due, the error says where the tokens are refused
+-- wherever a unit must follow, the error says where the tokens are refused
 abbrev pub RefusesUnit : {K A : Type 0} → Texts K A → List ℕ → List Lexeme → List (Pending A) → ParseError → Type 0
 RefusesUnit texts text lexemes old e =
     (ts : List Placed) → Waits (texts.key_at (length text)) texts.atom_of (pending old) unit ts (placed text lexemes) → RefusedAt (texts.key_at (length text)) (length text) ts e
 
--- what comes behind a unit, if the tokens ts were read so far
+-- what follows a unit, if the tokens ts were read so far
 abbrev pub ComesNext : {K A : Type 0} → Texts K A → List ℕ → List Lexeme → List (Pending A) → List Placed → Result (Next A) ParseError → Type 0
 ComesNext texts text lexemes ps ts (Ok (More rest)) = Waits (texts.key_at (length text)) texts.atom_of ps unit ts (placed text rest.now) × (length rest.now < length lexemes)
 ComesNext texts text lexemes ps ts (Ok (End found)) = Spells (texts.key_at (length text)) texts.atom_of whole ts (query_of found) []
 ComesNext texts text lexemes ps ts (Err e) = RefusedAt (texts.key_at (length text)) (length text) ts e
 
--- wherever the unit was read, this comes behind it
+-- wherever the unit was read, this follows it
 abbrev pub ReadsOn : {K A : Type 0} → Texts K A → List ℕ → List Lexeme → List (Pending A) → List (Pending A) → Pred A → Result (Next A) ParseError → Type 0
 ReadsOn texts text lexemes old new read returned =
     (ts : List Placed) → HasRead (texts.key_at (length text)) texts.atom_of (pending old) unit (query_of read) ts (placed text lexemes) → ComesNext texts text lexemes (pending new) ts returned

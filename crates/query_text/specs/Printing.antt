@@ -21,18 +21,18 @@ abbrev pub bracketed : Bool → List ℕ → List ℕ
 bracketed true text = codes "(" ++ (text ++ codes ")")
 bracketed false text = text
 
--- a relation's word and, right behind it, the key
+-- a relation's word, directly followed by the key
 abbrev pub atom_text : {K A : Type 0} → Texts K A → A → List ℕ
 atom_text texts a = rel_word (texts.rel_of a) ++ texts.key_text (texts.operand_of a)
 
--- the text of a query: a part stands in brackets only where the grammar needs them
+-- the text of a query: a part is in brackets only where the grammar needs them
 abbrev pub text_of : {K A : Type 0} → Texts K A → Query A → List ℕ
 text_of texts (atom a) = atom_text texts a
 text_of texts (either l r) = text_of texts l ++ (codes " or " ++ bracketed (is_or r) (text_of texts r))
 text_of texts (both l r) = bracketed (is_or l) (text_of texts l) ++ (codes " and " ++ bracketed (is_and_or_or r) (text_of texts r))
 text_of texts (never q) = codes "not " ++ bracketed (is_and_or_or q) (text_of texts q)
 
--- the first byte is no letter, so that it may stand right behind a word
+-- the first byte is no letter, so the text can directly follow a word
 abbrev pub begins_apart : List ℕ → Bool
 begins_apart [] = false
 begins_apart (b ∷ bs) = not (is_letter b)
@@ -48,15 +48,16 @@ EachAtom P (never q) = EachAtom P q
 abbrev pub IsSpelling : {K A : Type 0} → Texts K A → List ℕ → Query A → Type 0
 IsSpelling texts text q = (ts : List Placed) × Cuts false 0 text ts × Spells (texts.key_at (length text)) texts.atom_of whole ts q []
 
--- the text is a spelling of the query, unless the text is too long or the query too deep to be read
+-- the text is a spelling of the query, unless the text is too long or the query too deep to be parsed
 abbrev pub ReadsAgain : {K A : Type 0} → Texts K A → List ℕ → Query A → Type 0
 ReadsAgain texts text q = length text ≤ most_bytes → depth_of q ≤ most_depth → SpellsText texts text q
 
--- If all went well, the atom's text was written behind what the writer had. contents tells of a writer what it has.
+-- If all went well, the atom's text was appended to what the writer had. `contents` gives the bytes that a writer
+-- has.
 abbrev pub PrintsAtom : {K A W T E : Type 0} → Texts K A → A → (W → Option (List ℕ)) → W → W → Result T E → Type 0
 PrintsAtom texts a contents old new returned = OnOk returned (Appends (contents old) (contents new) (atom_text texts a))
 
--- the same of a query, in brackets or not
+-- the same for a query, in brackets or not
 abbrev pub Prints : {K A W T E : Type 0} → Texts K A → Bool → Pred A → (W → Option (List ℕ)) → W → W → Result T E → Type 0
 Prints texts in_brackets query contents old new returned =
     OnOk returned (Appends (contents old) (contents new) (bracketed in_brackets (text_of texts (query_of query))))

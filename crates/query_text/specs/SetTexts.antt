@@ -16,7 +16,7 @@ use Rattle.query_text.specs.ClassTexts.{Texts}
 abbrev pub element_of : Token → Option ℕ
 element_of t = option_map unsigned_abs (number_within (pos 0) (pos 127) t)
 
--- elements, in any order and as often as one likes, and the closing brace
+-- elements, in any order and with repetitions, and the closing brace
 abbrev pub elements_at : ℕ → List Placed → Reading (List ℕ)
 elements_at len [] = Err len
 elements_at len (t ∷ ts) =
@@ -28,7 +28,7 @@ abbrev pub mask_of : List ℕ → ℕ
 mask_of [] = 0
 mask_of (e ∷ es) = bit_or (2 ^ e) (mask_of es)
 
--- a set of the bits of a mask and of the elements that reading gives
+-- the set of a mask's bits and of the elements that reading gives
 abbrev pub with_elements : ℕ → Reading (List ℕ) → Reading Elements
 with_elements mask (Ok r) = Ok (record { mask = bit_or mask (mask_of r.0) }, r.1)
 with_elements mask (Err place) = Err place
@@ -52,7 +52,7 @@ abbrev pub spaced : List ℕ → List ℕ
 spaced [] = []
 spaced (e ∷ es) = decimal e ++ flat_map (λ f. codes " " ++ decimal f) es
 
--- an element in the text of a set: a space stands before each but the first
+-- an element in the text of a set: all but the first have a space before them
 abbrev pub element_text : ℕ → Bool → List ℕ
 element_text e is_first = if is_first then decimal e else codes " " ++ decimal e
 
@@ -72,7 +72,7 @@ set_named named = record { mask = mask_of named }
 abbrev pub IsElementUnder : ℕ → Elements → ℕ → Type 0
 IsElementUnder most set e = (e < most) × IsElementOf set e
 
--- the list has the numbers with the property, and no others
+-- the list has exactly the numbers with the property
 abbrev pub HasJust : List ℕ → (ℕ → Type 0) → Type 0
 HasJust list P = (e : ℕ) → Contains list e ↔ P e
 

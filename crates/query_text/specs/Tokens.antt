@@ -5,13 +5,13 @@ use Rattle.query_text.specs.declared.lexeme.Kind.{Kind}
 use Rattle.query_text.specs.declared.lexeme.Kind.TheVariants as kind
 use Rattle.query_text.specs.declared.lexeme.Lexeme.{Lexeme}
 
--- A word has its bytes, and a number its value. A fault stands where no token can.
+-- A word has its bytes, and a number its value. A fault is where no token can stand.
 pub data Token : Type 0 where
   open_bracket close_bracket open_brace close_brace fault : Token
   word : List ℕ → Token
   number : ℤ → Token
 
--- a token, and how many bytes of its text stand before it
+-- a token, and how many bytes of its text come before it
 pub record Placed : Type 0 where
   pub token : Token
   pub place : ℕ
@@ -25,7 +25,7 @@ is_letter b = is_ascii_lowercase b
 abbrev pub is_digit : ℕ → Bool
 is_digit b = is_ascii_digit b
 
--- the number that digits write behind those of n
+-- the number of these digits, appended to those of n
 abbrev pub decimal_value_after : ℕ → List ℕ → ℕ
 decimal_value_after n [] = n
 decimal_value_after n (b ∷ bs) = decimal_value_after (n * 10 + (b - 48)) bs
@@ -34,18 +34,18 @@ abbrev pub is_negative : List ℕ → Bool
 is_negative [] = false
 is_negative (b ∷ bs) = b == 45
 
--- the digits behind a minus, if there is one
+-- the digits, after a minus if there is one
 abbrev pub digits_of : List ℕ → List ℕ
 digits_of [] = []
 digits_of (b ∷ bs) = if b == 45 then bs else b ∷ bs
 
--- the number that digits write, behind a minus or not
+-- the number of these digits, perhaps after a minus
 abbrev pub number_value : List ℕ → ℤ
 number_value bs =
     let size = pos (decimal_value_after 0 (digits_of bs)) in
     if is_negative bs then neg_ℤ size else size
 
--- What bytes begin with: nothing, a space, a token of so many bytes, or what is none of these.
+-- What bytes begin with: nothing, a space, a token of so many bytes, or something else.
 pub data Beginning : Type 0 where
   nothing space no_token : Beginning
   begins : Token → ℕ → Beginning
@@ -58,7 +58,8 @@ starts_with_digit (b ∷ bs) = is_digit b
 abbrev pub spelled : (List ℕ → Token) → List ℕ → Beginning
 spelled t bs = begins (t bs) (length bs)
 
--- A word is a letter and the letters behind it; a number is a digit, or a minus with a digit next, and the digits behind it.
+-- A word is a letter and the letters after it; a number is a digit, or a minus directly before a digit, and the
+-- digits after it.
 abbrev pub beginning : List ℕ → Beginning
 beginning [] = nothing
 beginning (b ∷ bs) =
@@ -71,14 +72,14 @@ beginning (b ∷ bs) =
     else (if is_digit b || ((b == 45) && starts_with_digit bs) then spelled (λ ds. number (number_value ds)) (b ∷ take_while is_digit bs)
     else no_token))))))
 
--- words and numbers want a space between them
+-- words and numbers need a space between them
 abbrev pub glues : Token → Bool
 glues (word w) = true
 glues (number n) = true
 glues _ = false
 
--- These are the tokens of bytes that stand at a place, right behind a word or a number where glued says so.
--- A fault ends them: where no token begins, or at a word or number that lacks the space before it.
+-- These are the tokens of bytes from a place on; glued says whether a word or a number is directly before it. A fault
+-- ends them: where no token begins, or at a word or number without the space that it needs.
 pub data Cuts : Bool → ℕ → List ℕ → List Placed → Type 0 where
   cut_nothing : {glued : Bool} {place : ℕ} {bs : List ℕ} → beginning bs ≡ nothing → Cuts glued place bs []
   cut_space : {glued : Bool} {place : ℕ} {bs : List ℕ} {ts : List Placed} → beginning bs ≡ space → Cuts false (place + 1) (drop 1 bs) ts → Cuts glued place bs ts
@@ -86,7 +87,7 @@ pub data Cuts : Bool → ℕ → List ℕ → List Placed → Type 0 where
   cut_missing_space : {place n : ℕ} {bs : List ℕ} {t : Token} → beginning bs ≡ begins t n → glues t ≡ true → Cuts true place bs (at place fault ∷ [])
   cut_no_token : {glued : Bool} {place : ℕ} {bs : List ℕ} → beginning bs ≡ no_token → Cuts glued place bs (at place fault ∷ [])
 
--- the token that bytes of a kind are
+-- the token of these bytes, which are of a kind
 abbrev pub token_of : Kind → List ℕ → Token
 token_of kind.OpenBracket bs = open_bracket
 token_of kind.CloseBracket bs = close_bracket
@@ -104,7 +105,7 @@ token_in text l = token_of l.kind (take l.len (drop l.place text))
 abbrev pub placed : List ℕ → List Lexeme → List Placed
 placed text ls = map (λ l. at l.place (token_in text l)) ls
 
--- the number of a token, where it is one in the range
+-- the number of a token, if it is one in the range
 abbrev pub number_within : ℤ → ℤ → Token → Option ℤ
 number_within least most (number z) = if int_le least z && int_le z most then Some z else None
 number_within least most _ = None
@@ -124,10 +125,10 @@ most_i64 = pos (2 ^ 63 - 1)
 abbrev pub most_u64 : ℤ
 most_u64 = pos (2 ^ 64 - 1)
 
--- the number of a token, where it is one of 64 bits without a sign
+-- the number of a token, if it is an unsigned one of 64 bits
 abbrev pub u64_number : Token → Option ℤ
 u64_number t = number_within (pos 0) most_u64 t
 
--- what was given is the value, or nothing where its size is 2^64 or more
+-- the result is the value, or none if its size is 2^64 or more
 abbrev pub FitsOrNone : {A : Type 0} → (A → ℕ) → A → Option A → Type 0
 FitsOrNone size value given = MatchOption given (2 ^ 64 ≤ size value) (λ a. a ≡ value)

@@ -10,7 +10,7 @@ use crate::reader::{close_bracket, open_bracket, signed_32};
 use box_class::{Atom, BoxKey, Boxes};
 use key_class::Rel;
 
-/// The numbers of a point at the front, and the lexemes behind them.
+/// The numbers of a point at the front, and the lexemes after them.
 #[tactic(auto, unfolding(crate::specs::BoxTexts::point_at))]
 fn point<'a>(text: &[u8], lexemes: &'a [Lexeme]) -> Result<((i32, i32), &'a [Lexeme]), usize>
     ensures gives { GivesRead point_at text.now lexemes.now result }

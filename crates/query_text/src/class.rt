@@ -11,19 +11,19 @@ use key_class::{KeyClass, Rel};
 
 /// A class of keys that have texts.
 pub trait ClassText: KeyClass {
-    /// How keys are written and read, and what atoms are made of.
+    /// How keys are written and read, and how atoms are made of them.
     ghost texts: { Texts Self.Key Self.Atom };
 
-    /// The key at the front of a text's lexemes, and the lexemes behind it.
+    /// The key at the front of a text's lexemes, and the lexemes after it.
     ///
     /// # Errors
-    /// The place of the first fault: at the lexeme that can't stand where it stands, at a number outside its type, at
-    /// the text's end, or at the opening bracket of a key whose ends are out of order.
+    /// The place of the first fault: of a lexeme that can't stand there, of a number outside its type, of the text's
+    /// end, or of the opening bracket of a key whose ends are out of order.
     fn read_key<'a>(text: &[u8], lexemes: &'a [Lexeme]) -> Result<(Self::Key, &'a [Lexeme]), usize>
         ensures gives { GivesRead texts.key_at text.now lexemes.now result }
         ensures shorter { IfOk result (λ r. length r.1.now < length lexemes.now) };
 
-    /// Puts the key's text into a line, in front of what it has. No key's text has more than 403 bytes.
+    /// Puts the key's text into a line, in front of what is there. No key's text has more than 403 bytes.
     fn put_text(key: Self::Key, line: &mut Line)
         requires room { length line.old ≤ 3600 }
         ensures text { line.new ≡ texts.key_text key ++ line.old }
@@ -33,7 +33,7 @@ pub trait ClassText: KeyClass {
     fn atom(rel: Rel, key: Self::Key) -> Self::Atom
         ensures { result ≡ texts.atom_of rel key };
 
-    /// What an atom was made of.
+    /// The relation and the key that an atom was made of.
     fn parts(atom: &Self::Atom) -> (Rel, Self::Key)
         ensures rel { result.0 ≡ texts.rel_of atom.now }
         ensures operand { result.1 ≡ texts.operand_of atom.now };

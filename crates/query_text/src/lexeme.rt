@@ -13,17 +13,17 @@ pub enum Kind {
     CloseBrace,
     /// Letters from `a` to `z`.
     Word,
-    /// Digits, behind a `-` or not.
+    /// Digits, perhaps after a `-`.
     Number,
-    /// Here no token stands, or a space is missing before it.
+    /// No token can stand here, or the space before it is missing.
     Fault,
 }
 
-/// A token's kind, and where its bytes stand in the text that it was cut from.
+/// A token's kind, and where its bytes are in the text that it was cut from.
 #[derive(Clone, Copy, Debug)]
 pub struct Lexeme {
     pub kind: Kind,
-    /// How many bytes stand before it.
+    /// How many bytes come before it.
     pub place: usize,
     /// How many bytes it has; a fault has none.
     pub len: usize,

@@ -1,14 +1,14 @@
-//! Lines, one or several, that are written from their end to their beginning.
+//! Lines that are written from their end to their beginning, as digits are computed from the last to the first.
 ghost use Rattle.std.specs.Prelude.{◌≡◌, ◌+◌, ◌≤◌, [], ◌∷◌, ◌++◌, length, decimal};
 ghost use Rattle.std.specs.Fmt.{signed_decimal};
 
 use itoa::write_digits;
 use std::marker::Model;
 
-/// How many bytes may be put into a line: some lines of rows fit, which go out together.
+/// How many bytes fit: some lines of rows, which are then written together.
 pub const LINE: usize = 4_096;
 
-/// The bytes of lines, or of their end: what is put into it comes in front of what it has.
+/// The bytes of one or more lines, or of their end. What is put in comes in front of what is there.
 #[derive(Drop)]
 pub struct Line {
     bytes: [u8; LINE],
@@ -36,7 +36,7 @@ impl Line {
         }
     }
 
-    /// Lets go of all bytes.
+    /// Removes all bytes.
     #[inline]
     pub fn clear(&mut self)
         ensures { self.new ≡ [] }
@@ -82,7 +82,7 @@ impl Line {
         self.start = write_digits(number, &mut self.bytes, self.start);
     }
 
-    /// Puts a number, with its minus where it has one, in front of the bytes.
+    /// Puts a number, with a minus if it is below 0, in front of the bytes.
     #[inline]
     pub fn put_signed(&mut self, number: i64)
         requires room { length self.old + 20 ≤ 4096 }

@@ -4,7 +4,7 @@ ghost use Rattle.query_text.specs.Tokens.{word, number, token_in, number_value, 
 
 use crate::lexeme::{Kind, Lexeme};
 
-/// So many digits don't bring a number to 2^64.
+/// A number of this many digits is always below 2^64, so its digits needn't be checked one by one.
 const FEW: usize = 17;
 
 fn digit_value(digit: u8) -> u64
@@ -14,7 +14,7 @@ fn digit_value(digit: u8) -> u64
     u64::from(digit).saturating_sub(u64::from(b'0'))
 }
 
-/// The number that few digits write.
+/// The number of these few digits.
 fn few_digits(digits: &[u8]) -> u64
     requires few { length digits.now ≤ 17 }
     ensures { result ≡ decimal_value_after 0 digits.now }
@@ -26,14 +26,14 @@ fn few_digits(digits: &[u8]) -> u64
     value
 }
 
-/// The number that one more digit makes, unless it is 2^64 or more.
+/// The number with one more digit, unless it is 2^64 or more.
 fn with_digit(value: u64, digit: u8) -> Option<u64>
     ensures { FitsOrNone (λ n. n) (value * 10 + (digit - 48)) result }
 {
     value.checked_mul(10)?.checked_add(digit_value(digit))
 }
 
-/// The number that digits write, unless it is 2^64 or more.
+/// The number of these digits, unless it is 2^64 or more.
 fn magnitude(digits: &[u8]) -> Option<u64>
     ensures { FitsOrNone (λ n. n) (decimal_value_after 0 digits.now) result }
 {
@@ -50,7 +50,7 @@ fn magnitude(digits: &[u8]) -> Option<u64>
     Some(value)
 }
 
-/// The number that three bytes at most write, without a minus.
+/// The number of at most three bytes without a minus.
 pub fn short_number(bytes: &[u8]) -> Option<u64>
     ensures { IfSome result (λ n. number_value bytes.now ≡ pos n) }
 {
@@ -64,7 +64,7 @@ pub fn short_number(bytes: &[u8]) -> Option<u64>
     }
 }
 
-/// The number that bytes write, where it is one of 64 bits without a sign.
+/// The number in these bytes, if it is an unsigned one of 64 bits.
 fn natural(bytes: &[u8]) -> Option<u64>
     ensures { option_map pos result ≡ u64_number (number (number_value bytes.now)) }
 {
@@ -77,7 +77,7 @@ fn natural(bytes: &[u8]) -> Option<u64>
     }
 }
 
-/// The number that bytes write, where it is one of 64 bits with a sign.
+/// The number in these bytes, if it is a signed one of 64 bits.
 fn integer(bytes: &[u8]) -> Option<i64>
     ensures { result ≡ number_within least_i64 most_i64 (number (number_value bytes.now)) }
 {
@@ -88,7 +88,7 @@ fn integer(bytes: &[u8]) -> Option<i64>
 }
 
 impl Lexeme {
-    /// Whether it is that word.
+    /// Whether it is this word.
     pub fn is_word(self, text: &[u8], expected: &[u8]) -> bool
         ensures { IsTrue result ↔ (token_in text.now self ≡ word expected.now) }
     {
@@ -98,7 +98,7 @@ impl Lexeme {
         }
     }
 
-    /// Its number, where it is one of 64 bits without a sign. Leading zeros count for nothing, and `-0` is 0.
+    /// Its number, if it is an unsigned one of 64 bits. Leading zeros are ignored, and `-0` is 0.
     pub fn unsigned(self, text: &[u8]) -> Option<u64>
         ensures { option_map pos result ≡ u64_number (token_in text.now self) }
     {
@@ -108,7 +108,7 @@ impl Lexeme {
         }
     }
 
-    /// Its number, where it is one of 64 bits with a sign.
+    /// Its number, if it is a signed one of 64 bits.
     pub fn signed(self, text: &[u8]) -> Option<i64>
         ensures { result ≡ number_within least_i64 most_i64 (token_in text.now self) }
     {
@@ -118,7 +118,7 @@ impl Lexeme {
         }
     }
 
-    /// Its number, where it is one of 32 bits with a sign.
+    /// Its number, if it is a signed one of 32 bits.
     pub fn signed_32(self, text: &[u8]) -> Option<i32>
         ensures { result ≡ number_within least_i32 most_i32 (token_in text.now self) }
     {

@@ -40,7 +40,7 @@ impl<T: Drop> From<AllocFailed<T>> for ParseError {
     }
 }
 
-/// What waits for the next unit, conjunction or query of a text.
+/// What waits for a further unit, conjunction or query of the text.
 #[derive(Drop)]
 pub enum Pending<A> {
     Not,
@@ -51,7 +51,7 @@ pub enum Pending<A> {
     Or(Pred<A>),
 }
 
-/// The conjunction that a unit ends.
+/// The conjunction that ends with a unit.
 fn conjunction_of<C: ClassText>(
     alloc: Global,
     stack: &mut Vec<Pending<C::Atom>>,
@@ -79,7 +79,7 @@ fn conjunction_of<C: ClassText>(
     }
 }
 
-/// The query that a conjunction ends.
+/// The query that ends with a conjunction.
 fn query_of_conjunction<C: ClassText>(
     alloc: Global,
     stack: &mut Vec<Pending<C::Atom>>,
@@ -99,7 +99,7 @@ fn query_of_conjunction<C: ClassText>(
     }
 }
 
-/// The atom of the unit that is due, once the `not`s and brackets before it are pending.
+/// The atom of the next unit. The `not`s and brackets before it become pending.
 fn read_unit<'a, C: ClassText>(
     text: &[u8],
     stack: &mut Vec<Pending<C::Atom>>,
@@ -134,7 +134,7 @@ fn read_unit<'a, C: ClassText>(
     }
 }
 
-/// Drops the top of a stack, if there is one.
+/// Drops the top of a stack. False if it is empty.
 fn drops_top<T: Drop>(stack: &mut Vec<T>) -> bool
     ensures dropped { result ≡ true → LosesTop stack.old.items stack.new.items }
     ensures empty { result ≡ false → stack.old.items ≡ [] }
@@ -142,14 +142,14 @@ fn drops_top<T: Drop>(stack: &mut Vec<T>) -> bool
     stack.pop().is_some()
 }
 
-/// What comes behind a unit: another, or the text's end.
+/// What follows a unit: another unit, or the text's end.
 #[derive(Drop)]
 pub enum Next<'a, A> {
     More(&'a [Lexeme]),
     End(Pred<A>),
 }
 
-/// What comes behind a unit, once the brackets that it closes are closed.
+/// What follows a unit, once the brackets that it closes are closed.
 fn read_behind<'a, C: ClassText>(
     alloc: Global,
     text: &[u8],
@@ -192,7 +192,7 @@ fn read_behind<'a, C: ClassText>(
     }
 }
 
-/// The query that the lexemes spell up to their end, however deep.
+/// The query that the lexemes spell up to their end, of any depth.
 fn query<C: ClassText>(
     alloc: Global,
     text: &[u8],
@@ -212,12 +212,12 @@ fn query<C: ClassText>(
     }
 }
 
-/// The query that a text's lexemes spell, up to their end. They may be the last of a text's lexemes: places count from
-/// the text's first byte.
+/// The query that lexemes spell up to their end. They may be the last ones of a text: places count from the text's
+/// first byte.
 ///
 /// # Errors
-/// `QueryText` with the place where the lexemes are refused, which for a query deeper than [`MAX_DEPTH`] is that of the
-/// first lexeme, or `OutOfMemory`.
+/// `QueryText` with the place of the first wrong lexeme, which for a query deeper than [`MAX_DEPTH`] is the first
+/// lexeme; or `OutOfMemory`.
 pub fn parse_tokens<C: ClassText>(
     alloc: Global,
     text: &[u8],
@@ -246,8 +246,8 @@ pub fn parse_tokens<C: ClassText>(
 /// The query that a text spells.
 ///
 /// # Errors
-/// `QueryText` with the place where the text is refused, which for a text of more than [`MAX_LINE`] bytes is
-/// [`MAX_LINE`], or `OutOfMemory`.
+/// `QueryText` with the place of the first wrong byte, which for a text of more than [`MAX_LINE`] bytes is
+/// [`MAX_LINE`]; or `OutOfMemory`.
 pub fn parse<C: ClassText>(alloc: Global, text: &[u8]) -> Result<Pred<C::Atom>, Refusal>
     ensures spells { IfOk result (λ q. SpellsText C.texts text.now (query_of q)) }
     ensures refuses { IfQueryText result (RefusesText C.texts text.now) }
@@ -261,8 +261,8 @@ pub fn parse<C: ClassText>(alloc: Global, text: &[u8]) -> Result<Pred<C::Atom>, 
     parse_tokens::<C>(alloc, text, &lexemes)
 }
 
-/// Nothing is done: the clauses say that a text spells a query or is refused at a place, that none is both, and that it
-/// spells one query and is refused at one place at most.
+/// A theorem, no code: each text spells a query or is refused at a place, never both, and there is only one such
+/// query or place.
 pub fn one_meaning_for_text<C: ClassText>()
     ensures some_meaning { (text : List ℕ) → SpellsOrIsRefused C.texts text }
     ensures one_query { (text : List ℕ) → AtMostOne (SpellsText C.texts text) }
@@ -270,7 +270,7 @@ pub fn one_meaning_for_text<C: ClassText>()
     ensures not_both { (text : List ℕ) → ¬ SpellsAndIsRefused C.texts text }
 {}
 
-/// Nothing is done: the clauses say the same of the tokens of a text with so many bytes.
+/// A theorem, no code: the same of the tokens of a text of so many bytes.
 pub fn one_meaning_for_tokens<C: ClassText>()
     ensures some_meaning { (n : ℕ) (ts : List Placed) → SpellOrAreRefused C.texts n ts }
     ensures one_query { (n : ℕ) (ts : List Placed) → AtMostOne (SpellsQuery C.texts n ts) }

@@ -51,7 +51,7 @@ fn write_atom<C: ClassText, W: Write>(atom: &C::Atom, writer: &mut W) -> io::Res
     writer.write_all(text.as_slice())
 }
 
-/// Writes a query, in brackets or not.
+/// Writes a query, in brackets if wanted.
 fn write_query<C: ClassText, W: Write>(
     query: &Pred<C::Atom>,
     in_brackets: bool,
@@ -84,11 +84,11 @@ fn write_query<C: ClassText, W: Write>(
     }
 }
 
-/// The text of a query, with brackets only where the grammar needs them. Where it has at most 4,096 bytes and the
-/// query's depth is at most 32, it is read again as the same query.
+/// The text of a query, with brackets only where the grammar needs them. If it has at most 4,096 bytes and the
+/// query's depth is at most 32, it is parsed as the same query again.
 ///
 /// # Errors
-/// `OutOfMemory` alone.
+/// Only `OutOfMemory`.
 pub fn print<C: ClassText>(alloc: Global, query: &Pred<C::Atom>) -> Result<Vec<u8>, Refusal>
     ensures text { IfOk result (λ text. text.items ≡ text_of C.texts (query_of query.now)) }
     ensures spelling { IfOk result (λ text. IsSpelling C.texts text.items (query_of query.now)) }

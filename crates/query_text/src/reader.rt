@@ -4,7 +4,7 @@ ghost use Rattle.query_text.specs.Keys.{GivesRead, expected_at, number_at, is_op
 
 use crate::lexeme::{Kind, Lexeme};
 
-/// The first lexeme and the others, if there is one.
+/// The first lexeme and the others, unless there is none.
 pub fn first_of(lexemes: &[Lexeme]) -> Option<(Lexeme, &[Lexeme])>
     ensures { MatchOption result (lexemes.now ≡ []) (λ r. lexemes.now ≡ r.0 ∷ r.1.now) }
 {
@@ -14,7 +14,7 @@ pub fn first_of(lexemes: &[Lexeme]) -> Option<(Lexeme, &[Lexeme])>
     }
 }
 
-/// The place of an opening bracket at the front, and the lexemes behind it.
+/// The place of an opening bracket at the front, and the lexemes after it.
 pub fn open_bracket<'a>(text: &[u8], lexemes: &'a [Lexeme]) -> Result<(usize, &'a [Lexeme]), usize>
     ensures gives { GivesRead (expected_at is_open_bracket) text.now lexemes.now result }
     ensures shorter { IfOk result (λ r. length r.1.now < length lexemes.now) }
@@ -28,7 +28,7 @@ pub fn open_bracket<'a>(text: &[u8], lexemes: &'a [Lexeme]) -> Result<(usize, &'
     }
 }
 
-/// The same of a closing bracket.
+/// The same for a closing bracket.
 pub fn close_bracket<'a>(text: &[u8], lexemes: &'a [Lexeme]) -> Result<(usize, &'a [Lexeme]), usize>
     ensures gives { GivesRead (expected_at is_close_bracket) text.now lexemes.now result }
     ensures shorter { IfOk result (λ r. length r.1.now < length lexemes.now) }
@@ -42,7 +42,7 @@ pub fn close_bracket<'a>(text: &[u8], lexemes: &'a [Lexeme]) -> Result<(usize, &
     }
 }
 
-/// The same of an opening brace.
+/// The same for an opening brace.
 pub fn open_brace<'a>(text: &[u8], lexemes: &'a [Lexeme]) -> Result<(usize, &'a [Lexeme]), usize>
     ensures gives { GivesRead (expected_at is_open_brace) text.now lexemes.now result }
     ensures shorter { IfOk result (λ r. length r.1.now < length lexemes.now) }
@@ -56,7 +56,7 @@ pub fn open_brace<'a>(text: &[u8], lexemes: &'a [Lexeme]) -> Result<(usize, &'a 
     }
 }
 
-/// A number of 64 bits with a sign at the front, and the lexemes behind it.
+/// A signed number of 64 bits at the front, and the lexemes after it.
 pub fn signed<'a>(text: &[u8], lexemes: &'a [Lexeme]) -> Result<(i64, &'a [Lexeme]), usize>
     ensures gives { GivesRead (number_at least_i64 most_i64) text.now lexemes.now result }
     ensures shorter { IfOk result (λ r. length r.1.now < length lexemes.now) }
@@ -70,7 +70,7 @@ pub fn signed<'a>(text: &[u8], lexemes: &'a [Lexeme]) -> Result<(i64, &'a [Lexem
     }
 }
 
-/// The same of 32 bits.
+/// The same with 32 bits.
 pub fn signed_32<'a>(text: &[u8], lexemes: &'a [Lexeme]) -> Result<(i32, &'a [Lexeme]), usize>
     ensures gives { GivesRead (number_at least_i32 most_i32) text.now lexemes.now result }
     ensures shorter { IfOk result (λ r. length r.1.now < length lexemes.now) }

@@ -27,7 +27,7 @@ fn digits(bytes: &[u8]) -> usize
     bytes.iter().take_while(|b| b.is_ascii_digit()).count()
 }
 
-/// Where the digits end that stand from a place on.
+/// Where the digits end that begin at a place.
 fn digits_end(text: &[u8], start: usize) -> usize
     requires { start ≤ length text.now }
     ensures counts { result ≡ start + length (take_while is_digit (drop start text.now)) }
@@ -65,7 +65,7 @@ fn front_of(bytes: &[u8]) -> Front
     let [first, rest @ ..] = bytes else {
         return Front::Nothing;
     };
-    // A line has the most of spaces, digits and letters: these are asked for first.
+    // Most bytes of a line are spaces, digits and letters, so these are tested first.
     if *first == b' ' {
         return Front::Space;
     }
@@ -85,7 +85,7 @@ fn front_of(bytes: &[u8]) -> Front
     }
 }
 
-/// Whether a space has to stand between this kind and a word or a number.
+/// Whether a space is needed between this kind and a word or a number.
 fn is_glued(kind: Kind) -> bool
     ensures { result ≡ kind_glues kind }
 {
@@ -108,7 +108,7 @@ fn behind(bytes: &[u8], n: usize) -> &[u8]
     &bytes[n..]
 }
 
-/// Appends the lexemes of the text to an empty list with room for as many as the text has bytes.
+/// Appends the lexemes of the text to an empty list with room for one lexeme a byte.
 fn cut(text: &[u8], lexemes: &mut Vec<Lexeme>)
     requires empty { lexemes.old.items ≡ [] }
     requires room { length text.now ≤ vec_capacity lexemes.old }
@@ -119,7 +119,7 @@ fn cut(text: &[u8], lexemes: &mut Vec<Lexeme>)
     let mut glued = false;
     'cut: loop {
         let rest = behind(text, place);
-        // A line has the most of numbers: these are cut first, and the space behind one is passed with it.
+        // Most tokens of a line are numbers, so these are cut first, together with the space after them.
         if starts_with_digit(rest) {
             if glued {
                 lexemes.push_reserved(fault_at(place));
@@ -172,11 +172,11 @@ fn fault_at(place: usize) -> Lexeme
     }
 }
 
-/// Puts the lexemes of a text in place of those in the list, up to the first fault. A list with room for as many
-/// lexemes as the text has bytes never wants memory.
+/// Replaces the lexemes in the list by those of a text, up to the first fault. A list with room for one lexeme a byte
+/// never needs memory.
 ///
 /// # Errors
-/// Memory was wanting; the list holds what it held.
+/// Memory ran out; the list is unchanged.
 pub fn scan(text: &[u8], lexemes: &mut Vec<Lexeme>) -> Result<(), AllocError>
     ensures cut { OnOk result (Cuts false 0 text.now (placed text.now lexemes.new.items)) }
     ensures succeeds { length text.now ≤ vec_capacity lexemes.old → IsOk result }
@@ -189,7 +189,7 @@ pub fn scan(text: &[u8], lexemes: &mut Vec<Lexeme>) -> Result<(), AllocError>
     Ok(())
 }
 
-/// Nothing is done: the clause says that a text is cut into tokens in one way.
+/// A theorem, no code: a text is cut into tokens in one way only.
 pub fn one_cut_for_text()
     ensures { (bytes : List ℕ) → AtMostOne (Cuts false 0 bytes) }
 {}

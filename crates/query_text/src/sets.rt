@@ -14,7 +14,7 @@ use crate::reader::{first_of, open_brace};
 use key_class::Rel;
 use set_class::{Atom, Elements, Sets};
 
-/// The element that a lexeme is.
+/// The element that a lexeme spells.
 fn element(text: &[u8], lexeme: Lexeme) -> Option<u8>
     ensures element { result ≡ element_of (token_in text.now lexeme) }
     ensures small { IfSome result (λ e. e ≤ 127) }
@@ -65,7 +65,7 @@ fn greatest(mask: u128) -> u8
     (127 - mask.leading_zeros()) as u8
 }
 
-/// Puts an element into a line, and a space in front of it, unless it is the first of its set.
+/// Puts an element into a line, with a space in front unless it is the first of its set.
 fn put_element(line: &mut Line, element: u8, is_first: bool)
     requires room { length line.old ≤ 4002 }
     ensures { line.new ≡ element_text element is_first ++ line.old }
@@ -76,7 +76,7 @@ fn put_element(line: &mut Line, element: u8, is_first: bool)
     }
 }
 
-/// Puts the elements of a mask into a line, the greatest first, and so in front of it the others.
+/// Puts the elements of a mask into a line, the greatest first, so that they end up in rising order.
 fn put_elements(line: &mut Line, mask: u128)
     requires room { length line.old ≤ 3601 }
     ensures { line.new ≡ spaced (elements_below 128 mask) ++ line.old }
@@ -119,8 +119,7 @@ impl ClassText for Sets {
     ghost atom_of_parts = { λ a. refl };
 }
 
-/// Nothing is done: the clauses say that a set has the elements that its text names, and that its text names all of
-/// them.
+/// A theorem, no code: a set has exactly the elements that its text names.
 pub fn set_texts_name_their_elements()
     ensures read { (named : List ℕ) → HasJust named (IsElementOf (set_named named)) }
     ensures written { (set : Elements) → HasJust (elements_of set) (IsElementUnder 128 set) }

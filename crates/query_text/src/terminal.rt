@@ -15,7 +15,7 @@ pub enum Terminal {
     Relation(Rel),
     Open,
     Close,
-    /// A token that stands in keys or nowhere.
+    /// A token that only keys may have, or none may.
     Other,
 }
 

@@ -1,11 +1,11 @@
-//! Texts that are compared, or put together in an array where there is room for them.
+//! Comparing texts, and appending to a text in an array that has room.
 ghost use Rattle.std.specs.Prelude.{◌≡◌, ◌+◌, ◌≤◌, ◌++◌, length};
 ghost use Rattle.std.specs.Str.{bytes_eq};
 
 use arrayvec::ArrayVec;
 use itoa::{Buffer, Integer};
 
-/// Whether two texts have the same bytes. Where they begin with different ones no more is read.
+/// Whether two texts have the same bytes. It reads only up to the first difference.
 #[inline]
 pub fn same_bytes(text: &[u8], other: &[u8]) -> bool
     ensures { result ≡ bytes_eq text.now other.now }
@@ -16,7 +16,7 @@ pub fn same_bytes(text: &[u8], other: &[u8]) -> bool
     }
 }
 
-/// Puts bytes behind a text.
+/// Appends bytes to a text.
 pub fn append<const CAPACITY: usize>(text: &mut ArrayVec<u8, CAPACITY>, bytes: &[u8])
     requires room { length text.old.items + length bytes.now ≤ CAPACITY }
     ensures { text.new.items ≡ text.old.items ++ bytes.now }
@@ -27,7 +27,7 @@ pub fn append<const CAPACITY: usize>(text: &mut ArrayVec<u8, CAPACITY>, bytes: &
     }
 }
 
-/// Puts the digits of a number behind a text.
+/// Appends the digits of a number to a text.
 pub fn append_number<I: Integer, const CAPACITY: usize>(
     text: &mut ArrayVec<u8, CAPACITY>,
     number: I,

@@ -1,4 +1,4 @@
-//! Moves of a row, whole or by visits: one commit ends the row and begins another with its tag.
+//! Moves of a row, as whole calls or visit by visit: one commit ends the row and makes another with its tag.
 #![tactic(auto)]
 
 mod moving;

@@ -15,15 +15,15 @@ use removal::{Ending, check_ending, end_row};
 use std::alloc::Global;
 use world::World;
 
-/// Moves a row: gives it a new number and another key, in one commit. A way is made first to a leaf that takes the key, as
-/// for an insertion; then a finder goes as for a deletion to the leaf that holds the row (Kornacker, Mohan, Hellerstein 1997),
-/// which may be the same, and ends in every case.
+/// Moves a row: gives it a new number and another key, in one commit. First a way is made to a leaf that takes the
+/// key, as for an insertion; then a finder goes, as for a deletion, to the leaf that holds the row, which may be the
+/// same one (Kornacker, Mohan, Hellerstein 1997). The finder ends in any case.
 ///
 /// # Errors
-/// `NoSuchRow` where no insert or move has the number, else `AlreadyDeleted`, else `CommitsFull`, else `FindersFull` where 64
-/// finders are open or the last serial was given; nothing is changed then. Else `PagesFull` where fewer than two pages are
-/// left when it returns, and want of memory. No row is moved then; the steps on the way that were made stand, and want of
-/// memory may have used up a finder's serial.
+/// `NoSuchRow` if no insert or move has the number, else `AlreadyDeleted`, else `CommitsFull`, else `FindersFull` if
+/// 64 finders are open or the last serial was given; nothing is changed then. Else `PagesFull` if fewer than two
+/// pages are left when it returns, or `OutOfMemory`. No row is moved then; the steps made on the way are kept, and
+/// with `OutOfMemory` a finder's serial may be used up.
 pub fn move_row<C: KeyClass, O: Outlet<C::Key>>(
     alloc: Global,
     world: &mut World<C, O>,

@@ -1,4 +1,4 @@
-//! A move by visits, between which others may change the world.
+//! A move made visit by visit. Between visits others may change the world.
 ghost use Rattle.std.specs.Prelude.{◌≡◌, ◌↔◌, ◌<◌, length, Err, IfOk, IfErr, OnErr};
 ghost use Rattle.key_class.specs.declared.refusal.Refusal.TheVariants.{NoSuchRow, AlreadyDeleted, CommitsFull};
 ghost use Rattle.change_list.specs.Changes.{NamesNoRow, NamesLive, NamesDead};
@@ -19,23 +19,24 @@ use world::{Stamped, World};
 /// How far a move has come.
 #[derive(Clone, Copy)]
 pub enum Moving<K> {
-    /// The way of its key goes on at this page, or its finder does.
+    /// The way of its key, or its finder, goes on at this page.
     On(u32),
-    /// This page is full: once it is split, the way goes on where it was.
+    /// This page is full. Once it is split, the way goes on where it was.
     Split(u32),
-    /// A leaf takes the key, and no finder of the row has the serial.
+    /// A leaf takes the key, but no finder of the row has the serial.
     Lost,
     /// The row was moved.
     Moved(Stamped<K>),
 }
 
-/// One visit of a move to a world, which makes one event or none: the next step of the way to a leaf that takes the key,
-/// from the page to which the way has come, or where it has come to that leaf the next step of the finder, which moves the
-/// row there where it meets it. A leaf that takes the key no more, when it is visited again, is left for another way.
+/// One visit of a move to a world, which makes at most one event: the next step of the way to a leaf that takes the
+/// key, from the page that the way has reached; or, once it has reached that leaf, the next step of the finder, which
+/// moves the row there if it meets it. The leaf is tested again at each visit, and if it no longer takes the key the
+/// way begins again.
 ///
 /// # Errors
-/// `NoSuchRow` where no insert or move has the number, else `AlreadyDeleted`, else `CommitsFull`, each tested again at each
-/// visit; else `PagesFull`, and want of memory. Nothing is changed then.
+/// `NoSuchRow` if no insert or move has the number, else `AlreadyDeleted`, else `CommitsFull`, each tested again at
+/// each visit; else `PagesFull` or `OutOfMemory`. Nothing is changed then.
 pub fn move_step<C: KeyClass, O: Outlet<C::Key>>(
     alloc: Global,
     world: &mut World<C, O>,
@@ -65,7 +66,7 @@ pub fn move_step<C: KeyClass, O: Outlet<C::Key>>(
     }
 }
 
-/// The next step of a move's finder, where a leaf takes the key.
+/// The next step of a move's finder, once a leaf takes the key.
 fn seek_from<C: KeyClass, O: Outlet<C::Key>>(
     world: &mut World<C, O>,
     seat: u32,

@@ -1,4 +1,4 @@
--- A finder under way for a row, and how its search ends: with the row's delete or its move.
+-- A finder that looks for a row, and how its search ends: with the row's delete or its move.
 use Rattle.std.specs.Prelude.{◌≡◌, ℕ, ◌+◌, ◌≤◌, Bool, [], ◌∷◌, ◌++◌, length, IsPermutation, Option, Result}
 use Rattle.key_class.specs.Rules.{Rules}
 use Rattle.key_class.specs.declared.refusal.Refusal.{Refusal}
@@ -18,51 +18,51 @@ use Rattle.world.specs.Stamps.{Stamp}
 use Rattle.world.specs.States.{State, AddsCommit}
 
 module _ {K : Type 0} where
-  -- the commit that ends the row so
+  -- the commit that ends the row in this way
   abbrev pub write_of_ending : ℕ → Ending K → Write K
   write_of_ending row ending.Delete = Delete row
   write_of_ending row (ending.Move leaf key) = Move row key
 
-  -- a leaf to which the row is moved takes it
+  -- the leaf to which the row is moved takes it
   abbrev pub MayEnd : (K → K → Bool) → SearchTree K → Ending K → Type 0
   MayEnd is_cover search ending.Delete = Unit {0}
   MayEnd is_cover search (ending.Move leaf key) = PlacePasses is_cover search leaf key
 
 module _ {C K A : Type 0} where
-  -- a visit of a finder that ends its row so where it meets it
+  -- a visit of a finder that ends its row in this way if it meets it
   abbrev pub event_of_ending : ℕ → Ending K → Event C K A
   event_of_ending f ending.Delete = event.Seek f
   event_of_ending f (ending.Move leaf key) = event.Move f leaf key
 
 module _ (C O E : Type 0) {K A : Type 0} (rules : Rules K A) (rule : Rule) where
-  -- a finder visits a page, and ends its row so where it meets it
+  -- a finder visits a page, and ends its row in this way if it meets it
   abbrev pub SeeksToEnd : ℕ → State K A → ℕ → Ending K → Result (Option (Stamp K)) Refusal → State K A → Type 0
   SeeksToEnd seat old f how made new = IsOneStep C O E rules rule seat old (event_of_ending f how) (reply_of_visit C O E made) new
 
 module _ {K A : Type 0} where
-  -- the next commit's death of the row is one more in the tree
+  -- the tree has one more dead row, which the next commit ended
   abbrev pub AddsDeath : State K A → ℕ → State K A → Type 0
   AddsDeath old row new = IsPermutation ((row, length old.commits + 1) ∷ deaths old.search.tree) (deaths new.search.tree)
 
-  -- the deaths in the tree are the same
+  -- the tree has the same dead rows
   abbrev pub KeepsDeaths : State K A → State K A → Type 0
   KeepsDeaths old new = deaths new.search.tree ≡ deaths old.search.tree
 
-  -- the world has one finder more, and is the same otherwise
+  -- the world has one more finder, and is the same otherwise
   pub record Looks (old : State K A) (row : ℕ) (new : State K A) : Type 0 where
     pub finder : OpenFinder K
     pub row_is : finder.row ≡ row
     pub serial : finder.serial ≡ old.last_finder + 1
     pub is : new ≡ record old { finders = old.finders ++ finder ∷ []; last_finder = old.last_finder + 1 }
 
-  -- the world has given one serial more to a finder, or none, and is the same otherwise
+  -- the world has used up one more serial of a finder, or none, and is the same otherwise
   pub record Leaves (old new : State K A) : Type 0 where
     pub last_finder : ℕ
     pub few : last_finder ≤ old.last_finder + 1
     pub is : new ≡ record old { last_finder = last_finder }
 
 module _ {K A : Type 0} (rules : Rules K A) (rule : Rule) where
-  -- the next commit ends the row so, and one row more is dead in the tree
+  -- the next commit ends the row in this way, and the tree has one more dead row
   pub record Ends (old : State K A) (row : ℕ) (how : Ending K) (number : ℕ) (new : State K A) : Type 0 where
     pub number_is : number ≡ length old.commits + 1
     pub commits : AddsCommit old (write_of_ending row how) new

@@ -1,4 +1,4 @@
--- A row ends by events: a finder begins at the root, visits pages, and ends the row where it meets it.
+-- A row ends by events: a finder begins at the root, visits pages, and ends the row when it meets it.
 use Rattle.std.specs.Prelude.{◌≡◌, ℕ, zero, suc}
 use Rattle.key_class.specs.Rules.{Rules}
 use Rattle.mailbox.specs.Outlets.{Rule}
@@ -11,13 +11,13 @@ use Rattle.removal.specs.Ending.{event_of_ending}
 use Rattle.removal.specs.declared.ending.Ending.{Ending}
 
 module _ (C O E : Type 0) {K A : Type 0} (rules : Rules K A) (rule : Rule) where
-  -- the finder visits so many pages that lack its row, by an event each
+  -- the finder visits so many pages without its row, each by an event
   abbrev pub SeekingLeads : ℕ → State K A → ℕ → Ending K → State K A → Type 0
   SeekingLeads zero old f how new = new ≡ old
   SeekingLeads (suc n) old f how new =
       (mid : State K A) × Step {C = C} {O = O} {E = E} rules rule 0 old (event_of_ending f how) reply.Seeking mid × SeekingLeads n mid f how new
 
-  -- the events that end the row so, as that commit: Find, and visits, of which the last commits
+  -- the events that end the row in this way, as that commit: Find, then visits, the last of which commits
   pub record EndsByEvents (old : State K A) (row : ℕ) (how : Ending K) (number : ℕ) (new : State K A) : Type 0 where
     pub finder : ℕ
     pub found : State K A

@@ -1,23 +1,23 @@
--- What sweeps of leaves take.
+-- What sweeps of leaves remove.
 use Rattle.std.specs.Prelude.{◌≡◌, ℕ, ◌+◌, Bool, false, nat_lt, List, ◌++◌, length, filter, IsPermutation}
 use Rattle.std.specs.List.{AllByRecursion}
 use Rattle.collector.specs.Horizons.{IsHorizon}
 use Rattle.world.specs.Resting.{deaths}
 use Rattle.world.specs.States.{State}
 
--- a death past the horizon: a scan that began before it may need the row
+-- a death after the horizon: a scan that began before it may need the row
 abbrev pub is_past : ℕ → ℕ × ℕ → Bool
 is_past horizon death = nat_lt horizon death.1
 
 module _ {K A : Type 0} where
-  -- all the dead that no scan needs went, and this many
+  -- all dead rows that no scan needs were removed, and there were this many
   pub record SweepsAll (old : State K A) (number : ℕ) (new : State K A) : Type 0 where
     pub horizon : ℕ
     pub is : IsHorizon (length old.commits) old.cursors horizon
     pub counted : number + length (deaths new.search.tree) ≡ length (deaths old.search.tree)
     pub left : IsPermutation (filter (is_past horizon) (deaths old.search.tree)) (deaths new.search.tree)
 
-  -- some of the dead that no scan needs went
+  -- some of the dead rows that no scan needs were removed
   pub record SweepsSome (old new : State K A) : Type 0 where
     pub horizon : ℕ
     pub is : IsHorizon (length old.commits) old.cursors horizon

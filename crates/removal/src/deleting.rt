@@ -14,13 +14,13 @@ use key_class::{KeyClass, Refusal};
 use mailbox::Outlet;
 use world::World;
 
-/// Deletes a row: a finder goes from the leaf on which the row was seen last, or else from the root, to the leaf that holds it
-/// (Kornacker, Mohan, Hellerstein 1997), and ends in every case.
+/// Deletes a row: a finder goes from the leaf on which the row was seen last, or from the root, to the leaf that
+/// holds the row (Kornacker, Mohan, Hellerstein 1997). The finder ends in any case.
 ///
 /// # Errors
-/// `NoSuchRow` where no insert or move has the number, else `AlreadyDeleted`, else `CommitsFull`, else `FindersFull` where 64
-/// finders are open or the last serial was given, and want of memory. Nothing is changed then, but that want of memory may
-/// have used up a finder's serial.
+/// `NoSuchRow` if no insert or move has the number, else `AlreadyDeleted`, else `CommitsFull`, else `FindersFull` if
+/// 64 finders are open or the last serial was given; or `OutOfMemory`. Nothing is changed then, except that with
+/// `OutOfMemory` a finder's serial may be used up.
 pub fn delete<C: KeyClass, O: Outlet<C::Key>>(
     world: &mut World<C, O>,
     row: u64,

@@ -1,4 +1,4 @@
-//! What ends a live row: a finder under way, which ends with the row where it meets it.
+//! Ending a live row: a finder goes to the row, and ends with it.
 ghost use Rattle.std.specs.Prelude.{◌≡◌, ◌≢◌, ◌↔◌, ◌<◌, length, Err, IfOk, IfErr, OnOk, OnErr};
 ghost use Rattle.key_class.specs.declared.refusal.Refusal.TheVariants.{NoSuchRow, AlreadyDeleted, CommitsFull, FindersFull, OutOfMemory};
 ghost use Rattle.change_list.specs.Changes.{NamesNoRow, NamesLive, NamesDead};
@@ -11,16 +11,16 @@ use key_class::{KeyClass, Refusal};
 use mailbox::Outlet;
 use world::{Event, Stamped, World};
 
-/// What becomes of a row where a finder meets it.
+/// How a row ends when a finder meets it.
 #[derive(Clone, Copy)]
 pub enum Ending<K> {
     /// It is deleted.
     Delete,
-    /// It is moved: to a leaf, with a key.
+    /// It is moved: to this leaf, with this key.
     Move(u64, K),
 }
 
-/// A visit of a finder for a seat, which ends its row so where it meets it.
+/// A visit of a finder, for a seat, which ends its row in this way if it meets it.
 ///
 /// # Errors
 /// Those of the events `Seek` and `Move`; nothing is changed then.
@@ -38,10 +38,10 @@ pub(crate) fn visit<C: KeyClass, O: Outlet<C::Key>>(
     }
 }
 
-/// Nothing where a row may end: it is live, and there is a place for one more commit.
+/// Checks that a row may end: it is live, and there is room for one more commit.
 ///
 /// # Errors
-/// `NoSuchRow` where no insert or move has the number, else `AlreadyDeleted`, else `CommitsFull`.
+/// `NoSuchRow` if no insert or move has the number, else `AlreadyDeleted`, else `CommitsFull`.
 pub fn check_ending<C: KeyClass, O: Outlet<C::Key>>(
     world: &World<C, O>,
     row: u64,
@@ -64,12 +64,12 @@ pub fn check_ending<C: KeyClass, O: Outlet<C::Key>>(
     Ok(())
 }
 
-/// Lets a finder go to the leaf of a live row, where the row ends, and gives the commit's number. The finder begins at that
-/// leaf, where it is known, and ends in every case.
+/// Lets a finder go to the leaf of a live row and end the row there, and gives the commit's number. The finder begins
+/// at that leaf, if it is known, and ends in any case.
 ///
 /// # Errors
-/// `FindersFull` where 64 finders are open or the last serial was given, and want of memory. Nothing is changed then, but
-/// that want of memory may have used up a finder's serial.
+/// `FindersFull` if 64 finders are open or the last serial was given, or `OutOfMemory`. Nothing is changed then,
+/// except that with `OutOfMemory` a finder's serial may be used up.
 pub fn end_row<C: KeyClass, O: Outlet<C::Key>>(
     world: &mut World<C, O>,
     row: u64,

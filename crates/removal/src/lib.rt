@@ -1,4 +1,4 @@
-//! What ends rows, a deletion, as a whole or by visits, and the end of a move; and a sweep of every leaf.
+//! Ending rows: deletions, as whole calls or visit by visit, the end of a move, and a sweep of every leaf.
 #![tactic(auto)]
 
 mod deleting;

@@ -9,7 +9,7 @@ use world::World;
 /// Sweeps every leaf: removes the dead rows that no cursor with a scan in progress needs, and gives their number.
 ///
 /// # Errors
-/// Want of memory; some of those rows may be removed then.
+/// `OutOfMemory`; some of those rows may have been removed by then.
 pub fn sweep_all<C: KeyClass, O: Outlet<C::Key>>(world: &mut World<C, O>) -> Result<u64, Refusal>
     ensures rests { Rests C.rules O.rule world.old world.new }
     ensures commits { world.new.commits ≡ world.old.commits }

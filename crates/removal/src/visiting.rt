@@ -1,4 +1,4 @@
-//! A deletion by visits, and the end of a move. Between visits others may change the world.
+//! A deletion made visit by visit, and the end of a move. Between visits others may change the world.
 ghost use Rattle.std.specs.Prelude.{◌≡◌, ◌↔◌, ◌+◌, Err, IfOk, IfErr, OnOk, OnErr};
 ghost use Rattle.key_class.specs.declared.refusal.Refusal.TheVariants.{NoSuchRow, AlreadyDeleted, FindersFull};
 ghost use Rattle.change_list.specs.Changes.{NamesNoRow, NamesLive, NamesDead};
@@ -15,7 +15,7 @@ use key_class::{KeyClass, Refusal};
 use mailbox::Outlet;
 use world::{Stamped, World};
 
-/// How far the search for a row that is to end has come.
+/// How far the search for a row to end has come.
 #[derive(Clone, Copy)]
 pub enum Search<K> {
     /// The finder goes on.
@@ -26,11 +26,11 @@ pub enum Search<K> {
     Ended(Stamped<K>),
 }
 
-/// The first visit of a deletion: a finder of the row, by its serial.
+/// The first visit of a deletion: opens a finder of the row, and gives its serial.
 ///
 /// # Errors
-/// `NoSuchRow` where no insert or move has the number, else `AlreadyDeleted`, else `FindersFull` where 64 finders are open or the
-/// last serial was given, and want of memory. Nothing is changed then.
+/// `NoSuchRow` if no insert or move has the number, else `AlreadyDeleted`, else `FindersFull` if 64 finders are open
+/// or the last serial was given, or `OutOfMemory`. Nothing is changed then.
 pub fn find_row<C: KeyClass, O: Outlet<C::Key>>(
     world: &mut World<C, O>,
     row: u64,
@@ -54,7 +54,7 @@ pub fn find_row<C: KeyClass, O: Outlet<C::Key>>(
     }
 }
 
-/// A finder of a live row, by its serial.
+/// Opens a finder of a live row, and gives its serial.
 fn find_live_row<C: KeyClass, O: Outlet<C::Key>>(
     world: &mut World<C, O>,
     row: u64,
@@ -73,11 +73,11 @@ fn find_live_row<C: KeyClass, O: Outlet<C::Key>>(
     Ok(finder)
 }
 
-/// A later visit of a deletion: the next step of a finder of the row, which deletes the row where it meets it.
+/// A later visit of a deletion: the next step of a finder of the row, which deletes the row if it meets it.
 ///
 /// # Errors
-/// `NoSuchRow`, `AlreadyDeleted`, `CommitsFull` where there are as many commits as may be and the row is met, and want of
-/// memory. Nothing is changed then.
+/// `NoSuchRow`, `AlreadyDeleted`, `CommitsFull` if there are as many commits as allowed and the row is met, or
+/// `OutOfMemory`. Nothing is changed then.
 pub fn seek_row<C: KeyClass, O: Outlet<C::Key>>(
     world: &mut World<C, O>,
     seat: u32,
@@ -102,10 +102,12 @@ pub fn seek_row<C: KeyClass, O: Outlet<C::Key>>(
     }
 }
 
-/// A later visit of what ends a row: the next step of a finder of the row, which ends it so where it meets it.
+/// A later visit of a deletion or a move: the next step of a finder of the row, which ends the row in this way if it
+/// meets it.
 ///
 /// # Errors
-/// `CommitsFull` where there are as many commits as may be and the row is met, and want of memory. Nothing is changed then.
+/// `CommitsFull` if there are as many commits as allowed and the row is met, or `OutOfMemory`. Nothing is changed
+/// then.
 pub fn end_step<C: KeyClass, O: Outlet<C::Key>>(
     world: &mut World<C, O>,
     seat: u32,

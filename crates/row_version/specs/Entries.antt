@@ -1,24 +1,24 @@
--- An entry of a leaf: a row, and the commit that deleted it.
+-- An entry of a leaf: a row, and the commit that ended it.
 use Rattle.std.specs.Prelude.{◌≡◌, ℕ, zero, suc, Bool, true, ◌&&◌, nat_le, nat_lt, nat_eq, cond, Option, Some, None, refl}
 
 pub record Entry (K : Type 0) : Type 0 where
   pub key : K
-  -- the number of the row's insert
+  -- the number of the commit that made the row
   pub row : ℕ
   pub tag : ℕ
-  -- the number of its delete, none while it lives
+  -- the number of the commit that ended it, none while it is live
   pub died : Option ℕ
 
--- alive, or dead only after the commit s
+-- live, or dead only after commit s
 abbrev pub lives_at : ℕ → Option ℕ → Bool
 lives_at s None = true
 lives_at s (Some n) = nat_lt s n
 
--- the row is there after the first s commits
+-- the row is live after the first s commits
 abbrev pub visible_at : {K : Type 0} → ℕ → Entry K → Bool
 visible_at s e = nat_le e.row s && lives_at s e.died
 
--- a dead entry is needed by those who opened before its death
+-- a dead entry is needed by scans that opened before its death
 abbrev pub is_needed : {K : Type 0} → ℕ → Entry K → Bool
 is_needed horizon e = lives_at horizon e.died
 
@@ -26,11 +26,11 @@ is_needed horizon e = lives_at horizon e.died
 abbrev pub died_at : {K : Type 0} → ℕ → Entry K → Entry K
 died_at n e = record e { died = Some n }
 
--- the entry, dead since commit n where it is that of the row
+-- the entry, dead since commit n if it is that of the row
 abbrev pub marked : {K : Type 0} → ℕ → ℕ → Entry K → Entry K
 marked row n e = cond (nat_eq e.row row) (died_at n e) e
 
--- commits count from 1: 0 stands for no death
+-- commits count from 1: 0 means no death
 abbrev pub death_of : ℕ → Option ℕ
 death_of zero = None
 death_of (suc n) = Some (suc n)

@@ -3,13 +3,13 @@ ghost use Rattle.row_version.specs.Entries.{visible_at, is_needed, died_at, mark
 
 use std::marker::Model;
 
-/// A row on a leaf, and the commit that deleted it.
+/// A row on a leaf, and the commit that ended it.
 #[derive(Clone, Copy)]
 pub struct Entry<K> {
     key: K,
     tag: u64,
     row: u32,
-    // the number of the commit that deleted the row, 0 while it lives
+    // the number of the commit that ended the row, 0 while it is live
     died: u32,
 }
 
@@ -27,7 +27,7 @@ impl<K> Model for Entry<K> {
 }
 
 impl<K> Entry<K> {
-    /// A live row, inserted by the commit with its number.
+    /// A live row, with its commit's number.
     pub fn new(key: K, row: u32, tag: u64) -> Entry<K>
         ensures { result ≡ record { key = key; row = row; tag = tag; died = None } }
     {
@@ -39,7 +39,7 @@ impl<K> Entry<K> {
         }
     }
 
-    /// The number of the row: that of the commit that inserted it.
+    /// The number of the row: that of the commit that made it.
     pub fn row(&self) -> u32
         ensures { result ≡ self.now.row }
     {
@@ -52,7 +52,7 @@ impl<K> Entry<K> {
         self.tag
     }
 
-    /// The number of the commit that deleted the row.
+    /// The number of the commit that ended the row.
     pub fn died(&self) -> Option<u32>
         ensures { result ≡ self.now.died }
     {
@@ -69,14 +69,14 @@ impl<K> Entry<K> {
         self.died == 0
     }
 
-    /// Whether the row is there after the first `commit` commits.
+    /// Whether the row is live after the first `commit` commits.
     pub fn visible_at(&self, commit: u32) -> bool
         ensures { result ≡ visible_at commit self.now }
     {
         self.row <= commit && (self.died == 0 || commit < self.died)
     }
 
-    /// Whether it lives, or died after the commit `horizon`.
+    /// Whether it is live, or died after the commit `horizon`.
     pub fn is_needed(&self, horizon: u32) -> bool
         ensures { result ≡ is_needed horizon self.now }
     {
@@ -91,7 +91,7 @@ impl<K: Copy> Entry<K> {
         self.key
     }
 
-    /// The same row, deleted by that commit. Commits count from 1.
+    /// The same row, ended by that commit. Commits count from 1.
     pub fn died_at(&self, commit: u32) -> Entry<K>
         requires { 0 < commit }
         ensures { result ≡ died_at commit self.now }
@@ -104,7 +104,7 @@ impl<K: Copy> Entry<K> {
         }
     }
 
-    /// The entry, deleted by that commit where it is that of the row.
+    /// The entry, ended by that commit if it is that of the row.
     pub fn marked(&self, row: u32, commit: u32) -> Entry<K>
         requires { 0 < commit }
         ensures { result ≡ marked row commit self.now }

@@ -1,4 +1,4 @@
-//! A row as a leaf holds it: its key, number and tag, and the commit that deleted it.
+//! A row as a leaf holds it: its key, number and tag, and the commit that ended it.
 #![tactic(auto)]
 
 mod entry;

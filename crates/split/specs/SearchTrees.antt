@@ -1,4 +1,4 @@
--- A sound tree with its limits.
+-- A sound tree, with its limits.
 use Rattle.std.specs.Prelude.{◌≡◌, ℕ, suc, ◌*◌, ◌≤◌, Bool, List, length, Some}
 use Rattle.key_class.specs.Limits.{least_part, most_fan, most_pages}
 use Rattle.key_class.specs.Rules.{Rules}
@@ -13,7 +13,7 @@ pub record SearchTree (K : Type 0) : Type 0 where
   pub tree : Tree K
   -- the most entries of a page
   pub fan : ℕ
-  -- the fewest entries of each part of a page that is split
+  -- the fewest entries of each half of a split page
   pub least : ℕ
   -- the most pages
   pub limit : ℕ
@@ -46,7 +46,7 @@ module _ {K A : Type 0} (rules : Rules K A) where
   abbrev pub with_growth : SearchTree K → List Side → SearchTree K
   with_growth s sides = with_tree s (after_grow rules.union_of s.tree sides)
 
-  -- the same of tables
+  -- the same for tables
   abbrev pub table_wider : Tree K → ℕ → ℕ → K → Tree K
   table_wider t p c key = after_enlarge rules.union_of t p c key
 
@@ -58,7 +58,7 @@ module _ {K : Type 0} where
   abbrev pub PostsSibling : SearchTree K → ℕ → ℕ → SearchTree K → Type 0
   PostsSibling old p c new = (sibling : ℕ) × ((page_at old.tree c).right ≡ Some sibling) × (new ≡ with_tree old (after_post old.tree p c sibling))
 
-  -- with one entry more in a leaf
+  -- with one more entry in a leaf
   abbrev pub with_entry : SearchTree K → ℕ → Entry K → SearchTree K
   with_entry s leaf entry = with_tree s (after_place s.tree leaf entry)
 
@@ -70,7 +70,7 @@ module _ {K : Type 0} where
   abbrev pub with_move : SearchTree K → ℕ → ℕ → ℕ → ℕ → Entry K → SearchTree K
   with_move s from row n to entry = with_tree s (after_move s.tree from row n to entry)
 
-  -- without those rows of a leaf that nobody needs who opened at the horizon or later
+  -- without the dead rows of a leaf that no scan opened at the horizon or later needs
   abbrev pub without_unneeded : SearchTree K → ℕ → ℕ → SearchTree K
   without_unneeded s leaf horizon = with_tree s (after_sweep s.tree leaf horizon)
 

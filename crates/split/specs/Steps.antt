@@ -1,4 +1,4 @@
--- The tree after a step, and what each step rests on.
+-- The tree after a step, and what each step requires.
 use Rattle.std.specs.Prelude.{◌≡◌, ℕ, suc, ◌<◌, ◌≤◌, true, false, List, length, Some, None, option_to_list, All}
 use Rattle.key_class.specs.declared.sides.Side.{Side}
 use Rattle.node.specs.Pages.{Page, keys_of}
@@ -7,27 +7,28 @@ use Rattle.node.specs.Changes.{split_left, split_right, grown_left, grown_right,
 use Rattle.page_table.specs.PageChanges.{with_posting}
 use Rattle.page_table.specs.Trees.{Tree, page_at, replaced, added, naming}
 
--- Split(p, sides): page p keeps its left entries and owes the next page, which takes the right ones, a posting.
+-- Split(p, sides): page p keeps its left entries, the next page gets the right ones, and p owes it a posting.
 unfoldable pub after_split : {K : Type 0} → (K → K → K) → Tree K → ℕ → List Side → Tree K
 after_split union t p sides =
     added (replaced t p (split_left union (page_at t p) sides (length t.pages))) (split_right union (page_at t p) sides)
 
--- Post(p, c), where s is the right sibling of c: parent p names both by their covers, c owes nothing any more and has
--- the number of the posting, s is hung.
+-- Post(p, c), where s is the right sibling of c: parent p has branches to both with their covers as keys, c owes
+-- nothing any more and has the number of the posting, s is hung.
 unfoldable pub after_post : {K : Type 0} → Tree K → ℕ → ℕ → ℕ → Tree K
 after_post t p c s = with_posting t p c s
 
--- Grow(sides): the next two pages a and b take the root's entries, and the root, one level higher, names both.
+-- Grow(sides): the next two pages a and b get the root's entries, and the root, one level higher, has branches to
+-- both.
 unfoldable pub after_grow : {K : Type 0} → (K → K → K) → Tree K → List Side → Tree K
 after_grow union t sides =
     replaced (added (added t (grown_left union (page_at t 0) sides (suc (length t.pages)))) (grown_right union (page_at t 0) sides)) 0
     (grown_root (page_at t 0) (length t.pages) (grown_left union (page_at t 0) sides (suc (length t.pages))).cover (suc (length t.pages)) (grown_right union (page_at t 0) sides).cover)
 
--- Enlarge(p, c, key): the key of p's branch to c, and the cover of c, take in the key.
+-- Enlarge(p, c, key): the key of p's branch to c, and the cover of c, are widened by the key.
 unfoldable pub after_enlarge : {K : Type 0} → (K → K → K) → Tree K → ℕ → ℕ → K → Tree K
 after_enlarge union t p c key = replaced (replaced t c (enlarge_child union key (page_at t c))) p (enlarge_parent union c key (page_at t p))
 
--- what a split of p rests on
+-- what a split of p requires
 pub record CanSplit {K : Type 0} (t : Tree K) (p : ℕ) (sides : List Side) : Type 0 where
   pub not_root : (p ≡ 0) → ⊥
   pub exists : p < length t.pages
@@ -36,7 +37,7 @@ pub record CanSplit {K : Type 0} (t : Tree K) (p : ℕ) (sides : List Side) : Ty
   pub some_left : 0 < length (keys_of (left_part sides (page_at t p).rows) (left_part sides (page_at t p).branches))
   pub some_right : 0 < length (keys_of (right_part sides (page_at t p).rows) (right_part sides (page_at t p).branches))
 
--- what a posting of c, whose sibling is s, in p rests on
+-- what a posting of c, whose sibling is s, in p requires
 pub record CanPost {K : Type 0} (t : Tree K) (p c s : ℕ) : Type 0 where
   pub parent_exists : p < length t.pages
   pub child_exists : c < length t.pages
@@ -48,12 +49,12 @@ pub record CanPost {K : Type 0} (t : Tree K) (p c s : ℕ) : Type 0 where
   pub no_other_owes : (q : ℕ) → q < length t.pages → (page_at t q).owed ≡ true → All (λ r. (r ≡ c) → ⊥) (option_to_list (page_at t q).right)
   pub numbers : (q : ℕ) → q < length t.pages → (page_at t q).nsn ≤ t.counter
 
--- the sides of a growth leave something on both sides
+-- the sides of a growth put entries on both sides
 pub record SidesPart {K : Type 0} (page : Page K) (sides : List Side) : Type 0 where
   pub some_left : 0 < length (keys_of (left_part sides page.rows) (left_part sides page.branches))
   pub some_right : 0 < length (keys_of (right_part sides page.rows) (right_part sides page.branches))
 
--- what a growth rests on
+-- what a growth requires
 pub record CanGrow {K : Type 0} (union : K → K → K) (t : Tree K) (sides : List Side) : Type 0 where
   pub root_exists : 0 < length t.pages
   pub no_right : (page_at t 0).right ≡ None

@@ -1,5 +1,5 @@
-//! The tree under its steps: an enlargement, a split, a posting and a growth, each made in one go and each refused
-//! with nothing changed.
+//! The tree with its four steps: enlargement, split, posting and growth. Each is done whole, or refused with nothing
+//! changed.
 #![tactic(auto)]
 
 mod steps;

@@ -15,7 +15,7 @@ use row_version::Entry;
 use std::alloc::{AllocError, Global};
 use std::marker::Model;
 
-/// A sound tree of pages with its limits.
+/// A sound tree of pages, with its limits.
 #[derive(Drop)]
 pub struct SearchTree<C: KeyClass> {
     alloc: Global,
@@ -37,11 +37,11 @@ impl<C: KeyClass> Model for SearchTree<C> {
 }
 
 impl<C: KeyClass> SearchTree<C> {
-    /// The tree of a new world: one leaf with nothing in it. A page has at most `fan` entries (4 to 64), each part of a
-    /// page that is split at least `least` (2 to half the fan), and there are at most `limit` pages (1 to 65,536).
+    /// The tree of a new world: one empty leaf. A page has at most `fan` entries (4 to 64), each half of a split page
+    /// at least `least` (2 to half of the fan), and there are at most `limit` pages (1 to 65,536).
     ///
     /// # Errors
-    /// BadConfig where a limit is out of its range, else want of memory.
+    /// BadConfig if a limit is out of range, else `OutOfMemory`.
     pub fn new(alloc: Global, fan: u64, least: u64, limit: u64) -> Result<SearchTree<C>, Refusal>
         ensures made { IfOk result (λ t. t ≡ empty_tree fan least limit) }
         ensures passed { OnOk result (NoneFails (config_tests fan least limit)) }
@@ -82,7 +82,7 @@ impl<C: KeyClass> SearchTree<C> {
         self.fan
     }
 
-    /// The fewest entries of each part of a page that is split.
+    /// The fewest entries of each half of a split page.
     pub fn least(&self) -> usize
         ensures least { result ≡ self.now.least }
         ensures two_least { 2 ≤ self.now.least }
@@ -91,25 +91,25 @@ impl<C: KeyClass> SearchTree<C> {
         self.least
     }
 
-    /// How many pages can still be made.
+    /// How many more pages can be made.
     pub fn pages_left(&self) -> usize
         ensures { result + length self.now.tree.pages ≡ self.now.limit }
     {
         self.limit - self.table.len()
     }
 
-    /// Has the key of the parent's branch to the child, and the child's cover, take in the key.
+    /// Widens the parent's branch to the child, and the child's cover, by the key.
     ///
     /// # Errors
-    /// NotHere where the parent is no inner page or has no branch to the child, Uncovered where its cover doesn't cover
-    /// the key, else want of memory. Nothing is changed then.
+    /// NotHere if the parent is no inner page or has no branch to the child, Uncovered if its cover doesn't cover the
+    /// key, else `OutOfMemory`. Nothing is changed then.
     pub fn enlarge(&mut self, parent: u64, child: u64, key: C::Key) -> Result<(), Refusal>
         ensures passed { OnOk result (EnlargePasses C.rules.is_cover self.old parent child key) }
         ensures enlarged { OnOk result (self.new ≡ extended C.rules self.old parent child key) }
         ensures refused { IfErr result (RefusesEnlarge C.rules.is_cover self.old parent child key) }
         ensures unchanged { OnErr result (self.new ≡ self.old) }
 
-        // The bounds alone have changed.
+        // Only bounds have changed.
         ensures same_rows { KeepsRowsInOrder self.old.tree self.new.tree }
         ensures kept { KeepsRows self.old.tree self.new.tree }
         ensures entries { EachEntry (StandsIn self.old.tree) self.new.tree }
@@ -122,12 +122,12 @@ impl<C: KeyClass> SearchTree<C> {
         Ok(())
     }
 
-    /// Splits a full page by sides: it keeps its left entries and owes the next page, which takes the right ones, a
-    /// posting. Gives the number of that page.
+    /// Splits a full page by sides: it keeps its left entries, and the next page gets the right ones. The page owes
+    /// that one a posting. Gives the number of the new page.
     ///
     /// # Errors
-    /// By the first of these that holds: NotHere where the page is the root or doesn't exist, Owed, Unhung, TooFew where
-    /// it isn't full, BadSides, PagesFull; else want of memory. Nothing is changed then.
+    /// The first of these that applies: NotHere if the page is the root or doesn't exist, Owed, Unhung, TooFew if it
+    /// isn't full, BadSides, PagesFull; else `OutOfMemory`. Nothing is changed then.
     pub fn split(&mut self, page: u64, sides: &Sides) -> Result<u32, Refusal>
         ensures passed { OnOk result (NoneFails (split_tests self.old page sides.now)) }
         ensures sibling { IfOk result (λ sibling. sibling ≡ length self.old.tree.pages) }
@@ -148,12 +148,12 @@ impl<C: KeyClass> SearchTree<C> {
         Ok(sibling)
     }
 
-    /// Posts the right sibling of a child that owes it: the parent names both, the child owes nothing any more and has
-    /// the number of the posting.
+    /// Posts the right sibling of a child that owes it: the parent gets branches to both, and the child owes nothing
+    /// any more and has the number of the posting.
     ///
     /// # Errors
-    /// NotHere where the parent is no inner page, has no branch to the child, or the child owes nothing, NodeFull where
-    /// the parent is full; else want of memory. Nothing is changed then.
+    /// NotHere if the parent is no inner page, has no branch to the child, or the child owes nothing, NodeFull if the
+    /// parent is full; else `OutOfMemory`. Nothing is changed then.
     pub fn post(&mut self, parent: u64, child: u64) -> Result<(), Refusal>
         ensures passed { OnOk result (NoneFails (post_tests self.old parent child)) }
         ensures posted { OnOk result (PostsSibling self.old parent child self.new) }
@@ -174,12 +174,12 @@ impl<C: KeyClass> SearchTree<C> {
         Ok(())
     }
 
-    /// Grows a full root by sides: the next two pages take its entries, and the root, one level higher, names both.
-    /// Gives the numbers of those pages.
+    /// Grows a full root by sides: the next two pages get its entries, and the root, one level higher, gets branches
+    /// to both. Gives the numbers of the new pages.
     ///
     /// # Errors
-    /// By the first of these that holds: TooFew where the root isn't full, BadSides, PagesFull where fewer than two pages
-    /// are left; else want of memory. Nothing is changed then.
+    /// The first of these that applies: TooFew if the root isn't full, BadSides, PagesFull if fewer than two pages
+    /// are left; else `OutOfMemory`. Nothing is changed then.
     pub fn grow(&mut self, sides: &Sides) -> Result<(u32, u32), Refusal>
         ensures passed { OnOk result (NoneFails (grow_tests self.old sides.now)) }
         ensures pages { IfOk result (AreNextTwo self.old.tree) }
@@ -200,18 +200,18 @@ impl<C: KeyClass> SearchTree<C> {
         Ok(pages)
     }
 
-    /// Adds a row to a leaf, at the end.
+    /// Appends a row to a leaf.
     ///
     /// # Errors
-    /// By the first of these that holds: NotHere where the page is no leaf, Uncovered where its cover doesn't cover the
-    /// key, NodeFull; else want of memory. Nothing is changed then.
+    /// The first of these that applies: NotHere if the page is no leaf, Uncovered if its cover doesn't cover the key,
+    /// NodeFull; else `OutOfMemory`. Nothing is changed then.
     pub fn place(&mut self, leaf: u64, entry: Entry<C::Key>) -> Result<(), Refusal>
         ensures passed { OnOk result (PlacePasses C.rules.is_cover self.old leaf entry.key) }
         ensures placed { OnOk result (self.new ≡ with_entry self.old leaf entry) }
         ensures refused { IfErr result (RefusesPlace C.rules.is_cover self.old leaf entry.key) }
         ensures unchanged { OnErr result (self.new ≡ self.old) }
 
-        // Below the root the entry stands once more, and nothing else has changed.
+        // Below the root there is this entry once more, and nothing else has changed.
         ensures once { OnOk result (GainsEntry self.old.tree entry self.new.tree) }
         ensures sound { IsSound C.rules.is_cover self.new.fan self.new.tree }
     {
@@ -222,16 +222,16 @@ impl<C: KeyClass> SearchTree<C> {
         Ok(())
     }
 
-    /// Adds a row to a leaf that takes it, at the end.
+    /// Appends a row to a leaf that takes it.
     ///
     /// # Errors
-    /// Memory was wanting; nothing is changed then.
+    /// Memory ran out; nothing is changed then.
     pub fn add(&mut self, leaf: u64, entry: Entry<C::Key>) -> Result<(), AllocError>
         requires passes { PlacePasses C.rules.is_cover self.old leaf entry.key }
         ensures placed { OnOk result (self.new ≡ with_entry self.old leaf entry) }
         ensures unchanged { OnErr result (self.new ≡ self.old) }
 
-        // Below the root the entry stands once more, and nothing else has changed.
+        // Below the root there is this entry once more, and nothing else has changed.
         ensures once { OnOk result (GainsEntry self.old.tree entry self.new.tree) }
         ensures sound { IsSound C.rules.is_cover self.new.fan self.new.tree }
     {
@@ -239,10 +239,10 @@ impl<C: KeyClass> SearchTree<C> {
         Ok(())
     }
 
-    /// Marks a row of a leaf as deleted by that commit. Commits count from 1.
+    /// Marks a row of a leaf as ended by that commit. Commits count from 1.
     ///
     /// # Errors
-    /// Memory was wanting; nothing is changed then.
+    /// Memory ran out; nothing is changed then.
     pub fn bury(&mut self, leaf: u64, row: u32, commit: u32) -> Result<(), Refusal>
         requires leaf { is_leaf self.old.tree leaf ≡ true }
         requires counted { 0 < commit }
@@ -255,11 +255,11 @@ impl<C: KeyClass> SearchTree<C> {
         Ok(())
     }
 
-    /// Marks a row of a leaf as ended by that commit, and adds another row to a leaf that takes it, at the end: both or
+    /// Marks a row of a leaf as ended by that commit, and appends another row to a leaf that takes it: both or
     /// neither. Commits count from 1.
     ///
     /// # Errors
-    /// Memory was wanting; nothing is changed then.
+    /// Memory ran out; nothing is changed then.
     pub fn relocate(
         &mut self,
         from: u64,
@@ -282,12 +282,12 @@ impl<C: KeyClass> SearchTree<C> {
         Ok(())
     }
 
-    /// Takes the dead rows out of a leaf that nobody needs who opened at the commit `horizon` or later, and gives their
+    /// Removes from a leaf the dead rows that no scan opened at commit `horizon` or later needs, and gives their
     /// number.
     ///
     /// # Errors
-    /// NotHere where the page is no leaf, else want of memory, which a sweep that takes nothing out never tells. Nothing
-    /// is changed then.
+    /// NotHere if the page is no leaf, else `OutOfMemory`, but only if there is something to remove. Nothing is
+    /// changed then.
     pub fn sweep(&mut self, leaf: u64, horizon: u32) -> Result<usize, Refusal>
         ensures passed { OnOk result (NoneFails (sweep_tests self.old leaf)) }
         ensures swept { OnOk result (self.new ≡ without_unneeded self.old leaf horizon) }
@@ -303,14 +303,14 @@ impl<C: KeyClass> SearchTree<C> {
         Ok(self.table.sweep(leaf as u32, horizon)?)
     }
 
-    /// Whether the number is that of a leaf.
+    /// Whether the page with this number is a leaf.
     pub fn is_leaf(&self, page: u64) -> bool
         ensures { result ≡ is_leaf self.now.tree page }
     {
         page < self.table.len() as u64 && self.table.page(page as u32).level() == 0
     }
 
-    /// Why a row with the key can't be placed on a leaf.
+    /// Why a row with the key can't be placed on the page, if it can't.
     pub fn place_refusal(&self, page: u64, key: C::Key) -> Option<Refusal>
         ensures { result ≡ refusal_to_place C.rules.is_cover self.now page key }
     {
@@ -415,7 +415,7 @@ impl<C: KeyClass> SearchTree<C> {
     }
 }
 
-/// Whether there is a side for each entry, and at least `least` entries on each side.
+/// Whether there is a side for each entry, and each side has at least `least` entries.
 fn parts_well(sides: &Sides, entries: usize, least: usize) -> bool
     ensures { result ≡ sides_well least entries sides.now }
 {
@@ -423,7 +423,7 @@ fn parts_well(sides: &Sides, entries: usize, least: usize) -> bool
     sides.len() == entries && least <= lefts && least <= rights
 }
 
-/// How many sides are left, and how many right.
+/// How many of the sides are left, and how many right.
 fn counts(sides: &Sides) -> (usize, usize)
     ensures { CountsSides sides.now result }
 {

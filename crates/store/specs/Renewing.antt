@@ -1,4 +1,4 @@
--- A store with the rows that live after the commits of another, numbered anew.
+-- A store with the rows that are live after the commits of another, numbered from 1 again.
 use Rattle.std.specs.Prelude.{◌≡◌, ◌⊎◌, ℕ, ◌+◌, ◌<◌, ◌≤◌, List, [], ◌∷◌, length, map}
 use Rattle.key_class.specs.declared.refusal.Refusal.{Refusal}
 use Rattle.key_class.specs.declared.refusal.Refusal.TheVariants as refusal
@@ -15,7 +15,7 @@ module _ {K : Type 0} where
   abbrev pub insert_of : Row K → Write K
   insert_of row = Insert row.key row.tag
 
-  -- the inserts of the rows that live after some commits, in the order of their numbers
+  -- the inserts of the rows that are live after some commits, in the order of their numbers
   abbrev pub inserts_of_living : List (Write K) → List (Write K)
   inserts_of_living commits = map insert_of (rows commits)
 
@@ -28,7 +28,7 @@ module _ {K : Type 0} where
   numbered n [] = []
   numbered n (r ∷ rs) = (record r { row = n }) ∷ numbered (n + 1) rs
 
-  -- why no store is made of the rows that live after some commits
+  -- why no store is made of the rows that are live after some commits
   abbrev pub RefusesRenewal : Config → List (Write K) → Refusal → Type 0
   RefusesRenewal config commits why =
       ((why ≡ refusal.BadConfig) × (¬ IsWithinLimits config))
@@ -47,6 +47,6 @@ module _ {K A : Type 0} where
     pub none_dead : store.dead ≡ []
     pub no_finder : store.finders ≡ 0
 
-  -- the store has made the inserts of the rows that live after some commits, and nothing else
+  -- the store has made the inserts of the rows that are live after some commits, and nothing else
   abbrev pub IsRenewed : Config → List (Write K) → StoreState K A → Type 0
   IsRenewed config commits store = HasMadeOnly config (inserts_of_living commits) store

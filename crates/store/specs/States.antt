@@ -31,11 +31,11 @@ pub record StoreState (K A : Type 0) : Type 0 where
   pub cursors : List (CursorState K A)
   -- the last serial that was given
   pub last : ℕ
-  -- a collection
+  -- the dead rows that no sweep has removed, in any order
   pub dead : List DeadRow
   -- how many more pages may be made; a store that needs none keeps them all
   pub pages_left : ℕ
-  -- how many finders were opened, of the 4,294,967,295 that there are in the life of a store
+  -- how many finders were opened, of the 4,294,967,295 in the life of a store
   pub finders : ℕ
 
 -- an empty store; one page is made with it
@@ -54,7 +54,7 @@ module _ {K A : Type 0} where
   abbrev pub cursor_of : StoreState K A → ℕ → Result (CursorState K A) Refusal
   cursor_of state c = if nat_eq c 0 || nat_lt state.last c then Err refusal.NoSuchCursor else open_or_closed (find_cursor c state.cursors)
 
-  -- how much the cursor with a serial has still to do
+  -- how much the cursor with a serial still has to do
   abbrev pub work_of : List (Write K) → Result (CursorState K A) Refusal → ℕ
   work_of commits (Ok cursor) = work commits cursor
   work_of commits (Err why) = 0
@@ -62,7 +62,7 @@ module _ {K A : Type 0} where
   abbrev pub work_at : StoreState K A → ℕ → ℕ
   work_at state c = work_of state.commits (cursor_of state c)
 
-  -- the cursor stands where that with its serial stood
+  -- the cursor is where the one with its serial was
   abbrev pub put_cursor : CursorState K A → List (CursorState K A) → List (CursorState K A)
   put_cursor k [] = []
   put_cursor k (x ∷ xs) = if nat_eq x.serial k.serial then k ∷ xs else x ∷ put_cursor k xs
@@ -73,7 +73,7 @@ module _ {K A : Type 0} where
   abbrev pub without_cursor : StoreState K A → ℕ → StoreState K A
   without_cursor state c = record state { cursors = filter (λ k. not (nat_eq k.serial c)) state.cursors }
 
-  -- no cursor with the serial is open, which is why nothing is done
+  -- no cursor with the serial is open, so nothing is done
   abbrev pub LacksCursor : StoreState K A → ℕ → Refusal → StoreState K A → Type 0
   LacksCursor old c why new = (cursor_of old c ≡ Err why) × (new ≡ old)
 
@@ -94,7 +94,7 @@ module _ {K A : Type 0} where
   abbrev pub is_dead_needed : StoreState K A → DeadRow → Bool
   is_dead_needed state dead = nat_lt (horizon_of (length state.commits) state.cursors) dead.died
 
-  -- an open cursor whose scan isn't over was opened before the row died
+  -- an open cursor with an unfinished scan was opened before the row died
   pub record IsNeededBy (state : StoreState K A) (dead : DeadRow) : Type 0 where
     pub serial : ℕ
     pub cursor : CursorState K A
@@ -103,7 +103,7 @@ module _ {K A : Type 0} where
     pub opened : cursor.opened < dead.died
 
 module _ {K A : Type 0} (matching : A → K → Bool) where
-  -- a cursor after a call that doesn't ask it: all that fits it before fits it after
+  -- a cursor after a call that isn't about it: everything that fitted it before fits it after
   pub record Stays (commits later : List (Write K)) (before after : CursorState K A) : Type 0 where
     pub query : after.query ≡ before.query
     pub follows : after.follows ≡ before.follows
@@ -117,11 +117,11 @@ module _ {K A : Type 0} (matching : A → K → Bool) where
   SameOrStays commits later (Err why) (Err other) = why ≡ other
   SameOrStays commits later _ _ = ⊥
 
-  -- every cursor is open, closed or never given as before, and what fits it before fits it after
+  -- every cursor is open, closed or never given as before, and what fitted it before fits it after
   abbrev pub KeepsCursors : StoreState K A → StoreState K A → Type 0
   KeepsCursors old new = (c : ℕ) → SameOrStays old.commits new.commits (cursor_of old c) (cursor_of new c)
 
-  -- one commit more, and nothing else but pages
+  -- one more commit, and otherwise only pages have changed
   pub record Commits (old : StoreState K A) (write : Write K) (new : StoreState K A) : Type 0 where
     pub limit : new.limit ≡ old.limit
     pub page_limit : new.page_limit ≡ old.page_limit
@@ -131,7 +131,7 @@ module _ {K A : Type 0} (matching : A → K → Bool) where
     pub as_many : length new.cursors ≡ length old.cursors
     pub pages : new.pages_left ≤ old.pages_left
 
-  -- nothing but pages
+  -- only pages have changed
   pub record Keeps (old new : StoreState K A) : Type 0 where
     pub limit : new.limit ≡ old.limit
     pub page_limit : new.page_limit ≡ old.page_limit
@@ -142,7 +142,7 @@ module _ {K A : Type 0} (matching : A → K → Bool) where
     pub as_many : length new.cursors ≡ length old.cursors
     pub pages : new.pages_left ≤ old.pages_left
 
-  -- a mark comes only where one is asked, and ends the asking; with nothing to give nothing is left
+  -- a mark comes only if one was asked for, and then none is asked for any more; without an item nothing is left
   abbrev pub Answers : List (Write K) → CursorState K A → Option (Item K) → CursorState K A → Type 0
   Answers commits before (Some (item.Mark n)) after = (before.asked ≡ true) × (n ≡ length commits) × (after.asked ≡ false)
   Answers commits before (Some other) after = after.asked ≡ before.asked
@@ -158,7 +158,7 @@ module _ {K A : Type 0} (matching : A → K → Bool) where
     pub answer : Answers commits before given after
     pub less_work : IfSome given (λ _. work commits after < work commits before)
 
-  -- a cursor got no memory for its scan
+  -- a cursor got no memory for its scan, but may have got on
   pub record Strives (commits : List (Write K)) (before after : CursorState K A) : Type 0 where
     pub serial : after.serial ≡ before.serial
     pub query : after.query ≡ before.query
@@ -167,7 +167,7 @@ module _ {K A : Type 0} (matching : A → K → Bool) where
     pub asked : after.asked ≡ before.asked
     pub fits : (items : List (Item K)) → Fits matching commits before items → Fits matching commits after items
 
-  -- a new cursor stands behind a commit, which it follows or at which it has a snapshot, and has given nothing
+  -- a new cursor begins after a commit, which it follows or at which it has a snapshot, and has given nothing
   pub record IsOpened (old : StoreState K A) (asked_for : Query A) (follows : Bool) (opened c : ℕ) (new : StoreState K A) : Type 0 where
     pub serial : c ≡ old.last + 1
     pub cursor : CursorState K A
@@ -180,7 +180,7 @@ module _ {K A : Type 0} (matching : A → K → Bool) where
     pub unasked : cursor.asked ≡ false
     pub fits : Fits matching old.commits cursor []
 
-  -- a cursor at the present commits, on a query as a program holds it
+  -- a cursor at the present commits, with a query in the form in which a program stores it
   abbrev pub IsOpenedFor : StoreState K A → Pred A → ℕ → StoreState K A → Type 0
   IsOpenedFor old query c new = IsOpened old (query_of query) false (length old.commits) c new
 
@@ -188,7 +188,7 @@ module _ {K A : Type 0} (matching : A → K → Bool) where
   abbrev pub IsFollowerFor : StoreState K A → Pred A → ℕ → ℕ → StoreState K A → Type 0
   IsFollowerFor old query n c new = IsOpened old (query_of query) true n c new
 
-  -- an open cursor gives its next item, or nothing; all else stays
+  -- an open cursor gives its next item, or nothing; everything else is unchanged
   pub record Nexts (old : StoreState K A) (c : ℕ) (given : Option (Item K)) (new : StoreState K A) : Type 0 where
     pub before : CursorState K A
     pub after : CursorState K A
@@ -196,7 +196,8 @@ module _ {K A : Type 0} (matching : A → K → Bool) where
     pub gives : GivesNext old.commits before given after
     pub is : new ≡ with_open_cursor old after
 
-  -- a page is left to be read, and no item comes for want of memory; the cursor may have got on, and what fits it still fits
+  -- a page is left to be read, and no item comes for lack of memory; the cursor may have got on, and what fitted it
+  -- still fits
   pub record Wants (old : StoreState K A) (c : ℕ) (new : StoreState K A) : Type 0 where
     pub before : CursorState K A
     pub after : CursorState K A
@@ -210,11 +211,12 @@ module _ {K A : Type 0} (matching : A → K → Bool) where
   Gave old c [] new = new ≡ old
   Gave old c (item ∷ items) new = (mid : StoreState K A) × Nexts old c (Some item) mid × Gave mid c items new
 
-  -- refused by its serial, or for the memory of a page that is left to be read
+  -- refused because of its serial, or for lack of memory while a page is left to be read
   abbrev pub RefusesNext : StoreState K A → ℕ → Refusal → StoreState K A → Type 0
   RefusesNext old c why new = LacksCursor old c why new ⊎ ((why ≡ refusal.OutOfMemory) × Wants old c new)
 
-  -- a cursor has nothing more to give, or was refused; or the list found no memory for one more, and the cursor wasn't asked
+  -- a cursor has nothing more to give, or was refused; or the list got no memory for one more item, and the cursor
+  -- wasn't asked
   abbrev pub EndsDrain : StoreState K A → ℕ → Result (Unit {0}) Refusal → StoreState K A → Type 0
   EndsDrain old c (Ok done) new = Nexts old c None new
   EndsDrain old c (Err why) new = RefusesNext old c why new ⊎ ((why ≡ refusal.OutOfMemory) × (new ≡ old))
@@ -225,7 +227,7 @@ module _ {K A : Type 0} (matching : A → K → Bool) where
     pub gave : Gave old c items last_given
     pub ended : EndsDrain last_given c result new
 
-  -- nothing but dead rows
+  -- only dead rows have changed
   pub record KeepsLiving (old new : StoreState K A) : Type 0 where
     pub limit : new.limit ≡ old.limit
     pub page_limit : new.page_limit ≡ old.page_limit
@@ -236,14 +238,14 @@ module _ {K A : Type 0} (matching : A → K → Bool) where
     pub pages : new.pages_left ≡ old.pages_left
     pub finders : new.finders ≡ old.finders
 
-  -- a sweep removed all dead rows that no scan needs, and this many
+  -- a sweep removed all dead rows that no scan needs, and there were this many
   pub record SweepsStore (old : StoreState K A) (number : ℕ) (new : StoreState K A) : Type 0 where
     pub rest : KeepsLiving old new
     pub counted : number + length new.dead ≡ length old.dead
     pub left : IsPermutation (filter (is_dead_needed old) old.dead) new.dead
     pub needed : AllByRecursion (λ d. IsNeededBy old d) new.dead
 
-  -- a sweep that memory stopped removed some dead rows that no scan needs
+  -- a sweep stopped by lack of memory removed some dead rows that no scan needs
   pub record SweepsStorePart (old new : StoreState K A) : Type 0 where
     pub rest : KeepsLiving old new
     pub gone : List DeadRow
@@ -267,11 +269,11 @@ module _ {K A : Type 0} where
   abbrev pub HasNoFinderFor : StoreState K A → ℕ → Type 0
   HasNoFinderFor state row = NamesLive state.commits row × (length state.commits < state.limit) × HasNoFinderLeft state
 
-  -- why a row isn't added, and what is left then
+  -- why a row isn't added, and what the store is like then
   abbrev pub RefusesRow : StoreState K A → Refusal → Type 0
   RefusesRow new why = (why ≡ refusal.OutOfMemory) ⊎ (why ≡ refusal.CommitsFull) ⊎ ((why ≡ refusal.PagesFull) × (new.pages_left < 2))
 
-  -- the next commit's death of the row is one more in the collection
+  -- there is one more dead row, which the next commit ended
   abbrev pub AddsDead : StoreState K A → ℕ → StoreState K A → Type 0
   AddsDead old row new = IsPermutation ((record { row = row; died = length old.commits + 1 }) ∷ old.dead) new.dead
 
@@ -281,18 +283,18 @@ module _ {K A : Type 0} where
       (why ≡ refusal.NoSuchRow) ⊎ (why ≡ refusal.AlreadyDeleted) ⊎ (why ≡ refusal.CommitsFull) ⊎ (why ≡ refusal.OutOfMemory)
       ⊎ ((why ≡ refusal.FindersFull) × HasNoFinderLeft old)
 
-  -- the refusals that a move may give, and what is left then
+  -- the refusals that a move may give, and what the store is like then
   abbrev pub MayRefuseMove : StoreState K A → StoreState K A → Refusal → Type 0
   MayRefuseMove old new why = MayRefuseDelete old why ⊎ ((why ≡ refusal.PagesFull) × (new.pages_left < 2))
 
-  -- the open cursor is open no more, and all else stays
+  -- the open cursor is no longer open, and everything else is unchanged
   pub record Closes (old : StoreState K A) (c : ℕ) (new : StoreState K A) : Type 0 where
     pub cursor : CursorState K A
     pub was_open : cursor_of old c ≡ Ok cursor
     pub one_less : length new.cursors + 1 ≡ length old.cursors
     pub is : new ≡ without_cursor old c
 
-  -- the open cursor changes in this way, and all else stays
+  -- the open cursor changes in this way, and everything else is unchanged
   pub record ChangesCursor (change : CursorState K A → CursorState K A) (old : StoreState K A) (c : ℕ) (new : StoreState K A) : Type 0 where
     pub before : CursorState K A
     pub is_open : cursor_of old c ≡ Ok before
@@ -312,15 +314,15 @@ RefusesCursor why = (why ≡ refusal.BadConfig) ⊎ (why ≡ refusal.CursorsFull
 abbrev pub IsFullOf : {K A : Type 0} → StoreState K A → Type 0
 IsFullOf state = (most_cursors ≤ length state.cursors) ⊎ (greatest_serial ≤ state.last)
 
--- the query and the room are in range, but no cursor can be opened
+-- query and room are in range, but no cursor can be opened
 abbrev pub HasNoCursorFor : {K A : Type 0} → StoreState K A → Query A → ℕ → Type 0
 HasNoCursorFor state query room = (¬ IsBadOpening query room) × IsFullOf state
 
--- the query and the room are in range, but there are fewer commits than that
+-- query and room are in range, but there are fewer commits than that
 abbrev pub IsFromFuture : {K A : Type 0} → StoreState K A → Query A → ℕ → ℕ → Type 0
 IsFromFuture state query room n = (¬ IsBadOpening query room) × (length state.commits < n)
 
--- the query, the room and the commit are there, but no cursor can be opened
+-- query and room are in range and the commit exists, but no cursor can be opened
 abbrev pub HasNoFollowerFor : {K A : Type 0} → StoreState K A → Query A → ℕ → ℕ → Type 0
 HasNoFollowerFor state query room n = (¬ IsBadOpening query room) × (n ≤ length state.commits) × IsFullOf state
 

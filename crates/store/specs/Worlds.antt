@@ -1,4 +1,4 @@
--- What a store shows of the world on which it stands.
+-- The state of a store, as seen from the state of its world.
 use Rattle.std.specs.Prelude.{◌≡◌, ℕ, ◌-◌, ◌<◌, [], length, map, Option, Some, Ok, All}
 use Rattle.key_class.specs.Rules.{Rules}
 use Rattle.mailbox.specs.Outlets.{Rule, tray_rule}
@@ -27,7 +27,7 @@ module _ {K A : Type 0} where
     finders = s.last_finder;
   }
 
-  -- how the cursor of a world gives its next item, or nothing, and why it doesn't
+  -- how the cursor of a world gives its next item, or nothing, and why it is refused
   abbrev pub NextsIn : Rules K A → world.State K A → ℕ → Option (Item K) → world.State K A → Type 0
   NextsIn rules old c given new = Nexts rules.is_match (store_state rules tray_rule old) c given (store_state rules tray_rule new)
 
@@ -38,7 +38,7 @@ module _ {K A : Type 0} where
   abbrev pub HasCursor : StoreState K A → ℕ → Type 0
   HasCursor state c = (k : CursorState K A) × (cursor_of state c ≡ Ok k)
 
-  -- the mailbox is empty, and has a place
+  -- the mailbox is empty, and has room for an item
   pub record IsEmptied (k : OpenCursor K A) : Type 0 where
     pub empty : k.unread ≡ []
     pub place : 0 < k.room

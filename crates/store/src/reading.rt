@@ -1,4 +1,4 @@
-//! What a cursor gives next.
+//! The next item of a cursor.
 ghost use Rattle.std.specs.Prelude.{◌≡◌, None, IfOk, IfErr};
 ghost use Rattle.store.specs.Worlds.{IsFilled, IsQuiet, NextsIn, RefusesNextIn};
 ghost use Rattle.split.specs.Tests.{first_failing};
@@ -34,7 +34,7 @@ pub fn next_item<C: KeyClass>(
     }
 }
 
-/// Takes the item that the cursor's mailbox holds.
+/// Takes the item from the cursor's mailbox.
 fn take_item<C: KeyClass>(world: &mut World<C, Tray<C::Key>>, c: u64) -> Item<C::Key>
     requires open { first_failing (cursor_tests world.old c) ≡ None }
     requires filled { IsFilled world.old c }

@@ -1,4 +1,5 @@
-//! A store made anew from a snapshot of another, whose list of commits is nearly full or whose tree has got worse.
+//! Renewal: a new store made from a snapshot, for when a list of commits is nearly full or moves have made a tree
+//! slow.
 ghost use Rattle.std.specs.Prelude.{◌≡◌, ◌↔◌, Err, IfOk, IfErr};
 ghost use Rattle.key_class.specs.declared.refusal.Refusal.TheVariants.{BadConfig};
 ghost use Rattle.change_list.specs.Changes.{rows};
@@ -11,24 +12,25 @@ use key_class::{KeyClass, Refusal};
 use snapshot::Snapshot;
 use std::alloc::Global;
 
-/// A store with the rows of another, numbered anew.
+/// A new store with the rows of another, numbered from 1 again.
 #[derive(Drop)]
 pub struct Renewed<C: KeyClass> {
     pub store: Store<C>,
-    /// For each row of the store, by rising number, the number that it had.
+    /// The number that each row of the store had before, by rising new number.
     pub old_numbers: Vec<u64>,
 }
 
 impl<C: KeyClass> Store<C> {
-    /// A new store with the rows that live in a snapshot, with their keys and tags. They are inserted in the order of their
-    /// numbers: commit 1 makes the first of them, commit 2 the second.
+    /// A new store with the rows that are live in a snapshot, with their keys and tags. They are inserted in the
+    /// order of their numbers: commit 1 makes the first of them, commit 2 the second, and so on.
     ///
-    /// The store of the snapshot isn't asked: it may go on meanwhile, and its changes after the snapshot tell what to catch
-    /// up with.
+    /// It doesn't need the store of the snapshot, which may be used meanwhile: its changes after the snapshot tell
+    /// what to catch up with.
     ///
     /// # Errors
-    /// `BadConfig` where a limit of the configuration is out of its range; `CommitsFull` where more rows live than the new
-    /// store may have commits; `PagesFull` where it may have no more pages than one beside those rows; and want of memory.
+    /// `BadConfig` if a limit of the configuration is out of range; `CommitsFull` if there are more live rows than
+    /// the new store may have commits; `PagesFull` if it may have at most one page more than there are rows; or
+    /// `OutOfMemory`.
     pub fn renewed(
         alloc: Global,
         config: Config,

@@ -1,4 +1,4 @@
-//! How far a store has come, and where its cursors stand.
+//! The figures of a store, and the state of its cursors.
 ghost use Rattle.std.specs.Prelude.{◌≡◌, length, option_map, slice_get, IfSome, IfNone};
 ghost use Rattle.store.specs.Stats.{KeepsDead, TellsOf, horizon_in, standing_of};
 
@@ -6,7 +6,7 @@ use crate::store::Store;
 use collector::horizon;
 use key_class::KeyClass;
 
-/// How far a store has come, and what is left to it.
+/// The figures of a store: its progress, and its limits.
 #[derive(Clone, Copy, Debug, PartialEq, Eq)]
 pub struct Stats {
     /// How many commits were made.
@@ -19,25 +19,25 @@ pub struct Stats {
     pub page_limit: u64,
     /// How many cursors are open.
     pub cursors: u64,
-    /// The commit from which on no open scan needs the dead: a sweep leaves those that died after it.
+    /// The commit from which on no open scan needs dead rows: a sweep keeps those that died after it.
     pub horizon: u64,
 }
 
-/// Where an open cursor stands.
+/// The state of an open cursor.
 #[derive(Clone, Copy, Debug, PartialEq, Eq)]
 pub struct Standing {
     /// Its serial.
     pub serial: u64,
-    /// The number of commits at its opening, or of the commit that it follows.
+    /// The number of commits at its opening, or the commit that it follows.
     pub opened: u64,
-    /// How many commits it hasn't passed yet.
+    /// How many commits it hasn't gone past yet.
     pub lag: u64,
-    /// Whether it has pages left to visit. Until it has none, a sweep leaves the rows that died after its opening.
+    /// Whether it has pages left to visit. As long as it has, a sweep keeps the rows that died after its opening.
     pub is_scanning: bool,
 }
 
 impl<C: KeyClass> Store<C> {
-    /// How many commits and pages there are and may be, and how many cursors are open. No page is read.
+    /// The figures of the store. It reads no page.
     pub fn stats(&self) -> Stats
         ensures { TellsOf self.now result }
     {
@@ -54,7 +54,7 @@ impl<C: KeyClass> Store<C> {
         }
     }
 
-    /// Where the open cursor at a place stands, by rising serial, the first at place 0. None where fewer are open.
+    /// The state of the open cursor at a place, counted from 0, by rising serial. `None` if fewer are open.
     pub fn standing(&self, place: u64) -> Option<Standing>
         ensures { result ≡ option_map (standing_of (length self.now.commits))
             (slice_get self.now.cursors place) }
@@ -74,8 +74,8 @@ impl<C: KeyClass> Store<C> {
         })
     }
 
-    /// The serial of an open cursor for whose scan a sweep leaves the rows that died after its opening, and of those the
-    /// one that was opened first. None where no scan needs any of the dead.
+    /// The serial of the open cursor for whose scan a sweep keeps rows that died after its opening; among several,
+    /// the one that was opened first. `None` if no scan needs dead rows.
     pub fn keeper(&self) -> Option<u64>
         ensures keeps { IfSome result (KeepsDead self.now) }
         ensures none { IfNone result (horizon_in self.now ≡ length self.now.commits) }

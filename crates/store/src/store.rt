@@ -46,7 +46,7 @@ impl<C: KeyClass> Store<C> {
     /// An empty store.
     ///
     /// # Errors
-    /// `BadConfig` where a limit of the configuration is out of its range, and want of memory.
+    /// `BadConfig` if a limit of the configuration is out of range, or `OutOfMemory`.
     pub fn new(alloc: Global, config: Config) -> Result<Store<C>, Refusal>
         ensures ok { IfOk result (λ store. store ≡ new_store config) }
         ensures bad { (result ≡ Err BadConfig) ↔ (¬ IsWithinLimits config) }
@@ -61,14 +61,14 @@ impl<C: KeyClass> Store<C> {
         ensures number { result ≡ length self.now.commits }
         ensures legal { IsLegal self.now.commits }
 
-        // At most one page more was made than there are commits.
+        // There is at most one page more than there are commits.
         ensures few_pages { HasFewPages self.now }
     {
         self.world.recall_soundness();
         self.world.commits()
     }
 
-    /// Nothing is done. The clauses state what holds of every store.
+    /// Proof hint, no code: brings what holds of every store into view.
     fn recall_soundness(&self)
         ensures legal { IsLegal self.now.commits }
         ensures few_pages { HasFewPages self.now }
@@ -83,24 +83,25 @@ impl<C: KeyClass> Store<C> {
         self.world.commit(number)
     }
 
-    /// The row with a number, as its commit made it, whether it lives or not. That takes two reads at most.
+    /// The row with a number, live or dead, as its commit made it. It takes at most two reads.
     pub fn row(&self, number: u64) -> Option<Row<C::Key>>
         ensures { result ≡ row_at self.now.commits number }
     {
         self.world.row(number)
     }
 
-    /// What became of the row with a number.
+    /// The status of the row with a number.
     pub fn status(&self, number: u64) -> Status
         ensures { result ≡ status_of self.now.commits number }
     {
         self.world.status(number)
     }
 
-    /// The commits as they are now, whatever follows, to be searched beside the store by any number of threads.
+    /// A snapshot of the commits, which later commits don't change. Any number of threads can search it while the
+    /// store is used.
     ///
     /// # Errors
-    /// Want of memory.
+    /// `OutOfMemory`.
     pub fn snapshot(&self) -> Result<Snapshot<C>, Refusal>
         ensures list { IfOk result (λ snapshot. snapshot ≡ self.now.commits) }
         ensures refused { IfErr result (λ why. why ≡ OutOfMemory) }
@@ -128,9 +129,9 @@ impl<C: KeyClass> Store<C> {
     /// Deletes a row, and gives the commit's number.
     ///
     /// # Errors
-    /// `NoSuchRow` where no insert or move has the number, else `AlreadyDeleted`, else `CommitsFull`, else `FindersFull` once the
-    /// last finder of the store's life was opened, and want of memory. Nothing is changed then, but that want of memory may
-    /// have used up a finder.
+    /// `NoSuchRow` if no insert or move has the number, else `AlreadyDeleted`, else `CommitsFull`, else `FindersFull`
+    /// once the last finder of the store's life was opened; or `OutOfMemory`. Nothing is changed then, except that
+    /// with `OutOfMemory` a finder may be used up.
     pub fn delete(&mut self, row: u64) -> Result<u64, Refusal>
         ensures number { IfOk result (λ n. n ≡ length self.old.commits + 1) }
         ensures ok { OnOk result (Commits C.rules.is_match self.old (Delete row) self.new) }
@@ -153,14 +154,14 @@ impl<C: KeyClass> Store<C> {
         deleted
     }
 
-    /// Moves a row: one commit ends it and begins another, with this key and its tag. Gives the commit's number, which is
-    /// the new row's.
+    /// Moves a row: one commit ends it and makes another, with this key and its tag. Gives the commit's number, which
+    /// is the new row's.
     ///
     /// # Errors
-    /// `NoSuchRow` where no insert or move has the number, else `AlreadyDeleted`, else `CommitsFull`, else `FindersFull` once the
-    /// last finder of the store's life was opened; nothing is changed then. Else `PagesFull` where fewer than two pages are
-    /// left when it returns, and want of memory. No row is moved then, but pages may have been made, and want of memory may
-    /// have used up a finder.
+    /// `NoSuchRow` if no insert or move has the number, else `AlreadyDeleted`, else `CommitsFull`, else `FindersFull`
+    /// once the last finder of the store's life was opened; nothing is changed then. Else `PagesFull` if fewer than
+    /// two pages are left when it returns, or `OutOfMemory`. No row is moved then, but pages may have been made, and
+    /// with `OutOfMemory` a finder may be used up.
     pub fn move_row(&mut self, row: u64, key: C::Key) -> Result<u64, Refusal>
         ensures number { IfOk result (λ n. n ≡ length self.old.commits + 1) }
         ensures ok { OnOk result (Commits C.rules.is_match self.old (Move row key) self.new) }
@@ -185,11 +186,11 @@ impl<C: KeyClass> Store<C> {
         moved
     }
 
-    /// Opens a cursor at the present commits.
+    /// Opens a cursor at the present commits, and gives its serial.
     ///
     /// # Errors
-    /// `BadConfig` where the room isn't from 1 to 4,096 or the query is deeper than 32, else `CursorsFull`, else want of
-    /// memory.
+    /// `BadConfig` if the room isn't from 1 to 4,096 or the query is deeper than 32, else `CursorsFull`, else
+    /// `OutOfMemory`.
     pub fn open(&mut self, query: Pred<C::Atom>, room: u64) -> Result<u64, Refusal>
         ensures ok { IfOk result (λ c. IsOpenedFor C.rules.is_match self.old query c self.new) }
         ensures err { OnErr result (self.new ≡ self.old) }
@@ -207,12 +208,12 @@ impl<C: KeyClass> Store<C> {
         }
     }
 
-    /// Opens a cursor that follows a commit: it gives the changes after it, and no row of a snapshot. Of a mark's number,
-    /// it goes on where that mark was given.
+    /// Opens a cursor that follows a commit, and gives its serial. The cursor gives the changes after that commit,
+    /// and no rows of a snapshot. With a mark's number it goes on where the mark was given.
     ///
     /// # Errors
-    /// `BadConfig` where the room isn't from 1 to 4,096 or the query is deeper than 32, else `FromFuture` where there are
-    /// fewer commits than that, else `CursorsFull`, else want of memory.
+    /// `BadConfig` if the room isn't from 1 to 4,096 or the query is deeper than 32, else `FromFuture` if there are
+    /// fewer commits than that, else `CursorsFull`, else `OutOfMemory`.
     pub fn open_from(
         &mut self,
         query: Pred<C::Atom>,
@@ -238,11 +239,11 @@ impl<C: KeyClass> Store<C> {
         }
     }
 
-    /// The next item of a cursor, or none where nothing is left and no mark is asked.
+    /// The next item of a cursor, or `None` if nothing is left and no mark is asked for.
     ///
     /// # Errors
-    /// `NoSuchCursor` where the serial was never given, `CursorClosed` where its cursor is closed; and want of memory while a page
-    /// is left to be read.
+    /// `NoSuchCursor` if the serial was never given, `CursorClosed` if its cursor is closed; or `OutOfMemory`, as
+    /// long as a page is left to be read.
     pub fn next(&mut self, c: u64) -> Result<Option<Item<C::Key>>, Refusal>
         ensures ok { IfOk result (λ item. Nexts C.rules.is_match self.old c item self.new) }
         ensures err { IfErr result (λ why. RefusesNext C.rules.is_match self.old c why self.new) }
@@ -250,7 +251,7 @@ impl<C: KeyClass> Store<C> {
         next_item(&mut self.world, c)
     }
 
-    /// Nothing where a cursor is open.
+    /// Checks that a cursor is open.
     fn check(&self, c: u64) -> Result<(), Refusal>
         ensures open { OnOk result (HasCursor self.now c) }
         ensures refused { IfErr result (λ why. cursor_of self.now c ≡ Err why) }
@@ -258,11 +259,11 @@ impl<C: KeyClass> Store<C> {
         self.world.check_cursor(c)
     }
 
-    /// Puts a cursor's items behind those of a list, until nothing is left to give.
+    /// Appends a cursor's items to a list, until nothing is left to give.
     ///
     /// # Errors
-    /// `NoSuchCursor`, `CursorClosed`; and want of memory while a page is left to be read, or for the list. What was given before
-    /// stands in the list.
+    /// `NoSuchCursor`, `CursorClosed`; or `OutOfMemory`, for the list or as long as a page is left to be read. What
+    /// was given before stays in the list.
     pub fn drain(&mut self, c: u64, into: &mut Vec<Item<C::Key>>) -> Result<(), Refusal>
         ensures { DrainsInto C.rules self.old c into.old.items into.new.items result self.new }
     {
@@ -281,7 +282,7 @@ impl<C: KeyClass> Store<C> {
     /// Removes the dead rows that no cursor with a scan in progress needs, and gives their number.
     ///
     /// # Errors
-    /// Want of memory; some of those rows may be removed then.
+    /// `OutOfMemory`; some of those rows may have been removed by then.
     pub fn sweep_all(&mut self) -> Result<u64, Refusal>
         ensures ok { IfOk result (λ n. SweepsStore C.rules.is_match self.old n self.new) }
         ensures err { OnErr result (SweepsStorePart C.rules.is_match self.old self.new) }
@@ -303,7 +304,7 @@ impl<C: KeyClass> Store<C> {
     /// Closes a cursor.
     ///
     /// # Errors
-    /// `NoSuchCursor` where the serial was never given, `CursorClosed` where its cursor is closed.
+    /// `NoSuchCursor` if the serial was never given, `CursorClosed` if its cursor is closed.
     pub fn close(&mut self, c: u64) -> Result<(), Refusal>
         ensures ok { OnOk result (Closes self.old c self.new) }
         ensures err { IfErr result (λ why. LacksCursor self.old c why self.new) }
@@ -330,10 +331,10 @@ impl<C: KeyClass> Store<C> {
         Ok(rows)
     }
 
-    /// How many live rows match. It keeps the rows of one page at a time.
+    /// How many live rows match. It keeps the rows of only one page at a time.
     ///
     /// # Errors
-    /// `BadConfig` where the query is deeper than 32, else want of memory.
+    /// `BadConfig` if the query is deeper than 32, else `OutOfMemory`.
     pub fn count(&self, query: &Pred<C::Atom>) -> Result<u64, Refusal>
         ensures ok { IfOk result (λ n. n
             ≡ length (matching_rows C.rules self.now query.now)) }

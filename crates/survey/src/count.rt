@@ -7,14 +7,14 @@ use page_table::PageTable;
 use scan::Stack;
 use std::alloc::{AllocError, Global};
 
-/// For how many rows a count asks memory before it has found any: more than one page may have.
+/// How many rows a count reserves memory for at first: more than any page has.
 const AT_FIRST: usize = 64;
 
-/// How many rows live after the first `commits` commits and match: as many as a traversal from the root finds. It keeps the
-/// rows of one page at a time.
+/// How many rows are live after the first `commits` commits and match: a traversal from the root counts them. It
+/// keeps the rows of only one page at a time.
 ///
 /// # Errors
-/// Memory was wanting.
+/// Memory ran out.
 pub fn live_count<C: KeyClass>(
     alloc: Global,
     table: &PageTable<C::Key>,

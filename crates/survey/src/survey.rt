@@ -8,14 +8,15 @@ use page_table::PageTable;
 use scan::Stack;
 use std::alloc::{AllocError, Global};
 
-/// For how many rows a search asks memory before it has found any.
+/// How many rows a search reserves memory for at first.
 const AT_FIRST: usize = 32;
 
-/// The rows that live after the first `commits` commits and match, by rising number: one traversal from the root, then
-/// a sort. The search is that of Guttman, R-Trees (1984), as Hellerstein, Naughton and Pfeffer generalized it (1995).
+/// The rows that are live after the first `commits` commits and match, by rising number: a traversal from the root,
+/// then a sort. The search is from Guttman, R-Trees (1984), as generalized by Hellerstein, Naughton and Pfeffer
+/// (1995).
 ///
 /// # Errors
-/// Memory was wanting.
+/// Memory ran out.
 pub fn live_rows<C: KeyClass>(
     alloc: Global,
     table: &PageTable<C::Key>,
@@ -30,7 +31,7 @@ pub fn live_rows<C: KeyClass>(
     Ok(rows)
 }
 
-/// What a traversal from the root finds, in the order of its visits.
+/// The rows that a traversal from the root finds, in the order of its visits.
 fn found_rows<C: KeyClass>(
     alloc: Global,
     table: &PageTable<C::Key>,
