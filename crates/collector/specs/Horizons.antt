@@ -1,4 +1,4 @@
--- From which commit on somebody may still need the dead.
+-- The commit from which on dead rows may still be needed.
 use Rattle.std.specs.Prelude.{◌≡◌, ℕ, ◌≤◌, true, List, Some, slice_get, ◌⊎◌}
 use Rattle.cursor.specs.OpenCursors.{OpenCursor, is_scanning}
 
@@ -11,7 +11,7 @@ module _ {K A : Type 0} where
     pub scanning : is_scanning cursor.stack ≡ true
     pub opened_is : cursor.opened ≡ opened
 
-  -- the least opening of the cursors that have pages left to visit, or the number of commits where that is less
+  -- the least opening of the cursors that have pages left to visit, or the number of commits if that is less
   pub record IsHorizon (commits : ℕ) (cursors : List (OpenCursor K A)) (horizon : ℕ) : Type 0 where
     pub within : horizon ≤ commits
     pub least : (opened : ℕ) → ScansFrom cursors opened → horizon ≤ opened

@@ -1,4 +1,4 @@
-//! Which of the dead nobody needs.
+//! Which dead rows nobody needs any more.
 #![tactic(auto)]
 
 mod open_scans;

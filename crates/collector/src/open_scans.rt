@@ -6,8 +6,8 @@ use cursor::Cursor;
 use key_class::KeyClass;
 use mailbox::Outlet;
 
-/// The commit from which on no open scan needs the dead: the least opening of the cursors that have pages left to visit,
-/// or `commits`, the number of commits, where that is less.
+/// The commit from which on no open scan needs dead rows: the least opening of the cursors that have pages left to
+/// visit, or `commits`, the number of commits, if that is less.
 pub fn horizon<C: KeyClass, O: Outlet<C::Key>>(cursors: &[Cursor<C, O>], commits: u32) -> u32
     ensures { IsHorizon commits cursors.now result }
 {
@@ -18,7 +18,7 @@ pub fn horizon<C: KeyClass, O: Outlet<C::Key>>(cursors: &[Cursor<C, O>], commits
     least
 }
 
-/// The opening of a cursor that has pages left to visit, else `commits`.
+/// The opening of a cursor, if it has pages left to visit, else `commits`.
 fn needed_from<C: KeyClass, O: Outlet<C::Key>>(cursor: &Cursor<C, O>, commits: u32) -> u32
     ensures { result ≡ (if is_scanning cursor.now.stack then cursor.now.opened else commits) }
 {

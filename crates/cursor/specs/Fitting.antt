@@ -21,7 +21,7 @@ module _ {K A : Type 0} (rules : Rules K A) (rule : Rule) where
   abbrev pub KeepsFitting : Tree K → List (Write K) → OpenCursor K A → OpenCursor K A → Type 0
   KeepsFitting t commits old new = (items : List (Item K)) → FitsOver t commits old items → FitsOver t commits new items
 
-  -- what fitted before, followed by what the outlet got, fits after
+  -- what fitted before, followed by what the outlet was sent, fits after
   abbrev pub GivesFitting : Tree K → List (Write K) → OpenCursor K A → OpenCursor K A → Type 0
   GivesFitting t commits old new = (items offered : List (Item K)) → new.unread ≡ old.unread ++ offered → FitsOver t commits old items → FitsOver t commits new (items ++ offered)
 
@@ -29,12 +29,12 @@ module _ {K A : Type 0} (rules : Rules K A) (rule : Rule) where
   abbrev pub KeepsAllFitting : OpenCursor K A → OpenCursor K A → Type 0
   KeepsAllFitting old new = (t : Tree K) (commits : List (Write K)) → KeepsFitting t commits old new
 
-  -- opened at the latest commit, with its snapshot to find, it fits the empty list
+  -- opened at the latest commit, with its snapshot to find, the empty list fits it
   abbrev pub BeginsFitting : ℕ → OpenCursor K A → Type 0
   BeginsFitting opened k = (t : Tree K) (commits : List (Write K)) → opened ≡ length commits
       → Same (to_find (wants rules rule k) opened t k.stack) (snapshot (wants rules rule k) opened commits) → FitsOver t commits k []
 
-  -- behind a commit that there is, the empty list fits what follows it
+  -- after a commit that exists, the empty list fits a cursor that follows it
   abbrev pub FollowsFitting : ℕ → OpenCursor K A → Type 0
   FollowsFitting from k = (t : Tree K) (commits : List (Write K)) → from ≤ length commits → FitsOver t commits k []
 
@@ -42,7 +42,7 @@ module _ {K A : Type 0} (rules : Rules K A) (rule : Rule) where
   abbrev pub TurnFits : Tree K → List (Write K) → OpenCursor K A → OpenCursor K A → Type 0
   TurnFits t commits old new = (fan : ℕ) → IsSound rules.is_cover fan t → GivesFitting t commits old new
 
-  -- what fits a cursor fits it after a step of the tree that leaves its scan what it has to find,
+  -- what fits a cursor still fits it after a step of the tree that leaves its scan what it has to find,
   abbrev pub TreesLeaveFitting : Type 0
   TreesLeaveFitting = (t t' : Tree K) (commits : List (Write K)) (k : OpenCursor K A) (items : List (Item K))
       → Same (to_find (wants rules rule k) k.opened t' k.stack) (to_find (wants rules rule k) k.opened t k.stack) → FitsOver t commits k items → FitsOver t' commits k items

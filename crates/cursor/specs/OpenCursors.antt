@@ -25,19 +25,19 @@ use Rattle.cursor.specs.declared.cursor.Turned.TheVariants as turned
 pub record OpenCursor (K A : Type 0) : Type 0 where
   pub serial : ℕ
   pub query : Query A
-  -- it follows a commit: it was opened without a snapshot
+  -- it follows a commit, so it was opened without a snapshot
   pub follows : Bool
-  -- the number of commits at its opening, or of the commit that it follows
+  -- the number of commits at its opening, or the commit that it follows
   pub opened : ℕ
-  -- the pages that its scan has still to visit, the last first
+  -- the pages that its scan still has to visit, the next one last
   pub stack : List StackItem
-  -- rows that it found and hasn't offered
+  -- rows that it found and hasn't offered yet
   pub pending : List (Row K)
   -- the changes up to this commit were offered or passed
   pub position : ℕ
-  -- a mark is asked for
+  -- a mark was asked for and not offered yet
   pub asked : Bool
-  -- how many items its outlet may hold
+  -- how many items its outlet has room for
   pub room : ℕ
   -- what was offered and not taken on this side
   pub unread : List (Item K)
@@ -63,7 +63,7 @@ module _ {K : Type 0} where
   task_of None false None false position = rest
 
 module _ {K A : Type 0} where
-  -- a cursor that begins behind a commit, with these pages to visit; it follows the commit, or has a snapshot
+  -- a cursor that begins after a commit, with these pages to visit; it follows the commit, or has a snapshot
   abbrev pub new_cursor : {O Z : Type 0} → (O → ℕ) → (O → List (Item K)) → ℕ → Arc (Pred A) Z → Bool → ℕ → List StackItem → O → OpenCursor K A
   new_cursor room_of unread serial query follows opened stack outlet = record {
     serial = serial;
@@ -78,7 +78,7 @@ module _ {K A : Type 0} where
     unread = unread outlet;
   }
 
-  -- the cursor, once an item of its task was taken by the outlet
+  -- the cursor, once its outlet took the item of its task
   abbrev pub sent : Item K → OpenCursor K A → OpenCursor K A
   sent (item.Row row) k = record k { pending = drop 1 k.pending; unread = k.unread ++ item.Row row ∷ [] }
   sent (item.Inserted row) k = record k { position = k.position + 1; unread = k.unread ++ item.Inserted row ∷ [] }
@@ -87,19 +87,19 @@ module _ {K A : Type 0} where
   sent (item.Mark n) k = record k { asked = false; unread = k.unread ++ item.Mark n ∷ [] }
 
 module _ {K A : Type 0} (rules : Rules K A) (rule : Rule) where
-  -- the keys that a cursor's query asks for, and the bounds below which such a key may lie
+  -- the keys that a cursor's query asks for, and the bounds below which such a key may be
   abbrev pub wants : OpenCursor K A → K → Bool
   wants k = matches_query rules.is_match k.query
 
   abbrev pub admits : OpenCursor K A → K → Bool
   admits k = consistent_with_query rules.is_consistent k.query
 
-  -- the next commit, where there is one, and its item, where it is wanted
+  -- the next commit, if there is one, and its item, if it is wanted
   abbrev pub next_change : List (Write K) → OpenCursor K A → Option (Option (Item K))
   next_change commits k = if nat_lt k.position (length commits) then Some (item_at (wants k) commits k.position) else None
 
-  -- The first of these that applies: a pending row is offered; a page is visited; the next change is offered, or a commit
-  -- that isn't wanted is passed; a mark that was asked for is offered; there is nothing to do.
+  -- The first of these that applies: a pending row is offered; a page is visited; the next change is offered, or a
+  -- commit that doesn't match is passed; a mark that was asked for is offered; there is nothing to do.
   abbrev pub task : List (Write K) → OpenCursor K A → Task K
   task commits k = task_of (slice_get k.pending 0) (is_scanning k.stack) (next_change commits k) k.asked k.position
 
@@ -132,7 +132,7 @@ module _ {K A : Type 0} (rules : Rules K A) (rule : Rule) where
   Turns t commits old (Err refusal.OutOfMemory) new = (task commits old ≡ visit) × (new ≡ old) × VisitGrows (admits old) (wants old) old.opened t old.stack
   Turns t commits old (Err why) new = ⊥
 
-  -- the turn is the same over any commits, where it is a visit; over any tree, where it isn't; and past the last commit
+  -- the turn is the same over any commits, if it is a visit; over any tree, if it isn't; and after the last commit
   abbrev pub TurnsByTree : Tree K → OpenCursor K A → Result Turned Refusal → OpenCursor K A → Type 0
   TurnsByTree t old result new = (commits : List (Write K)) → Turns t commits old result new
 
@@ -142,7 +142,7 @@ module _ {K A : Type 0} (rules : Rules K A) (rule : Rule) where
   abbrev pub TurnsPastEnd : OpenCursor K A → Result Turned Refusal → OpenCursor K A → Type 0
   TurnsPastEnd old result new = (t : Tree K) (commits : List (Write K)) → length commits ≤ old.position → Turns t commits old result new
 
-  -- what a client may know of it
+  -- what a client may know about it
   abbrev pub shown : Tree K → OpenCursor K A → CursorState K A
   shown t k = record {
     serial = k.serial;
@@ -155,10 +155,10 @@ module _ {K A : Type 0} (rules : Rules K A) (rule : Rule) where
     asked = k.asked;
   }
 
-  -- how much it has still to do: pages to visit, rows to give, commits to pass, and a mark if one is asked for
+  -- how much it still has to do: pages to visit, rows to give, commits to pass, and a mark if one is asked for
   abbrev pub tree_work : Tree K → List (Write K) → OpenCursor K A → ℕ
   tree_work t commits k = length (pages_left t k.stack) + work commits (shown t k)
 
-  -- in a sound tree a turn that is made lessens what it has still to do
+  -- in a sound tree a turn that is made lowers what it still has to do
   abbrev pub Lessens : {T E : Type 0} → Tree K → List (Write K) → OpenCursor K A → Result T E → OpenCursor K A → Type 0
   Lessens t commits old result new = OnOk result ((fan : ℕ) → IsSound rules.is_cover fan t → tree_work t commits new < tree_work t commits old)

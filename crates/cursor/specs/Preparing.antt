@@ -1,4 +1,4 @@
--- A visit that is worked out beside the table, for a cursor.
+-- A visit for a cursor that is worked out without the table.
 use Rattle.std.specs.Prelude.{◌≡◌, ◌≢◌, ◌⊎◌, ℕ, false, []}
 use Rattle.key_class.specs.declared.refusal.Refusal.{Refusal}
 use Rattle.key_class.specs.declared.refusal.Refusal.TheVariants as refusal
@@ -7,8 +7,8 @@ use Rattle.scan.specs.Scanning.{IsNext, IsNextPage}
 use Rattle.scan.specs.Prepared.{PreparedVisit}
 use Rattle.cursor.specs.OpenCursors.{OpenCursor}
 
--- The visit is what the cursor's next turn makes: no row is pending, it visits the last item, its page is as it was, and
--- the query and the opening are the cursor's.
+-- The visit is the cursor's next turn: no row is pending, it visits the last item, its page is unchanged, and the
+-- query and the opening are the cursor's.
 pub record IsDue {K A : Type 0} (t : Tree K) (k : OpenCursor K A) (visit : PreparedVisit K A) : Type 0 where
   pub none_pending : k.pending ≡ []
   pub next : IsNext k.stack visit.item
@@ -31,6 +31,6 @@ pub record IsPageToVisit {K A : Type 0} (k : OpenCursor K A) (page : ℕ) : Type
   pub none_pending : k.pending ≡ []
   pub next : IsNextPage k.stack page
 
--- why no visit is prepared: the cursor's next turn is none, or memory is wanting
+-- why no visit is prepared: the cursor's next turn is none, or memory ran out
 abbrev pub RefusesVisit : {K A : Type 0} → OpenCursor K A → Refusal → Type 0
 RefusesVisit k why = ((why ≡ refusal.NotHere) × (¬ VisitsNext k)) ⊎ ((why ≡ refusal.OutOfMemory) × VisitsNext k)

@@ -21,14 +21,14 @@ use std::collections::VecDeque;
 use std::marker::Model;
 use std::sync::Arc;
 
-/// What a turn did.
+/// The result of a turn.
 #[derive(Clone, Copy, Debug, PartialEq, Eq)]
 pub enum Turned {
     /// An item went to the outlet.
     Offered,
     /// The page with the number was read.
     Visited(u32),
-    /// The commit with the number isn't asked for.
+    /// The commit with the number doesn't match the query.
     Passed(u64),
 }
 
@@ -61,8 +61,8 @@ impl<C: KeyClass, O: Outlet<C::Key>> Model for Cursor<C, O> {
 }
 
 impl<C: KeyClass, O: Outlet<C::Key>> Cursor<C, O> {
-    /// A cursor opened after `opened` commits, at a tree's root when the number of its latest posting was `counter`. It
-    /// takes no memory.
+    /// A cursor opened after `opened` commits, at a tree's root when the number of its latest posting was `counter`.
+    /// It needs no memory.
     pub fn new(
         alloc: Global,
         serial: u64,
@@ -79,7 +79,8 @@ impl<C: KeyClass, O: Outlet<C::Key>> Cursor<C, O> {
         Cursor::begin(alloc, serial, query, false, opened, stack, outlet)
     }
 
-    /// A cursor that follows commit `from`: it gives the changes after it, and no row of a snapshot. It takes no memory.
+    /// A cursor that follows commit `from`: it gives the changes after it, and no rows of a snapshot. It needs no
+    /// memory.
     pub fn following(
         alloc: Global,
         serial: u64,
@@ -101,7 +102,7 @@ impl<C: KeyClass, O: Outlet<C::Key>> Cursor<C, O> {
         )
     }
 
-    /// A cursor that begins behind a commit, with these pages to visit.
+    /// A cursor that begins after a commit, with these pages to visit.
     fn begin(
         alloc: Global,
         serial: u64,
@@ -133,21 +134,21 @@ impl<C: KeyClass, O: Outlet<C::Key>> Cursor<C, O> {
         self.serial
     }
 
-    /// Whether it follows a commit: it was opened without a snapshot.
+    /// Whether it follows a commit, so that it was opened without a snapshot.
     pub fn follows(&self) -> bool
         ensures { result ≡ self.now.follows }
     {
         self.follows
     }
 
-    /// The number of commits at its opening, or of the commit that it follows.
+    /// The number of commits at its opening, or the commit that it follows.
     pub fn opened(&self) -> u32
         ensures { result ≡ self.now.opened }
     {
         self.opened
     }
 
-    /// The commit up to which the changes went to the outlet, or were passed.
+    /// The commit up to which changes were offered or passed.
     pub fn position(&self) -> u64
         ensures { result ≡ self.now.position }
     {
@@ -162,7 +163,7 @@ impl<C: KeyClass, O: Outlet<C::Key>> Cursor<C, O> {
         !self.stack.is_empty()
     }
 
-    /// Asks for a mark once all before it was given.
+    /// Asks for a mark, which is offered after everything that is due before it.
     pub fn ask_mark(&mut self)
         ensures asked { self.new ≡ record self.old { asked = true } }
         ensures fits { KeepsAllFitting C.rules O.rule self.old self.new }
@@ -170,7 +171,7 @@ impl<C: KeyClass, O: Outlet<C::Key>> Cursor<C, O> {
         self.asked = true;
     }
 
-    /// Takes out the item at the front of the outlet.
+    /// Takes the item at the front of the outlet.
     pub fn take(&mut self) -> Taken<C::Key>
         ensures takes { Takes O.rule.is_emptied_elsewhere self.old.unread result self.new.unread }
         ensures others { self.new ≡ record self.old { unread = self.new.unread } }
@@ -195,7 +196,7 @@ impl<C: KeyClass, O: Outlet<C::Key>> Cursor<C, O> {
     /// Visits a page.
     ///
     /// # Errors
-    /// Memory was wanting for a row to note or a page to push; the cursor is as it was.
+    /// Memory ran out for a row to note or a page to push; the cursor is unchanged.
     fn visit(&mut self, alloc: Global, table: &PageTable<C::Key>) -> Result<Turned, Refusal>
         requires stack { IsStack table.now self.old.stack }
         requires none_pending { self.old.pending ≡ [] }
@@ -215,7 +216,7 @@ impl<C: KeyClass, O: Outlet<C::Key>> Cursor<C, O> {
         }
     }
 
-    /// The number of the page that the cursor's next turn visits. None where its next turn is no visit.
+    /// The number of the page that the cursor's next turn visits. `None` if its next turn is no visit.
     pub fn page_to_visit(&self) -> Option<u32>
         ensures page { IfSome result (IsPageToVisit self.now) }
         ensures none { IfNone result (¬ VisitsNext self.now) }
@@ -226,10 +227,10 @@ impl<C: KeyClass, O: Outlet<C::Key>> Cursor<C, O> {
         self.stack.next_page()
     }
 
-    /// The visit that the cursor's next turn makes, where its next turn is one.
+    /// Prepares the visit that the cursor's next turn makes, if it makes one.
     ///
     /// # Errors
-    /// NotHere where a row is to be offered or no page is left, else there are too many owners of the page or the query.
+    /// NotHere if a row is to be offered or no page is left, else the page or the query has too many owners.
     pub fn prepare(
         &self,
         alloc: Global,
@@ -263,10 +264,10 @@ impl<C: KeyClass, O: Outlet<C::Key>> Cursor<C, O> {
             && self.stack.is_due::<C>(table, visit)
     }
 
-    /// A turn that makes a visit which was worked out.
+    /// A turn that makes a visit that was worked out.
     ///
     /// # Errors
-    /// Memory was wanting; the cursor is as it was.
+    /// Memory ran out; the cursor is unchanged.
     #[tactic(auto, using(crate::proofs::Preparing::prepared_turns, crate::proofs::Preparing::prepared_refused))]
     pub fn turn_prepared(
         &mut self,
@@ -287,8 +288,8 @@ impl<C: KeyClass, O: Outlet<C::Key>> Cursor<C, O> {
         }
     }
 
-    /// Offers the item of the next commit, or passes it where it isn't asked for; after the last commit offers a mark
-    /// that was asked for.
+    /// Offers the item of the next commit, or passes the commit if it doesn't match; after the last commit offers a
+    /// mark, if one was asked for.
     fn follow(&mut self, changes: &ChangeList<C::Key>) -> Result<Turned, Refusal>
         requires none_pending { self.old.pending ≡ [] }
         requires scanned { self.old.stack ≡ [] }
@@ -313,7 +314,7 @@ impl<C: KeyClass, O: Outlet<C::Key>> Cursor<C, O> {
         }
     }
 
-    /// Offers a mark, where one was asked for.
+    /// Offers a mark, if one was asked for.
     fn offer_mark(&mut self) -> Result<Turned, Refusal>
         requires none_pending { self.old.pending ≡ [] }
         requires scanned { self.old.stack ≡ [] }
@@ -331,7 +332,7 @@ impl<C: KeyClass, O: Outlet<C::Key>> Cursor<C, O> {
         }
     }
 
-    /// A turn, the first of the pieces of work that applies.
+    /// A turn: the first piece of work that applies.
     fn advance(
         &mut self,
         alloc: Global,
@@ -351,12 +352,12 @@ impl<C: KeyClass, O: Outlet<C::Key>> Cursor<C, O> {
         self.follow(changes)
     }
 
-    /// One turn, the first of these that applies: a row that was found is offered; a page is visited; the next commit's
-    /// item is offered, or the commit passed where it isn't asked for; a mark that was asked for is offered.
+    /// One turn, the first of these that applies: a row that was found is offered; a page is visited; the next
+    /// commit's item is offered, or the commit is passed if it doesn't match; a mark that was asked for is offered.
     ///
     /// # Errors
-    /// The outlet had no room, nothing was to do, or memory was wanting in a visit that notes a row or pushes a page; the
-    /// cursor is as it was.
+    /// The outlet had no room, there was nothing to do, or memory ran out in a visit that notes a row or pushes a
+    /// page; the cursor is unchanged.
     pub fn turn(
         &mut self,
         alloc: Global,

@@ -1,4 +1,5 @@
-//! Cursors over a tree: the rows at an opening, found page by page, and then the changes after it, in turns.
+//! Cursors over a tree, driven turn by turn: first the rows at an opening, found page by page, then the changes after
+//! it.
 #![tactic(auto)]
 
 mod cursor;

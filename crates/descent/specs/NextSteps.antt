@@ -1,4 +1,4 @@
--- Which step comes next where a key is to be inserted and the way down has come to page p.
+-- The next step for inserting a key when the way down has come to page p.
 use Rattle.std.specs.Prelude.{◌≡◌, ◌⊎◌, ◌≢◌, ℕ, suc, ◌<◌, ◌≤◌, Bool, true, false, List, length, Some, None}
 use Rattle.key_class.specs.Rules.{Rules}
 use Rattle.key_class.specs.Splits.{IsSplit}
@@ -15,7 +15,7 @@ use Rattle.descent.specs.declared.step.Plan.TheVariants as plan
 use Rattle.descent.specs.declared.step.Step.{Step}
 use Rattle.descent.specs.declared.step.Step.TheVariants.{Grow, Split, Post, Enlarge, Place, Down}
 
--- no test fails, or the first that does tells of too few pages left
+-- no test fails, or the first that does says that too few pages are left
 abbrev pub OnlyPagesFull : List (Bool × Refusal) → Type 0
 OnlyPagesFull tests = (first_failing tests ≡ None) ⊎ (first_failing tests ≡ Some refusal.PagesFull)
 
@@ -30,7 +30,7 @@ module _ {K : Type 0} where
     pub best : IsBest union size key (page_at s.tree p).branches place
     pub child : best.branch.child ≡ c
 
-  -- page c lies one level below p, it owes nothing and has room
+  -- page c is one level below p, owes nothing and has room
   pub record IsOpenBelow (s : SearchTree K) (p c : ℕ) : Type 0 where
     pub exists : c < length s.tree.pages
     pub not_root : c ≢ 0
@@ -64,7 +64,7 @@ module _ {K : Type 0} where
         × (is_within rules.is_cover (page_at s.tree c).cover key ≡ false) × (first_failing (enlarge_tests rules.is_cover s p c key) ≡ None)
     IsNextStep (Down c) = IsBestChild c × IsOpenBelow s p c × (is_within rules.is_cover (page_at s.tree c).cover key ≡ true)
 
-    -- what comes next, before any sides are worked out: a page that grows or is split is full
+    -- the next step, before any sides are worked out: a page that grows or is split is full
     abbrev pub IsPlan : Plan → Type 0
     IsPlan plan.Grow = (p ≡ 0) × (s.fan ≤ entries_of (page_at s.tree p))
     IsPlan (plan.Split c) = IsBestChild c × IsFull s c
@@ -73,6 +73,6 @@ module _ {K : Type 0} where
     IsPlan (plan.Enlarge parent c) = IsNextStep (Enlarge parent c)
     IsPlan (plan.Down c) = IsNextStep (Down c)
 
-  -- the sides part a page's entries in two groups of at least the fewest
+  -- the sides split a page's entries into two groups of at least the fewest
   abbrev pub PartsPage : SearchTree K → ℕ → List Side → Type 0
   PartsPage s p sides = IsSplit (entries_of (page_at s.tree p)) s.least sides

@@ -27,8 +27,8 @@ impl<C: KeyClass> Model for Finder<C> {
 }
 
 impl<C: KeyClass> Finder<C> {
-    /// A finder of the row with that number and key, at a page when the number of the tree's latest posting was `counter`.
-    /// It takes no memory.
+    /// A finder of the row with that number and key, beginning at a page when the number of the tree's latest posting
+    /// was `counter`. It needs no memory.
     pub fn new(alloc: Global, serial: u64, row: u32, key: C::Key, page: u32, counter: u32) -> Self
         ensures { result ≡ begun_finder serial row key page counter }
     {
@@ -60,11 +60,11 @@ impl<C: KeyClass> Finder<C> {
         self.stack.is_empty()
     }
 
-    /// Visits the next page: where that holds the row, nothing changes; else goes on to the page's right link and to its
-    /// children whose bounds cover the row's key.
+    /// Visits the next page. If that holds the row, nothing changes; otherwise goes on to the page's right link and
+    /// to the children whose bounds cover the row's key.
     ///
     /// # Errors
-    /// Memory was wanting for a page to push, and the page lacks the row; the finder is as it was.
+    /// Memory ran out for a page to push, and the page doesn't hold the row; the finder is unchanged.
     pub fn seek(&mut self, table: &PageTable<C::Key>) -> Result<Sought, AllocError>
         requires stack { IsStack table.now self.old.stack }
         requires unfinished { ¬ (self.old.stack ≡ []) }

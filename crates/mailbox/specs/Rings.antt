@@ -8,32 +8,32 @@ use Rattle.rtrb.specs.declared.producer.Producer.{Producer}
 use Rattle.change_list.specs.declared.item.Item.{Item}
 use Rattle.mailbox.specs.Outlets.{Rule}
 
--- An offer to a ring may be taken at any time: whoever has its other end empties it. It is handed back only where the ring was
--- sent as many items as it holds: before that it can't be full.
+-- An offer to a ring may be taken at any time, since its consumer may have emptied it. It is handed back only if the
+-- ring was sent as many items as it has room for: before that it can't be full.
 abbrev pub ring_rule : Rule
 ring_rule = record { may_take = λ room count. true; may_refuse = λ room count. nat_le room count; is_emptied_elsewhere = true }
 
--- a ring, as the side that fills it sees it
+-- a ring, as its producer sees it
 abbrev pub Ring : Type 0 → Type 0
 Ring K = Producer (Item K) Global AnyItems
 
 module _ {K : Type 0} where
-  -- how many items it holds at most
+  -- how many items it has room for
   abbrev pub places : Ring K → ℕ
   places ring = producer_capacity ring
 
-  -- every item that it took, whoever has taken them out
+  -- every item that it took, whether or not the consumer has taken it
   abbrev pub items_sent : Ring K → List (Item K)
   items_sent ring = sent ring
 
-  -- what is pushed into the ring comes out of that end
+  -- what is pushed into the ring comes out at this consumer
   abbrev pub IsOtherEnd : Consumer (Item K) Global AnyItems → Ring K → Type 0
   IsOtherEnd end ring = IsPair ring end
 
-  -- with the same places and the same other end
+  -- the same places and the same consumer
   abbrev pub IsSameRing : Ring K → Ring K → Type 0
   IsSameRing before after = SameProducer before after
 
-  -- each place is known to be free, or took an item
+  -- each place is known to be free, or has taken an item
   abbrev pub CountsPlaces : Ring K → Type 0
   CountsPlaces ring = places ring ≤ known_free ring + length (items_sent ring)

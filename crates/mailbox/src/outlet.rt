@@ -5,41 +5,41 @@ ghost use Rattle.mailbox.specs.Outlets.{Rule, Takes, MayTake, MayRefuse};
 use change_list::Item;
 use std::alloc::{AllocError, Global};
 
-/// What a take of an outlet gives.
+/// The result of taking from an outlet.
 #[derive(Clone, Copy, Debug, PartialEq, Eq)]
 pub enum Taken<K> {
-    /// The item at the front, which is there no more.
+    /// The item at the front, which is removed.
     Item(Item<K>),
     /// No item was there.
     Nothing,
-    /// Somebody else empties the outlet.
+    /// A ring is read by its consumer, not here.
     Elsewhere,
 }
 
 /// Where the items of a cursor go.
 pub trait Outlet<K>: Drop {
-    /// What is handed to the side that empties the outlet.
+    /// What the consumer gets.
     type End: Drop;
 
-    /// How many items fit.
+    /// How many items it has room for.
     ghost room_of: { Self → ℕ };
 
-    /// The items that it was offered and that this side hasn't taken, in their order.
+    /// The items that it was offered and that this side hasn't taken, in order.
     ghost unread: { Self → List (Item K) };
 
-    /// When an offer may be taken or handed back, and where it is emptied.
+    /// When an offer may be taken or handed back, and where the outlet is emptied.
     ghost rule: { Rule };
 
     /// Whether an end is the other end of an outlet.
     ghost is_end_of: { Self.End → Self → Type 0 };
 
-    /// Whether nothing came out of an end yet.
+    /// Whether nothing has been taken from an end yet.
     ghost fresh: { Self.End → Type 0 };
 
-    /// An outlet with that room and no item, and its other end.
+    /// An empty outlet with room for so many items, and its other end.
     ///
     /// # Errors
-    /// Memory was wanting.
+    /// Memory ran out.
     fn make(alloc: Global, room: u32) -> Result<(Self, Self::End), AllocError>
         ensures room { IfOk result (λ made. room_of made.0 ≡ room) }
         ensures empty { IfOk result (λ made. unread made.0 ≡ []) }
@@ -56,13 +56,13 @@ pub trait Outlet<K>: Drop {
         ensures room { room_of self.new ≡ room_of self.old }
         ensures end { (end : Self.End) → is_end_of end self.old → is_end_of end self.new };
 
-    /// Takes out the item at the front.
+    /// Takes the item at the front.
     fn take(&mut self) -> Taken<K>
         ensures takes { Takes rule.is_emptied_elsewhere (unread self.old) result (unread self.new) }
         ensures room { room_of self.new ≡ room_of self.old }
         ensures end { (end : Self.End) → is_end_of end self.old → is_end_of end self.new };
 
-    /// Whether somebody else empties outlets of this kind.
+    /// Whether outlets of this kind are emptied elsewhere, by a consumer.
     fn is_emptied_elsewhere() -> bool
         ensures { result ≡ rule.is_emptied_elsewhere };
 }

@@ -7,7 +7,7 @@ use rtrb::{Consumer, Producer, PushError, RingBuffer};
 use std::alloc::{AllocError, Global};
 use std::marker::Model;
 
-/// The side of a ring that is filled. Whoever has the other end empties it, and waits for nobody.
+/// The producer's side of a ring. The consumer has the other end, and never waits.
 #[derive(Drop)]
 pub struct Ring<K> {
     producer: Producer<Item<K>>,

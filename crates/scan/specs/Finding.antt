@@ -1,4 +1,4 @@
--- What a finder looks for, and one visit of it.
+-- What a finder looks for, and one of its visits.
 use Rattle.std.specs.Prelude.{◌≡◌, ℕ, ◌≤◌, Bool, false, List, ◌∷◌, [], ◌++◌, Option, Result, IfOk, IfSome, MatchOption, nat_eq}
 use Rattle.std.specs.List.{list_any}
 use Rattle.key_class.specs.Rules.{Rules}
@@ -23,7 +23,7 @@ module _ {K : Type 0} where
   abbrev pub holds : ℕ → List (Entry K) → Bool
   holds row entries = list_any (λ e. nat_eq e.row row) entries
 
-  -- the finder of a row: its stack is one, and the row stands once under it
+  -- the finder of a row: its stack is valid, and the row stands once under it
   pub record IsFinder (row : ℕ) (t : Tree K) (stack : List StackItem) : Type 0 where
     pub exists : IsStack t stack
     pub there : weigh (is_row row) (rows_left t stack) ≡ 1
@@ -36,27 +36,27 @@ module _ {K : Type 0} where
     pub there : 1 ≤ weigh (is_row row) (page_at t page).rows
     pub unchanged : new ≡ old
 
-  -- it doesn't, and the finder goes on to what may
+  -- the page doesn't hold the row, and the finder goes on to pages that may
   pub record SeeksFurther (covering : K → Bool) (row : ℕ) (t : Tree K) (old : List StackItem) (page : ℕ) (new : List StackItem) : Type 0 where
     pub memo : ℕ
     pub goes_on : GoesOn covering t old (record { page = page; memo = memo }) new
     pub lacks : weigh (is_row row) (page_at t page).rows ≡ 0
 
-  -- one visit of a finder, by what it met
+  -- one visit of a finder, by its result
   abbrev pub Seeks : (K → Bool) → ℕ → Tree K → List StackItem → Sought → List StackItem → Type 0
   Seeks covering row t old (Here page) new = FindsHere row t old page new
   Seeks covering row t old (Further page) new = SeeksFurther covering row t old page new
 
-  -- the page that is visited next lacks the row
+  -- the page that is visited next doesn't hold the row
   abbrev pub LacksNext : ℕ → Tree K → List StackItem → Type 0
   LacksNext row t stack = (item : StackItem) → IsNext stack item → holds row (page_at t item.page).rows ≡ false
 
-  -- in a sound tree that agrees with the commits, the finder of a row with that key is one still
+  -- in a sound tree that agrees with the commits, the finder of a row with that key remains one
   abbrev pub KeepsFinder : (K → K → Bool) → K → ℕ → Tree K → List StackItem → List StackItem → Type 0
   KeepsFinder is_cover key row t old new =
       (fan : ℕ) (commits : List (Write K)) → IsSound is_cover fan t → Agrees t commits → HasKey commits row key → IsFinder row t old → IsFinder row t new
 
-  -- where it goes on, fewer pages are left
+  -- if it goes on, fewer pages are left
   abbrev pub SeeksLess : (K → K → Bool) → Tree K → List StackItem → Sought → List StackItem → Type 0
   SeeksLess is_cover t old (Here page) new = Unit {0}
   SeeksLess is_cover t old (Further page) new = LowersWork is_cover t old new
@@ -73,6 +73,6 @@ module _ {K : Type 0} where
   abbrev pub SeekLowersWork : {E : Type 0} → (K → K → Bool) → Tree K → List StackItem → Result (Option Sought) E → List StackItem → Type 0
   SeekLowersWork is_cover t old result new = IfOk result (λ r. IfSome r (λ met. SeeksLess is_cover t old met new))
 
-  -- the page that is visited next is followed by something that may hold the key
+  -- something follows the page that is visited next and may hold the key
   abbrev pub PushesCovering : (K → K → Bool) → K → Tree K → List StackItem → Type 0
   PushesCovering is_cover key t stack = PushesSome (λ bound. is_cover bound key) t stack

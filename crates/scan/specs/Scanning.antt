@@ -1,4 +1,4 @@
--- What a scan has still to find, and one visit of it.
+-- What a scan still has to find, and one of its visits.
 use Rattle.std.specs.Prelude.{◌≡◌, ◌≢◌, ◌⊎◌, ℕ, ◌+◌, ◌<◌, ◌≤◌, Bool, ◌&&◌, List, [], ◌∷◌, ◌++◌, length, map, filter, reverse}
 use Rattle.change_list.specs.declared.item.Row.{Row}
 use Rattle.row_version.specs.Entries.{Entry, visible_at}
@@ -32,19 +32,19 @@ module _ {K : Type 0} where
   abbrev pub row_of : Entry K → Row K
   row_of e = record { row = e.row; key = e.key; tag = e.tag }
 
-  -- the row is there after the first s commits and its key is wanted
+  -- the row is live after the first s commits and its key is wanted
   abbrev pub is_seen : (K → Bool) → ℕ → Entry K → Bool
   is_seen wanted s e = visible_at s e && wanted e.key
 
-  -- the rows that are seen, of some entries
+  -- of some entries, the rows that are seen
   abbrev pub seen : (K → Bool) → ℕ → List (Entry K) → List (Row K)
   seen wanted s entries = map row_of (filter (is_seen wanted s) entries)
 
-  -- the rows that are seen, of a page
+  -- of a page, the rows that are seen
   abbrev pub seen_on : (K → Bool) → ℕ → Tree K → ℕ → List (Row K)
   seen_on wanted s t page = seen wanted s (page_at t page).rows
 
-  -- what a scan has still to find
+  -- what a scan still has to find
   abbrev pub to_find : (K → Bool) → ℕ → Tree K → List StackItem → List (Row K)
   to_find wanted s t stack = seen wanted s (rows_left t stack)
 
@@ -56,21 +56,21 @@ module _ {K : Type 0} where
   abbrev pub children_on : (K → Bool) → ℕ → List (Branch K) → List StackItem → List StackItem
   children_on wanted memo branches stack = stack ++ child_items wanted memo branches
 
-  -- of some branches no wanted one is left out
+  -- no wanted branch is left out
   abbrev pub KeepsWanted : (K → Bool) → List (Branch K) → List (Branch K) → Type 0
   KeepsWanted wanted old new = (memo : ℕ) → child_items wanted memo new ≡ child_items wanted memo old
 
-  -- where some are left, one is wanted
+  -- if some branches are left, one of them is wanted
   abbrev pub HasWanted : (K → Bool) → List (Branch K) → List (Branch K) → Type 0
   HasWanted wanted old new = (memo : ℕ) → 0 < length new → child_items wanted memo old ≢ []
 
-  -- the last item goes, and what follows its page is pushed
+  -- the last item is removed, and what follows its page is pushed
   pub record GoesOn (wanted : K → Bool) (t : Tree K) (old : List StackItem) (item : StackItem) (new : List StackItem) : Type 0 where
     pub rest : List StackItem
     pub before : old ≡ rest ++ item ∷ []
     pub after : new ≡ rest ++ pushed t (λ b. wanted b.key) item.page item.memo
 
-  -- one visit: the last item goes, its page is read, what follows it is pushed
+  -- one visit: the last item is removed, its page is read, and what follows it is pushed
   pub record Visits (consistent wanted : K → Bool) (s : ℕ) (t : Tree K) (old : List StackItem) (page : ℕ) (noted : List (Row K)) (new : List StackItem) : Type 0 where
     pub rest : List StackItem
     pub memo : ℕ
@@ -84,7 +84,7 @@ module _ {K : Type 0} where
     pub next : IsNext stack item
     pub some : seen_on wanted s t item.page ≢ []
 
-  -- the page that is visited next is followed by something
+  -- something follows the page that is visited next
   pub record PushesSome (wanted : K → Bool) (t : Tree K) (stack : List StackItem) : Type 0 where
     pub item : StackItem
     pub next : IsNext stack item
@@ -94,7 +94,7 @@ module _ {K : Type 0} where
   abbrev pub VisitGrows : (K → Bool) → (K → Bool) → ℕ → Tree K → List StackItem → Type 0
   VisitGrows consistent wanted s t stack = NotesSome wanted s t stack ⊎ PushesSome consistent t stack
 
-  -- in a sound tree what is noted, with what is still to be found, is what was to be found before
+  -- in a sound tree what is noted, together with what is still to be found, is what was to be found before
   abbrev pub LosesNothing : (K → K → Bool) → (K → Bool) → ℕ → Tree K → List StackItem → List (Row K) → List StackItem → Type 0
   LosesNothing is_cover wanted s t old noted new = (fan : ℕ) → IsSound is_cover fan t → Same (noted ++ to_find wanted s t new) (to_find wanted s t old)
 

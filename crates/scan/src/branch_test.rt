@@ -3,7 +3,7 @@ ghost use Rattle.key_class.specs.Queries.{query_of, consistent_with_query};
 
 use key_class::{KeyClass, Pred};
 
-/// Which children a traversal goes to, by their bounds.
+/// Which branches a traversal follows, by their bounds.
 pub trait BranchTest<C: KeyClass> {
     ghost wants: { Self → C.Key → Bool };
 
@@ -11,7 +11,7 @@ pub trait BranchTest<C: KeyClass> {
         ensures { result ≡ wants self.now bound };
 }
 
-/// The bounds that cover a key.
+/// Follows the branches whose bounds cover a key.
 #[derive(Clone, Copy)]
 pub struct Covering<K> {
     pub key: K,

@@ -12,7 +12,7 @@ pub trait KeyTest<C: KeyClass> {
         ensures { result ≡ accepts self.now key };
 }
 
-/// A query of one atom, which is asked without a recursion.
+/// A query of a single atom, which needs no recursion.
 #[derive(Clone, Copy)]
 pub struct OneAtom<A> {
     pub atom: A,

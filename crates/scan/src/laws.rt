@@ -10,7 +10,7 @@ ghost use Rattle.page_table.specs.TraversalLaws.{EachSound};
 
 use key_class::KeyClass;
 
-/// Nothing is done. The clauses tell that the entries of a sound tree stay those of the commits through every step.
+/// A theorem, no code: the entries of a sound tree agree with the commits after every step.
 pub fn entries_follow_commits<C: KeyClass>()
     ensures new { Agrees (new_tree {K = C.Key}) [] }
     ensures moved { MovesKeepEntries C.Key }
@@ -20,14 +20,14 @@ pub fn entries_follow_commits<C: KeyClass>()
     ensures swept { SweepsKeepEntries C.rules.is_cover }
 {}
 
-/// Nothing is done. The clauses tell that a scan which opens at the latest commit has its snapshot to find.
+/// A theorem, no code: a scan that opens at the latest commit has its snapshot to find.
 pub fn scans_begin_with_snapshots<C: KeyClass>()
     ensures stack { EachSound C.rules.is_cover (λ t. IsStack t (root_stack t.counter)) }
     ensures rows { ScansFindSnapshots C.rules.is_cover }
     ensures arranged { (xs ys : List (Row C.Key)) → Same xs ys → IsPermutation xs ys }
 {}
 
-/// Nothing is done. The clauses tell which steps leave a scan what it has still to find.
+/// A theorem, no code: which steps leave a scan what it still has to find.
 pub fn scans_survive_steps<C: KeyClass>()
     ensures moved { MovesLeaveScans C.Key }
     ensures placed { PlacesLeaveScans C.rules.is_cover }
@@ -35,7 +35,7 @@ pub fn scans_survive_steps<C: KeyClass>()
     ensures swept { SweepsLeaveScans C.rules.is_cover }
 {}
 
-/// Nothing is done. The clauses tell how a finder of a live row begins, and which steps leave it one.
+/// A theorem, no code: how a finder of a live row begins, and which steps it survives.
 pub fn finders_survive_steps<C: KeyClass>()
     ensures unfinished { (t : Tree C.Key) (row : ℕ) → ¬ IsFinder row t [] }
     ensures begun { FindersBegin C.rules.is_cover }

@@ -1,5 +1,5 @@
-//! Traversals of the tree: the stack of pages that are still to be visited, and one visit of a scan. Its specs have what
-//! it means that the entries of a tree agree with a list of commits, and what a scan has still to find.
+//! Traversals of the tree: the stack of pages to visit, and one visit of a scan. Its specs define when the entries of
+//! a tree agree with a list of commits, and what a scan still has to find.
 #![tactic(auto)]
 
 mod branch_test;

@@ -15,11 +15,11 @@ use page_table::PageTable;
 use row_version::Entry;
 use smallvec::SmallVec;
 
-/// How many bits a number has, each of which tells of one entry or branch whether it passes a test.
+/// How many bits a number has. Each says whether one entry or branch passes a test.
 pub(crate) const BITS: usize = 64;
 
-/// The entries whose keys are accepted, by bits: the lowest is the first entry's. The loop does nothing but test, so no
-/// entry's test waits for another's answer.
+/// The entries whose keys pass the test, as bits; the lowest bit is the first entry's. The loop does nothing else and
+/// has no branches, so a processor can test several entries at once.
 pub(crate) fn accepted_bits<C: KeyClass, T: KeyTest<C>>(entries: &[Entry<C::Key>], test: &T) -> u64
     requires few { length entries.now ≤ 64 }
     ensures within { HasBitsFor entries.now result }
@@ -35,7 +35,7 @@ pub(crate) fn accepted_bits<C: KeyClass, T: KeyTest<C>>(entries: &[Entry<C::Key>
     bits
 }
 
-/// The branches whose bounds are wanted, by bits: the lowest is the last branch's.
+/// The branches whose bounds pass the test, as bits; the lowest bit is the last branch's.
 pub(crate) fn wanted_bits<C: KeyClass, T: BranchTest<C>>(
     branches: &[Branch<C::Key>],
     test: &T,
@@ -52,7 +52,7 @@ pub(crate) fn wanted_bits<C: KeyClass, T: BranchTest<C>>(
     bits
 }
 
-/// Appends the rows of the picked entries that are there after the first `commit` commits, in their order.
+/// Appends the picked entries' rows that are live after the first `commit` commits, in order.
 pub(crate) fn note_picked<K: Copy>(
     entries: &[Entry<K>],
     mut bits: u64,
@@ -78,8 +78,8 @@ pub(crate) fn note_picked<K: Copy>(
     }
 }
 
-/// Pushes the children of the picked branches, the lowest bit being the last branch's. Answers how many rows these pages
-/// have: the head of each is read here, where none waits for the one before, and not first by its visit.
+/// Pushes the children of the picked branches; the lowest bit is the last branch's. Gives how many rows these pages
+/// have: their heads are read here, all at once, so that the memory is in the cache when they are visited.
 pub(crate) fn push_picked<K: Copy>(
     items: &mut SmallVec<StackItem, 32>,
     branches: &[Branch<K>],
@@ -106,7 +106,7 @@ pub(crate) fn push_picked<K: Copy>(
     rows
 }
 
-/// How many rows a page has, where there is one with that number.
+/// How many rows a page has, if there is one with that number.
 fn rows_on<K: Copy>(table: &PageTable<K>, page: u32) -> usize {
     if page as usize >= table.len() {
         return 0;

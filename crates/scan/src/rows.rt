@@ -11,10 +11,10 @@ use row_version::Entry;
 use std::alloc::{AllocError, Global};
 use std::collections::VecDeque;
 
-/// The rows that are there after the first `commit` commits and match, in their order.
+/// The rows that are live after the first `commit` commits and match, in order.
 ///
 /// # Errors
-/// Memory was wanting, and there is such a row.
+/// Memory ran out, and there is such a row.
 pub fn seen_rows<C: KeyClass>(
     alloc: Global,
     entries: &[Entry<C::Key>],
@@ -32,10 +32,10 @@ pub fn seen_rows<C: KeyClass>(
     }
 }
 
-/// The rows that are there after the first `commit` commits and pass the test.
+/// The rows that are live after the first `commit` commits and pass the test.
 ///
 /// # Errors
-/// Memory was wanting, and there is such a row.
+/// Memory ran out, and there is such a row.
 fn accepted_rows<C: KeyClass, T: KeyTest<C>>(
     alloc: Global,
     entries: &[Entry<C::Key>],
@@ -54,7 +54,7 @@ fn accepted_rows<C: KeyClass, T: KeyTest<C>>(
     Ok(rows)
 }
 
-/// Appends the rows that are there after the first `commit` commits and match, in their order.
+/// Appends the rows that are live after the first `commit` commits and match, in order.
 pub fn note_rows<C: KeyClass>(
     entries: &[Entry<C::Key>],
     query: &Pred<C::Atom>,
@@ -72,8 +72,8 @@ pub fn note_rows<C: KeyClass>(
     }
 }
 
-/// Appends the rows that are there after the first `commit` commits and pass the test, in their order. A page of a store
-/// has no more entries than a number has bits.
+/// Appends the rows that are live after the first `commit` commits and pass the test, in order. A page of a store
+/// never has more entries than a number has bits.
 fn note_accepted<C: KeyClass, T: KeyTest<C>>(
     entries: &[Entry<C::Key>],
     test: &T,
@@ -91,7 +91,7 @@ fn note_accepted<C: KeyClass, T: KeyTest<C>>(
     }
 }
 
-/// Appends the rows that are there after the first `commit` commits and pass the test, of any number of entries.
+/// The same, for any number of entries.
 fn note_one_by_one<C: KeyClass, T: KeyTest<C>>(
     entries: &[Entry<C::Key>],
     test: &T,
@@ -108,14 +108,14 @@ fn note_one_by_one<C: KeyClass, T: KeyTest<C>>(
     }
 }
 
-/// Whether an entry's row is there after the first `commit` commits and passes the test.
+/// Whether an entry's row is live after the first `commit` commits and passes the test.
 fn is_seen<C: KeyClass, T: KeyTest<C>>(entry: &Entry<C::Key>, test: &T, commit: u32) -> bool
     ensures { result ≡ is_seen (T.accepts test.now) commit entry.now }
 {
     test.is_accepted(entry.key()) && entry.visible_at(commit)
 }
 
-/// Whether an entry is that of the row.
+/// Whether one of the entries is that of the row.
 pub fn holds_row<K>(entries: &[Entry<K>], row: u32) -> bool
     ensures { result ≡ holds row entries.now }
 {

@@ -22,10 +22,10 @@ use std::collections::VecDeque;
 use std::marker::Model;
 use std::sync::Arc;
 
-/// For how many rows of the pages that it goes on to a visit asks memory at once: most of these rows don't match.
+/// How many rows of its child pages a visit reserves memory for at most: most of these rows don't match.
 const AT_ONCE: usize = 16;
 
-/// A page that is still to be visited, and the counter when its number was read.
+/// A page still to be visited, and the counter when its number was read.
 #[derive(Clone, Copy, Default)]
 pub struct StackItem {
     pub(crate) page: u32,
@@ -42,7 +42,7 @@ impl Model for StackItem {
     ghost inverse = { λ i. record { page = i.page; memo = i.memo } };
 }
 
-/// The page that a visit read, and the rows that it noted, in their order.
+/// The page that a visit read, and the rows that it noted, in order.
 #[derive(Drop)]
 pub struct Visited<K> {
     pub page: u32,
@@ -52,13 +52,13 @@ pub struct Visited<K> {
 /// What a visit of a finder met.
 #[derive(Clone, Copy, Debug, PartialEq, Eq)]
 pub enum Sought {
-    /// The page with that number, which holds the row.
+    /// The page with that number holds the row.
     Here(u32),
-    /// The page with that number, which doesn't.
+    /// The page with that number doesn't.
     Further(u32),
 }
 
-/// The pages that a traversal has still to visit, the next last.
+/// The pages that a traversal still has to visit, the next one last.
 #[derive(Drop)]
 pub struct Stack {
     items: SmallVec<StackItem, 32>,
@@ -74,14 +74,14 @@ impl Model for Stack {
 }
 
 impl Stack {
-    /// A traversal that begins at the root, with the table's counter. It takes no memory.
+    /// A traversal that begins at the root, with the table's counter. It needs no memory.
     pub fn at_root(alloc: Global, counter: u32) -> Stack
         ensures { result ≡ root_stack counter }
     {
         Stack::at_page(alloc, 0, counter)
     }
 
-    /// A traversal that begins at a page, with the table's counter. It takes no memory.
+    /// A traversal that begins at a page, with the table's counter. It needs no memory.
     pub fn at_page(alloc: Global, page: u32, counter: u32) -> Stack
         ensures { result ≡ stack_at page counter }
     {
@@ -93,7 +93,7 @@ impl Stack {
         Stack { items }
     }
 
-    /// A traversal that visits nothing. It takes no memory.
+    /// A traversal that visits nothing. It needs no memory.
     pub fn empty(alloc: Global) -> Stack
         ensures { result ≡ [] }
     {
@@ -109,7 +109,7 @@ impl Stack {
         self.items.len() == 0
     }
 
-    /// The number of the page to be visited next. None where nothing is left to be visited.
+    /// The number of the page to be visited next. `None` if nothing is left to be visited.
     pub fn next_page(&self) -> Option<u32>
         ensures { MatchOption result (self.now ≡ []) (IsNextPage self.now) }
     {
@@ -119,11 +119,11 @@ impl Stack {
         }
     }
 
-    /// Visits the page of the last item, where there is one: notes its rows that match and were there after the first
-    /// `opened` commits, and goes on to its right link and its children whose bounds are consistent with the query.
+    /// Visits the page of the last item, if there is one: notes its rows that match and were live after the first
+    /// `opened` commits, and goes on to its right link and the children whose bounds are consistent with the query.
     ///
     /// # Errors
-    /// Memory was wanting for a row to note or a page to push; the stack is as it was.
+    /// Memory ran out for a row to note or a page to push; the stack is unchanged.
     pub fn visit<C: KeyClass>(
         &mut self,
         alloc: Global,
@@ -154,10 +154,10 @@ impl Stack {
         }))
     }
 
-    /// Visits as `visit` does, and notes the rows at the end of a list. Answers the page's number.
+    /// Visits like `visit`, but appends the rows to a list. Gives the page's number.
     ///
     /// # Errors
-    /// Memory was wanting; the stack and the list's rows are as they were.
+    /// Memory ran out; the stack and the list's rows are unchanged.
     pub fn visit_into<C: KeyClass>(
         &mut self,
         table: &PageTable<C::Key>,
@@ -188,10 +188,11 @@ impl Stack {
         Ok(Some(item.page))
     }
 
-    /// The visit of the last item's page, where there is one, to be worked out beside the table. Nothing is changed.
+    /// Prepares the visit of the last item's page, if there is one, to be worked out without the table. Changes
+    /// nothing.
     ///
     /// # Errors
-    /// There are too many owners of the page or the query.
+    /// The page or the query has too many owners.
     pub fn prepare<C: KeyClass>(
         &self,
         alloc: Global,
@@ -218,7 +219,7 @@ impl Stack {
         }))
     }
 
-    /// Whether the visit is that of the last item, and its page is as it was.
+    /// Whether the visit is that of the last item, and its page hasn't changed.
     pub fn is_due<C: KeyClass>(&self, table: &PageTable<C::Key>, visit: &PreparedVisit<C>) -> bool
         requires { IsStack table.now self.now }
         ensures { IsTrue result ↔ IsStillNext self.now table.now visit.now }
@@ -231,10 +232,10 @@ impl Stack {
             && same_page::<C>(table.page(item.page), visit.page.get())
     }
 
-    /// Makes a visit that was worked out: as `visit` of its query and opening would.
+    /// Makes a visit that was worked out, as `visit` with its query and opening would.
     ///
     /// # Errors
-    /// Memory was wanting for a page to push; the stack is as it was.
+    /// Memory ran out for a page to push; the stack is unchanged.
     pub fn visit_prepared<C: KeyClass>(
         &mut self,
         counter: u32,
@@ -263,11 +264,11 @@ impl Stack {
         })
     }
 
-    /// Visits the page of the last item, where there is one, for the row with that number and key: where the page doesn't
-    /// hold it, goes on to its right link and its children whose bounds cover the key.
+    /// Visits the page of the last item, if there is one, for the row with that number and key. If the page doesn't
+    /// hold the row, goes on to its right link and the children whose bounds cover the key.
     ///
     /// # Errors
-    /// Memory was wanting for a page to push, and the page lacks the row; the stack is as it was.
+    /// Memory ran out for a page to push, and the page doesn't hold the row; the stack is unchanged.
     pub fn seek<C: KeyClass>(
         &mut self,
         table: &PageTable<C::Key>,
@@ -303,21 +304,22 @@ impl Stack {
         Some(self.items.as_slice()[count - 1])
     }
 
-    /// Goes on from a page without branches, which most are: to its right link, where that is followed.
+    /// Goes on from a page without branches, as most are: to its right link, if that is followed.
     fn leave<C: KeyClass>(&mut self, table: &PageTable<C::Key>, item: StackItem)
         requires next { IsNext self.old item }
         requires exists { item.page < length table.now.pages }
         requires leaf { (page_at table.now item.page).branches ≡ [] }
         ensures { (wanted : C.Key → Bool) → GoesOn wanted table.now self.old item self.new }
     {
-        // There are no more items than there is room for, so one fits where the last was.
+        // The last item was taken off, so there is room for one.
         let _count = self.items.len();
         self.items.pop();
         let right = table.page(item.page).followed(item.memo);
         push_link(&mut self.items, right, item.memo);
     }
 
-    /// Goes on to the children whose bounds are consistent with the query. Answers how many rows they have, as `go_on` does.
+    /// Goes on to the children whose bounds are consistent with the query. Gives how many rows they have, like
+    /// `go_on`.
     fn go_on_by_query<C: KeyClass>(
         &mut self,
         table: &PageTable<C::Key>,
@@ -338,8 +340,8 @@ impl Stack {
         }
     }
 
-    /// Puts what follows a page in the place of its item, the last. A page of a store has no more branches than a
-    /// number has bits. Answers how many rows the pages that were pushed have, and 0 where it has more branches.
+    /// Replaces the last item, that of a page, by what follows the page. A page of a store never has more branches
+    /// than a number has bits. Gives how many rows the pushed pages have, or 0 if it has more branches than that.
     fn go_on<C: KeyClass, T: BranchTest<C>>(
         &mut self,
         table: &PageTable<C::Key>,
@@ -359,7 +361,8 @@ impl Stack {
         Ok(0)
     }
 
-    /// Goes on from a page that has no more branches than a number has bits. Answers how many rows its children have.
+    /// Goes on from a page that has at most as many branches as a number has bits. Gives how many rows its children
+    /// have.
     fn go_on_by_bits<C: KeyClass, T: BranchTest<C>>(
         &mut self,
         table: &PageTable<C::Key>,
@@ -407,7 +410,7 @@ impl Stack {
     }
 }
 
-/// The branches up to the last that is wanted.
+/// The branches up to the last that passes the test.
 fn up_to_wanted<'a, C: KeyClass, T: BranchTest<C>>(
     branches: &'a [Branch<C::Key>],
     test: &T,
@@ -425,10 +428,10 @@ fn up_to_wanted<'a, C: KeyClass, T: BranchTest<C>>(
     &[]
 }
 
-/// Makes room for so many items more.
+/// Makes room for `more` further items.
 ///
 /// # Errors
-/// Memory was wanting, and there are items to come; the list is as it was.
+/// Memory ran out, and there are further items; the list is unchanged.
 fn make_room(items: &mut SmallVec<StackItem, 32>, more: usize) -> Result<(), AllocError>
     ensures items { items.new.items ≡ items.old.items }
     ensures room { OnOk result (HasRoomFor items.new more) }
@@ -441,7 +444,7 @@ fn make_room(items: &mut SmallVec<StackItem, 32>, more: usize) -> Result<(), All
     items.reserve(more)
 }
 
-/// Pushes a right link, where it is followed, with the memo of the page that has it.
+/// Pushes a right link, if it is followed, with the memo of its page.
 fn push_link(items: &mut SmallVec<StackItem, 32>, right: Option<u32>, memo: u32)
     requires { HasRoomFor items.old 1 }
     ensures pushed { items.new.items ≡ items.old.items ++ with_memo memo (option_to_list right) }
@@ -465,7 +468,7 @@ fn push_pages(items: &mut SmallVec<StackItem, 32>, pages: &[u32], memo: u32)
     }
 }
 
-/// Pushes the children that are wanted, from the last to the first.
+/// Pushes the children whose branches pass the test, from the last to the first.
 fn push_children<C: KeyClass, T: BranchTest<C>>(
     items: &mut SmallVec<StackItem, 32>,
     branches: &[Branch<C::Key>],

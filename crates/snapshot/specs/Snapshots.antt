@@ -26,12 +26,12 @@ pub record IsSnapshot {K : Type 0} (is_cover : K → K → Bool) (tree : Tree K)
   pub few : length commits ≤ most_commits
 
 module _ {K A : Type 0} (rules : Rules K A) (query : Pred A) where
-  -- the rows that live after all commits and whose keys satisfy the query, by rising number
+  -- the rows that are live after all commits and whose keys satisfy the query, by rising number
   abbrev pub found_in : List (Write K) → List (Row K)
   found_in commits = snapshot_for rules query (length commits) commits
 
-  -- What was put behind the items of a list: the items of the commits after `from` up to `upto`, at most `most`. Either
-  -- `upto` is the last commit, or there are as many.
+  -- What was appended to a list: the items of the commits after `from` up to `upto`, at most `most`. Either `upto` is
+  -- the last commit, or there are exactly `most`.
   pub record Appends (from most : ℕ) (commits : List (Write K)) (old new : List (Item K)) (upto : ℕ) : Type 0 where
     pub given : List (Item K)
     pub is : new ≡ old ++ given
@@ -44,13 +44,13 @@ module _ {K A : Type 0} where
   abbrev pub IsAfterAll : Query A → List (Write K) → ℕ → Type 0
   IsAfterAll query commits from = (depth_of query ≤ most_depth) × (length commits < from)
 
--- why no changes are told
+-- why no changes are given
 abbrev pub RefusesChanges : Refusal → Type 0
 RefusesChanges why = (why ≡ refusal.BadConfig) ⊎ (why ≡ refusal.FromFuture) ⊎ (why ≡ refusal.OutOfMemory)
 
 module _ (K : Type 0) where
-  -- the rows of a snapshot, followed by the changes after it up to a later commit of a list that begins with it, are a
-  -- listing up to that commit
+  -- the rows of a snapshot, followed by the changes after it up to a later commit of a list that begins with it, are
+  -- a listing up to that commit
   abbrev pub SnapshotsGoOn : Type 0
   SnapshotsGoOn = (wanted : K → Bool) (first further : List (Write K)) (later : ℕ) (items : List (Item K))
       → AreChanges wanted (length first) later (first ++ further) items

@@ -6,10 +6,10 @@ ghost use Rattle.snapshot.specs.Ended.{TellsEnded, with_end};
 use change_list::{Row, View, Write};
 use std::alloc::{AllocError, Global};
 
-/// The rows that live after all commits of a list, by rising number. It reads each commit twice, and no page.
+/// The rows that are live after all commits of a list, by rising number. It reads each commit twice, and no page.
 ///
 /// # Errors
-/// Memory was wanting.
+/// Memory ran out.
 pub(crate) fn all_rows<K: Copy>(alloc: Global, list: &View<K>) -> Result<Vec<Row<K>>, AllocError>
     ensures { IfOk result (λ found. found.items ≡ rows list.now) }
 {
@@ -29,7 +29,7 @@ pub(crate) fn all_rows<K: Copy>(alloc: Global, list: &View<K>) -> Result<Vec<Row
 /// For the number of each commit, whether a commit of the list ends its row.
 ///
 /// # Errors
-/// Memory was wanting.
+/// Memory ran out.
 fn ended_rows<K: Copy>(alloc: Global, list: &View<K>) -> Result<Vec<bool>, AllocError>
     ensures { IfOk result (λ ended. TellsEnded list.now (length list.now) ended.items) }
 {
@@ -43,7 +43,7 @@ fn ended_rows<K: Copy>(alloc: Global, list: &View<K>) -> Result<Vec<bool>, Alloc
     Ok(ended)
 }
 
-/// Notes the end of the row that a commit ends.
+/// Records the end of the row that a commit ends, if it ends one.
 fn note_end<K: Copy>(ended: &mut Vec<bool>, write: Write<K>)
     requires names { NamesEarlier (length ended.old.items) write }
     ensures { ended.new.items ≡ with_end ended.old.items write }

@@ -1,4 +1,5 @@
-//! A world's commits as they stood, with the tree that agrees with them: any number of threads search it, without a lock.
+//! A world's commits as they stood, with the tree that agrees with them, which any number of threads search without a
+//! lock.
 #![tactic(auto)]
 
 mod all_rows;

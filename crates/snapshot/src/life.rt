@@ -8,11 +8,11 @@ use row_version::Entry;
 use scan::{Sought, Stack};
 use std::alloc::{AllocError, Global};
 
-/// Whether the row with that number and key lives: one traversal from the root, by the bounds that cover the key, to the
-/// page that holds the row.
+/// Whether the row with that number and key is live: a traversal from the root, by the bounds that cover the key, to
+/// the page that holds the row.
 ///
 /// # Errors
-/// Memory was wanting.
+/// Memory ran out.
 pub(crate) fn lives<C: KeyClass>(
     alloc: Global,
     table: &PageTable<C::Key>,
@@ -31,7 +31,7 @@ pub(crate) fn lives<C: KeyClass>(
     Ok(false)
 }
 
-/// Whether an entry is that of the row, and lives.
+/// Whether an entry is that of the row, and is live.
 fn holds_live<K>(entries: &[Entry<K>], row: u32) -> bool
     ensures { result ≡ holds_live row entries.now }
 {

@@ -14,9 +14,10 @@ use page_table::PageTable;
 use std::alloc::Global;
 use std::marker::Model;
 
-/// A world's commits as they stood when it was made, whatever follows, to be searched.
+/// A world's commits as they stood when it was made, to be searched. Later commits don't change it.
 ///
-/// It shares pages and segments of commits with the world, which copies what it changes of them. No call waits for another.
+/// It shares pages and segments of commits with the world, which copies what it changes of them. Its calls never
+/// wait.
 #[derive(Drop)]
 pub struct Snapshot<C: KeyClass> {
     alloc: Global,
@@ -60,18 +61,18 @@ impl<C: KeyClass> Snapshot<C> {
         self.list.get(number)
     }
 
-    /// The row with a number, as its commit made it, whether it lives or not, without a search.
+    /// The row with a number, live or dead, as its commit made it. It takes no search.
     pub fn row(&self, number: u64) -> Option<Row<C::Key>>
         ensures { result ≡ row_at self.now number }
     {
         self.list.row(number)
     }
 
-    /// What became of the row with a number, by all commits. It reads the row's commit, and of the tree only pages whose
-    /// bounds cover the row's key.
+    /// The status of the row with a number, after all commits. It reads the row's commit, and only pages of the tree
+    /// whose bounds cover the row's key.
     ///
     /// # Errors
-    /// Memory was wanting.
+    /// `OutOfMemory`.
     pub fn status(&self, number: u64) -> Result<Status, Refusal>
         ensures ok { IfOk result (λ status. status ≡ status_of self.now number) }
         ensures refused { IfErr result (λ why. why ≡ OutOfMemory) }
@@ -93,10 +94,10 @@ impl<C: KeyClass> Snapshot<C> {
         &self.list
     }
 
-    /// The rows that lived after its last commit, by rising number. It reads each commit twice, and no page.
+    /// The rows that were live after its last commit, by rising number. It reads each commit twice, and no page.
     ///
     /// # Errors
-    /// Memory was wanting.
+    /// `OutOfMemory`.
     pub fn all_rows(&self) -> Result<Vec<Row<C::Key>>, Refusal>
         ensures ok { IfOk result (λ found. found.items ≡ rows self.now) }
         ensures refused { IfErr result (λ why. why ≡ OutOfMemory) }
@@ -105,10 +106,10 @@ impl<C: KeyClass> Snapshot<C> {
         Ok(found)
     }
 
-    /// The rows that lived after its last commit and match, by rising number.
+    /// The rows that were live after its last commit and match, by rising number.
     ///
     /// # Errors
-    /// `BadConfig` where the query is deeper than 32, else want of memory.
+    /// `BadConfig` if the query is deeper than 32, else `OutOfMemory`.
     pub fn find(&self, query: &Pred<C::Atom>) -> Result<Vec<Row<C::Key>>, Refusal>
         ensures ok { IfOk result (λ rows. rows.items ≡ found_in C.rules query.now self.now) }
         ensures depth { (result ≡ Err BadConfig) ↔ (32 < depth_of (query_of query.now)) }
@@ -122,10 +123,10 @@ impl<C: KeyClass> Snapshot<C> {
         Ok(rows)
     }
 
-    /// How many rows lived after its last commit and match. It keeps the rows of one page at a time.
+    /// How many rows were live after its last commit and match. It keeps the rows of only one page at a time.
     ///
     /// # Errors
-    /// `BadConfig` where the query is deeper than 32, else want of memory.
+    /// `BadConfig` if the query is deeper than 32, else `OutOfMemory`.
     pub fn count(&self, query: &Pred<C::Atom>) -> Result<u64, Refusal>
         ensures ok { IfOk result (λ n. n ≡ length (found_in C.rules query.now self.now)) }
         ensures depth { (result ≡ Err BadConfig) ↔ (32 < depth_of (query_of query.now)) }
@@ -139,12 +140,12 @@ impl<C: KeyClass> Snapshot<C> {
         Ok(count)
     }
 
-    /// Puts the items of the commits after `from` that match behind those of a list, in the order of the commits and at
-    /// most `most` of them, and tells up to which commit all were put there: from that one a further call goes on.
+    /// Appends the matching items of the commits after `from` to a list, in commit order and at most `most` of them,
+    /// and gives up to which commit they are complete: a further call goes on from there.
     ///
     /// # Errors
-    /// `BadConfig` where the query is deeper than 32, else `FromFuture` where there are fewer commits than `from`, else
-    /// want of memory. The list's items are as they were then.
+    /// `BadConfig` if the query is deeper than 32, else `FromFuture` if there are fewer commits than `from`, else
+    /// `OutOfMemory`. The list's items are unchanged then.
     pub fn changes(
         &self,
         query: &Pred<C::Atom>,

@@ -13,11 +13,11 @@ use Rattle.world.specs.States.{State}
 use Rattle.world.specs.Steps.{IsRefused, find_tests}
 
 module _ {K A : Type 0} where
-  -- the row stands on the page
+  -- the row is on the page
   abbrev pub StandsOn : State K A → ℕ → ℕ → Type 0
   StandsOn s row page = (page < length s.search.tree.pages) × (holds row (page_at s.search.tree page).rows ≡ true)
 
-  -- a finder of the row may begin at the page: the root, or one on which the row stands
+  -- a finder of the row may begin at the page: at the root, or at a page that holds the row
   abbrev pub MayBegin : State K A → ℕ → ℕ → Type 0
   MayBegin s row page = (page ≡ 0) ⊎ StandsOn s row page
 
@@ -29,7 +29,7 @@ module _ {K A : Type 0} where
       last_finder = old.last_finder + 1;
     }
 
-  -- where one may be opened, a finder of the row begins at a page where it may
+  -- if a finder of the row may be opened, it begins at a page where it may
   pub record FindsNear (old : State K A) (row f : ℕ) (new : State K A) : Type 0 where
     pub passed : first_failing (find_tests old row) ≡ None
     pub key : K
@@ -39,7 +39,7 @@ module _ {K A : Type 0} where
     pub begins : Begins old row key page f new
 
 module _ (C : Type 0) {K A : Type 0} (rules : Rules K A) (rule : Rule) where
-  -- a finder of the row begins where it may; or it is refused, as the event Find is
+  -- a finder of the row begins where it may; or it is refused like the event Find
   abbrev pub OpensNear : State K A → ℕ → Result ℕ Refusal → State K A → Type 0
   OpensNear old row (Ok f) new = FindsNear old row f new
   OpensNear old row (Err why) new = IsRefused {C = C} rules rule old (event.Find row) why new

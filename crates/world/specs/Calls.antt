@@ -1,4 +1,4 @@
--- Events as calls: each has an answer of its own type, which stands for the event's reply.
+-- Events as methods: each has an answer of its own type, which stands for a reply to the event.
 use Rattle.std.specs.Prelude.{ℕ, Option, Some, None, Result, Ok, Err}
 use Rattle.key_class.specs.Rules.{Rules}
 use Rattle.key_class.specs.declared.pred.Pred.{Pred}
@@ -17,57 +17,57 @@ use Rattle.world.specs.States.{State, IsSoundWorld}
 use Rattle.world.specs.Steps.{Step}
 
 module _ (C O E : Type 0) {K A : Type 0} where
-  -- the reply that tells of a commit
+  -- the reply for a commit
   abbrev pub reply_of_commit : Result (Stamp K) Refusal → Reply C O K A E
   reply_of_commit (Ok stamp) = reply.Committed stamp
   reply_of_commit (Err why) = reply.Refused why
 
-  -- that tells of a visit of a finder: a commit where it met its row
+  -- the reply for a visit of a finder, which is a commit if it met its row
   abbrev pub reply_of_visit : Result (Option (Stamp K)) Refusal → Reply C O K A E
   reply_of_visit (Ok (Some stamp)) = reply.Committed stamp
   reply_of_visit (Ok None) = reply.Seeking
   reply_of_visit (Err why) = reply.Refused why
 
-  -- that tells of a new finder, by its serial
+  -- the reply for a new finder, by its serial
   abbrev pub reply_of_finder : Result ℕ Refusal → Reply C O K A E
   reply_of_finder (Ok serial) = reply.Finder serial
   reply_of_finder (Err why) = reply.Refused why
 
-  -- that tells how many dead rows went
+  -- the reply for a sweep, by how many dead rows were removed
   abbrev pub reply_of_sweep : Result ℕ Refusal → Reply C O K A E
   reply_of_sweep (Ok count) = reply.Swept count
   reply_of_sweep (Err why) = reply.Refused why
 
-  -- that tells of a new cursor: its serial, and the other end of its mailbox
+  -- the reply for a new cursor: its serial, and the other end of its mailbox
   abbrev pub reply_of_opening : Result (ℕ × E) Refusal → Reply C O K A E
   reply_of_opening (Ok (serial, end)) = reply.Opened serial end
   reply_of_opening (Err why) = reply.Refused why
 
-  -- that tells of a turn
+  -- the reply for a turn
   abbrev pub reply_of_turn : Result Turned Refusal → Reply C O K A E
   reply_of_turn (Ok turned.Offered) = reply.Offered
   reply_of_turn (Ok (turned.Visited page)) = reply.Visited page
   reply_of_turn (Ok (turned.Passed n)) = reply.Passed n
   reply_of_turn (Err why) = reply.Refused why
 
-  -- that tells that a mark is asked for
+  -- the reply when a mark was asked for
   abbrev pub reply_of_asking : Result (Unit {0}) Refusal → Reply C O K A E
   reply_of_asking (Ok done) = reply.Asked
   reply_of_asking (Err why) = reply.Refused why
 
-  -- that tells of an item, where the mailbox has one
+  -- the reply for an item, if the mailbox has one
   abbrev pub reply_of_taking : Result (Option (Item K)) Refusal → Reply C O K A E
   reply_of_taking (Ok (Some item)) = reply.Taken item
   reply_of_taking (Ok None) = reply.Nothing
   reply_of_taking (Err why) = reply.Refused why
 
-  -- that tells that a cursor is closed
+  -- the reply when a cursor was closed
   abbrev pub reply_of_closing : Result (Unit {0}) Refusal → Reply C O K A E
   reply_of_closing (Ok done) = reply.Closed
   reply_of_closing (Err why) = reply.Refused why
 
 module _ (C O E : Type 0) {K A : Type 0} (rules : Rules K A) (rule : Rule) where
-  -- one event, answered so, and what every step keeps
+  -- one event with this reply, and what every step keeps
   pub record IsOneStep (seat : ℕ) (old : State K A) (event : Event C K A) (reply : Reply C O K A E) (new : State K A) : Type 0 where
     pub step : Step rules rule seat old event reply new
     pub sound : IsSoundWorld rules.is_cover new
@@ -84,11 +84,11 @@ module _ (C O E : Type 0) {K A : Type 0} (rules : Rules K A) (rule : Rule) where
   abbrev pub OpensFinder : State K A → ℕ → Result ℕ Refusal → State K A → Type 0
   OpensFinder old row made new = IsOneStep 0 old (event.Find row) (reply_of_finder C O E made) new
 
-  -- a finder visits a page, and deletes its row where it meets it
+  -- a finder visits a page, and deletes its row if it meets it
   abbrev pub DeletesMet : ℕ → State K A → ℕ → Result (Option (Stamp K)) Refusal → State K A → Type 0
   DeletesMet seat old f made new = IsOneStep seat old (event.Seek f) (reply_of_visit C O E made) new
 
-  -- a finder visits a page, and moves its row where it meets it
+  -- a finder visits a page, and moves its row if it meets it
   abbrev pub MovesMet : ℕ → State K A → ℕ → ℕ → K → Result (Option (Stamp K)) Refusal → State K A → Type 0
   MovesMet seat old f leaf key made new = IsOneStep seat old (event.Move f leaf key) (reply_of_visit C O E made) new
 

@@ -1,4 +1,4 @@
--- What a call that asks nothing of the cursors leaves to them, and the dead rows that a tree holds.
+-- What a call that isn't about cursors leaves to them, and the dead rows that a tree holds.
 use Rattle.std.specs.Prelude.{◌≡◌, ℕ, ◌≤◌, List, length, Option, Some, None}
 use Rattle.std.specs.List.{filter_map}
 use Rattle.key_class.specs.Rules.{Rules}
@@ -10,7 +10,7 @@ use Rattle.page_table.specs.Trees.{Tree, rows_of_tree}
 use Rattle.cursor.specs.OpenCursors.{OpenCursor, shown}
 use Rattle.world.specs.States.{State, cursor_at}
 
--- a row with the commit that deleted it
+-- a row with the commit that ended it
 abbrev pub death_from : ℕ → Option ℕ → Option (ℕ × ℕ)
 death_from row None = None
 death_from row (Some died) = Some (row, died)
@@ -19,12 +19,13 @@ module _ {K : Type 0} where
   abbrev pub death : Entry K → Option (ℕ × ℕ)
   death e = death_from e.row e.died
 
-  -- a collection: the dead rows that the tree holds, each with the commit that deleted it
+  -- the dead rows that the tree holds, in any order, each with the commit that ended it
   abbrev pub deaths : Tree K → List (ℕ × ℕ)
   deaths t = filter_map death (rows_of_tree t)
 
 module _ {K A : Type 0} (rules : Rules K A) (rule : Rule) where
-  -- The cursors are those that were open, and every list of items that fitted one of them fits it. There are no fewer pages.
+  -- The same cursors are open, and every list of items that fitted one of them still fits it. There are no fewer
+  -- pages.
   pub record Rests (old new : State K A) : Type 0 where
     pub limit : new.limit ≡ old.limit
     pub page_limit : new.search.limit ≡ old.search.limit

@@ -1,4 +1,4 @@
--- A commit as it was answered.
+-- A commit, as a reply tells it.
 use Rattle.std.specs.Prelude.{ℕ}
 use Rattle.change_list.specs.declared.write.Write.{Write}
 

@@ -15,7 +15,7 @@ use Rattle.world.specs.Serials.{member, put, Rise, IsMember}
 use Rattle.world.specs.Stamps.{Stamp}
 
 pub record State (K A : Type 0) : Type 0 where
-  -- the pages with their limits
+  -- the pages, with their limits
   pub search : SearchTree K
   -- the greatest number of commits
   pub limit : ℕ
@@ -42,8 +42,8 @@ new_state config = record {
 }
 
 module _ {K : Type 0} where
-  -- Each open finder looks for a row that was made, and while the row lives, it stands once under what the finder has
-  -- still to visit.
+  -- Each open finder looks for a row that was made, and while the row is live, it stands once under what the finder
+  -- still has to visit.
   pub record HasFinders (tree : Tree K) (commits : List (Write K)) (finders : List (OpenFinder K)) (last : ℕ) : Type 0 where
     pub seeking : All (λ k. IsSeeking tree commits k) finders
     pub serials : Rise (λ k. k.serial) 0 last finders
@@ -76,21 +76,22 @@ module _ {K A : Type 0} where
   abbrev pub IsFinderOf : State K A → ℕ → ℕ → Type 0
   IsFinderOf s f row = (k : OpenFinder K) × (finder_at s f ≡ Some k) × (k.row ≡ row)
 
-  -- there are as many commits as may be
+  -- there are as many commits as allowed
   abbrev pub IsFullOfCommits : State K A → Type 0
   IsFullOfCommits s = s.limit ≤ length s.commits
 
-  -- the commits are those that there were, and this one
+  -- the commits are the old ones, followed by this one
   abbrev pub AddsCommit : State K A → Write K → State K A → Type 0
   AddsCommit old write new = new.commits ≡ old.commits ++ write ∷ []
 
-  -- what a cursor has still to visit exists, and its position is one of the commits
+  -- what a cursor still has to visit exists, and its position is at most the number of commits
   pub record IsAtWork (tree : Tree K) (commits : List (Write K)) (k : OpenCursor K A) : Type 0 where
     pub stack : IsStack tree k.stack
     pub from_opening : k.opened ≤ k.position
     pub within : k.position ≤ length commits
 
-  -- a sound world: the tree is sound, its entries agree with a legal list of commits, and so do open cursors and finders
+  -- a sound world: the tree is sound, its entries agree with a legal list of commits, and so do open cursors and
+  -- finders
   pub record IsSoundWorld (is_cover : K → K → Bool) (s : State K A) : Type 0 where
     pub tree : IsSearchTree is_cover s.search.tree s.search.fan s.search.least s.search.limit
     pub legal : IsLegal s.commits

@@ -1,4 +1,4 @@
--- What each event makes of a world, and how it is answered.
+-- How each event changes a world, and what is replied.
 use Rattle.std.specs.Prelude.{◌≡◌, ℕ, suc, ◌+◌, Bool, true, false, ◌||◌, ◌&&◌, nat_eq, nat_le, nat_lt, List, [], ◌∷◌, ◌++◌, length, filter, Option, Some, None, is_none, Ok, Err, Result, ◌⊎◌}
 use Rattle.std.specs.List.{zip}
 use Rattle.key_class.specs.Rules.{Rules}
@@ -38,7 +38,7 @@ use Rattle.world.specs.Traces.{Trace}
 abbrev pub FirstFails : List (Bool × Refusal) → Refusal → Type 0
 FirstFails tests why = first_failing tests ≡ Some why
 
--- these tests, where something is met; else none of them fails
+-- these tests, if something is met; otherwise none of them fails
 abbrev pub where_met : Bool → List (Bool × Refusal) → List (Bool × Refusal)
 where_met met [] = []
 where_met met ((fails, why) ∷ tests) = (met && fails, why) ∷ where_met met tests
@@ -55,15 +55,15 @@ module _ {K A : Type 0} where
       ∷ (is_none (cursor_at old c), refusal.CursorClosed)
       ∷ []
 
-  -- there is no place or no serial for one more cursor
+  -- there is no room or no serial for one more cursor
   abbrev pub is_full_of_cursors : State K A → Bool
   is_full_of_cursors old = nat_le most_cursors (length old.cursors) || nat_le greatest_serial old.last
 
-  -- the room and the query's depth are in range, and there is a place and a serial for one more cursor
+  -- the room and the query's depth are in range, and there is room and a serial for one more cursor
   abbrev pub open_tests : State K A → Pred A → ℕ → List (Bool × Refusal)
   open_tests old query room = (is_bad_opening query room, refusal.BadConfig) ∷ (is_full_of_cursors old, refusal.CursorsFull) ∷ []
 
-  -- and so for a cursor that follows commit n, which is no later one than there are
+  -- the same for a cursor that follows commit n, which must exist
   abbrev pub follow_tests : State K A → Pred A → ℕ → ℕ → List (Bool × Refusal)
   follow_tests old query room n =
       (is_bad_opening query room, refusal.BadConfig)
@@ -71,15 +71,15 @@ module _ {K A : Type 0} where
       ∷ (is_full_of_cursors old, refusal.CursorsFull)
       ∷ []
 
-  -- there is a place for one more commit
+  -- there is room for one more commit
   abbrev pub commit_tests : State K A → List (Bool × Refusal)
   commit_tests old = (nat_le old.limit (length old.commits), refusal.CommitsFull) ∷ []
 
-  -- there is no place or no serial for one more finder
+  -- there is no room or no serial for one more finder
   abbrev pub is_full_of_finders : State K A → Bool
   is_full_of_finders old = nat_le most_finders (length old.finders) || nat_le greatest_serial old.last_finder
 
-  -- the row was made and isn't ended, and there is a place and a serial for one more finder
+  -- the row was made and isn't ended, and there is room and a serial for one more finder
   abbrev pub find_tests : State K A → ℕ → List (Bool × Refusal)
   find_tests old row =
       (is_none (row_at old.commits row), refusal.NoSuchRow)
@@ -91,16 +91,16 @@ module _ {K A : Type 0} where
   abbrev pub finder_tests : State K A → ℕ → List (Bool × Refusal)
   finder_tests old f = (is_none (finder_at old f), refusal.NoSuchFinder) ∷ []
 
-  -- its row isn't ended; and further tests, where the page that it visits next holds the row
+  -- its row isn't ended; and further tests, if the page that it visits next holds the row
   abbrev pub row_tests : State K A → List (Bool × Refusal) → Option (OpenFinder K) → List (Bool × Refusal)
   row_tests old further (Some k) = (is_ended old.commits k.row, refusal.AlreadyDeleted) ∷ where_met (is_at_row old.search.tree k) further
   row_tests old further None = []
 
-  -- of a visit of a finder, with the further tests of what is done where it meets its row
+  -- the tests of a visit of a finder, with the further tests of what is done if it meets its row
   abbrev pub visit_tests : State K A → ℕ → List (Bool × Refusal) → List (Bool × Refusal)
   visit_tests old f further = finder_tests old f ++ row_tests old further (finder_at old f)
 
-  -- a new cursor behind a commit, with these pages to visit
+  -- a new cursor after a commit, with these pages to visit
   abbrev pub begun_cursor : State K A → Pred A → ℕ → Bool → ℕ → List StackItem → OpenCursor K A
   begun_cursor old query room follows opened stack = record {
     serial = old.last + 1;
@@ -123,7 +123,7 @@ module _ {K A : Type 0} where
   abbrev pub following_cursor : State K A → Pred A → ℕ → ℕ → OpenCursor K A
   following_cursor old query room n = begun_cursor old query room true n []
 
-  -- the commit is the next, and a leaf has its row at the end
+  -- the commit is the next one, and its row is at the end of a leaf
   pub record Places (seat : ℕ) (old : State K A) (page : ℕ) (key : K) (tag : ℕ) (stamp : Stamp K) (new : State K A) : Type 0 where
     pub stamped : IsNextStamp old seat (Insert key tag) stamp
     pub after : new ≡ record old {
@@ -159,8 +159,8 @@ module _ {K A : Type 0} where
       finders = without (λ k. k.serial) f old.finders;
     }
 
-  -- The page that the finder visits holds its row: the next commit moves the row, which is dead since then, the leaf has the
-  -- row with its new key at the end, and the finder ends.
+  -- The page that the finder visits holds its row: the next commit moves the row, which is dead from then on, the
+  -- leaf has the new row, with the new key, at its end, and the finder ends.
   pub record MovesRow (seat : ℕ) (old : State K A) (f leaf : ℕ) (key : K) (stamp : Stamp K) (new : State K A) : Type 0 where
     pub finder : OpenFinder K
     pub is_open : finder_at old f ≡ Some finder
@@ -175,14 +175,14 @@ module _ {K A : Type 0} where
       finders = without (λ k. k.serial) f old.finders;
     }
 
-  -- the dead that nobody needs go, and their number is told
+  -- the dead rows that aren't needed are removed, and their number is replied
   pub record SweepsLeaf (old : State K A) (page count : ℕ) (new : State K A) : Type 0 where
     pub horizon : ℕ
     pub is : IsHorizon (length old.commits) old.cursors horizon
     pub counted : count + length (filter (is_needed horizon) (page_at old.search.tree page).rows) ≡ length (page_at old.search.tree page).rows
     pub after : new ≡ with_pages old (after_sweep old.search.tree page horizon)
 
-  -- memory was wanting, and there is something to take out
+  -- memory ran out, and there is something to remove
   pub record RefusesSweep (old : State K A) (page : ℕ) (why : Refusal) : Type 0 where
     pub memory : why ≡ refusal.OutOfMemory
     pub horizon : ℕ
@@ -221,7 +221,7 @@ module _ {K A : Type 0} (rules : Rules K A) (rule : Rule) where
     pub turn : Turns rules rule old.search.tree old.commits before how later
     pub after : new ≡ with_cursor old later
 
-  -- the page that the finder visits lacks its row, and the finder goes on
+  -- the page that the finder visits doesn't hold its row, and the finder goes on
   pub record SeeksOn (old : State K A) (f : ℕ) (new : State K A) : Type 0 where
     pub before : OpenFinder K
     pub later : OpenFinder K
@@ -230,19 +230,20 @@ module _ {K A : Type 0} (rules : Rules K A) (rule : Rule) where
     pub further : GoesFurther rules.is_cover old.search.tree before page later
     pub after : new ≡ with_finder old later
 
-  -- memory was wanting, and the page that the finder visits holds its row, or something is pushed after it
+  -- memory ran out, and the page that the finder visits holds its row, or something is pushed after it
   pub record RefusesVisit (old : State K A) (f : ℕ) (why : Refusal) : Type 0 where
     pub memory : why ≡ refusal.OutOfMemory
     pub finder : OpenFinder K
     pub is_open : finder_at old f ≡ Some finder
     pub grows : (is_at_row old.search.tree finder ≡ true) ⊎ PushesSome (λ bound. rules.is_cover bound finder.key) old.search.tree finder.stack
 
-  -- why a visit of a finder is refused, whatever is tested where it meets its row
+  -- why a visit of a finder is refused, apart from the tests of what is done if it meets its row
   abbrev pub IsRefusedVisit : State K A → ℕ → Refusal → Type 0
   IsRefusedVisit old f why = (further : List (Bool × Refusal))
       → (first_failing (visit_tests old f further) ≡ Some why) ⊎ ((first_failing (visit_tests old f further) ≡ None) × RefusesVisit old f why)
 
-  -- a visit of a finder: it meets its row on a page, by its place among the finders, or it goes on; or it is refused
+  -- a visit of a finder: it meets its row on a page, and has this place among the finders; or it goes on; or it is
+  -- refused
   abbrev pub VisitsFor : State K A → ℕ → Result (Option (ℕ × ℕ)) Refusal → State K A → Type 0
   VisitsFor old f (Ok (Some (at, page))) new = Meets old f at page × (new ≡ old)
   VisitsFor old f (Ok None) new = ((further : List (Bool × Refusal)) → first_failing (visit_tests old f further) ≡ None) × SeeksOn old f new
@@ -254,14 +255,14 @@ module _ {K A : Type 0} (rules : Rules K A) (rule : Rule) where
     pub turn : Turns rules rule old.search.tree old.commits cursor (Err why) cursor
 
 module _ {C K A : Type 0} where
-  -- an event that asks for the same: the copy of a query has places of its own in memory
+  -- an equal event; the copy of a query has other addresses
   abbrev pub IsCopy : Event C K A → Event C K A → Type 0
   IsCopy (event.Open query room) copy = (other : Pred A) × (query_of other ≡ query_of query) × (copy ≡ event.Open other room)
   IsCopy (event.Follow query room n) copy = (other : Pred A) × (query_of other ≡ query_of query) × (copy ≡ event.Follow other room n)
   IsCopy event copy = copy ≡ event
 
 module _ {C K A : Type 0} (rules : Rules K A) (rule : Rule) where
-  -- the tests of an event in their order, each true where it fails
+  -- the tests of an event in order, each true if it fails
   abbrev pub tests : State K A → Event C K A → List (Bool × Refusal)
   tests old (event.Enlarge page child key) = enlarge_tests rules.is_cover old.search page child key
   tests old (event.Place page key tag) = place_tests rules.is_cover old.search page key ++ commit_tests old
@@ -280,9 +281,9 @@ module _ {C K A : Type 0} (rules : Rules K A) (rule : Rule) where
   tests old (event.Take c) = cursor_tests old c ++ (rule.is_emptied_elsewhere, refusal.NotHere) ∷ []
   tests old (event.Close c) = cursor_tests old c
 
-  -- Where all tests pass, an event that opens something or changes a page is refused for want of memory alone; so is a seek or a
-  -- move, where it ends its row or pushes a page, and a sweep, where it takes something out; a turn is refused by its rule.
-  -- Ending a finder, asking for a mark, taking and closing are not refused.
+  -- If all tests pass, an event that opens something or changes a page is refused only for lack of memory; so is a
+  -- seek or a move, if it ends its row or pushes a page, and a sweep, if it removes something. A turn is refused by
+  -- its own rule. Ending a finder, asking for a mark, taking and closing are never refused then.
   abbrev pub RefusesLater : State K A → Event C K A → Refusal → Type 0
   RefusesLater old (event.Seek f) why = RefusesVisit rules rule old f why
   RefusesLater old (event.Move f leaf key) why = RefusesVisit rules rule old f why
@@ -294,13 +295,13 @@ module _ {C K A : Type 0} (rules : Rules K A) (rule : Rule) where
   RefusesLater old (event.Close c) why = ⊥
   RefusesLater old event why = why ≡ refusal.OutOfMemory
 
-  -- why an event is refused: by the first test that fails; and that nothing changes then
+  -- why an event is refused: by the first test that fails; and nothing changes then
   pub record IsRefused (old : State K A) (event : Event C K A) (why : Refusal) (new : State K A) : Type 0 where
     pub cause : (first_failing (tests old event) ≡ Some why) ⊎ ((first_failing (tests old event) ≡ None) × RefusesLater old event why)
     pub unchanged : new ≡ old
 
 module _ {C O K A E : Type 0} (rules : Rules K A) (rule : Rule) where
-  -- what an event makes of a world, with its reply
+  -- how an event changes a world, with its reply
   abbrev pub Changes : ℕ → State K A → Event C K A → Reply C O K A E → State K A → Type 0
   Changes seat old (event.Enlarge page child key) reply.Enlarged new = new ≡ with_pages old (after_enlarge rules.union_of old.search.tree page child key)
   Changes seat old (event.Place page key tag) (reply.Committed stamp) new = Places seat old page key tag stamp new
@@ -331,21 +332,21 @@ module _ {C O K A E : Type 0} (rules : Rules K A) (rule : Rule) where
     pub passed : first_failing (tests rules rule old event) ≡ None
     pub change : Changes seat old event reply new
 
-  -- from old, an event for a seat may be answered so, and leads to new
+  -- from old, an event for a seat may have this reply, and leads to new
   abbrev pub Step : ℕ → State K A → Event C K A → Reply C O K A E → State K A → Type 0
   Step seat old event (reply.Refused why) new = IsRefused rules rule old event why new
   Step seat old event reply new = IsCarriedOut seat old event reply new
 
-  -- whatever the seat, the event is answered so and leads to new: a step that commits nothing
+  -- whatever the seat, the event has this reply and leads to new: a step that makes no commit
   abbrev pub Acts : State K A → Event C K A → Reply C O K A E → State K A → Type 0
   Acts old event reply new = (seat : ℕ) → Step seat old event reply new
 
-  -- from old, the events of a trace are answered so, one step after another, and lead to new
+  -- from old, the events of a trace have these replies, one step after another, and lead to new
   abbrev pub Runs : State K A → Trace C O K A E → State K A → Type 0
   Runs old [] new = new ≡ old
   Runs old (moment ∷ trace) new = (mid : State K A) × Step 0 old moment.0 moment.1 mid × Runs mid trace new
 
 module _ {C O K A E : Type 0} (rules : Rules K A) where
-  -- from a new world with trays, the events are answered so
+  -- from a new world with trays, the events have these replies
   abbrev pub IsRun : Config → List (Event C K A) → List (Reply C O K A E) → Type 0
   IsRun config events replies = (last : State K A) × Runs rules tray_rule (new_state config) (zip events replies) last

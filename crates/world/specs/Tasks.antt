@@ -1,4 +1,4 @@
--- Work on a page beside the world, and what its publication is.
+-- Work on a page without the world, and the effect of publishing it.
 use Rattle.std.specs.Prelude.{◌≡◌, ◌⊎◌, ℕ, ◌*◌, ◌<◌, Bool, true, false, ◌||◌, nat_eq, nat_le, List, [], ◌∷◌, length, Option, Some, None}
 use Rattle.key_class.specs.Rules.{Rules}
 use Rattle.mailbox.specs.Outlets.{Rule}
@@ -19,11 +19,11 @@ use Rattle.world.specs.declared.event.Event.TheVariants as event
 use Rattle.world.specs.declared.reply.Reply.{Reply}
 use Rattle.world.specs.declared.reply.Reply.TheVariants as reply
 
--- a page that is to be split, with the sides once they were worked out
+-- a page to be split, with its sides once they are worked out
 pub record SplitTask (K : Type 0) : Type 0 where
   pub number : ℕ
   pub page : Page K
-  -- how many entries each side gets at the fewest
+  -- the fewest entries of each side
   pub least : ℕ
   pub sides : Option (List Side)
 
@@ -41,7 +41,7 @@ module _ {K A : Type 0} (rules : Rules K A) where
     pub after : new ≡ record old { sides = Some sides }
 
 module _ {K : Type 0} where
-  -- why no split is worked out: the page has too few entries, or memory is wanting
+  -- why no split is worked out: the page has too few entries, or memory ran out
   abbrev pub RefusesSides : SplitTask K → Refusal → Type 0
   RefusesSides task why = ((why ≡ refusal.TooFew) × (entries_of task.page < 2 * task.least)) ⊎ (why ≡ refusal.OutOfMemory)
 
@@ -50,7 +50,7 @@ module _ {K A : Type 0} where
   abbrev pub worked_on : VisitTask K A → VisitTask K A
   worked_on task = record task { visit = record task.visit { worked = true } }
 
-  -- the page that a task has is in the world, with an equal value
+  -- the world has a page with this number and an equal value
   pub record HasPage (s : State K A) (number : ℕ) (page : Page K) : Type 0 where
     pub exists : number < length s.search.tree.pages
     pub same : page_at s.search.tree number ≡ page
@@ -83,20 +83,20 @@ module _ {K A : Type 0} where
   PreparesSplit s p task =
       HasPage s p task.page × (task ≡ record { number = p; page = page_at s.search.tree p; least = s.search.least; sides = None })
 
-  -- a task that was not worked on, or whose page is no more as the task has it
+  -- a task that was not worked on, or whose page has changed
   abbrev pub IsStaleSplit : State K A → SplitTask K → Type 0
   IsStaleSplit s task = (task.sides ≡ None) ⊎ (¬ HasPage s task.number task.page)
 
-  -- a task that was not worked on, or whose visit is no more the cursor's next
+  -- a task that was not worked on, or whose visit is no longer the cursor's next
   abbrev pub IsStaleVisit : State K A → VisitTask K A → Type 0
   IsStaleVisit s task = (task.visit.worked ≡ false) ⊎ (¬ HasVisit s task.cursor task.visit)
 
-  -- why no visit of a cursor is prepared: it isn't open, its next turn is no visit, or memory is wanting
+  -- why no visit of a cursor is prepared: it isn't open, its next turn is no visit, or memory ran out
   abbrev pub RefusesPreparing : State K A → ℕ → Refusal → Type 0
   RefusesPreparing s c why = (first_failing (cursor_tests s c) ≡ Some why) ⊎ ((k : OpenCursor K A) × (cursor_at s c ≡ Some k) × RefusesVisit k why)
 
 module _ {C K A : Type 0} where
-  -- the event splits the page of the task by the task's sides, and the page is as the task has it
+  -- the event splits the page of the task by the task's sides, and the page hasn't changed
   pub record IsSplitOf (s : State K A) (task : SplitTask K) (split : Event C K A) : Type 0 where
     pub sides : List Side
     pub worked : task.sides ≡ Some sides
@@ -109,12 +109,12 @@ module _ {C O K A E : Type 0} where
   IsLate old r new = (r ≡ reply.Refused refusal.NotHere) × (new ≡ old)
 
 module _ {C O K A E : Type 0} (rules : Rules K A) (rule : Rule) where
-  -- where the page is as the task has it, the publication is the split by the task's sides
+  -- if the page hasn't changed, the publication is the split by the task's sides
   abbrev pub PublishesSplit : ℕ → State K A → SplitTask K → Reply C O K A E → State K A → Type 0
   PublishesSplit seat old task r new =
       (sides : List Side) → task.sides ≡ Some sides → HasPage old task.number task.page → Step rules rule seat old (event.Split task.number sides) r new
 
-  -- where the visit was worked on and is the cursor's next, the publication is the cursor's turn
+  -- if the visit was worked on and is the cursor's next, the publication is the cursor's turn
   abbrev pub PublishesVisit : ℕ → State K A → VisitTask K A → Reply C O K A E → State K A → Type 0
   PublishesVisit seat old task r new = HasVisit old task.cursor task.visit → task.visit.worked ≡ true → Step rules rule seat old (event.Turn task.cursor) r new
 

@@ -1,5 +1,5 @@
--- A trace: what its events committed, and what each cursor delivered. Nothing here knows a page, a link, a stack or a mailbox.
--- K is the type of keys, A of a query's atoms, E of the other end of a mailbox; C and O stand for the class and the mailboxes.
+-- A trace: what its events committed, and what each cursor delivered. Pages, links, stacks and mailboxes aren't mentioned.
+-- K is the type of keys, A of a query's atoms, E of the other end of a mailbox; C and O are those of the class and the mailboxes.
 use Rattle.std.specs.Prelude.{◌≡◌, ℕ, suc, ◌+◌, ◌<◌, ◌≤◌, Bool, List, length, take, Option, Some, None, slice_get, nat_eq, if◌then◌else◌}
 use Rattle.std.specs.List.{filter_map, zip}
 use Rattle.key_class.specs.Rules.{Rules}
@@ -28,7 +28,7 @@ module _ {K : Type 0} where
   marks_of items = filter_map mark_number items
 
 module _ {C K A : Type 0} where
-  -- the event asks something of cursor c
+  -- the event is about cursor c
   abbrev pub asks : Event C K A → ℕ → Type 0
   asks (event.Turn d) c = d ≡ c
   asks (event.AskMark d) c = d ≡ c
@@ -40,21 +40,21 @@ module _ {C K A : Type 0} where
 abbrev pub Moment : (C O K A E : Type 0) → Type 0
 Moment C O K A E = Event C K A × Reply C O K A E
 
--- events with their replies, in their order
+-- events with their replies, in order
 abbrev pub Trace : (C O K A E : Type 0) → Type 0
 Trace C O K A E = List (Moment C O K A E)
 
 module _ {C O K A E : Type 0} where
-  -- at this place of the trace stands the event, and was answered so; the first place is 0
+  -- at this place of the trace is the event, with this reply; the first place is 0
   abbrev pub IsMoment : Trace C O K A E → ℕ → Event C K A → Reply C O K A E → Type 0
   IsMoment trace place event reply = slice_get trace place ≡ Some (event, reply)
 
-  -- the write of an answer that tells a commit
+  -- the write of a reply that tells a commit
   abbrev pub written : Moment C O K A E → Option (Write K)
   written (event, reply.Committed stamp) = Some stamp.write
   written (event, reply) = None
 
-  -- the commits of a trace, in their order
+  -- the commits of a trace, in order
   abbrev pub commits_of : Trace C O K A E → List (Write K)
   commits_of trace = filter_map written trace
 
@@ -66,21 +66,21 @@ module _ {C O K A E : Type 0} where
   taken_by c (event.Take d, reply.Taken item) = if nat_eq d c then Some item else None
   taken_by c (event, reply) = None
 
-  -- what was taken of cursor c, in order
+  -- what was taken from cursor c, in order
   abbrev pub taken : ℕ → Trace C O K A E → List (Item K)
   taken c trace = filter_map (taken_by c) trace
 
-  -- what cursor c has delivered, in order: what was taken, marks left out
+  -- what cursor c has delivered, in order: what was taken, without marks
   abbrev pub delivered : ℕ → Trace C O K A E → List (Item K)
   delivered c trace = without_marks (taken c trace)
 
-  -- at this place of the trace a mark was asked of cursor c, and no more than n commits were made before
+  -- at this place of the trace a mark was asked of cursor c, when at most n commits had been made
   pub record IsAsking (trace : Trace C O K A E) (c place n : ℕ) : Type 0 where
     pub asked : IsMoment trace place (event.AskMark c) reply.Asked
     pub commits : commits_before place trace ≤ n
 
-  -- Each mark taken of cursor c has an asking of its own: before the mark was taken, after the asking of the mark before,
-  -- and the mark's number is at least the number of commits at the asking.
+  -- Each mark taken from cursor c was asked for by an event of its own: before the mark was taken, after the asking
+  -- of the mark before, and when there were at most as many commits as the mark's number.
   pub record HasAskings (trace : Trace C O K A E) (c : ℕ) : Type 0 where
     pub places : List ℕ
     pub rising : (j first second : ℕ) → slice_get places j ≡ Some first → slice_get places (suc j) ≡ Some second → first < second
@@ -106,22 +106,22 @@ module _ {C O K A E : Type 0} where
     pub end : E
     pub is : IsMoment trace place opening (reply.Opened c end)
 
-  -- a finder of the row was answered with that serial
+  -- a finder of the row was opened with that serial
   pub record HasFinder (trace : Trace C O K A E) (f row : ℕ) : Type 0 where
     pub place : ℕ
     pub is : IsMoment trace place (event.Find row) (reply.Finder f)
 
-  -- what an event writes: a place inserts its row, and a seek deletes and a move moves the row that its finder was asked to find
+  -- what an event writes: a place inserts its row; a seek deletes and a move moves the row that its finder looks for
   abbrev pub IsWriteOf : Trace C O K A E → Event C K A → Write K → Type 0
   IsWriteOf before (event.Place page key tag) write = write ≡ Insert key tag
   IsWriteOf before (event.Seek f) write = (row : ℕ) × HasFinder before f row × (write ≡ Delete row)
   IsWriteOf before (event.Move f leaf key) write = (row : ℕ) × HasFinder before f row × (write ≡ Move row key)
   IsWriteOf before event write = ⊥
 
-  -- The headline. The commits are numbered in their order, each is the write of its event, and they are a legal list. What a
-  -- cursor has delivered begins a listing for its query from its opening to the last commit. A mark that was taken shows that
-  -- all of it up to the mark's commit was delivered, and was asked for. A closed cursor delivers nothing more. What a cursor
-  -- opened from commit n has delivered begins the matching changes after n, each once, in commit order.
+  -- The headline. The commits are numbered in order, each is the write of its event, and they are a legal list. What a
+  -- cursor has delivered begins a listing for its query from its opening to the last commit. A mark that was taken shows
+  -- that all of it up to the mark's commit was delivered, and was asked for. A closed cursor delivers nothing more. What a
+  -- cursor opened from commit n has delivered begins the matching changes after n, each once, in commit order.
   pub record IsFaithful (matching : A → K → Bool) (trace : Trace C O K A E) : Type 0 where
     pub numbered : (i : ℕ) (e : Event C K A) (stamp : Stamp K) → IsMoment trace i e (reply.Committed stamp) → stamp.number ≡ commits_before i trace + 1
     pub writes : (i : ℕ) (e : Event C K A) (stamp : Stamp K) → IsMoment trace i e (reply.Committed stamp) → IsWriteOf (take i trace) e stamp.write
@@ -130,7 +130,7 @@ module _ {C O K A E : Type 0} where
     pub finders : (i j f row other : ℕ) → IsMoment trace i (event.Find row) (reply.Finder f) → IsMoment trace j (event.Find other) (reply.Finder f) → i ≡ j
     -- no serial is given to two cursors
     pub cursors : (i j c : ℕ) (e f : Event C K A) (end other : E) → IsMoment trace i e (reply.Opened c end) → IsMoment trace j f (reply.Opened c other) → i ≡ j
-    -- what is taken of a cursor is taken after its opening
+    -- what is taken from a cursor is taken after its opening
     pub opened : (j c : ℕ) (x : Item K) → IsMoment trace j (event.Take c) (reply.Taken x) → WasOpened (take j trace) c
     pub delivers : (i c : ℕ) (query : Pred A) → IsOpening trace i c query
         → BeginsListing (matches_query matching (query_of query)) (commits_before i trace) (length (commits_of trace)) (commits_of trace) (delivered c trace)
@@ -144,8 +144,8 @@ module _ {C O K A E : Type 0} where
     pub closed : (i j c : ℕ) (later : Event C K A) (answer : Reply C O K A E) → IsMoment trace i (event.Close c) reply.Closed → i < j → IsMoment trace j later answer → asks later c
         → answer ≡ reply.Refused refusal.CursorClosed
 
-  -- So it is at every moment: each beginning of the trace is faithful. Hence the number of a mark is at most the number of
-  -- commits at the moment when it is taken.
+  -- This holds at every moment: each beginning of the trace is faithful. Hence the number of a mark is at most the
+  -- number of commits at the moment when it is taken.
   abbrev pub IsAlwaysFaithful : (A → K → Bool) → Trace C O K A E → Type 0
   IsAlwaysFaithful matching trace = (count : ℕ) → IsFaithful matching (take count trace)
 

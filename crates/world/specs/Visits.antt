@@ -1,4 +1,4 @@
--- Visits to a world: what is done there between one look at it and the next.
+-- Visits to a world: what is done while it is held once.
 use Rattle.std.specs.Prelude.{◌≡◌, ◌⊎◌, ℕ}
 use Rattle.key_class.specs.Rules.{Rules}
 use Rattle.mailbox.specs.Outlets.{Rule}
@@ -8,17 +8,17 @@ use Rattle.world.specs.States.{State}
 use Rattle.world.specs.Steps.{Step}
 
 module _ (C O E : Type 0) {K A : Type 0} (rules : Rules K A) (rule : Rule) where
-  -- this event for the seat made the one world of the other
+  -- this event for the seat leads from one world to the other
   pub record Makes (seat : ℕ) (old : State K A) (event : Event C K A) (new : State K A) : Type 0 where
     pub reply : Reply C O K A E
     pub step : Step rules rule seat old event reply new
 
-  -- an event for the seat made the one world of the other
+  -- some event for the seat leads from one world to the other
   pub record MakesEvent (seat : ℕ) (old new : State K A) : Type 0 where
     pub event : Event C K A
     pub reply : Reply C O K A E
     pub step : Step rules rule seat old event reply new
 
-  -- one event for the seat, or none
+  -- at most one event for the seat
   abbrev pub IsOneEvent : ℕ → State K A → State K A → Type 0
   IsOneEvent seat old new = (new ≡ old) ⊎ MakesEvent seat old new

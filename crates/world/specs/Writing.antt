@@ -8,13 +8,13 @@ use Rattle.world.specs.declared.commit.LeafChange.{LeafChange}
 use Rattle.world.specs.declared.commit.LeafChange.TheVariants as change
 
 module _ {K : Type 0} where
-  -- the commit that changes leaves so
+  -- the commit that records this change of leaves
   abbrev pub write_of_change : LeafChange K → Write K
   write_of_change (change.Place leaf key tag) = Insert key tag
   write_of_change (change.Bury leaf row) = Delete row
   write_of_change (change.Move leaf row other key tag) = Move row key
 
-  -- what is said to be a leaf is one, and takes the row that it is to get
+  -- the pages named as leaves are leaves, and the one that gets a row takes it
   abbrev pub TakesChange : (K → K → Bool) → SearchTree K → LeafChange K → Type 0
   TakesChange is_cover search (change.Place leaf key tag) = PlacePasses is_cover search leaf key
   TakesChange is_cover search (change.Bury leaf row) = is_leaf search.tree leaf ≡ true
@@ -26,12 +26,12 @@ module _ {K : Type 0} where
   IsOfEarlier n (change.Bury leaf row) = Unit {0}
   IsOfEarlier n (change.Move leaf row other key tag) = n ≢ row
 
-  -- with the change by commit n: a row more at the end of a leaf, a row that is dead since then, or both
+  -- with the change by commit n: one more row at the end of a leaf, a row that is dead from then on, or both
   abbrev pub with_change : SearchTree K → ℕ → LeafChange K → SearchTree K
   with_change search n (change.Place leaf key tag) = with_entry search leaf (record { key = key; row = n; tag = tag; died = None })
   with_change search n (change.Bury leaf row) = with_death search leaf row n
   with_change search n (change.Move leaf row other key tag) = with_move search leaf row n other (record { key = key; row = n; tag = tag; died = None })
 
-  -- the leaves are changed so by the next commit
+  -- the next commit changes the leaves in this way
   abbrev pub ChangesNext : SearchTree K → List (Write K) → LeafChange K → SearchTree K → Type 0
   ChangesNext old commits change new = new ≡ with_change old (length commits + 1) change

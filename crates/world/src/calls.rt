@@ -1,4 +1,4 @@
-//! Events as calls, each with an answer of its own type: for those who know which event they make.
+//! Events as methods, each with an answer of its own type, for code that knows which event it makes.
 ghost use Rattle.std.specs.Prelude.{IfOk};
 ghost use Rattle.world.specs.Beginnings.{OpensNear};
 ghost use Rattle.world.specs.Calls.{AsksCursor, ClosesCursor, OpensCursor, OpensFinder, OpensFollower, PlacesRow, DeletesMet, MovesMet, SweepsPage, TakesFront, TurnsCursor};
@@ -29,7 +29,7 @@ impl<C: KeyClass, O: Outlet<C::Key>> World<C, O> {
         self.place(seat, leaf, key, tag)
     }
 
-    /// A finder of a row; its serial.
+    /// Opens a finder of a row, and gives its serial.
     ///
     /// # Errors
     /// Those of the event `Find`; nothing is changed then.
@@ -40,8 +40,8 @@ impl<C: KeyClass, O: Outlet<C::Key>> World<C, O> {
         self.find(row)
     }
 
-    /// A finder of a row, which begins at the page on which the row stands, where that is known, else at the root; its
-    /// serial.
+    /// Opens a finder of a row, and gives its serial. It begins at the page on which the row is, if that is known,
+    /// else at the root.
     ///
     /// # Errors
     /// Those of the event `Find`; nothing is changed then.
@@ -54,7 +54,8 @@ impl<C: KeyClass, O: Outlet<C::Key>> World<C, O> {
         opened
     }
 
-    /// Lets a finder visit a page, for a seat: where that holds its row, it is deleted, and the finder ends. Else none.
+    /// Lets a finder visit a page, for a seat. If the page holds the row, the row is deleted and the finder ends;
+    /// otherwise the answer is `None`.
     ///
     /// # Errors
     /// Those of the event `Seek`; nothing is changed then.
@@ -69,8 +70,8 @@ impl<C: KeyClass, O: Outlet<C::Key>> World<C, O> {
         self.seek(seat, finder)
     }
 
-    /// Lets a finder visit a page, for a seat: where that holds its row, it is moved to the leaf, and the finder ends. Else
-    /// none.
+    /// Lets a finder visit a page, for a seat. If the page holds the row, the row is moved to the leaf and the finder
+    /// ends; otherwise the answer is `None`.
     ///
     /// # Errors
     /// Those of the event `Move`; nothing is changed then.
@@ -87,7 +88,7 @@ impl<C: KeyClass, O: Outlet<C::Key>> World<C, O> {
         self.move_row(seat, finder, leaf, key)
     }
 
-    /// Sweeps a leaf: how many dead rows went.
+    /// Sweeps a leaf, and gives how many dead rows were removed.
     ///
     /// # Errors
     /// Those of the event `Sweep`; nothing is changed then.
@@ -98,7 +99,7 @@ impl<C: KeyClass, O: Outlet<C::Key>> World<C, O> {
         self.sweep(page)
     }
 
-    /// Opens a cursor: its serial, and the other end of its mailbox, out of which nothing came yet.
+    /// Opens a cursor: its serial, and the other end of its mailbox, from which nothing has been taken yet.
     ///
     /// # Errors
     /// Those of the event `Open`; nothing is changed then.
@@ -110,8 +111,8 @@ impl<C: KeyClass, O: Outlet<C::Key>> World<C, O> {
         self.open(query, room)
     }
 
-    /// Opens a cursor that follows a commit, without a snapshot: its serial, and the other end of its mailbox, out of which
-    /// nothing came yet.
+    /// Opens a cursor that follows a commit, without a snapshot: its serial, and the other end of its mailbox, from
+    /// which nothing has been taken yet.
     ///
     /// # Errors
     /// Those of the event `Follow`; nothing is changed then.
@@ -151,7 +152,7 @@ impl<C: KeyClass, O: Outlet<C::Key>> World<C, O> {
         self.ask_mark(c)
     }
 
-    /// Takes the front of a cursor's mailbox, where this side empties it. None where it is empty.
+    /// Takes the front of a cursor's mailbox, if this side may empty it. `None` if it is empty.
     ///
     /// # Errors
     /// Those of the event `Take`; nothing is changed then.

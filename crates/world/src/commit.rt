@@ -1,4 +1,4 @@
-//! A change of leaves, and the commit that tells of it.
+//! A change of leaves, together with its commit.
 ghost use Rattle.std.specs.Prelude.{◌≡◌, ◌+◌, ◌<◌, ◌++◌, ◌∷◌, [], length, IfOk, IfErr, OnOk, OnErr};
 ghost use Rattle.change_list.specs.Changes.{MayFollow};
 ghost use Rattle.world.specs.Hints.{hint_to, page_of_change};
@@ -19,12 +19,12 @@ pub(crate) enum LeafChange<K> {
     Place(u64, K, u64),
     /// A row of a leaf dies: the leaf, the row.
     Bury(u64, u32),
-    /// A row of a leaf dies, and a leaf gets one in its place: the leaf, the row, the other leaf, the key, the tag.
+    /// A row of a leaf dies, and a leaf gets a new one: the leaf, the row, the other leaf, the key, the tag.
     Move(u64, u32, u64, K, u64),
 }
 
 impl<K: Copy> LeafChange<K> {
-    /// The commit that changes leaves so.
+    /// The commit that records this change of leaves.
     pub(crate) fn write(self) -> Write<K>
         ensures { result ≡ write_of_change self }
     {
@@ -35,7 +35,7 @@ impl<K: Copy> LeafChange<K> {
         }
     }
 
-    /// The page that gets a row; the root where none does.
+    /// The page that gets a row; the root if none does.
     fn page(self) -> u64
         ensures { result ≡ page_of_change self }
     {
@@ -47,10 +47,10 @@ impl<K: Copy> LeafChange<K> {
     }
 }
 
-/// Changes leaves, as the commit with that number is to tell.
+/// Changes leaves, as the commit with that number will record.
 ///
 /// # Errors
-/// Memory was wanting; nothing is changed then.
+/// Memory ran out; nothing is changed then.
 fn change_leaves<C: KeyClass>(
     search: &mut SearchTree<C>,
     number: u32,
@@ -75,10 +75,10 @@ fn change_leaves<C: KeyClass>(
     }
 }
 
-/// Changes leaves, and adds the commit that tells of it: both, or neither. Gives the commit's number.
+/// Changes leaves, and adds the commit that records it: both or neither. Gives the commit's number.
 ///
 /// # Errors
-/// Memory was wanting; nothing is changed then.
+/// Memory ran out; nothing is changed then.
 fn change_and_tell<C: KeyClass>(
     alloc: Global,
     search: &mut SearchTree<C>,
@@ -114,11 +114,11 @@ fn change_and_tell<C: KeyClass>(
     }
 }
 
-/// Changes leaves, adds the commit that tells of it, and notes on which page its row stands: all, or nothing. Gives the
-/// commit's number.
+/// Changes leaves, adds the commit that records it, and notes on which page the commit's row is: all or nothing.
+/// Gives the commit's number.
 ///
 /// # Errors
-/// Memory was wanting; nothing is changed then.
+/// Memory ran out; nothing is changed then.
 pub(crate) fn commit<C: KeyClass>(
     search: &mut SearchTree<C>,
     commits: &mut ChangeList<C::Key>,

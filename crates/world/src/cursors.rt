@@ -28,7 +28,7 @@ fn is_bad_opening<C: KeyClass>(query: &Pred<C::Atom>, room: u64) -> bool
 /// What a new cursor owns: its query, its mailbox and the mailbox's other end.
 ///
 /// # Errors
-/// Want of memory.
+/// `OutOfMemory`.
 fn furnish<C: KeyClass, O: Outlet<C::Key>>(
     alloc: Global,
     query: Pred<C::Atom>,
@@ -50,7 +50,7 @@ fn furnish<C: KeyClass, O: Outlet<C::Key>>(
 }
 
 impl<C: KeyClass, O: Outlet<C::Key>> World<C, O> {
-    /// Whether there is no place or no serial for one more cursor.
+    /// Whether there is no room or no serial for one more cursor.
     fn is_full_of_cursors(&self) -> bool
         ensures { result ≡ is_full_of_cursors self.now }
     {
@@ -86,10 +86,10 @@ impl<C: KeyClass, O: Outlet<C::Key>> World<C, O> {
         None
     }
 
-    /// Puts a new cursor behind those that are open.
+    /// Adds a new cursor after those that are open.
     ///
     /// # Errors
-    /// Want of memory; nothing is changed then.
+    /// `OutOfMemory`; nothing is changed then.
     fn add_cursor(&mut self, cursor: Cursor<C, O>) -> Result<(), Refusal>
         requires serial { cursor.serial ≡ self.old.last + 1 }
         requires at_work { IsAtWork self.old.search.tree self.old.commits cursor }

@@ -1,34 +1,34 @@
-//! What is asked of a world in one step.
+//! What a world can be asked to do in one step.
 ghost use Rattle.std.specs.Prelude.{IfOk};
 ghost use Rattle.world.specs.Steps.{IsCopy};
 
 use key_class::{KeyClass, Pred, Sides};
 use std::alloc::{AllocError, Global};
 
-/// What is asked of a world in one step. Pages, rows, cursors are named by their numbers; a name that fits nothing is
-/// refused.
+/// What a world can be asked to do in one step. Pages, rows and cursors are given by their numbers; a number that
+/// doesn't fit is refused.
 #[derive(Drop)]
 pub enum Event<C: KeyClass> {
-    /// Has the branch of an inner page to a child, and the child's cover, take in a key: parent, child, key.
+    /// Widens the branch of an inner page to a child, and the child's cover, by a key: parent, child, key.
     Enlarge(u64, u64, C::Key),
     /// Adds a row to a leaf: page, key, tag.
     Place(u64, C::Key, u64),
     /// Splits a full page by sides: page, sides.
     Split(u64, Sides),
-    /// Hangs the right sibling of a page that was split: parent, child.
+    /// Gives the right sibling of a page that was split a branch in the parent: parent, page that was split.
     Post(u64, u64),
     /// Grows a full root by sides.
     Grow(Sides),
-    /// Begins to look for the leaf that holds a live row: row.
+    /// Opens a finder, which looks for the leaf that holds a live row: row.
     Find(u64),
-    /// Lets a finder visit one page. Where that page holds its row, the row is deleted and the finder ends.
+    /// Lets a finder visit one page. If that page holds its row, the row is deleted and the finder ends.
     Seek(u64),
-    /// Lets a finder visit one page. Where that page holds its row, the row is moved to a leaf, and the finder ends: finder,
-    /// leaf, key.
+    /// Lets a finder visit one page. If that page holds its row, the row is moved to a leaf, and the finder ends:
+    /// finder, leaf, key.
     Move(u64, u64, C::Key),
     /// Ends a finder.
     Unfind(u64),
-    /// Takes the dead rows out of a leaf that no scan needs.
+    /// Removes from a leaf the dead rows that no scan needs.
     Sweep(u64),
     /// Opens a cursor at the present commits: query, room of its mailbox in items (1 to 4,096).
     Open(Pred<C::Atom>, u64),
@@ -45,7 +45,7 @@ pub enum Event<C: KeyClass> {
 }
 
 impl<C: KeyClass> Event<C> {
-    /// An event that asks for the same.
+    /// An equal event, with a copy of its query.
     pub fn copy(&self, alloc: Global) -> Result<Event<C>, AllocError>
         ensures { IfOk result (λ copy. IsCopy self.now copy) }
     {

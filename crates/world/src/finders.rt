@@ -28,7 +28,7 @@ impl<C: KeyClass, O: Outlet<C::Key>> World<C, O> {
         self.finders.len() >= MAX_FINDERS || self.last_finder >= MAX_SERIAL
     }
 
-    /// The key of a row that a further finder may look for, or why none may.
+    /// The key of a row, if a further finder may look for it; otherwise why none may.
     fn key_to_find(&self, row: u64) -> Result<C::Key, Refusal>
         ensures passed { IfOk result (λ key. first_failing (find_tests self.now row) ≡ None) }
         ensures made { IfOk result (HasKey self.now.commits row) }
@@ -46,10 +46,10 @@ impl<C: KeyClass, O: Outlet<C::Key>> World<C, O> {
         Ok(found.key)
     }
 
-    /// A finder of a row, which begins at the page. Gives its serial.
+    /// Opens a finder of a row that begins at the page, and gives its serial.
     ///
     /// # Errors
-    /// Want of memory; nothing is changed then.
+    /// `OutOfMemory`; nothing is changed then.
     fn begin(&mut self, row: u64, key: C::Key, page: u32) -> Result<u64, Refusal>
         requires passed { first_failing (find_tests self.old row) ≡ None }
         requires made { HasKey self.old.commits row key }
@@ -84,7 +84,7 @@ impl<C: KeyClass, O: Outlet<C::Key>> World<C, O> {
         self.begin(row, key, page)
     }
 
-    /// The page on which a row was seen last, where it stands there still; else the root.
+    /// The page on which a row was seen last, if the row is still there; else the root.
     fn last_page(&self, row: u64) -> u32
         ensures { MayBegin self.now row result }
     {
@@ -100,8 +100,8 @@ impl<C: KeyClass, O: Outlet<C::Key>> World<C, O> {
         }
     }
 
-    /// Lets a finder visit one page. Where that holds its row, gives the finder's place and the page; else the finder
-    /// goes on.
+    /// Lets a finder visit one page. If that holds its row, gives the finder's place and the page; otherwise the
+    /// finder goes on.
     fn visit_for(&mut self, f: u64) -> Result<Option<(usize, u32)>, Refusal>
         ensures { VisitsFor C.rules O.rule self.old f result self.new }
     {

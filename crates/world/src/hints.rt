@@ -1,20 +1,21 @@
-//! Where rows stand, as far as is known: for each number of a row the page on which it was seen last.
+//! Hints: for each row number the page on which the row was seen last.
 //!
-//! A row may have gone to another page since, so whoever is told of a page looks whether it holds the row. There are no
-//! more pages than 16 bits can name, and a hint takes no more, since there is one for each commit.
+//! A hint is a guess: the row may have gone to another page since, so the page is always checked first. A wrong hint
+//! costs time, never correctness. There are no more pages than 16 bits can number, and a hint has just 16 bits, since
+//! there is one for each commit.
 ghost use Rattle.std.specs.Prelude.{◌≡◌, slice_index_or};
 ghost use Rattle.world.specs.Hints.{hint_to, with_hint, with_hints};
 
 use row_version::Entry;
 
-/// A page as a hint names it.
+/// A page's number, as a hint stores it.
 pub(crate) fn hint_to(page: u64) -> u16
     ensures { result ≡ hint_to page }
 {
     u16::try_from(page).unwrap_or(0)
 }
 
-/// Notes that a row stands on a page.
+/// Records that a row is on a page.
 fn note_row(hints: &mut Vec<u16>, page: u16, row: u32)
     ensures { hints.new.items ≡ with_hint page row hints.old.items }
 {
@@ -24,7 +25,7 @@ fn note_row(hints: &mut Vec<u16>, page: u16, row: u32)
     }
 }
 
-/// Notes that these rows stand on a page.
+/// Records that these rows are on a page.
 pub(crate) fn note_all<K>(hints: &mut Vec<u16>, page: u16, rows: &[Entry<K>])
     ensures { hints.new.items ≡ with_hints page rows.now hints.old.items }
 {
@@ -33,7 +34,7 @@ pub(crate) fn note_all<K>(hints: &mut Vec<u16>, page: u16, rows: &[Entry<K>])
     }
 }
 
-/// The page on which a row was seen last, the root where nothing is known of it.
+/// The page on which a row was seen last; the root if nothing is known.
 pub(crate) fn page_of(hints: &[u16], row: u32) -> u32
     ensures { result ≡ slice_index_or hints.now row 0 }
 {

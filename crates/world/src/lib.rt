@@ -1,4 +1,4 @@
-//! The state machine of a tree with cursors: one event, one atomic step.
+//! The state machine of a tree with cursors: each event is one atomic step.
 #![tactic(auto)]
 
 mod calls;

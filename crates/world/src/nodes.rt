@@ -34,7 +34,7 @@ impl<C: KeyClass, O: Outlet<C::Key>> World<C, O> {
         }
     }
 
-    /// Notes where the rows of a page stand, where there is one with the number.
+    /// Records where the rows of a page are, if there is a page with the number.
     fn note_rows_of(&mut self, page: u32)
         ensures { self.new ≡ self.old }
     {

@@ -1,4 +1,4 @@
-//! Lists whose members have serials that rise.
+//! Lists whose members have rising serials.
 ghost use Rattle.std.specs.Prelude.{◌≡◌, ◌<◌, ℕ, remove, vec_len};
 ghost use Rattle.world.specs.Serials.{Rise, IsPlaceOf};
 
@@ -7,7 +7,7 @@ use descent::Finder;
 use key_class::KeyClass;
 use mailbox::Outlet;
 
-/// Something that was given a serial.
+/// Something with a serial.
 pub(crate) trait Numbered {
     ghost serial_of: { Self → ℕ };
 
@@ -31,7 +31,7 @@ impl<C: KeyClass> Numbered for Finder<C> {
     }
 }
 
-/// The place of the member with a serial, by halving.
+/// The place of the member with a serial, by binary search.
 pub(crate) fn place_of<T: Numbered>(members: &[T], serial: u64) -> Option<usize>
     requires { (last : ℕ) × Rise T.serial_of 0 last members.now }
     ensures { IsPlaceOf T.serial_of members.now serial result }
@@ -53,7 +53,7 @@ pub(crate) fn place_of<T: Numbered>(members: &[T], serial: u64) -> Option<usize>
     None
 }
 
-/// Lets go of the member at a place. The last of a list is dropped where it lies.
+/// Drops the member at a place. The last one of a list is dropped in place, without being moved out first.
 pub(crate) fn let_go<T: Drop>(members: &mut Vec<T>, at: usize)
     requires { at < vec_len members.old }
     ensures { members.new.items ≡ remove members.old.items at }

@@ -1,4 +1,4 @@
-//! What a world answers to an event.
+//! The world's replies to events.
 ghost use Rattle.std.specs.Prelude.{◌≡◌};
 ghost use Rattle.world.specs.Calls as call;
 
@@ -8,7 +8,7 @@ use key_class::{KeyClass, Refusal};
 use mailbox::Outlet;
 use std::marker::Model;
 
-/// A commit as it was answered. Only a world makes one.
+/// A commit, as a reply tells it. Only a world can make one.
 #[derive(Clone, Copy)]
 pub struct Stamped<K> {
     number: u64,
@@ -59,11 +59,11 @@ impl<K: Copy> Stamped<K> {
     }
 }
 
-/// What a world answers to an event.
+/// The world's reply to an event.
 #[derive(Drop)]
 pub enum Reply<C: KeyClass, O: Outlet<C::Key>> {
     Enlarged,
-    /// One commit more.
+    /// A commit was made.
     Committed(Stamped<C::Key>),
     /// The number of the page that took the right side.
     Split(u32),
@@ -72,10 +72,10 @@ pub enum Reply<C: KeyClass, O: Outlet<C::Key>> {
     Grown(u32, u32),
     /// The finder's serial.
     Finder(u64),
-    /// The page that the finder visited lacks its row.
+    /// The page that the finder visited doesn't hold its row.
     Seeking,
     Unfound,
-    /// How many dead rows went.
+    /// How many dead rows were removed.
     Swept(u64),
     /// The cursor's serial, and the other end of its mailbox.
     Opened(u64, O::End),
@@ -83,7 +83,7 @@ pub enum Reply<C: KeyClass, O: Outlet<C::Key>> {
     Offered,
     /// The page that was read.
     Visited(u32),
-    /// The commit that the query doesn't ask for.
+    /// The commit with this number doesn't match the query.
     Passed(u64),
     Asked,
     Taken(Item<C::Key>),
@@ -95,7 +95,7 @@ pub enum Reply<C: KeyClass, O: Outlet<C::Key>> {
 }
 
 impl<C: KeyClass, O: Outlet<C::Key>> Reply<C, O> {
-    /// To an event that commits.
+    /// The reply to an event that commits.
     pub(crate) fn of_commit(answer: Result<Stamped<C::Key>, Refusal>) -> Reply<C, O>
         ensures { result ≡ call.reply_of_commit C O O.End answer }
     {
@@ -105,7 +105,7 @@ impl<C: KeyClass, O: Outlet<C::Key>> Reply<C, O> {
         }
     }
 
-    /// To a visit of a finder, which commits where it meets its row.
+    /// The reply to a visit of a finder, which commits if it meets its row.
     pub(crate) fn of_visit(answer: Result<Option<Stamped<C::Key>>, Refusal>) -> Reply<C, O>
         ensures { result ≡ call.reply_of_visit C O O.End answer }
     {
@@ -116,7 +116,7 @@ impl<C: KeyClass, O: Outlet<C::Key>> Reply<C, O> {
         }
     }
 
-    /// To an event that opens a finder.
+    /// The reply to an event that opens a finder.
     pub(crate) fn of_finder(answer: Result<u64, Refusal>) -> Reply<C, O>
         ensures { result ≡ call.reply_of_finder C O O.End answer }
     {
@@ -126,7 +126,7 @@ impl<C: KeyClass, O: Outlet<C::Key>> Reply<C, O> {
         }
     }
 
-    /// To a sweep.
+    /// The reply to a sweep.
     pub(crate) fn of_sweep(answer: Result<u64, Refusal>) -> Reply<C, O>
         ensures { result ≡ call.reply_of_sweep C O O.End answer }
     {
@@ -136,7 +136,7 @@ impl<C: KeyClass, O: Outlet<C::Key>> Reply<C, O> {
         }
     }
 
-    /// To an event that opens a cursor.
+    /// The reply to an event that opens a cursor.
     pub(crate) fn of_opening(answer: Result<(u64, O::End), Refusal>) -> Reply<C, O>
         ensures { result ≡ call.reply_of_opening C O O.End answer }
     {
@@ -146,7 +146,7 @@ impl<C: KeyClass, O: Outlet<C::Key>> Reply<C, O> {
         }
     }
 
-    /// To a turn.
+    /// The reply to a turn.
     pub(crate) fn of_turn(answer: Result<Turned, Refusal>) -> Reply<C, O>
         ensures { result ≡ call.reply_of_turn C O O.End answer }
     {
@@ -158,7 +158,7 @@ impl<C: KeyClass, O: Outlet<C::Key>> Reply<C, O> {
         }
     }
 
-    /// To an event that asks for a mark.
+    /// The reply to an event that asks for a mark.
     pub(crate) fn of_asking(answer: Result<(), Refusal>) -> Reply<C, O>
         ensures { result ≡ call.reply_of_asking C O O.End answer }
     {
@@ -168,7 +168,7 @@ impl<C: KeyClass, O: Outlet<C::Key>> Reply<C, O> {
         }
     }
 
-    /// To an event that takes an item.
+    /// The reply to an event that takes an item.
     pub(crate) fn of_taking(answer: Result<Option<Item<C::Key>>, Refusal>) -> Reply<C, O>
         ensures { result ≡ call.reply_of_taking C O O.End answer }
     {
@@ -179,7 +179,7 @@ impl<C: KeyClass, O: Outlet<C::Key>> Reply<C, O> {
         }
     }
 
-    /// To an event that closes a cursor.
+    /// The reply to an event that closes a cursor.
     pub(crate) fn of_closing(answer: Result<(), Refusal>) -> Reply<C, O>
         ensures { result ≡ call.reply_of_closing C O O.End answer }
     {

@@ -1,5 +1,5 @@
-//! Work on a page beside the world: a task is prepared in one visit to the world, worked on without it, and published in
-//! another.
+//! Work on a page without the world: a task is prepared in one visit to the world, worked on without it, and
+//! published in another visit.
 ghost use Rattle.std.specs.Prelude.{◌≡◌, true, IfSome, IfNone, IfOk, IfErr, OnOk, OnErr, IsTrue, ◌↔◌};
 ghost use Rattle.split.specs.Tests.{IsRefusedBy};
 ghost use Rattle.world.specs.declared.event.Event.TheVariants as event;
@@ -21,7 +21,7 @@ use scan::PreparedVisit;
 use std::alloc::Global;
 use std::marker::Model;
 
-/// A page that is to be split, and its sides once they were worked out.
+/// A page to be split, with its sides once they are worked out.
 #[derive(Drop)]
 pub struct SplitTask<C: KeyClass> {
     alloc: Global,
@@ -46,7 +46,7 @@ impl<C: KeyClass> SplitTask<C> {
     /// Works out the sides, by the class.
     ///
     /// # Errors
-    /// TooFew where the page has too few entries, else want of memory; the task is as it was.
+    /// TooFew if the page has too few entries, else `OutOfMemory`; the task is unchanged.
     pub fn work(&mut self) -> Result<(), Refusal>
         ensures worked { OnOk result (WorksOutSides C.rules self.old self.new) }
         ensures too_few { IfErr result (RefusesSides self.old) }
@@ -89,7 +89,7 @@ impl<C: KeyClass> VisitTask<C> {
     /// Works out what the visit notes and where it goes on.
     ///
     /// # Errors
-    /// Memory was wanting; the task is as it was.
+    /// Memory ran out; the task is unchanged.
     pub fn work(&mut self) -> Result<(), Refusal>
         ensures worked { OnOk result (self.new ≡ worked_on self.old) }
         ensures refused { IfErr result (λ why. why ≡ Refusal.OutOfMemory) }
@@ -101,8 +101,8 @@ impl<C: KeyClass> VisitTask<C> {
 }
 
 impl<C: KeyClass, O: Outlet<C::Key>> World<C, O> {
-    /// The number of the page that a cursor's next turn visits: that of the visit which `prepare_visit` gives. None where the
-    /// cursor isn't open or its next turn is no visit. Nothing is prepared, and no memory is taken.
+    /// The number of the page that a cursor's next turn visits, which is that of the visit that `prepare_visit`
+    /// gives. `None` if the cursor isn't open or its next turn is no visit. Prepares nothing, and needs no memory.
     pub fn page_to_visit(&self, c: u64) -> Option<u32>
         ensures page { IfSome result (VisitsPageNext self.now c) }
         ensures none { IfNone result (HasNoVisit self.now c) }
@@ -114,11 +114,11 @@ impl<C: KeyClass, O: Outlet<C::Key>> World<C, O> {
         }
     }
 
-    /// The next visit of a cursor, to be worked out beside the world.
+    /// Prepares the next visit of a cursor, to be worked out without the world.
     ///
     /// # Errors
-    /// NoSuchCursor, CursorClosed, NotHere where a row is to be offered or no page is left, else there are too many
-    /// owners of the page or the query.
+    /// NoSuchCursor, CursorClosed, NotHere if a row is to be offered or no page is left, else the page or the query
+    /// has too many owners.
     pub fn prepare_visit(&self, c: u64) -> Result<VisitTask<C>, Refusal>
         ensures prepared { IfOk result (PreparesVisit self.now c) }
         ensures refused { IfErr result (RefusesPreparing self.now c) }
@@ -128,10 +128,10 @@ impl<C: KeyClass, O: Outlet<C::Key>> World<C, O> {
         Ok(VisitTask { cursor: c, visit })
     }
 
-    /// A page that may be split, to be worked on beside the world.
+    /// Prepares the split of a page, to be worked out without the world.
     ///
     /// # Errors
-    /// NotHere where there is no such page or it is the root, else there are too many owners of it.
+    /// NotHere if there is no such page or it is the root, else the page has too many owners.
     pub fn prepare_split(&self, p: u64) -> Result<SplitTask<C>, Refusal>
         ensures prepared { IfOk result (PreparesSplit self.now p) }
         ensures refused { IfErr result (IsRefusedBy (prepare_split_tests self.now p)) }
@@ -151,9 +151,9 @@ impl<C: KeyClass, O: Outlet<C::Key>> World<C, O> {
         })
     }
 
-    /// The event that the task of a split is: Split by its sides, where the page is as the task has it.
+    /// The event of a split task: `Split` by its sides, if the page hasn't changed.
     ///
-    /// The page is let go, so that the world then changes its own in place.
+    /// Drops the task's share of the page, so that the world can then change its own in place.
     pub fn split_of(&self, task: SplitTask<C>) -> Option<Event<C>>
         ensures split { IfSome result (IsSplitOf self.now task) }
         ensures stale { IfNone result (IsStaleSplit self.now task) }
@@ -173,9 +173,10 @@ impl<C: KeyClass, O: Outlet<C::Key>> World<C, O> {
         Some(Event::Split(number, sides))
     }
 
-    /// Splits the page of a task by its sides: the event Split, where the page is as the task has it.
+    /// Splits the page of a task by its sides: the event `Split`, if the page hasn't changed since the task was
+    /// prepared.
     ///
-    /// Else, and where the task was not worked on, it is refused NotHere, and nothing changes.
+    /// Otherwise, or if `work` was never called, it is refused NotHere, and nothing changes.
     pub fn publish_split(&mut self, seat: u32, task: SplitTask<C>) -> Reply<C, O>
         ensures step { PublishesSplit C.rules O.rule seat self.old task result self.new }
         ensures stale { IsStaleSplit self.old task → IsLate self.old result self.new }
@@ -186,9 +187,9 @@ impl<C: KeyClass, O: Outlet<C::Key>> World<C, O> {
         }
     }
 
-    /// Makes the visit of a task: the event Turn, where the visit is what the cursor's turn makes.
+    /// Makes the visit of a task: the event `Turn`, if the visit is still the cursor's next.
     ///
-    /// Else, and where the task was not worked on, it is refused NotHere, and nothing changes.
+    /// Otherwise, or if `work` was never called, it is refused NotHere, and nothing changes.
     pub fn publish_visit(&mut self, seat: u32, task: VisitTask<C>) -> Reply<C, O>
         ensures step { PublishesVisit C.rules O.rule seat self.old task result self.new }
         ensures stale { IsStaleVisit self.old task → IsLate self.old result self.new }
@@ -211,7 +212,7 @@ impl<C: KeyClass, O: Outlet<C::Key>> World<C, O> {
         reply
     }
 
-    /// Makes a visit that is what the cursor's turn makes.
+    /// Makes a visit that is the cursor's next turn.
     fn publish_due(&mut self, c: u64, at: usize, visit: PreparedVisit<C>) -> Reply<C, O>
         requires found { IsAt self.old c at }
         requires due { HasVisit self.old c visit }
@@ -221,7 +222,7 @@ impl<C: KeyClass, O: Outlet<C::Key>> World<C, O> {
         Reply::of_turn(self.cursors[at].turn_prepared(self.search.pages(), visit))
     }
 
-    /// Whether the cursor at a place is due to make the visit.
+    /// Whether the visit is the next turn of the cursor at a place.
     fn is_due(&self, c: u64, at: usize, visit: &PreparedVisit<C>) -> bool
         requires { IsAt self.now c at }
         ensures { IsTrue result ↔ HasVisit self.now c visit.now }
@@ -229,7 +230,7 @@ impl<C: KeyClass, O: Outlet<C::Key>> World<C, O> {
         self.cursors[at].is_due(self.search.pages(), visit)
     }
 
-    /// Whether the page with a number has that value.
+    /// Whether the page with a number has this value.
     fn has_page(&self, number: u64, page: &Page<C::Key>) -> bool
         ensures { IsTrue result ↔ HasPage self.now number page.now }
     {

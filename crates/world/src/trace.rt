@@ -13,14 +13,15 @@ use key_class::{KeyClass, Refusal};
 use mailbox::Tray;
 use std::alloc::Global;
 
-/// Gives a new world these events, one after the other, and tells its replies, one an event.
+/// Gives a new world these events, one after the other, and returns its replies, one for each event.
 ///
-/// Whatever they are, at each moment of their trace: the commits are a legal list, numbered in their order; what each
-/// cursor has delivered begins a listing for its query from its opening to the last commit; each mark that was taken shows
-/// that all up to its commit was delivered, and has an asking of its own; and a closed cursor delivers nothing more.
+/// Whatever the events are, at each moment of their trace: the commits are a legal list, numbered in order; what each
+/// cursor has delivered begins a listing for its query from its opening to the last commit; each mark that was taken
+/// shows that everything up to its commit was delivered, and was asked for by an event of its own; and a closed
+/// cursor delivers nothing more.
 ///
 /// # Errors
-/// `BadConfig` where a limit of the configuration is out of its range, else want of memory.
+/// `BadConfig` if a limit of the configuration is out of range, else `OutOfMemory`.
 pub fn run<C: KeyClass>(
     alloc: Global,
     config: Config,

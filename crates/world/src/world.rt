@@ -53,7 +53,7 @@ impl<C: KeyClass, O: Outlet<C::Key>> World<C, O> {
     /// A world with one empty leaf.
     ///
     /// # Errors
-    /// `BadConfig` where a limit of the configuration is out of its range, else want of memory.
+    /// `BadConfig` if a limit of the configuration is out of range, else `OutOfMemory`.
     pub fn new(alloc: Global, config: Config) -> Result<World<C, O>, Refusal>
         ensures made { IfOk result (λ world. world ≡ new_state config) }
         ensures within { OnOk result (IsWithinLimits config) }
@@ -69,7 +69,7 @@ impl<C: KeyClass, O: Outlet<C::Key>> World<C, O> {
             u64::from(config.least),
             u64::from(config.pages),
         )?;
-        // Rows count from 1, so the first place is no row's.
+        // Rows count from 1, so no row has the first place.
         let mut hints = Vec::with_capacity(alloc, 1)?;
         hints.push_reserved(0);
         Ok(World {
@@ -84,7 +84,7 @@ impl<C: KeyClass, O: Outlet<C::Key>> World<C, O> {
         })
     }
 
-    /// Where its lists have their memory.
+    /// The allocator of its lists.
     pub(crate) fn allocator(&self) -> Global {
         *self.cursors.allocator()
     }
@@ -104,10 +104,10 @@ impl<C: KeyClass, O: Outlet<C::Key>> World<C, O> {
         self.changes.commit(number)
     }
 
-    /// The commits as they are now, whatever follows.
+    /// A view of the commits as they are now, which later commits don't change.
     ///
     /// # Errors
-    /// Want of memory.
+    /// `OutOfMemory`.
     pub fn view(&self) -> Result<View<C::Key>, Refusal>
         ensures list { IfOk result (λ view. view ≡ self.now.commits) }
         ensures refused { IfErr result (λ why. why ≡ Refusal.OutOfMemory) }
@@ -115,10 +115,11 @@ impl<C: KeyClass, O: Outlet<C::Key>> World<C, O> {
         self.changes.view()
     }
 
-    /// The world as it stands, whatever follows, to be searched beside it by any number of threads.
+    /// A snapshot of the world, which later commits don't change. Any number of threads can search it while the world
+    /// is used.
     ///
     /// # Errors
-    /// Want of memory.
+    /// `OutOfMemory`.
     pub fn snapshot(&self) -> Result<Snapshot<C>, Refusal>
         ensures list { IfOk result (λ snapshot. snapshot ≡ self.now.commits) }
         ensures refused { IfErr result (λ why. why ≡ Refusal.OutOfMemory) }
@@ -128,7 +129,7 @@ impl<C: KeyClass, O: Outlet<C::Key>> World<C, O> {
         Ok(Snapshot::new(self.allocator(), pages, list))
     }
 
-    /// The row with a number, as its commit made it, whether it lives or not. That takes two reads at most.
+    /// The row with a number, live or dead, as its commit made it. It takes at most two reads.
     pub fn row(&self, number: u64) -> Option<Row<C::Key>>
         ensures { result ≡ row_at self.now.commits number }
     {
@@ -142,14 +143,14 @@ impl<C: KeyClass, O: Outlet<C::Key>> World<C, O> {
         self.cursors.as_slice()
     }
 
-    /// What is known of a row number.
+    /// The status of a row number.
     pub fn status(&self, row: u64) -> Status
         ensures { result ≡ status_of self.now.commits row }
     {
         self.changes.status(row)
     }
 
-    /// The row for which a finder is open.
+    /// The row that an open finder looks for.
     pub fn finder_row(&self, f: u64) -> Option<u64>
         ensures row { IfSome result (IsFinderOf self.now f) }
         ensures none { IfNone result (finder_at self.now f ≡ None) }
@@ -158,7 +159,7 @@ impl<C: KeyClass, O: Outlet<C::Key>> World<C, O> {
         Some(u64::from(self.finders[at].row()))
     }
 
-    /// The commits alone.
+    /// Only the commits.
     pub fn into_commits(self) -> ChangeList<C::Key>
         ensures { result ≡ self.commits }
     {
@@ -214,10 +215,10 @@ impl<C: KeyClass, O: Outlet<C::Key>> World<C, O> {
         place_of(self.cursors.as_slice(), c).ok_or(Refusal::CursorClosed)
     }
 
-    /// Nothing where a cursor is open.
+    /// Checks that a cursor is open.
     ///
     /// # Errors
-    /// `NoSuchCursor` where the serial was never given, `CursorClosed` where its cursor is closed.
+    /// `NoSuchCursor` if the serial was never given, `CursorClosed` if its cursor is closed.
     pub fn check_cursor(&self, c: u64) -> Result<(), Refusal>
         ensures open { OnOk result (first_failing (cursor_tests self.now c) ≡ None) }
         ensures refused { IfErr result (FirstFails (cursor_tests self.now c)) }
@@ -227,7 +228,7 @@ impl<C: KeyClass, O: Outlet<C::Key>> World<C, O> {
         Ok(())
     }
 
-    /// One event, in one atomic step.
+    /// Makes one event, as one atomic step.
     pub fn step(&mut self, event: Event<C>) -> Reply<C, O>
         ensures step { Step C.rules O.rule 0 self.old event result self.new }
         ensures sound { IsSoundWorld C.rules.is_cover self.new }
@@ -242,7 +243,7 @@ impl<C: KeyClass, O: Outlet<C::Key>> World<C, O> {
         self.step_as(0, event)
     }
 
-    /// One event, in one atomic step, for a seat. A commit's reply holds the seat's number.
+    /// Makes one event, as one atomic step, for a seat. A commit's reply has the seat's number.
     pub fn step_as(&mut self, seat: u32, event: Event<C>) -> Reply<C, O>
         ensures step { Step C.rules O.rule seat self.old event result self.new }
         ensures sound { IsSoundWorld C.rules.is_cover self.new }
@@ -258,7 +259,7 @@ impl<C: KeyClass, O: Outlet<C::Key>> World<C, O> {
         self.answer(seat, event)
     }
 
-    /// Nothing is done. The clause states what holds of every world.
+    /// Proof hint, no code: brings the invariant of every world into view.
     pub fn recall_soundness(&self)
         ensures { IsSoundWorld C.rules.is_cover self.now }
     {
