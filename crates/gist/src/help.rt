@@ -114,39 +114,30 @@ pub const STORM_ABOUT: &str =
 pub const STORM_GUIDE: &str = "\
 Writers insert small intervals and delete the first of them. Each reader follows
 a cursor on overlaps(0 499). Each looker takes one snapshot after the other,
-finds overlaps(0 499) in each, and takes the changes since the one before. Pumps
-do the cursors' work, and one thread more sweeps leaves. Each is a thread of its
-own, and all work at one tree. At the end what each reader took and each looker
-found is compared with the commits. A feed that all subscribers share gives each
-of them the changes of its query: subscriber K asks for overlaps with the ten
-numbers from K mod 600 on. Up to four threads advance the feed and serve all
-subscribers; what these were given is compared too.
+finds overlaps(0 499) in each, and takes the changes since the one before. A
+feed gives subscriber K the changes of the ten numbers from K mod 600 on. Pumps
+do the cursors' work, and one thread more sweeps leaves. At the end what each
+reader, looker and subscriber got is compared with the commits.
 
-  commits N             how many changes were made: W times I and D together
-  reader K whole at N   reader K took each row of its opening once, then each
-                        later change once, in order, and a mark of all N commits
-  reader K not whole    it took something else
-  reader K no receipt   its cursor was closed without a receipt
-  looker K whole at N   looker K found exactly the rows of each of its snapshots
-                        and the changes in between, up to all N commits
-  looker K not whole    it found something else
-  looker K no snapshot  it got no snapshot
+  commits N            how many changes were made: W times I and D together
+  reader K whole at N  reader K took each row of its opening once, then each
+                       later change once, in order, and a mark of all N commits
+  looker K whole at N  looker K found exactly the rows of each of its snapshots
+                       and the changes in between, up to all N commits
   subscriber K whole at N
-                        subscriber K was given each change of its query once, in
-                        order, up to all N commits
-  subscriber K not whole
-                        it was given something else
-  subscriber K no receipt
-                        its subscription was closed without a receipt
+                       it was given each of its changes once, in order, up to N
+  .. not whole         it got something else
+  .. no receipt        the cursor or subscription was closed without a receipt
+  .. no snapshot       the looker got no snapshot
 Where a row was refused, or one of these isn't whole, the status is 1.
 
 What is proved of each call holds for every order of the threads. A storm shows
 the whole program at work in some of these orders. It doesn't try all of them,
 and what it trusts (the machine's threads, its memory) it can't show.
 
-There are at most 64 writers, readers, lookers and threads that serve
-subscribers. Each of them and each pump costs a thread, each row some 100 bytes,
-and each row or change that a looker or a subscriber gets some 40 more.
+Writers, readers, lookers, pumps and up to four servers of all subscribers have
+a thread each. There are at most 64 of these besides pumps. A row takes some 100
+bytes, and each row or change that a looker or a subscriber gets some 40 more.
 
 A storm:
   $ gist storm --writers 4 --inserts 250 --readers 2 --lookers 1 --room 2
@@ -157,15 +148,15 @@ A storm:
 
 pub const WRITERS_HELP: &str = "How many threads write, 1 to 32 [default: 4]";
 
-pub const INSERTS_HELP: &str = "How many rows each writer inserts, 0 to 1000 [default: 250]";
+pub const INSERTS_HELP: &str = "Rows that each writer inserts, 0 to 1000 [default: 250]";
 
 pub const DELETES_HELP: &str = "How many of them it deletes, 0 to I [default: 0]";
 
 pub const READERS_HELP: &str = "How many threads follow a cursor, 0 to 32 [default: 2]";
 
-pub const LOOKERS_HELP: &str = "How many threads look at snapshots, 0 to 32 [default: 0]";
+pub const LOOKERS_HELP: &str = "How many threads take snapshots, 0 to 32 [default: 0]";
 
-pub const SUBSCRIBERS_HELP: &str = "How many subscribers a feed has, 0 to 1000 [default: 0]";
+pub const SUBSCRIBERS_HELP: &str = "How many subscribe to a feed, 0 to 1000 [default: 0]";
 
 pub const ROOM_HELP: &str = "How many items a mailbox holds, 1 to 4096 [default: 2]";
 
