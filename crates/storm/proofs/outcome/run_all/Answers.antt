@@ -1,10 +1,6 @@
 use denote.Param.Send.{sendable}
-use Rattle.interval_class.proofs.interval.Interval.TheSendSync as key
-use Rattle.interval_class.proofs.atom.Atom.TheSendSync as atom
-use Rattle.desk.proofs.Crossing.{crosses}
-use Rattle.shared_feed.proofs.Sharing.{shared_feed_sync}
-use Rattle.storm.proofs.clients.Place.TheSendSync as place
+use Rattle.storm.proofs.Sharing.{place_sync}
 use Rattle.storm.proofs.outcome.run_all.Goals as goal
 
 pub work_beside-requires-sync-D : goal.work_beside-requires-sync-D
-work_beside-requires-sync-D g c κs within = search (place.the_sync, shared_feed_sync, crosses, key.the_send, key.the_sync, atom.the_send, atom.the_sync, sendable) depth 40
+work_beside-requires-sync-D g c κs within = search (place_sync, sendable) depth 20
