@@ -215,7 +215,7 @@ class Reading:
         return tuple(self.number() for _ in range(count))
 
 
-# What stands behind each word of a session's line
+# What comes after each word of a session's line
 COMMANDS = {
     b"insert": lambda line: (line.key(), line.number()),
     b"delete": lambda line: line.numbers(1),
@@ -228,7 +228,7 @@ COMMANDS = {
     b"close": lambda line: line.numbers(1),
 }
 
-# What stands behind each word of an event's line
+# What comes after each word of an event's line
 EVENTS = {
     b"enlarge": lambda line: (*line.numbers(2), line.key()),
     b"place": lambda line: (line.number(), line.key(), line.number()),

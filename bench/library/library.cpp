@@ -1,9 +1,9 @@
-// Measures a store in process: the calls of include/gist.h, and beside them the R-tree of Boost.Geometry on the same keys
-// where its headers are there. Usage: library interval|box ROWS FINDS TURNS [gist]
+// Measures a store in process: the calls of include/gist.h, and the R-tree of Boost.Geometry on the same keys if its
+// headers are there. Usage: library interval|box ROWS FINDS TURNS [gist]
 //
-// A line is told for each phase: its name, how many calls, and nanoseconds of processor time a call of each tree, the least
-// of TURNS turns. With a last word `gist` nothing else is measured, as for callgrind. Every find of every tree must give the
-// same rows, or the program ends with status 1.
+// A line is printed for each phase: its name, the number of calls, and the processor time of a call of each tree in
+// nanoseconds, the least of TURNS runs. With a last word `gist` only gist is measured, as for callgrind. Every find
+// must give the same rows in every tree, otherwise the program ends with status 1.
 
 #include <algorithm>
 #include <cinttypes>
@@ -27,7 +27,8 @@ namespace {
 
 constexpr std::uint64_t SEED = 20240607;
 
-// What each tree gets: fan 32 with at least 12 a side, as in the measurements of lines, and as many pages and commits as there are
+// The limits of each tree: fan 32 with at least 12 a side, as in the measurements of lines; as many pages and commits
+// as there are
 constexpr gist_limits LIMITS = GIST_LIMITS;
 
 [[noreturn]] void fail(const std::string& what) {
@@ -59,7 +60,7 @@ double seconds() {
     return now.tv_sec + now.tv_nsec * 1e-9;
 }
 
-// What a find gave: how many rows, and a sum of them in which their order doesn't count
+// What a find gave: the number of rows, and a sum over them that doesn't depend on their order
 struct Found {
     std::uint64_t count = 0;
     std::uint64_t sum = 0;
@@ -127,7 +128,7 @@ struct Boxes {
     static gist_key key_of(const Key& key) { return gist_box(key.x1, key.y1, key.x2, key.y2); }
 };
 
-// A store of gist. Its finds are those in a snapshot, which is taken anew once something was written
+// A store of gist. Its finds are those in a snapshot; a new one is taken after each write
 template <class Kind>
 class Store {
   public:
@@ -259,7 +260,7 @@ struct Rstar : Boost<Kind, bgi::rstar<16>> {
 
 #endif
 
-// What the calls of a phase take, and what its finds gave
+// The numbers of a phase's calls, and what its finds gave
 struct Phase {
     const char* name;
     std::uint64_t calls;
@@ -271,7 +272,7 @@ template <class Kind>
 struct Work {
     std::vector<typename Kind::Key> keys, later;
     std::vector<typename Kind::Key> wanted, followed;
-    // The same as texts: to write them is the caller's work, and isn't measured
+    // The same as texts: writing them is the caller's work, and isn't measured
     std::vector<std::string> texts;
     std::vector<std::uint64_t> ended;
 

@@ -1,6 +1,6 @@
 /*
- * Calls of the library, one row or item a call or all of them in one: `price WHAT ROWS`, where WHAT is `insert`,
- * `insert_all`, `next`, `take` or `commits`. What a row more costs is told by two runs with different numbers of rows.
+ * Calls of the library, one row or item per call or all of them in one: `price WHAT ROWS`. WHAT is `insert`,
+ * `insert_all`, `next`, `take` or `commits`. Two runs with different numbers of rows tell what one more row costs.
  */
 #include "gist.h"
 
@@ -14,7 +14,7 @@ static void need(uint32_t answer)
         exit((int)answer);
 }
 
-/* A number that looks drawn, the same in each run. */
+/* A number that looks random, the same in each run. */
 static int64_t drawn(uint64_t n)
 {
     n *= 0x9E3779B97F4A7C15u;

@@ -1,11 +1,12 @@
 /*
- * Threads that find in snapshots of one store beside one that writes: `threads READERS ROWS FINDS INSERTS`.
+ * Threads that find in snapshots of one store while one thread writes: `threads READERS ROWS FINDS INSERTS`.
  *
- * It fills a store with ROWS intervals, and lets READERS threads find FINDS times in all; where INSERTS isn't 0, one more
- * thread inserts until the last reader has ended: so many times a second, or where it is 1 as often as it can. A reader takes a snapshot under the lock once in TAKEN finds, and
- * finds without it. The keys and queries are those of bench/peer/threads.cpp, and so are the two lines that it prints:
- * one of the inserting thread, one of the readers, each with nanoseconds by the clock, in the threads, and of their
- * processor time, then calls, 0, and rows found.
+ * It fills a store with ROWS intervals and lets READERS threads find FINDS times in all. If INSERTS isn't 0, one more
+ * thread inserts until the last reader has ended: INSERTS times a second, or as often as it can if that is 1. A
+ * reader takes a snapshot under the lock once in TAKEN finds, and finds without the lock. The keys and queries are
+ * those of bench/peer/threads.cpp, and so are the two lines that it prints: one of the inserting thread, one of the
+ * readers, each with nanoseconds by the clock, in the threads, and of their processor time, then calls, 0, and rows
+ * found.
  */
 #include "gist.h"
 
@@ -68,7 +69,7 @@ static void insert(uint64_t *state, uint64_t rows) {
     need(gist_insert(&store, &entry, 1, &added));
 }
 
-/* Waits until a thread that began at a time may do its next piece of work, of so many a second; of 1 it never waits. */
+/* Waits until a thread that began at `since` may do its next piece of work, at `a_second` pieces a second; at 1 it never waits. */
 static void keep_pace(uint64_t since, uint64_t done, uint64_t a_second) {
     const uint64_t due = a_second == 1 ? 0 : since + done * 1000000000u / a_second;
     while (nanoseconds(CLOCK_MONOTONIC) < due)

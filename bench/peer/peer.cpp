@@ -63,7 +63,7 @@ public:
 /// Standard input, cut into lines.
 class Input {
 public:
-    /// Reads more behind what is held; false at the end of the input.
+    /// Reads more after what is in the buffer; false at the end of the input.
     bool fill()
     {
         std::memmove(block_.data(), block_.data() + start_, end_ - start_);
@@ -87,7 +87,7 @@ public:
         return held.substr(0, length);
     }
 
-    /// What is held behind the last line that was given.
+    /// What is in the buffer after the last line that was given.
     std::string_view rest() const { return {block_.data() + start_, end_ - start_}; }
 
 private:
@@ -317,7 +317,7 @@ private:
         bool operator()(const Entry& one, const Entry& other) const { return one.row == other.row; }
     };
 
-    /// What became of the row that a commit began.
+    /// What the row that a commit began has become.
     enum class State : std::uint8_t { none_began, lives, ended };
 
     /// The row that a commit began, if it did.
@@ -374,7 +374,7 @@ private:
         ended_ = 0;
     }
 
-    /// Whether a row lives. Where none does, that is the answer.
+    /// Whether a row lives. If it doesn't, the refusal is answered.
     bool check_living(std::uint64_t row)
     {
         if (row == 0 || row > commits_.size() || commits_[row - 1].state == State::none_began) {
@@ -413,7 +413,7 @@ private:
         return static_cast<Row>(commits_.size());
     }
 
-    /// Puts the rows with a relation to a key behind those that were found; false where no relation has the name.
+    /// Adds the rows with a relation to a key to those found; false if no relation has the name.
     bool search(std::string_view relation, const Key& key)
     {
         const auto found = std::back_inserter(found_);

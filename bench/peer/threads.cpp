@@ -1,10 +1,12 @@
-// The peer of `bench/threads.py`: Boost.Geometry's R-tree (quadratic splits, 16 entries a node) under a `std::shared_mutex`, on the
-// keys and queries that bench/threads makes. A find locks it shared and copies its rows out, an insertion locks it alone.
+// The peer of `bench/threads.py`: Boost.Geometry's R-tree (quadratic splits, 16 entries a node) under a
+// `std::shared_mutex`, on the keys and queries that bench/threads makes. A find locks it shared and copies its rows
+// out; an insert locks it exclusively.
 //
 //   threads READERS ROWS FINDS INSERTS
 //
-// It fills the tree with ROWS rows, and lets READERS threads find FINDS times in all; where INSERTS isn't 0, one more thread
-// inserts until the last reader has ended: so many times a second, or where it is 1 as often as it can. It prints the lines that desk_bench prints: one of the inserting thread, one of the readers.
+// It fills the tree with ROWS rows and lets READERS threads find FINDS times in all. If INSERTS isn't 0, one more
+// thread inserts until the last reader has ended: INSERTS times a second, or as often as it can if that is 1. It
+// prints the lines that desk_bench prints: one of the inserting thread, one of the readers.
 #include <atomic>
 #include <cstdint>
 #include <cstdio>
@@ -74,14 +76,15 @@ std::uint64_t nanoseconds(clockid_t clock) {
     return static_cast<std::uint64_t>(time.tv_sec) * 1000000000u + static_cast<std::uint64_t>(time.tv_nsec);
 }
 
-// Waits until a thread that began at a time may do its next piece of work, of so many a second; of 1 it never waits.
+// Waits until a thread that began at `since` may do its next piece of work, at `a_second` pieces a second. If that is
+// 1, it never waits.
 void keep_pace(std::uint64_t since, std::uint64_t done, std::uint64_t a_second) {
     const std::uint64_t due = a_second == 1 ? 0 : since + done * 1000000000u / a_second;
     const timespec moment{0, 20000};
     while (nanoseconds(CLOCK_MONOTONIC) < due) nanosleep(&moment, nullptr);
 }
 
-// What is told of a part of a measurement; a cache line of its own for each thread.
+// The numbers that a part of a measurement prints; a cache line of its own for each thread.
 struct alignas(64) Part {
     std::uint64_t wall = 0;
     std::uint64_t threads_wall = 0;

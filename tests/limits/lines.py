@@ -20,7 +20,7 @@ BYTES_OF_A_ROW = 120
 # The greatest depth of a query. An atom has depth 1.
 DEEPEST = 32
 
-# How a part of a query is joined to a further atom, or turned round: what stands before it and behind it. Every row
+# How a part of a query is joined to a further atom, or negated: what comes before it and after it. Every row
 # matches the atom of an `and`, and none that of an `or`, so the part alone decides.
 JOINTS = {
     "not": ("not ", ""),
