@@ -24,7 +24,7 @@ PEER_SOURCE = os.path.join(HERE, "peer", "peer.cpp")
 PEER = os.path.join(HERE, "out", "peer")
 
 # The peer may use only the instructions that gist's code uses, not all those of this processor. Boost's headers include some
-# that it calls deprecated; peer.cpp tells what has to wrap.
+# that it calls deprecated; peer.cpp says what has to wrap.
 PEER_FLAGS = ["-std=c++17", "-O2", "-march=x86-64-v2", "-DNDEBUG", "-DBOOST_ALLOW_DEPRECATED_HEADERS", "-fwrapv"]
 PEER_HEADER = "boost/geometry/index/rtree.hpp"
 
@@ -81,7 +81,7 @@ class Boxes:
 
 
 class Sets:
-    """Sets of eight elements each, and queries for all that hold so many elements that about the wanted rows match.
+    """Sets of eight elements each, and queries for all sets that hold some elements, as many as match about the wanted rows.
 
     Bounds separate random sets badly, so a find reads nearly every page. Hence there are fewer finds.
     """
@@ -350,7 +350,7 @@ def print_beside(phases, costs, memory, callgrind):
 
 
 def first_difference(ours_path, peers_path):
-    """The first line in which two files differ, if there is one: its number, and what stands there in each."""
+    """The first line in which two files differ, if there is one: its number, and what it is in each."""
     with open(ours_path, "rb") as ours, open(peers_path, "rb") as peers:
         for number, (our, peer) in enumerate(itertools.zip_longest(ours, peers, fillvalue=b""), 1):
             if our != peer:
@@ -426,7 +426,7 @@ def has_header(compiler, header):
 
 
 def build_peer():
-    """Builds the peer, or tells what is missing and ends with status 1."""
+    """Builds the peer, or prints what is missing and ends with status 1."""
     compiler = shutil.which("c++")
     if compiler is None:
         raise SystemExit("bench: --peer needs a C++ compiler, and there is no c++")

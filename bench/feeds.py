@@ -15,13 +15,13 @@ FIELDS = ("wall", "commits", "items")
 # A store has no more.
 MOST_CURSORS = 256
 
-# Microseconds a commit with 10,000 subscriptions of which one in a thousand matches, and nanoseconds an item.
+# Microseconds a commit with 10,000 subscriptions, one in a thousand matching, and nanoseconds an item.
 COMMIT_AIM = 2.5
 ITEM_AIM = 150
 
 
 def parts(program, *numbers):
-    """What the program tells of the moves, the feed, the plain list and the cursors."""
+    """What the program prints about the moves, the feed, the plain list and the cursors."""
     told = subprocess.run([program, *map(str, numbers)], stdout=subprocess.PIPE, check=True, text=True).stdout
     return [dict(zip(FIELDS, map(int, line.split()))) for line in told.splitlines()]
 

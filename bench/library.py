@@ -1,5 +1,5 @@
 #!/usr/bin/env python3
-"""Measures the library for C in process, beside the R-tree of Boost.Geometry on the same keys where its headers are there.
+"""Measures the library for C in process, beside the R-tree of Boost.Geometry on the same keys if its headers are there.
 
     bench/library.py [--class interval|box] [--rows N ..] [--finds N] [--turns N] [--callgrind]
     bench/library.py --threads [--rows N ..] [--finds N] [--turns N]

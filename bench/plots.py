@@ -4,7 +4,7 @@
     bench/plots.py            writes docs/plots/NAME.svg for each plot
     bench/plots.py --check    looks whether each is there as it would be written, and no other, and whether docs/SPEED.md has each figure
 
-Nothing but Python's standard library is needed. The last line of --check is `N passed, M failed`; the status is 1 where M isn't 0.
+Nothing but Python's standard library is needed. The last line of --check is `N passed, M failed`; the status is 1 if M isn't 0.
 """
 import dataclasses
 import math
@@ -41,7 +41,7 @@ class Plot:
         return float(figure.replace(",", "")) / float(self.words.get("unit", "1").replace(",", ""))
 
     def label(self, figure):
-        """A figure as it is shown: as it stands, or in the plot's unit with three digits."""
+        """A figure as it is shown: unchanged, or in the plot's unit with three digits."""
         return f"{self.number(figure):#.3g}" if "unit" in self.words else figure
 
 
@@ -91,7 +91,7 @@ def framed(plot, height, parts):
 
 
 def bars(plot):
-    """Groups of bars that lie, each with its number behind it."""
+    """Groups of horizontal bars, each with its number at its end."""
     series, left, thick, group = plot.parts("series"), 160, 15, 44
     most = max(plot.number(it) for _, figures in plot.rows for it in figures)
     scale = (WIDTH - left - 80) / most

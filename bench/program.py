@@ -36,7 +36,7 @@ def state(sources):
 
 
 def build(folder_name, name):
-    """Builds the program of a folder of bench/, where that or a crate has changed, and tells where it is. It may take some minutes."""
+    """Builds the program of a folder of bench/ if that or a crate has changed, and returns its path. It may take some minutes."""
     sources, program = os.path.join(HERE, folder_name), os.path.join(OUT, name)
     stamp = program + ".stamp"
     now = state(sources)

@@ -147,13 +147,13 @@ def best(runs):
 
 
 def peer_runs(words, turns):
-    """What the peer tells of a measurement, some times."""
+    """What the peer prints about a measurement, in `turns` runs."""
     told = [subprocess.run([PEER, *map(str, words)], stdout=subprocess.PIPE, check=True, text=True).stdout for _ in range(turns)]
     return [[dict(zip(FIELDS, map(int, line.split()))) for line in lines.splitlines()] for lines in told]
 
 
 def print_looks(options):
-    """Finds in snapshots a second, by number of threads, alone and beside one that inserts; and a peer's, where it is asked for."""
+    """Finds in snapshots a second, by number of threads, alone and while another inserts; and a peer's, if it is asked for."""
     print(f"Finds of ten rows a second in snapshots, {options.rows:,} rows, {options.finds:,} finds in all")
     print("  threads  a snapshot every          alone  beside an insert   inserts a second meanwhile")
     for count in options.threads:
@@ -197,7 +197,7 @@ def print_snapshots(options):
 
 
 def print_followers(options):
-    """What a commit costs each of many followers that take a snapshot behind each hundred commits, and the changes that match."""
+    """What a commit costs each of many followers that take a snapshot after each hundred commits, and the changes that match."""
     for count in (1, 1_000):
         inserts, polls, views = min(
             (parts(["followers", options.rows, 10_000, count]) for _ in range(options.turns)),

@@ -13,7 +13,7 @@
 
 enum { MOST_SHOWN = 16, HOURS_A_DAY = 24 };
 
-/* Ends the program where a call was refused. */
+/* Ends the program if a call was refused. */
 static void need(const char *what, uint32_t answer) {
     char name[16];
 
@@ -24,7 +24,7 @@ static void need(const char *what, uint32_t answer) {
     exit(1);
 }
 
-/* Finds who has the room in some hours: as many rows as there is room for, and how many there are. */
+/* Finds the bookings in some hours: at most `room` rows, and how many there are. */
 static uint64_t taken(gist_store *rooms, gist_key hours, gist_row *rows, size_t room) {
     gist_snapshot now = GIST_NONE;
     gist_query query = GIST_NONE;
@@ -43,7 +43,7 @@ static void tell(const char *what, gist_key hours, uint64_t guest) {
            guest);
 }
 
-/* Books the room from an hour up to another. Tells the booking's number, or 0 where somebody has the room. */
+/* Books the room from an hour up to another. Returns the booking's number, or 0 if the room is taken. */
 static uint64_t book(gist_store *rooms, int64_t from, int64_t until, uint64_t guest) {
     const gist_entry booking = {gist_interval_until(from, until), guest};
     gist_figures figures;
@@ -61,7 +61,7 @@ static uint64_t book(gist_store *rooms, int64_t from, int64_t until, uint64_t gu
     return figures.commits;
 }
 
-/* Moves a booking to other hours, where nobody else has the room. Tells its new number, or the old one. */
+/* Moves a booking to other hours, if the room is free then. Returns its new number, or else the old one. */
 static uint64_t rebook(gist_store *rooms, uint64_t booking, int64_t from, int64_t until) {
     const gist_key hours = gist_interval_until(from, until);
     gist_row others[2];

@@ -4,7 +4,8 @@
 //!
 //!     GIST_LIB_DIR=FOLDER cargo run --release --example live_map [VEHICLES]
 //!
-//! With another number of vehicles there are viewers and moves in proportion. It ends with status 0 only where each viewer, at the end, has exactly the vehicles that stand in its window.
+//! With another number of vehicles there are viewers and moves in proportion. It ends with status 0 only if
+//! each viewer, at the end, has exactly the vehicles in its window.
 
 use gist::{
     BoxKey, Change, Error, Feed, Limits, Query, Renewal, Row, Snapshot, Store, Subscription,
@@ -66,11 +67,11 @@ impl Dice {
     }
 }
 
-/// What the writer tells the thread that has the feed.
+/// What the writer sends to the thread with the feed.
 enum News {
     /// There are more commits.
     Grown(Snapshot<BoxKey>),
-    /// The store was made anew: its commits are numbered anew.
+    /// The store was renewed: its commits are numbered from 1 again.
     Renewed(Snapshot<BoxKey>),
 }
 
@@ -128,7 +129,7 @@ impl Fleet {
     }
 }
 
-/// Moves the vehicles, shows each round's snapshot to the readers, and tells of it.
+/// Moves the vehicles, shows each round's snapshot to the readers, and announces it.
 fn write(
     fleet: &mut Fleet,
     dice: &mut Dice,
@@ -179,7 +180,7 @@ fn read(
     Ok(looks)
 }
 
-/// Who looks at a window: its query, and the vehicles that it was told of, with their places.
+/// A viewer of a window: its query, and the vehicles that it knows of, with their places.
 struct Viewer {
     query: Query<BoxKey>,
     shown: HashMap<u64, BoxKey>,
@@ -216,7 +217,7 @@ impl Viewer {
     }
 }
 
-/// A feed of one store, and whose subscription each is.
+/// A feed of one store, and the viewer of each subscription.
 struct Subscribers {
     feed: Feed<BoxKey>,
     viewers: HashMap<Subscription, usize>,
@@ -236,7 +237,7 @@ impl Subscribers {
         })
     }
 
-    /// Tells each viewer what is new to it, and counts what was told.
+    /// Gives each viewer what is new to it, and counts the changes.
     fn advance(&mut self, viewers: &mut [Viewer], now: &Snapshot<BoxKey>) -> Result<usize, Error> {
         let told = self.feed.advance(now, u64::MAX)?.told;
         for it in &told {
@@ -246,7 +247,7 @@ impl Subscribers {
     }
 }
 
-/// Has the feed until the writer is through, and counts the viewers who have what stands in their windows.
+/// Runs the feed until the writer is done, and counts the viewers that have exactly what is in their windows.
 fn feed(
     viewers: usize,
     first: Snapshot<BoxKey>,
@@ -264,7 +265,7 @@ fn feed(
                 told += subscribers.advance(&mut viewers, &now)?;
                 now
             }
-            // all commits of the store before were told, so the viewers are up to date with the renewed one
+            // all commits of the previous store were reported, so the viewers are up to date with the renewed one
             News::Renewed(now) => {
                 subscribers = Subscribers::new(&viewers, &now)?;
                 now

@@ -4,7 +4,7 @@
  *
  *     c++ -std=c++17 places.cpp -IFOLDER FOLDER/libgist.a -pthread -o places && ./places
  *
- * It ends with status 0 only where each answer is that of a look at all places of the snapshot.
+ * It ends with status 0 only if each answer is that of a look at all places of the snapshot.
  */
 #include "gist.hpp"
 
@@ -75,7 +75,7 @@ std::vector<gist::Entry<gist::Box>> read_csv(const std::filesystem::path &path) 
     return entries;
 }
 
-/* The nearest of some places, or null where there is none. */
+/* The nearest of some places, or null if there is none. */
 const Place *nearest_of(Point from, const std::vector<Place> &found) {
     const auto nearer = [&](const Place &a, const Place &b) { return apart(from, a) < apart(from, b); };
     const auto it = std::min_element(found.begin(), found.end(), nearer);
@@ -83,7 +83,7 @@ const Place *nearest_of(Point from, const std::vector<Place> &found) {
 }
 
 /*
- * The nearest place, by windows of which each is twice as wide as the one before. A place that is farther off than a
+ * The nearest place, by windows, each twice as wide as the one before. A place that is farther off than a
  * window reaches doesn't count yet: one outside may be nearer.
  */
 Place nearest(const gist::Snapshot<gist::Box> &map, Point from) {

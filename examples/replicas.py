@@ -7,8 +7,8 @@ The writer sends each commit with its number as the number of the message. A rep
 store of its own. So its commits are the writer's first ones, with the same numbers, and so are its rows; how many they
 are is all that it has to know to go on after a pause. docs/REPLICAS.md says what is promised, and what Redis has to keep.
 
-Redis is started on a free port of this machine, and stopped at the end. Where no redis-server is installed, a line says
-so and nothing is done. The status is 0 only where each find of a replica gives what the writer's snapshot of that many
+Redis is started on a free port of this machine, and stopped at the end. If no redis-server is installed, a line says
+so and nothing is done. The status is 0 only if each find of a replica gives what the writer's snapshot of that many
 commits has, and all have the same commits at the end.
 """
 import multiprocessing
@@ -137,7 +137,7 @@ class Writer:
             self.store.delete(self.rows.pop(at))
 
     def send(self, now: Snapshot[Box]) -> None:
-        """Sends the commits that weren't sent. Redis refuses a number that it has, so none is there twice."""
+        """Sends the commits that weren't sent. Redis refuses a number that it has, so no commit is there twice."""
         self.redis.ask_all([["XADD", STREAM, f"{commit.number}-0", *message(commit)] for commit in commits_after(self.sent, now)])
         self.sent = now.commits()
 
@@ -172,11 +172,11 @@ class Replica:
         self.redis = None
 
     def come_back(self) -> None:
-        """Goes on behind its last commit."""
+        """Goes on after its last commit."""
         self.redis = Redis(self.port)
 
     def catch_up(self, commit: int) -> None:
-        """Makes commits until there are so many."""
+        """Applies commits until it has this one."""
         end = time.monotonic() + LONGEST
         while self.store.commits() < commit:
             if time.monotonic() > end:
@@ -200,14 +200,14 @@ class Replica:
             self.store.delete(int(told["ended"]))
 
     def find(self, commit: int, text: str) -> Any:
-        """What stands after so many commits at least, and after how many."""
+        """The rows found after at least this many commits, and after how many."""
         if self.redis:
             self.catch_up(commit)
         now = self.store.snapshot()
         return now.commits(), [tuple(row) for row in now.find(text)]
 
     def all_commits(self, commit: int) -> List[Any]:
-        """All commits, once there are so many."""
+        """All commits, once there are this many."""
         self.catch_up(commit)
         return [tuple(it) for it in commits_after(0, self.store.snapshot())]
 
@@ -248,7 +248,7 @@ class Asked:
 
 
 def run(port: int) -> bool:
-    """Writes, has replicas answer meanwhile, and tells whether all was right."""
+    """Writes, has replicas answer meanwhile, and returns whether all was right."""
     writer, replicas = Writer(Redis(port)), [Asked(port) for _ in range(REPLICAS)]
     snapshots: Dict[int, Snapshot[Box]] = {0: writer.store.snapshot()}
     finds = wrong = 0
@@ -266,7 +266,7 @@ def run(port: int) -> bool:
             x, y = writer.dice.randrange(1000), writer.dice.randrange(1000)
             text = f"overlaps ({x} {y} {x + 200} {y + 200}) and not within (0 0 300 300)"
             commits, rows = replica.ask("find", now.commits(), text)
-            # who is away answers as well, with what there was when it went
+            # a replica that is away answers as well, with what it had when it went
             is_due = commits == now.commits() or (replica is replicas[-1] and turn in AWAY and commits == AWAY.start * COMMITS_A_ROUND)
             finds += 1
             wrong += not is_due or rows != [tuple(row) for row in snapshots[commits].find(text)]

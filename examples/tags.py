@@ -3,7 +3,7 @@
 
     GIST_LIB_DIR=FOLDER PYTHONPATH=bindings/python examples/tags.py [--times]
 
-It ends with status 0 only where the index and a plain loop over all songs give the same. --times tells how long each
+It ends with status 0 only if the index and a plain loop over all songs give the same. --times prints how long each
 took.
 """
 import collections
@@ -66,13 +66,13 @@ def some_songs(count: int) -> Dict[int, FrozenSet[str]]:
 
 
 class Clock:
-    """Tells how long things took, where that is wanted."""
+    """Prints how long things took, if that is wanted."""
 
     def __init__(self, is_wanted: bool) -> None:
         self.is_wanted = is_wanted
 
     def time(self, what: str, do: Callable[[], Any]) -> Any:
-        """Does something, and tells how long it took."""
+        """Does something, and prints how long it took."""
         begin = time.perf_counter()
         result = do()
         if self.is_wanted:

@@ -39,7 +39,7 @@ class Draft(NamedTuple):
     def is_parted_at(self, index):
         """Whether a token and the one before are a word and a number: without a space they are still two tokens.
 
-        Where the token is the word `from` it isn't told whether a query would begin there, so such a pair is left out.
+        If the token is the word `from` it is open whether a query would begin there, so such a pair is left out.
         """
         left, right = self.tokens[index - 1][-1], self.tokens[index][0]
         is_pair = (left in LETTERS and right in DIGITS) or (left in DIGITS and right in LETTERS)
@@ -91,7 +91,7 @@ def key_tokens(keys, random, key):
 
 
 def part_tokens(keys, random, query, bracketed):
-    """The tokens of a part of a query, in round brackets where its kind needs them, and seldom where it doesn't."""
+    """The tokens of a part of a query, in round brackets if its kind needs them, and seldom if it doesn't."""
     tokens = query_tokens(keys, random, query)
     if query[0] in bracketed or random.random() < 0.02:
         return ["(", *tokens, ")"]
@@ -186,7 +186,7 @@ class Drawer:
         return self.deep(query, MOST_DEPTH) if self.chance(0.02) else query
 
     def deep(self, query, most):
-        """A query in so many negations that it is `most` deep."""
+        """A query, negated until it is `most` deep."""
         for _ in range(most - depth(query)):
             query = ("not", query)
         return query
@@ -312,7 +312,7 @@ class Drawer:
         return text, draft.refused(draft.query_at, places[draft.query_at])
 
     def wrong_key(self, draft):
-        """A key whose ends are out of order, or with a number out of range, in the place of the line's first key."""
+        """A key whose ends are out of order, or with a number out of range, instead of the line's first key."""
         opening = "{" if isinstance(self.keys, Sets) else "("
         first = draft.tokens.index(opening) if opening in draft.tokens else None
         if first is None or (draft.query_at is not None and draft.tokens[first - 1] not in RELATIONS):

@@ -66,7 +66,7 @@ class History:
 
 
 class Steps:
-    """Lines and their right answers, and what these tell.
+    """Lines and their right answers, and what follows from these.
 
     `giving` is the verb that gives items, `asking` the one for marks.
     """
@@ -89,7 +89,7 @@ class Steps:
         raise NotImplementedError
 
     def note(self, place, line, answer):
-        """Notes what a step tells."""
+        """Notes what an answer says."""
         if word_of(answer) == "committed":
             self.commits.add(self.write_of(line))
         elif word_of(answer) == "opened":
@@ -102,7 +102,7 @@ class Steps:
             history.given.append(Given(place, answer, offered_at))
 
     def any_of(self, choices):
-        """One of some choices, or none where there is none."""
+        """One of some choices, or None if there is none."""
         choices = list(choices)
         return self.random.choice(choices) if choices else None
 
@@ -142,7 +142,7 @@ class Steps:
         return [step for place, step in enumerate(self.steps) if place not in left_out]
 
     def with_another(self, place, cursor, item, answers):
-        """The steps with other answers, and behind a place with an item that a cursor gives."""
+        """The steps with other answers, and an item of a cursor inserted after a place."""
         steps = self.changed(answers)
         line = Line(self.giving, (cursor,), f"{self.giving} {cursor}".encode("ascii"))
         return steps[:place + 1] + [(line, item)] + steps[place + 1:]
@@ -167,7 +167,7 @@ def row_doubled(steps):
 
 
 def row_given_besides(steps):
-    """A row is given again behind all else."""
+    """A row is given again after everything else."""
     choices = []
     for cursor, history in steps.cursors.items():
         choices += [(history.given[-1].place, cursor, given.item) for given in history.given if given.is_row]
@@ -210,12 +210,12 @@ def rows_exchanged(steps):
 
 
 def mark_too_high(steps):
-    """A mark tells of one commit more."""
+    """A mark has the next commit's number."""
     return steps.changed_at_one(steps.places("mark"), lambda answer: raised(answer, 1))
 
 
 def mark_too_low(steps):
-    """A mark tells of one commit less."""
+    """A mark has the previous commit's number."""
     return steps.changed_at_one(steps.places("mark"), lambda answer: raised(answer, 1, -1))
 
 
@@ -238,7 +238,7 @@ def unasked_mark(steps):
 
 
 def lost(steps, is_fitting):
-    """The steps without an item that fits, where its cursor gave a change or a mark later."""
+    """The steps without an item that fits, if its cursor gave a change or a mark later."""
     choices = []
     for history in steps.cursors.values():
         last = max((given.place for given in history.given if not given.is_row), default=-1)
@@ -312,22 +312,22 @@ def other_key(steps):
 
 
 def other_deleted_row(steps):
-    """A delete tells of another row."""
+    """A delete names another row."""
     return steps.changed_at_one(steps.places("deleted"), lambda answer: raised(answer, 2))
 
 
 def other_moved_row(steps):
-    """A move tells of another row that it ended."""
+    """A move names another row that it ended."""
     return steps.changed_at_one(steps.places("moved"), lambda answer: raised(answer, 2))
 
 
 def other_commit(steps):
-    """A change tells of another commit."""
+    """A change has the number of another commit."""
     return steps.changed_at_one([given.place for given in steps.given() if given.is_change], lambda it: raised(it, 1))
 
 
 def delete_told_as_move(steps):
-    """A delete, or a move out of a query, is told as a move within it."""
+    """A delete, or a move out of a query, is given as a move within it."""
     def edit(answer):
         """The answer that is given instead."""
         _, commit, number = answer.split(" ")
@@ -337,7 +337,7 @@ def delete_told_as_move(steps):
 
 
 def move_told_otherwise(steps):
-    """A move within a query is told as an insert or as a delete."""
+    """A move within a query is given as an insert or as a delete."""
     def edit(answer):
         """The answer that is given instead."""
         _, commit, row, rest = answer.split(" ", 3)
@@ -346,7 +346,7 @@ def move_told_otherwise(steps):
 
 
 def insert_told_as_move(steps):
-    """An insert, or a move into a query, is told as a move within it."""
+    """An insert, or a move into a query, is given as a move within it."""
     def edit(answer):
         """The answer that is given instead."""
         _, commit, rest = answer.split(" ", 2)
@@ -408,7 +408,7 @@ def wrong_place(steps):
 
 
 def fault_of_line(steps):
-    """The fault of a query is told as one of the line, or the other way round."""
+    """The fault of a query is reported as one of the line, or the other way round."""
     def edit(answer):
         """The answer that is given instead."""
         return refusal_line(43 - refused_number(answer), answer.split(" ")[3])

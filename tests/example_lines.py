@@ -28,7 +28,7 @@ REFUSED_COMMANDS = (
     ("box", b"insert (0 5 0 4) 0"),
 )
 
-# Moves and openings behind a commit, most of them refused
+# Moves and openings after a commit, most of them refused
 MOVES_AND_FOLLOWS = (
     ("interval", b"move"),
     ("interval", b"move 1"),

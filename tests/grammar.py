@@ -1,13 +1,13 @@
 """A slow reader of lines, written only from the grammar: what a line of a session or a replay asks, or its fault.
 
-A line is a run of tokens with spaces before, between and behind them. A token is one of `( ) { }`, a word of the
+A line is a run of tokens with spaces before, between and after them. A token is one of `( ) { }`, a word of the
 letters `a` to `z`, or a number: digits, perhaps with a `-` before them. Words and numbers need a space between them;
 one without it is no token, nor is a byte that can't begin one. Lines are read from the left, and the first fault is
 reported:
 
 - from where a query begins: `refused 21 QueryText PLACE`, for any other fault: `refused 22 Line PLACE`;
 - the place is that of the token that can't stand there or whose number is out of its range, of the opening bracket of a
-  key whose ends are out of order (once its closing bracket was read), or the line's length where it ends too early;
+  key whose ends are out of order (once its closing bracket was read), or the line's length if it ends too early;
 - last, a query deeper than 32, an atom being 1, is refused at its first token;
 - a line of more than 4,096 bytes is refused at 4,096, whatever it says.
 
@@ -269,7 +269,7 @@ def read_known(language, class_name, line):
 
 
 def read_line(language, class_name, line):
-    """What a line asks: None where it has no token, its refusal where it is wrong, else its word and its values.
+    """What a line asks: None if it has no token, its refusal if it is wrong, otherwise its word and its values.
 
     The line has no line feed. To the grammar all bytes that begin no token are alike, so they are replaced by one of
     them, and results are cached: a line that is like an earlier one isn't read again.

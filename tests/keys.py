@@ -2,7 +2,7 @@
 
 Keys of intervals and boxes are tuples, first the lower ends and then the upper ones. A key of sets is a number whose
 bit e tells whether the element e is in. A query is a tuple: a relation and a key, `and` or `or` and two queries, or
-`not` and a query. Each class also says what a bound tells of the keys that it covers: where nothing below it can
+`not` and a query. Each class also says what follows from a bound for the keys that it covers: when nothing below it can
 match.
 """
 from functools import lru_cache

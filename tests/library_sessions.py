@@ -1,5 +1,5 @@
 #!/usr/bin/env python3
-"""Random sessions with the library anew, by bindings/python/gist.py, compared with the slow model.
+"""The random sessions once more, with the library by bindings/python/gist.py, compared with the slow model.
 
     GIST_LIB_DIR=FOLDER tests/library_sessions.py [--seeds N] [--seed S] [--lines N] [--verbose]
 
@@ -13,7 +13,7 @@ sessions don't have, each compared with the model's plain lists:
 - a feed with up to 60 subscriptions that come and go, which is advanced by some commits at once;
 - a store that is renewed from a snapshot; the session then goes on with the old one.
 
---verbose tells how often each came. The last line is `N passed, M failed`; the status is 0 only where M is 0.
+--verbose prints how often each came. The last line is `N passed, M failed`; the status is 0 only if M is 0.
 """
 import argparse
 import collections
@@ -86,7 +86,7 @@ class Run:
         return f"row {row.number} {self.keys.text(self.model_key(row.key))} {row.tag}"
 
     def item_text(self, item):
-        """An item, as the model writes it. What it tells of the row that ended is looked at here."""
+        """An item, as the model writes it. What it says about the row that ended is checked here."""
         if item.kind is gist.Kind.MARK:
             return f"mark {item.number}"
         key = self.model_key(item.key)
@@ -162,14 +162,14 @@ class Run:
         return "asked"
 
     def do_close(self, number):
-        """A closing, whose refusal is told."""
+        """Closes a cursor; a refusal is reported."""
         gist._need(gist._call["close"](self.store._at, number))
         return "closed"
 
     # What comes beside the lines
 
     def beside_keep(self):
-        """Takes a snapshot, and gives one up where there are many."""
+        """Takes a snapshot, and drops one if there are many."""
         self.kept.append(self.store.snapshot())
         if len(self.kept) > MOST_KEPT:
             self.kept.pop(self.random.randrange(MOST_KEPT)).close()
@@ -227,7 +227,7 @@ class Run:
         due("changes", items, self.session.commits.changes(test, begin, now.commits()))
 
     def beside_subscribe(self):
-        """A subscription, from a commit before or behind that to which the feed has gone; or the end of one."""
+        """A subscription, from a commit before or after the one to which the feed has gone; or the end of one."""
         if len(self.subscribed) == MOST_SUBSCRIBED or (self.subscribed and self.random.random() < 0.2):
             number = self.random.choice(list(self.subscribed))
             self.feed.unsubscribe(number)
@@ -237,7 +237,7 @@ class Run:
         self.subscribed[self.feed.subscribe(query, since)] = [test, since]
 
     def beside_advance(self):
-        """An advance. Each subscription is told what is new to it, and nobody else anything."""
+        """An advance. Each subscription gets what is new to it, and nothing else is given."""
         before = self.fed
         told, self.fed = self.feed.advance(self.store.snapshot(), self.random.choice((0, 1, 5, 40, None)))
         due("an advance goes on", before <= self.fed <= len(self.session.commits), True)
@@ -281,7 +281,7 @@ class Run:
 
 
 def main():
-    """Runs all, and tells what came of it."""
+    """Runs all, and prints the outcome."""
     parser = argparse.ArgumentParser(description=__doc__, formatter_class=argparse.RawDescriptionHelpFormatter)
     parser.add_argument("--seeds", type=int, default=SEEDS, metavar="N")
     parser.add_argument("--seed", type=int, default=1, metavar="S")

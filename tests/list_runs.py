@@ -1,6 +1,6 @@
 """Runs of random lists: what a program answers to one, compared with the slow models, checked, and edited.
 
-A run is one seed. Each comparison and each edit that applies is a test of its own; an outcome tells how many passed,
+A run is one seed. Each comparison and each edit that applies is a test of its own; an outcome says how many passed,
 what failed, which answers came, and which edits were tried.
 """
 import collections
@@ -19,7 +19,7 @@ from wrong_worlds import WORLDS
 # Seconds that a program may take for one list
 LONGEST = 60
 
-# Of each verb the words that begin its answers, and its refusals, each of which has to come in some list
+# For each verb the words that begin its answers, and its refusals. Each has to come in some list
 TRACE_ANSWERS = {
     "enlarge": "enlarged 7 10", "place": "committed 7 8 10", "split": "split 7 9 11 12 13", "post": "posted 7 8",
     "grow": "grown 9 13", "find": "finder 6 14 15", "seek": "committed seeking 15 20",
@@ -72,7 +72,7 @@ def text_of(lines):
 
 
 def output_of(program, verb, drawer):
-    """What a program writes for the lines of a drawer, and what else it tells that it shouldn't, or none."""
+    """What a program writes for the lines of a drawer, and what else it reports that it shouldn't, or none."""
     words = [program, verb, *drawer.options()]
     try:
         ended = subprocess.run(words, input=text_of(drawer.asked), capture_output=True, timeout=LONGEST, check=False)
@@ -128,7 +128,7 @@ def try_edits(outcome, name, edited, kinds, first_flaw):
 
 
 def some_of(edits, seed, each):
-    """Some of the edits: each is tried with one seed in so many."""
+    """Some of the edits: each is tried with one seed in `each`."""
     return [edit for index, edit in enumerate(edits) if (index + seed) % each == 0]
 
 

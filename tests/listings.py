@@ -1,6 +1,6 @@
 """Commits, the rows that they make, and what a client may be given for a query: snapshots, changes and listings.
 
-Items are the lines that tell them, as `row 1 (5 5) 0`. A commit is a tuple: `insert`, a key and a tag; `delete` and a
+Items are lines of answers, such as `row 1 (5 5) 0`. A commit is a tuple: `insert`, a key and a tag; `delete` and a
 row; `move`, a row and a key.
 """
 from typing import NamedTuple
@@ -29,7 +29,7 @@ class Commits:
         return len(self.writes)
 
     def refusal(self, row):
-        """The number of the refusal of a delete or a move of a row, or none where the row lives."""
+        """The number of the refusal of a delete or a move of a row, or None if the row lives."""
         if row not in self.rows:
             return NO_SUCH_ROW
         return ALREADY_DELETED if row in self.ended else None

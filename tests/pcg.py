@@ -10,7 +10,7 @@ class Pcg32(Random):
     """PCG-32 (XSH-RR) on its stream 0: 32 bits of each state, of which there are 2^64."""
 
     def seed(self, seed, version=2):
-        """Begins anew with a seed."""
+        """Starts again with a seed."""
         self.state = seed + INCREMENT
         self.go_on()
 

@@ -127,7 +127,7 @@ class PlainLeaf(PlainStore):
         return self.turn_to_changes(cursor, mailbox)
 
     def turn_to_changes(self, cursor, mailbox):
-        """A cursor whose rows were all offered goes on to the next commit, or to a mark."""
+        """A cursor that has offered all its rows goes on to the next commit, or to a mark."""
         if cursor.position < len(self.commits):
             commit = self.commits[cursor.position]
             item = commit.item(self.class_name, cursor.query)

@@ -70,7 +70,7 @@ class Row(NamedTuple):
 
 
 class Commit(NamedTuple):
-    """A commit: the row that it ends and the one that it begins, where there are such rows."""
+    """A commit: the row that it ends and the one that it begins, if there are such rows."""
 
     number: int
     ended: Row | None
@@ -133,13 +133,13 @@ class Gone:
         self.least, self.most = 0, 0
 
     def narrow(self, number, least, most):
-        """Counts a sweep that took out a number of rows, where these are the totals allowed; whether there is one."""
+        """Counts a sweep that took out a number of rows, given the totals allowed; whether the number is one of them."""
         self.least, self.most = max(self.least + number, least), min(self.most + number, most)
         return self.least <= self.most
 
 
 class Swept:
-    """An answer that tells how many dead rows a sweep took out: all that no cursor needs.
+    """An answer with the number of dead rows that a sweep took out: all that no cursor needs.
 
     A cursor needs those that ended after its opening, until its scan is over. For some scans this can't be known, so
     there are two bounds for the number.
@@ -153,7 +153,7 @@ class Swept:
         return 1
 
     def is_told(self, lines):
-        """Whether the line tells an allowed number of rows, which are gone then."""
+        """Whether the line has an allowed number of rows; these are gone then."""
         word, _, number = (lines[0] if len(lines) == 1 else "").partition(" ")
         if word != "swept" or not number.isdecimal() or number != str(int(number)):
             return False
@@ -170,7 +170,7 @@ class Cursor:
         self.query = query
         self.opened = position
         self.position = position
-        # The rows of the snapshot, as they are told: those that weren't given, and their number
+        # The rows of the snapshot, as lines: those that weren't given, and their number
         self.rows = {f"row {row.text()}" for row in snapshot}
         self.rows_left = len(self.rows)
         self.is_asked = False
@@ -313,7 +313,7 @@ class PlainStore:
         return least, most
 
     def ended_before(self, openings):
-        """How many rows ended before each of some openings: in all, where there is none."""
+        """How many rows ended before each of some openings: in all, if there is none."""
         return bisect.bisect_right(self.ends, min(openings, default=len(self.commits)))
 
     def answer_sweep(self):

@@ -23,6 +23,6 @@ def refusal_line(number, place=None):
 
 
 def refused_number(answer):
-    """The number of the refusal that an answer tells, or none."""
+    """The number of an answer's refusal, or None."""
     words = answer.split(" ")
     return int(words[1]) if words[0] == "refused" else None

@@ -124,7 +124,7 @@ class SessionDrawer(Drawer):
         self.ask("sweep")
 
     def draw_settled_sweep(self):
-        """A sweep where each scan that has begun is over, so that it is known which rows go."""
+        """A sweep when each scan that has begun is over, so that it is known which rows go."""
         for serial, cursor in list(self.session.cursors.items()):
             while cursor.has_begun and not cursor.is_over and len(self.asked) < self.lines:
                 self.ask("next", serial)

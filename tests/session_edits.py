@@ -4,7 +4,7 @@ from edits import Steps, raised
 
 
 class Talk(Steps):
-    """A session with right answers, and what these tell."""
+    """A session with right answers, and what follows from these."""
 
     giving, asking = "next", "mark"
 
@@ -14,7 +14,7 @@ class Talk(Steps):
 
 
 def found_rows(talk, least):
-    """The places of finds that found so many rows at least."""
+    """The places of finds that found at least `least` rows."""
     return [place for place in talk.places("found") if talk.answer(place).count("\n") >= least]
 
 
@@ -49,7 +49,7 @@ def found_rows_exchanged(talk):
 
 
 def found_count_wrong(talk):
-    """A find tells of one row more than it gives."""
+    """A find counts one row more than it gives."""
     def edit(answer):
         """The answer that is given instead."""
         first, *rows = answer.split("\n")
@@ -84,18 +84,18 @@ def mark_for_empty(talk):
 
 
 def too_many_swept(talk):
-    """A sweep tells of more rows than are dead."""
+    """A sweep counts more rows than are dead."""
     return talk.changed_at_one(talk.places("swept"), lambda answer: f"swept {len(talk.commits.ended) + 1}")
 
 
 def too_few_swept(talk):
-    """The last sweep, with no cursor open, tells of one row less."""
+    """The last sweep, with no cursor open, counts one row less."""
     last = talk.places("swept")[-1]
     return None if talk.answer(last) == "swept 0" else talk.changed({last: raised(talk.answer(last), 1, -1)})
 
 
 def cursor_unknown(talk):
-    """An open cursor isn't known, or is told to be closed."""
+    """An open cursor is refused as unknown, or as closed."""
     return talk.changed_at_one(talk.places("asked", "closed", "empty"), lambda answer: "refused 16 NoSuchCursor")
 
 

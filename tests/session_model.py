@@ -3,7 +3,7 @@
 Everything is exact except for two things. The rows of a cursor's snapshot come in any order, so `next` may give any
 that is left. And how far a scan has come isn't known, except that it is over once something other than a row was given,
 and hasn't begun before the first `next`. So `sweep` has one answer for each opening that may be the least of the scans
-under way: it removes the dead rows that died up to that opening, or all where no scan is under way.
+under way: it removes the dead rows that died up to that opening, or all if no scan is under way.
 
 An answer of several lines is one text.
 """
@@ -49,7 +49,7 @@ class Cursor:
 
 
 class Session:
-    """What a session has told so far."""
+    """What follows from the answers of a session so far."""
 
     def __init__(self, keys):
         self.keys = keys
@@ -98,7 +98,7 @@ class Session:
             del self.cursors[serial]
 
     def sweep(self, count):
-        """Notes how many rows went, those that died first. Where some died after an opening, that scan is over."""
+        """Notes how many rows went, those that died first. If some died after an opening, that scan is over."""
         for cursor in self.cursors.values():
             if self.dead_up_to(cursor.listing.opened) < count:
                 cursor.has_begun = cursor.is_over = True

@@ -19,7 +19,7 @@ MOST_ITEMS = 3
 
 
 class Script:
-    """Lines of a language over a class, the answers that are due, and where each example begins among them."""
+    """Lines of a language over a class, the answers that are due, and the place where each example begins among them."""
 
     def __init__(self, language, class_name):
         self.language, self.class_name = language, class_name
@@ -28,7 +28,7 @@ class Script:
         self.lines, self.due, self.examples = [], [], []
         # The numbers of the three rows, of the cursor and of the finder
         self.rows, self.cursor, self.finder = [0, 0, 0], 0, 0
-        # What is told by `state` where all stands as it is kept
+        # What `state` answers when everything is as it is kept
         self.kept = None
 
     def give(self, line):
@@ -39,7 +39,7 @@ class Script:
         return isinstance(request, tuple)
 
     def give_text(self, text):
-        """A text is given, which may be several lines; what was changed is put back behind it."""
+        """A text is given, maybe of several lines; what it changed is put back afterwards."""
         self.examples.append((len(self.due), text))
         are_well_formed = [self.give(line) for line in text.split(b"\n")]
         if any(are_well_formed) and self.state() != self.kept:

@@ -7,7 +7,7 @@ import re
 
 
 class Text:
-    """The words of a run, the lines that are typed, and the answers to each where they are told."""
+    """The words of a run, the lines that are typed, and the answers to each if they are known."""
 
     def __init__(self, name, words):
         self.name, self.words = name, words

@@ -14,7 +14,7 @@ from listings import ALREADY_DELETED, Commits, Listing, is_mark, is_row
 from refusals import NUMBERS, refusal_line, refused_number
 from world_model import MOST_CURSORS, MOST_FINDERS, MOST_ROOM
 
-# The words that begin answers to events of pages and cursors, and the refusals that only pages or mailboxes tell.
+# The words that begin answers to events of pages and cursors, and the refusals that depend on pages or mailboxes.
 # There is enough memory, and room for pages and commits, so 1, 3 and 4 never come.
 ANSWERS = {
     "enlarge": (("enlarged",), (7, 10)),
@@ -35,7 +35,7 @@ class Flaw(Exception):
 
 
 def demand(is_so, told):
-    """Ends the check of a trace where something isn't so."""
+    """Ends the check of a trace if something doesn't hold."""
     if not is_so:
         raise Flaw(told)
 
@@ -51,7 +51,7 @@ def number_in(answer):
 
 
 class Follower:
-    """A cursor, as its answers tell."""
+    """A cursor, as its answers show it."""
 
     def __init__(self, listing, room, has_scan):
         self.listing = listing
@@ -99,7 +99,7 @@ class Follower:
         self.rest_at(number, -1)
 
     def rest_at(self, commit, asked_at):
-        """What was offered so far is a listing up to a commit; where a mark was asked for, it was offered since.
+        """What was offered so far is a listing up to a commit; if a mark was asked for, it was offered since.
 
         Each commit after the opening was offered or passed by a turn of its own.
         """
@@ -108,7 +108,7 @@ class Follower:
         self.look_back()
 
     def look_back(self):
-        """Looks at what was taken, where it is just what was offered before a rest."""
+        """Looks at what was taken, if it is just what was offered before a rest."""
         while self.rests and self.rests[0][0] == self.taken:
             _, commit, asked_at, changes = self.rests.popleft()
             demand(self.listing.is_whole(commit), "something is left where nothing more was to be offered")
@@ -141,7 +141,7 @@ class Follower:
 
 
 class TraceChecker:
-    """What the answers tell so far of commits, cursors and finders, and how many pages were made."""
+    """What follows from the answers so far about commits, cursors and finders, and how many pages were made."""
 
     def __init__(self, keys):
         self.keys = keys
@@ -166,7 +166,7 @@ class TraceChecker:
         getattr(self, line.verb)(answer, *line.arguments)
 
     def due(self, line):
-        """The answer that follows from what was told, or none."""
+        """The answer that follows from the earlier answers, or None."""
         verb, arguments = line.verb, line.arguments
         if verb == "fault":
             return arguments[0]
@@ -230,16 +230,16 @@ class TraceChecker:
             demand(answer.split(" ")[1:] == made, "a page that was made doesn't have the next number")
             self.pages += count
 
-    # What each answer tells
+    # What each answer means
 
     def fault(self, answer, due):
-        """A line that isn't an event tells nothing."""
+        """A line that isn't an event changes nothing."""
 
     def enlarge(self, answer, parent, child, key):
-        """Widening a bound changes nothing that is told."""
+        """Widening a bound changes no later answer."""
 
     def post(self, answer, parent, child):
-        """Naming a sibling changes nothing that is told."""
+        """Posting a sibling changes no later answer."""
 
     def split(self, answer, page, sides):
         """A split makes a page."""

@@ -174,7 +174,7 @@ class TraceDrawer(Drawer):
             self.ask("place", leaf, key, self.tag())
 
     def way(self, key):
-        """Goes down to a leaf and makes room on the way; gives its number, or none where a step didn't come off."""
+        """Goes down to a leaf and makes room on the way; gives its number, or None if a step was refused."""
         page = self.world.pages[0]
         if len(page.places) == self.fan and self.ask("grow", self.sides(self.fan)).startswith("refused"):
             return None
@@ -236,7 +236,7 @@ class TraceDrawer(Drawer):
     # Cursors
 
     def draw_open(self):
-        """A cursor, where not too many are open."""
+        """A cursor, if not too many are open."""
         if len(self.world.cursors) > USUAL_CURSORS and self.chance(0.9):
             self.draw_close()
             return

@@ -5,7 +5,7 @@ from refusals import refusal_line
 
 
 class Trace(Steps):
-    """A faithful trace, and what its answers tell."""
+    """A faithful trace, and what follows from its answers."""
 
     giving, asking = "take", "askmark"
 
@@ -21,7 +21,7 @@ class Trace(Steps):
         return ("delete", row) if line.verb == "seek" else ("move", row, line.arguments[2])
 
     def note(self, place, line, answer):
-        """Notes what a step tells, finders and offers among it."""
+        """Notes what an answer says, also about finders and offers."""
         super().note(place, line, answer)
         if word_of(answer) == "finder":
             self.finders[int(answer.split(" ")[1])] = line.arguments[0]
@@ -57,7 +57,7 @@ def passed_commit_given(trace):
 
 
 def given_before_offered(trace):
-    """An item is given already where nothing was there."""
+    """An item is given before it was offered."""
     choices = []
     for place in waiting_at(trace, "nothing"):
         given = trace.cursors[trace.cursor_at(place)].given
@@ -67,7 +67,7 @@ def given_before_offered(trace):
 
 
 def nothing_given(trace):
-    """Nothing is given where an item waits."""
+    """Nothing is given although an item waits."""
     return trace.changed_at_one([given.place for given in trace.given()], lambda answer: "nothing")
 
 
@@ -162,7 +162,7 @@ def commit_by_no_finder(trace):
 
 
 def commit_hidden(trace):
-    """A finder that ended its row is told to go on."""
+    """A finder that ended its row is answered as if it went on."""
     places = [place for place in trace.places("committed") if trace.steps[place][0].verb in ("seek", "move")]
     return trace.changed_at_one(places, lambda answer: "seeking")
 
@@ -185,7 +185,7 @@ def finder_serial_twice(trace):
 
 
 def finder_refused(trace):
-    """A finder of a row that lives isn't opened, or one that is open isn't known or its row is told to have ended."""
+    """A finder of a live row isn't opened; or an open one is refused as unknown, or because its row has ended."""
     def edit(answer):
         """The answer that is given instead."""
         return refusal_line(trace.random.choice((15, 20) if answer == "seeking" else (6, 14, 15)))
@@ -193,18 +193,18 @@ def finder_refused(trace):
 
 
 def cursor_unknown(trace):
-    """An open cursor isn't known, or is told to be closed."""
+    """An open cursor is refused as unknown, or as closed."""
     places = trace.places("asked", "closed", "offered", "passed")
     return trace.changed_at_one(places, lambda answer: refusal_line(trace.random.choice((16, 17))))
 
 
 def too_many_swept(trace):
-    """A sweep tells of one row more."""
+    """A sweep counts one row more."""
     return trace.changed_at_one(trace.places("swept"), lambda answer: raised(answer, 1))
 
 
 def too_few_swept(trace):
-    """A sweep tells of one row less."""
+    """A sweep counts one row less."""
     places = [place for place in trace.places("swept") if trace.answer(place) != "swept 0"]
     return trace.changed_at_one(places, lambda answer: raised(answer, 1, -1))
 
@@ -215,7 +215,7 @@ def page_skipped(trace):
 
 
 def ends_early(trace):
-    """The last cursor doesn't give the mark behind every row."""
+    """The last cursor doesn't give the mark after every row."""
     marks = trace.places("mark")
     return trace.steps[:marks[-1]] if marks else None
 

@@ -27,7 +27,7 @@ class Entry:
         return self.row.key
 
     def is_seen_at(self, opened):
-        """Whether a scan that opened after so many commits sees the row."""
+        """Whether a scan that opened after `opened` commits sees the row."""
         return self.row.number <= opened and (self.died is None or self.died > opened)
 
 
@@ -87,7 +87,7 @@ class Cursor:
         self.mailbox = deque()
 
     def offer(self, item):
-        """Puts an item into the mailbox, where there is room for it."""
+        """Puts an item into the mailbox, if there is room for it."""
         if len(self.mailbox) >= self.room:
             raise Refused("NoRoom")
         self.mailbox.append(item)
@@ -269,7 +269,7 @@ class World:
         return f"finder {self.last_finder}"
 
     def finder_of_live(self, serial):
-        """The open finder with a serial, whose row lives."""
+        """The open finder with a serial; its row lives."""
         if serial not in self.finders:
             raise Refused("NoSuchFinder")
         finder = self.finders[serial]
@@ -287,7 +287,7 @@ class World:
         return "seeking"
 
     def seek(self, serial):
-        """A finder visits a page, and deletes its row where it meets it."""
+        """A finder visits a page, and deletes its row if it meets it."""
         finder = self.finder_of_live(serial)
         entry = self.met_by(finder)
         if entry is None:
@@ -297,7 +297,7 @@ class World:
         return f"committed {entry.died}"
 
     def move(self, serial, number, key):
-        """A finder visits a page, and moves its row to a leaf where it meets it."""
+        """A finder visits a page, and moves its row to a leaf if it meets it."""
         finder = self.finder_of_live(serial)
         entry = self.met_by(finder)
         if entry is None:
@@ -373,7 +373,7 @@ class World:
         return f"visited {page.number}"
 
     def go_past_commit(self, cursor):
-        """Offers the item of the next commit, or passes it where it has none."""
+        """Offers the item of the next commit, or passes the commit if it has none."""
         item = self.commits.change(lambda key: matches(self.keys, cursor.query, key), cursor.position + 1)
         if item is not None:
             cursor.offer(item)

@@ -133,7 +133,7 @@ class MoveTestsLeafAlways(WrongRule):
     """A move looks at its leaf at every visit."""
 
     def move(self, serial, number, key):
-        """A finder visits a page, and moves its row to a leaf where it meets it."""
+        """A finder visits a page, and moves its row to a leaf if it meets it."""
         self.finder_of_live(serial)
         self.leaf_for(number, key)
         return super().move(serial, number, key)
@@ -143,7 +143,7 @@ class EndedRowEndsFinders(WrongRule):
     """The finders of a row are gone once it has ended."""
 
     def finder_of_live(self, serial):
-        """The open finder with a serial, whose row lives."""
+        """The open finder with a serial; its row lives."""
         if serial in self.finders and self.finders[serial].row.number in self.commits.ended:
             raise Refused("NoSuchFinder")
         return super().finder_of_live(serial)
@@ -191,7 +191,7 @@ class FindersAreCut(WrongRule):
     """Of the serial of a finder the lower 32 bits are read."""
 
     def seek(self, serial):
-        """A finder visits a page, and deletes its row where it meets it."""
+        """A finder visits a page, and deletes its row if it meets it."""
         return super().seek(serial % CUT)
 
 

@@ -264,10 +264,10 @@ class FollowsOneTooMany(WrongWorld):
 
 
 class MoveLosesTag(WrongWorld):
-    """A moved row has the tag 0 where a scan finds it."""
+    """A moved row has the tag 0 when a scan finds it."""
 
     def move(self, serial, number, key):
-        """A finder visits a page, and moves its row to a leaf where it meets it."""
+        """A finder visits a page, and moves its row to a leaf if it meets it."""
         answer = super().move(serial, number, key)
         if answer.startswith("committed"):
             row = self.commits.rows[len(self.commits)]
@@ -279,7 +279,7 @@ class MoveLeavesOld(WrongWorld):
     """A moved row's old entry stays alive."""
 
     def move(self, serial, number, key):
-        """A finder visits a page, and moves its row to a leaf where it meets it."""
+        """A finder visits a page, and moves its row to a leaf if it meets it."""
         answer = super().move(serial, number, key)
         if answer.startswith("committed"):
             for page in self.pages:

@@ -60,7 +60,7 @@ def run(words, **more):
 
 
 def compile_c(tally, source, folder, compiler=("cc", *FLAGS), linked=("-lgist",)):
-    """The program that a source makes with the library, or none where it doesn't compile."""
+    """The program that a source makes with the library, or None if it doesn't compile."""
     program = f"{folder}/{os.path.basename(source).replace('.', '_')}"
     built = run([*compiler, "-I", folder, source, "-L", folder, *linked, "-o", program])
     if built.returncode:

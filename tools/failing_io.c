@@ -2,13 +2,13 @@
  * read and write of the C library, changed for standard input and standard output as the environment asks. It is
  * preloaded (LD_PRELOAD).
  *
- *   READ_AT_ONCE, WRITE_AT_ONCE   at most so many bytes are moved by a call
+ *   READ_AT_ONCE, WRITE_AT_ONCE   a call moves at most this many bytes
  *   SHORT_READ, SHORT_WRITE       the call of that number, counted from 1, moves one byte
  *   FAILING_READ, FAILING_WRITE   the call of that number moves nothing and fails
- *   FAILING_TIMES                 and so do the calls after it, as many in all; one where there is no number
- *   FAILING_ERROR                 with this number of an error; where there is none it answers that it moved nothing
+ *   FAILING_TIMES                 and so do the calls after it, this many in all; 1 by default
+ *   FAILING_ERROR                 with this error number; by default it returns that it moved nothing
  *
- * The first call that fails tells so in a line on standard error, with the number of bytes that were moved before it. The
+ * The first call that fails prints a line on standard error, with the number of bytes that were moved before it. The
  * calls after the last are as the others.
  */
 #define _GNU_SOURCE

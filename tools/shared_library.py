@@ -37,5 +37,5 @@ def link_shared(folder, version):
 
 
 def pkg_config(version, up="/../..", lib="/lib", include="/include"):
-    """What pkg-config tells of the libraries, where they lie so from the folder of its file."""
+    """The file for pkg-config, if the libraries are at these paths from its folder."""
     return PKG_CONFIG.format(version=version, up=up, lib=lib, include=include)

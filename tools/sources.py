@@ -11,7 +11,7 @@ RELEASE = f"{ROOT}/release"
 # What is released: the program and the library for C
 RELEASED = ("gist", "libgist")
 
-# Where a crate's sources stand
+# Where a crate's sources are
 PARTS = ("src", "specs", "proofs")
 
 
@@ -85,6 +85,6 @@ def told_of_build(toolchain):
 
 
 def archive():
-    """The path of the released archive; none where there isn't one."""
+    """The path of the released archive; None if there isn't one."""
     found = glob.glob(f"{RELEASE}/gist-*-x86_64-linux.tar.xz")
     return found[0] if len(found) == 1 else None

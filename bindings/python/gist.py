@@ -232,7 +232,7 @@ _EXPECTED = {
 class Error(Exception):
     """A refused call.
 
-    `refusal` tells why. `at` is the place of the first wrong character of a query's text, counted from 0, else None.
+    `refusal` says why. `at` is the place of the first wrong character of a query's text, counted from 0, else None.
     For a call for many rows or keys, `done` is how many were done before the refused one.
     """
 
@@ -542,7 +542,7 @@ class Query(_Owner, Generic[K]):
 
     @classmethod
     def by(cls, relation: Relation, key: K, key_class: Optional[Type[K]] = None) -> Query[K]:
-        """The query for the keys that have a relation to a key. Without `of` the key's type tells the class.
+        """The query for the keys that have a relation to a key. Without `of` the key's type determines the class.
 
         Raises Error: BadEnds.
         """
@@ -932,7 +932,7 @@ class Cursor(Generic[K]):
     def items(self, most: int = 256) -> List[Item]:
         """The next items by one call, at most `most`. There are none only if nothing is left now.
 
-        Raises Error: CursorClosed; NoHandle where the store is closed.
+        Raises Error: CursorClosed; NoHandle if the store is closed.
         """
         store, items, given = self.store, _words(6 * most), _u64()
         with store._turn:
@@ -943,7 +943,7 @@ class Cursor(Generic[K]):
         """Asks for a mark: an item with the number of a commit, which shows that everything up to that commit was
         given.
 
-        Raises Error: CursorClosed; NoHandle where the store is closed.
+        Raises Error: CursorClosed; NoHandle if the store is closed.
         """
         with self.store._turn:
             _need(_call["mark"](self.store._at, self.number))

@@ -11,7 +11,7 @@ BATCH = 20_000
 # A multiplier of a commit's number, by which keys are spread
 SPREAD = 2_654_435_761
 
-# Commits of one round of a replay: so many rows are placed on the root, and each is deleted
+# Rows that one round of a replay places on the root. Each is deleted, so a round makes twice as many commits
 ROUND = 128
 
 # Rounds that are sent together
@@ -22,7 +22,7 @@ class Rows:
     """What the rows and the commits should be, in plain lists.
 
     There are as many places as live rows. A place keeps the number of its row; its tag is the place itself. A row's key
-    is told by its number.
+    follows from its number.
     """
 
     def __init__(self, count):
@@ -163,7 +163,7 @@ class Trial:
             self.commit(self.rows.insert(first, last))
 
     def fill(self, most):
-        """Commits until there are so many."""
+        """Commits until there are `most` commits."""
         self.go_over(self.rows.insert, most)
         shown = self.rows.commits
         self.tell("rows are inserted; they are deleted and inserted anew, and moved, and the dead are swept")
@@ -204,7 +204,7 @@ class Trial:
         return [self.change(step, place) for step, place in steps]
 
     def writes_are_refused(self, changes):
-        """No line commits any more, and what is wrong with a line is told as before."""
+        """No line commits any more, and what is wrong with a line is reported as before."""
         rows = self.rows
         live = rows.numbers[7]
         ended = changes[0].ended
@@ -277,7 +277,7 @@ def show_limit(trial):
 
 
 def commits_of_a_store(path, count=2_000, most=MOST_COMMITS):
-    """A session makes all its commits, with so many live rows, and goes on with all that makes none."""
+    """A session makes all its commits, with `count` live rows, and goes on with all that makes none."""
     with Program(path, "serve", "--fan", "32", "--least", "12") as program:
         trial = Trial(program, Rows(count), most)
         trial.fill(most - 8)
@@ -299,7 +299,7 @@ class Root:
         self.finders = 0
 
     def lines(self, count):
-        """The lines that place so many rows and delete each, and what is answered."""
+        """The lines that place `count` rows and delete each, and what is answered."""
         first, finder = self.commits + 1, self.finders + 1
         self.commits += 2 * count
         self.finders += count
@@ -310,13 +310,13 @@ class Root:
         return "".join(given) + "sweep 0\n", "".join(due) + f"swept {count}\n"
 
     def rounds(self, count, rows):
-        """Places so many rows and deletes them, again and again."""
+        """Places `rows` rows and deletes them, `count` times."""
         pairs = [self.lines(rows) for _ in range(count)]
         given, due = ("".join(side).encode("ascii") for side in zip(*pairs))
         self.program.answer_text(given, due)
 
     def fill(self, left):
-        """Rounds until so many commits are left."""
+        """Rounds until `left` commits are left."""
         rounds = (MOST_COMMITS - left) // ROUND
         while rounds:
             self.rounds(min(rounds, ROUNDS), ROUND // 2)

@@ -11,12 +11,12 @@ ROOM = 4_096
 
 
 def numbered(first, last, line, answer):
-    """A line with its answer for each number, which stands there in the place of each #."""
+    """A line with its answer for each number, which takes the place of each #."""
     return [(line.replace("#", str(number)), answer.replace("#", str(number))) for number in range(first, last + 1)]
 
 
 def sweeps_that_remove_nothing(path):
-    """Sweeps of a page without a dead row, before and behind an opening."""
+    """Sweeps of a page without a dead row, before and after an opening."""
     with Program(path, "replay", *WIDEST) as program:
         for line, answer in (
             ("sweep 0", "swept 0"),
@@ -62,7 +62,7 @@ def cursors_that_are_used_up(path):
 
 
 def open_one_after_the_other(program, count):
-    """Opens cursors with the greatest room where there is no row that they ask for, and closes each before the next."""
+    """Opens cursors with the greatest room when there is no row that they ask for, and closes each before the next."""
     for first in range(1, count + 1, 1_000):
         serials = range(first, first + 1_000)
         lines = [line for serial in serials for line in (f"open {ROOM} same(-1 -1)", f"next {serial}", f"close {serial}")]
@@ -70,7 +70,7 @@ def open_one_after_the_other(program, count):
 
 
 def cursors_one_after_the_other(path):
-    """More cursors than 16 bits can number, of which one is open at a time."""
+    """More cursors than 16 bits can number, one open at a time."""
     with Program(path, "serve") as program:
         open_one_after_the_other(program, 70_000)
         program.answer(["next 1", "next 65536", "next 70001"], ["refused 17 CursorClosed", "refused 17 CursorClosed", "refused 16 NoSuchCursor"])
@@ -229,7 +229,7 @@ def sixty_four_pages_before_a_scan(path):
 
 
 def sixty_four_pages_before_a_finder(path):
-    """A finder that has 64 pages to visit at once, of which the last holds its row."""
+    """A finder that has 64 pages to visit at once; the last holds its row."""
     with Program(path, "replay", *WIDEST) as program:
         program.answer_all(widened())
         program.answer_all([("find 188", "finder 1"), *[("seek 1", "seeking")] * 64, ("seek 1", "committed 189")])
@@ -269,7 +269,7 @@ class Crowd:
             self.open(cursor % 2 == 0, f"opened {cursor}")
 
     def each(self, line, answer):
-        """One line for each cursor, all of which are answered alike."""
+        """One line for each cursor; all are answered alike."""
         self.program.answer([line.replace("#", str(cursor)) for cursor in self.cursors], [answer] * len(self.cursors))
 
     def scan(self):
@@ -281,7 +281,7 @@ class Crowd:
         self.each("turn #", "refused 19 Idle")
 
     def fill(self, count):
-        """Each cursor is offered so many items more, and has no more to do."""
+        """Each cursor is offered `count` more items, and then has no more to do."""
         for cursor in self.cursors:
             self.program.answer([f"turn {cursor}"] * count, ["offered"] * count)
         self.each("turn #", "refused 19 Idle")
@@ -291,7 +291,7 @@ class Crowd:
         return [f"{word} {row} (5 5) {3 * row}" for row in range(first, last + 1) if row != self.passed]
 
     def empty(self, cursor):
-        """One item is taken, so one more is offered; then all are taken, and none is lost."""
+        """One item is taken, so one more is offered; then all are taken, and no item is lost."""
         behind = self.first if cursor % 2 == 1 else 0
         inserts = self.rows("inserted", behind + 1, self.tree.commits)
         snapshot = self.rows("row", 1, behind)

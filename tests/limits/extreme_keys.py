@@ -7,7 +7,7 @@ RELATIONS = ("overlaps", "within", "holds", "same")
 FANS = (("4", "2"), ("9", "3"))
 TAGS = (0, 18_446_744_073_709_551_615, 1, 9_223_372_036_854_775_808, 18_446_744_073_709_551_614)
 
-# At least so many rows, so that pages split
+# The least number of rows, so that pages split
 MANY = 100
 
 # How far a key's place is from that of the key before, in the order in which they are inserted
@@ -52,7 +52,7 @@ def spell(key):
 
 
 def are_related_sets(relation, key, operand):
-    """Whether a set is related to an operand, told by its elements."""
+    """Whether a set is related to an operand, found by its elements."""
     if relation == "overlaps":
         return not key.isdisjoint(operand)
     if relation == "within":
@@ -61,7 +61,7 @@ def are_related_sets(relation, key, operand):
 
 
 def are_related(relation, key, operand):
-    """Whether a key is related to an operand, told by its points or elements."""
+    """Whether a key is related to an operand, found by its points or elements."""
     if isinstance(key, frozenset):
         return are_related_sets(relation, key, operand)
     half = len(key) // 2
@@ -89,7 +89,7 @@ class Beside:
         self.ended = 0
 
     def place(self, at):
-        """The place of the key that comes next after so many."""
+        """The place of the key that comes after the first `at`."""
         return at * STRIDE % len(self.keys)
 
     def commit(self, line):
@@ -103,7 +103,7 @@ class Beside:
         return self.rows.pop(number)
 
     def insert_all(self, times):
-        """Inserts a row for each key, so many times."""
+        """Inserts `times` rows for each key."""
         for at in range(len(self.keys) * times):
             row = self.place(at), TAGS[at % 5]
             self.commit(f"insert {self.texts[row[0]]} {row[1]}")
@@ -150,7 +150,7 @@ def relations_of(keys):
 
 
 def are_found(path, name, keys, times):
-    """Rows of all keys, each so many times, are found behind inserts, moves, deletes and a sweep."""
+    """Rows of all keys, `times` of each, are found after inserts, moves, deletes and a sweep."""
     related = relations_of(keys)
     if len(keys) * times < MANY:
         raise Wrong("the trial itself needs more rows")

@@ -13,7 +13,7 @@ READS = 1_000_001
 # A multiplier of a row's number, by which keys are spread
 SPREAD = 2_654_435_761
 
-# Rows that are kept, and the bytes that each may take: they are told to be some 90
+# Rows that are kept, and the bytes that each may take: the documents say some 90
 KEPT = 100_000
 BYTES_OF_A_ROW = 120
 
@@ -30,7 +30,7 @@ JOINTS = {
     "or right": ("overlaps(90 99) or ", ""),
 }
 
-# What is repeated from the outside of a query to its inside: a joint, and how many brackets stand round its part
+# What is repeated from the outside of a query to its inside: a joint, and the number of brackets around its part
 SHAPES = (
     [("not", 0)],
     [("not", 1)],
@@ -81,7 +81,7 @@ def rows_cost_what_is_told(path):
 
 
 def a_million_reads(path, reads=READS):
-    """More than a million reads, each of one line feed, don't end a session: what comes behind them is answered."""
+    """More than a million reads, each of one line feed, don't end a session: what comes after them is answered."""
     ours, theirs = socket.socketpair(socket.AF_UNIX, socket.SOCK_SEQPACKET)
     pipes = {"stdin": theirs, "stdout": subprocess.PIPE, "stderr": subprocess.PIPE}
     with ours, subprocess.Popen(["gist", "serve"], executable=path, **pipes) as child:
@@ -106,7 +106,7 @@ def query_of(shape, depth, brackets):
 
 
 def row_matched(shape):
-    """The row that matches such a query of the greatest depth: the first where an even number of `not`s stand in it."""
+    """The row that matches such a query of the greatest depth: the first if it has an even number of `not`s."""
     nots = sum(shape[at % len(shape)][0] == "not" for at in range(1, DEEPEST))
     return "1 (5 5) 3" if nots % 2 == 0 else "2 (7 7) 4"
 
@@ -115,7 +115,7 @@ def answer_shape(path, shape, brackets):
     """Each command that has a query answers one as deep as may be, and refuses a deeper one at its first token."""
     text, deeper = query_of(shape, DEEPEST, brackets), query_of(shape, DEEPEST + 1, brackets)
     row = row_matched(shape)
-    # The second row is a change to a cursor that follows the first commit, where it matches.
+    # The second row is a change to a cursor that follows the first commit, if it matches.
     changes = [f"inserted {row}"] if row.startswith("2") else []
     with Program(path, "serve") as program:
         program.answer(["insert (5 5) 3", "insert (7 7) 4"], ["committed 1", "committed 2"])

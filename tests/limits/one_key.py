@@ -1,4 +1,4 @@
-"""Many rows with the same key: each is found, given, deleted and swept by itself."""
+"""Many rows with the same key: each is found, given, deleted and swept on its own."""
 import dataclasses
 
 from .talk import Program
@@ -79,7 +79,7 @@ def keep(path, name, key, extent):
 
 
 def a_hundred_thousand_rows(path):
-    """A hundred thousand rows of one key, of which half are deleted."""
+    """A hundred thousand rows of one key; half of them are deleted."""
     keep(path, "interval", "(7 7)", HUNDRED_THOUSAND)
 
 

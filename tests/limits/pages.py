@@ -8,10 +8,10 @@ EVERYTHING = "overlaps(0 10000000)"
 
 
 class Filled:
-    """A store that is filled, and the rows and changes that it should have. Rows behind the filling stand at points.
+    """A store that is filled, and the rows and changes that it should have. Rows inserted after the filling have points as keys.
 
-    Each row that fills it stands ten points behind the one before. A full leaf is parted in the middle, so each leaf
-    but the last is left with two rows: rows 1 and 2, rows 3 and 4 and so on. Where both stand, two more have room.
+    Each row that fills it is ten points after the one before. A full leaf is split in the middle, so each leaf
+    but the last is left with two rows: rows 1 and 2, rows 3 and 4 and so on. If both live, there is room for two more.
     """
 
     def __init__(self, program):
@@ -24,7 +24,7 @@ class Filled:
         self.changes = []
 
     def insert_up_to(self, last):
-        """Inserts rows of which none is refused."""
+        """Inserts rows; none is refused."""
         numbers = range(self.first + 1, last + 1)
         lines = [f"insert ({10 * it} {10 * it}) {3 * it}" for it in numbers]
         self.program.answer(lines, [f"committed {it}" for it in numbers])
@@ -36,7 +36,7 @@ class Filled:
         self.first = last
 
     def fill(self, sure):
-        """Inserts rows until one is refused for lack of pages. The first of them can't be: how many is told."""
+        """Inserts rows until one is refused with PagesFull. The first `sure` can't be."""
         self.insert_up_to(sure)
         while True:
             number = self.first + 1
@@ -54,7 +54,7 @@ class Filled:
             self.note(number)
 
     def number(self, behind):
-        """The number of a commit, by its place behind those that filled the store."""
+        """The number of a commit, by its place after those that filled the store."""
         return self.first + behind
 
     def commit(self, line, row=None, ended=None):
@@ -79,7 +79,7 @@ class Filled:
         self.commit(f"delete {row}", ended=row)
 
     def move(self, row, point):
-        """Moves a row to a point where there is room."""
+        """Moves a row to a point whose leaf has room."""
         self.commit(f"move {row} ({point} {point})", row=point, ended=row)
 
     def refuse(self, line, why):
@@ -115,7 +115,7 @@ class Filled:
 
 
 def use_up(filled):
-    """What is answered once a store is filled. Rows 1 and 2 stand on one leaf, at the points 10 and 20."""
+    """What is answered once a store is filled. Rows 1 and 2 are on one leaf, at the points 10 and 20."""
     first = filled.first
     filled.find()
     filled.refuse_next()
@@ -174,7 +174,7 @@ def pages_of_a_store(path):
     """A store has all its pages; once they are used up, what needs no page is answered as before."""
     with Program(path, "serve", *SMALLEST) as program:
         filled = Filled(program)
-        # A tree has at most one page more than commits, and is refused one only where fewer than two are left.
+        # A tree has at most one page more than commits, and is refused one only if fewer than two are left.
         filled.fill(PAGES - 2)
         use_up(filled)
         move_on(filled)
@@ -183,7 +183,7 @@ def pages_of_a_store(path):
 
 
 def split_alone(tree, page):
-    """Fills up a leaf that has two rows, and splits it; its parent isn't told."""
+    """Fills up a leaf that has two rows, and splits it, without a posting to its parent."""
     tree.give(f"place {page} (5 5) 0", f"committed {tree.commits + 1}")
     tree.give(f"place {page} (5 5) 0", f"committed {tree.commits + 2}")
     tree.commits += 2

@@ -75,7 +75,7 @@ class Program:
             pass
 
     def exchange(self, text, length, due=None):
-        """The answers to a text, which have so many bytes. A thread writes it, so that neither waits for the other."""
+        """The answers to a text, `length` bytes of them. A thread writes the text, so that neither waits for the other."""
         writer = threading.Thread(target=self.write, args=(text,), daemon=True)
         writer.start()
         told = self.read(length, due)
@@ -109,7 +109,7 @@ class Program:
             raise Wrong(f"of {len(due)} answers in any order {lacking} didn't come, and {surplus} came")
 
     def bytes_of(self, name):
-        """A number of bytes that the system tells of the program."""
+        """A number of bytes that the system reports for the program."""
         with open(f"/proc/{self.child.pid}/status", encoding="ascii") as status:
             return next(int(line.split()[1]) * 1024 for line in status if line.startswith(name + ":"))
 

@@ -2,10 +2,10 @@
 
 
 class Growing:
-    """A tree that grows at its right end: each row is placed on the last leaf. Where that is full it is split, and
-    where a page above it is full that is split first.
+    """A tree that grows at its right end: each row is placed on the last leaf. If that is full it is split, and
+    if a page above it is full that is split first.
 
-    Every row's key is (5 5), but where another is told, and its tag three times its number.
+    Every row's key is (5 5) unless another is given, and its tag is three times its number.
     """
 
     def __init__(self, fan, kept):
@@ -42,7 +42,7 @@ class Growing:
         self.path.insert(1, right)
 
     def split(self, page):
-        """A page below the root is split, and its parent told of that."""
+        """A page below the root is split, and the sibling posted to its parent."""
         if self.entries[self.path[self.path.index(page) - 1]] == self.fan:
             self.make_room(self.path[self.path.index(page) - 1])
         at, new = self.path.index(page), len(self.entries)
@@ -56,7 +56,7 @@ class Growing:
         self.path[at] = new
 
     def make_room(self, page):
-        """A full page of the path has room behind this, or the page that takes its place there."""
+        """After this a full page of the path has room, or the page that takes its place there has."""
         if page == 0:
             self.grow()
         else:

@@ -57,7 +57,7 @@ pub enum Error {
     OtherClass,
     /// A handle is empty. This crate's calls never give it.
     NoHandle,
-    /// A limit is out of range; [`Limits`](crate::Limits) tells the ranges.
+    /// A limit is out of range; [`Limits`](crate::Limits) has the ranges.
     BadLimits,
     /// A refusal of a later version of the library, by its number.
     Unknown {

@@ -282,7 +282,7 @@ impl Set {
     /// Adds a number.
     ///
     /// # Panics
-    /// Where it is above 127.
+    /// If it is above 127.
     pub fn insert(&mut self, number: u8) {
         assert!(
             number < 128,
@@ -309,7 +309,7 @@ impl fmt::Debug for Set {
 }
 
 /// # Panics
-/// Where a number is above 127.
+/// If a number is above 127.
 impl FromIterator<u8> for Set {
     fn from_iter<I: IntoIterator<Item = u8>>(numbers: I) -> Set {
         let mut set = Set::EMPTY;
@@ -319,7 +319,7 @@ impl FromIterator<u8> for Set {
 }
 
 /// # Panics
-/// Where a number is above 127.
+/// If a number is above 127.
 impl Extend<u8> for Set {
     fn extend<I: IntoIterator<Item = u8>>(&mut self, numbers: I) {
         numbers.into_iter().for_each(|number| self.insert(number));
@@ -327,7 +327,7 @@ impl Extend<u8> for Set {
 }
 
 /// # Panics
-/// Where a number is above 127.
+/// If a number is above 127.
 impl<const N: usize> From<[u8; N]> for Set {
     fn from(numbers: [u8; N]) -> Set {
         numbers.into_iter().collect()
