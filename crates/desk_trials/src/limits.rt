@@ -30,6 +30,35 @@ fn open<L: Ledger + Naming, R: Wait>(
     Ok(desk.open_cursor(rt, seat, all(), room)?.opened())
 }
 
+/// Each seat inserts a row and opens a cursor.
+fn use_all<L: Ledger + Naming, R: Wait + Abort>(
+    rt: &R,
+    desk: &Desk<Intervals, L>,
+    seats: &mut [Seat<Intervals, L>],
+) -> Result<(), Fail> {
+    for seat in seats.iter_mut() {
+        let inserted = desk.insert(rt, seat, Interval::new(1, 2)?, 0)?;
+        assert_eq!(rt; inserted.number(), u64::from(seat.number()));
+        assert!(rt; open(rt, desk, seat, 1)? >= seat.share());
+    }
+    Ok(())
+}
+
+/// A cursor's room, and the number of cursors, at their limits.
+fn open_all<L: Ledger + Naming, R: Wait + Abort>(
+    rt: &R,
+    desk: &Desk<Intervals, L>,
+    seat: &mut Seat<Intervals, L>,
+) {
+    for room in [0, 4_097] {
+        assert_eq!(rt; open(rt, desk, seat, room), Err(Refusal::BadConfig));
+    }
+    for _ in 64..256 {
+        assert_eq!(rt; open(rt, desk, seat, 4_096), Ok(64));
+    }
+    assert_eq!(rt; open(rt, desk, seat, 1), Err(Refusal::CursorsFull));
+}
+
 /// 64 seats, and a cursor's room and number at their limits.
 fn many_seats<L: Ledger + Naming, R: Wait + Abort>(
     rt: &R,
@@ -43,24 +72,8 @@ fn many_seats<L: Ledger + Naming, R: Wait + Abort>(
     requires many { blank.parts ≡ 64 }
 {
     let (desk, mut seats) = Desk::<Intervals, L>::new(alloc, blank, history, CONFIG, 64)?;
-    assert_eq!(rt; seats.len(), 64);
-    for seat in seats.iter_mut() {
-        let inserted = desk.insert(rt, seat, Interval::new(1, 2)?, 0)?;
-        assert_eq!(rt; inserted.number(), u64::from(seat.number()));
-        assert!(rt; open(rt, &desk, seat, 1)? >= seat.share());
-    }
-    assert_eq!(rt; open(rt, &desk, &mut seats[0], 0), Err(Refusal::BadConfig));
-    assert_eq!(rt;
-        open(rt, &desk, &mut seats[0], 4_097),
-        Err(Refusal::BadConfig)
-    );
-    for _ in 64..256 {
-        assert_eq!(rt; open(rt, &desk, &mut seats[0], 4_096), Ok(64));
-    }
-    assert_eq!(rt;
-        open(rt, &desk, &mut seats[0], 1),
-        Err(Refusal::CursorsFull)
-    );
+    use_all(rt, &desk, seats.as_mut_slice())?;
+    open_all(rt, &desk, &mut seats[0]);
     Ok(())
 }
 

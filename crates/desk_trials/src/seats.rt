@@ -29,6 +29,27 @@ fn insert<L: Ledger + Naming, R: Wait>(
     Ok(desk.insert(rt, seat, Interval::new(1, 2)?, tag)?.number())
 }
 
+/// What each of two seats is answered.
+fn answers<L: Ledger + Naming, R: Wait + Abort>(
+    rt: &R,
+    desk: &Desk<Intervals, L>,
+    first: &mut Seat<Intervals, L>,
+    second: &mut Seat<Intervals, L>,
+) -> Result<(), Fail> {
+    assert_eq!(rt; insert(rt, desk, first, 7), Ok(1));
+    assert_eq!(rt; insert(rt, desk, second, 8), Ok(2));
+    assert_eq!(rt; desk.delete(rt, second, 9).err(), Some(Refusal::NoSuchRow));
+    let deleted = desk.delete(rt, second, 1)?;
+    assert!(rt; deleted.number() == 3 && deleted.seat() == 2);
+    for (row, why) in [(1, Refusal::AlreadyDeleted), (2, Refusal::CommitsFull)] {
+        assert_eq!(rt; desk.delete(rt, first, row).err(), Some(why));
+    }
+    assert_eq!(rt; insert(rt, desk, first, 9), Err(Refusal::CommitsFull));
+    assert!(rt; matches!(desk.sweep(rt, 0), Reply::Swept(1)));
+    assert_eq!(rt; (first.share(), second.share()), (1, 2));
+    Ok(())
+}
+
 /// A desk of two seats: what each is answered, and that the desk ends only once both are back.
 fn two_seats<L: Ledger + Naming, R: Wait + Abort>(
     rt: &R,
@@ -42,28 +63,8 @@ fn two_seats<L: Ledger + Naming, R: Wait + Abort>(
     requires two { blank.parts ≡ 2 }
 {
     let (desk, mut seats) = Desk::<Intervals, L>::new(alloc, blank, history, CONFIG, 2)?;
-    assert_eq!(rt; insert(rt, &desk, &mut seats[0], 7), Ok(1));
-    assert_eq!(rt; insert(rt, &desk, &mut seats[1], 8), Ok(2));
-    assert_eq!(rt;
-        desk.delete(rt, &mut seats[1], 9).err(),
-        Some(Refusal::NoSuchRow)
-    );
-    let deleted = desk.delete(rt, &mut seats[1], 1)?;
-    assert!(rt; deleted.number() == 3 && deleted.seat() == 2);
-    assert_eq!(rt;
-        desk.delete(rt, &mut seats[0], 1).err(),
-        Some(Refusal::AlreadyDeleted)
-    );
-    assert_eq!(rt;
-        desk.delete(rt, &mut seats[0], 2).err(),
-        Some(Refusal::CommitsFull)
-    );
-    assert_eq!(rt;
-        insert(rt, &desk, &mut seats[0], 9),
-        Err(Refusal::CommitsFull)
-    );
-    assert!(rt; matches!(desk.sweep(rt, 0), Reply::Swept(1)));
-    assert_eq!(rt; (seats[0].share(), seats[1].share()), (1, 2));
+    let (firsts, seconds) = seats.split_at_mut(1);
+    answers(rt, &desk, &mut firsts[0], &mut seconds[0])?;
     let second = seats.pop();
     let Finished::SeatsOut(desk, mut seats) = desk.finish(rt, seats) else {
         assert!(rt; false, "a seat is out");

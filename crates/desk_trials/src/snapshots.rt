@@ -66,6 +66,23 @@ fn waited<L: Ledger + Naming, R: Wait>(rt: &R, desk: &Desk<Intervals, L>) -> [u6
     ]
 }
 
+/// What each of two seats sees after what both write.
+fn sights<L: Ledger + Naming, R: Wait + Abort>(
+    rt: &R,
+    desk: &Desk<Intervals, L>,
+    first: &mut Seat<Intervals, L>,
+    second: &mut Seat<Intervals, L>,
+) -> Result<(), Fail> {
+    let _stamped = desk.insert(rt, first, KEY, 7)?;
+    assert!(rt; told(rt, desk, first)? == Some((1, 1, Status::Live)));
+    let _stamped = desk.insert(rt, second, KEY, 8)?;
+    assert!(rt; told(rt, desk, first)? == Some((2, 2, Status::Live)));
+    assert!(rt; waited(rt, desk) == [2, 2, 2]);
+    assert!(rt; stays(rt, desk, second)?);
+    assert!(rt; told(rt, desk, first)? == Some((4, 2, Status::Dead)));
+    Ok(())
+}
+
 fn two_seats<L: Ledger + Naming, R: Wait + Abort>(
     rt: &R,
     alloc: Global,
@@ -79,14 +96,7 @@ fn two_seats<L: Ledger + Naming, R: Wait + Abort>(
 {
     let (desk, mut seats) = Desk::<Intervals, L>::new(alloc, blank, history, CONFIG, 2)?;
     let (firsts, seconds) = seats.split_at_mut(1);
-    let _stamped = desk.insert(rt, &mut firsts[0], KEY, 7)?;
-    assert!(rt; told(rt, &desk, &mut firsts[0])? == Some((1, 1, Status::Live)));
-    let _stamped = desk.insert(rt, &mut seconds[0], KEY, 8)?;
-    assert!(rt; told(rt, &desk, &mut firsts[0])? == Some((2, 2, Status::Live)));
-    assert!(rt; waited(rt, &desk) == [2, 2, 2]);
-    assert!(rt; stays(rt, &desk, &mut seconds[0])?);
-    assert!(rt; told(rt, &desk, &mut firsts[0])? == Some((4, 2, Status::Dead)));
-    Ok(())
+    sights(rt, &desk, &mut firsts[0], &mut seconds[0])
 }
 
 #[test]

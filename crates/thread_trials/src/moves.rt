@@ -24,6 +24,30 @@ pub const CONFIG: Config = Config {
     commits: 16_777_216,
 };
 
+/// What each of two seats is answered that move one row.
+fn answers<L: Ledger + Naming, R: Wait + Abort>(
+    rt: &R,
+    desk: &Desk<Intervals, L>,
+    first: &mut Seat<Intervals, L>,
+    second: &mut Seat<Intervals, L>,
+) -> Result<(), Fail> {
+    let inserted = desk.insert(rt, first, Interval::new(1, 2)?, 7)?;
+    assert_eq!(rt; inserted.number(), 1);
+    let key = Interval::new(3, 4)?;
+    assert_eq!(rt;
+        desk.move_row(rt, second, 9, key).err(),
+        Some(Refusal::NoSuchRow)
+    );
+    let moved = desk.move_row(rt, second, 1, key)?;
+    assert!(rt; moved.number() == 2 && moved.seat() == 2);
+    assert_eq!(rt;
+        desk.move_row(rt, first, 1, key).err(),
+        Some(Refusal::AlreadyDeleted)
+    );
+    assert_eq!(rt; (first.share(), second.share()), (1, 1));
+    Ok(())
+}
+
 /// A desk of two seats that both try to move one row; one of them does.
 fn two_seats<L: Ledger + Naming, R: Wait + Abort>(
     rt: &R,
@@ -37,20 +61,8 @@ fn two_seats<L: Ledger + Naming, R: Wait + Abort>(
     requires two { blank.parts ≡ 2 }
 {
     let (desk, mut seats) = Desk::<Intervals, L>::new(alloc, blank, history, CONFIG, 2)?;
-    let inserted = desk.insert(rt, &mut seats[0], Interval::new(1, 2)?, 7)?;
-    assert_eq!(rt; inserted.number(), 1);
-    let key = Interval::new(3, 4)?;
-    assert_eq!(rt;
-        desk.move_row(rt, &mut seats[1], 9, key).err(),
-        Some(Refusal::NoSuchRow)
-    );
-    let moved = desk.move_row(rt, &mut seats[1], 1, key)?;
-    assert!(rt; moved.number() == 2 && moved.seat() == 2);
-    assert_eq!(rt;
-        desk.move_row(rt, &mut seats[0], 1, key).err(),
-        Some(Refusal::AlreadyDeleted)
-    );
-    assert_eq!(rt; (seats[0].share(), seats[1].share()), (1, 1));
+    let (firsts, seconds) = seats.split_at_mut(1);
+    answers(rt, &desk, &mut firsts[0], &mut seconds[0])?;
     match desk.finish(rt, seats) {
         Finished::Closing(closing) => assert_eq!(rt; closing.sum(), 2),
         _ => assert!(rt; false, "the seats fit"),
@@ -144,7 +156,7 @@ impl<'d, L: Ledger + Naming> Clients<
 }
 
 /// Lets writers write while two readers follow, each in a thread of its own.
-pub fn at_once<D, W, T, I, R>(
+fn at_once<D, W, T, I, R>(
     rt: &R,
     desk: &D,
     seats: &mut [W],
@@ -195,41 +207,65 @@ pub fn reading<'d, L: Ledger + Naming, R: Wait>(
     }
 }
 
-/// Lets four clients write while two others follow, one through a ring of two and one through a large ring.
-fn write_and_follow<L: Ledger + Naming + Send + Sync, R: Threads + Wait + Abort + Sync>(
+/// Lets four clients write while a fifth follows two cursors, and gives what each cursor gave up to a mark.
+pub fn follow_both<'d, L: Ledger + Naming + Send + Sync, R: Threads + Wait + Abort + Sync>(
     rt: &R,
     alloc: Global,
-    desk: &Desk<Intervals, L>,
+    desk: &'d Desk<Intervals, L>,
     seats: &mut [Seat<Intervals, L>],
-) -> Result<(Reading<Interval>, Reading<Interval>), Fail> {
-    let Some(seat) = seats.get_mut(4) else {
-        return Err(Refusal::BadConfig.into());
-    };
-    let mut narrow = desk.open_cursor(rt, seat, all(), 2)?;
-    let mut wide = desk.open_cursor(rt, seat, all(), 4_096)?;
-    let mut taken = Vec::new(alloc);
-    let mut others = Vec::new(alloc);
+    first: Taker<'d, Intervals, L>,
+    second: Taker<'d, Intervals, L>,
+) -> Result<(Reading<Interval>, Reading<Interval>), Refusal> {
+    if seats.len() < 5 {
+        return Err(Refusal::BadConfig);
+    }
+    let (mut first, mut second) = (first, second);
+    let (mut taken, mut others) = (Vec::new(alloc), Vec::new(alloc));
     let (writers, readers) = seats.split_at_mut(4);
     at_once(
         rt,
         desk,
         writers,
-        (&mut narrow, &mut taken),
-        (&mut wide, &mut others),
+        (&mut first, &mut taken),
+        (&mut second, &mut others),
     );
-    let first = reading(rt, desk, &mut readers[0], narrow, taken);
-    let second = reading(rt, desk, &mut readers[0], wide, others);
+    let first = reading(rt, desk, &mut readers[0], first, taken);
+    let second = reading(rt, desk, &mut readers[0], second, others);
     Ok((first, second))
 }
 
+/// Lets four clients write while a fifth follows two cursors, one through a ring of two and one through a large ring.
+fn write_and_follow<L: Ledger + Naming + Send + Sync, R: Threads + Wait + Abort + Sync>(
+    rt: &R,
+    alloc: Global,
+    desk: &Desk<Intervals, L>,
+    seats: &mut [Seat<Intervals, L>],
+) -> Result<(Reading<Interval>, Reading<Interval>), Refusal> {
+    let Some(seat) = seats.get_mut(4) else {
+        return Err(Refusal::BadConfig);
+    };
+    let narrow = desk.open_cursor(rt, seat, all(), 2)?;
+    let wide = desk.open_cursor(rt, seat, all(), 4_096)?;
+    follow_both(rt, alloc, desk, seats, narrow, wide)
+}
+
 /// Whether a reader took a listing of all commits.
-pub fn is_whole(
+fn is_whole(
     alloc: Global,
     commits: &ChangeList<Interval>,
     reading: &Reading<Interval>,
 ) -> Result<bool, Refusal> {
     let verdict = judged::<Intervals>(alloc, commits.as_view(), &all(), reading)?;
     Ok(verdict == Verdict::Whole)
+}
+
+/// Whether two readers took listings of all commits.
+pub fn are_whole(
+    alloc: Global,
+    commits: &ChangeList<Interval>,
+    readings: &(Reading<Interval>, Reading<Interval>),
+) -> Result<bool, Refusal> {
+    Ok(is_whole(alloc, commits, &readings.0)? && is_whole(alloc, commits, &readings.1)?)
 }
 
 fn five_seats<L: Ledger + Naming + Send + Sync, R: Threads + Wait + Abort + Sync>(
@@ -244,12 +280,11 @@ fn five_seats<L: Ledger + Naming + Send + Sync, R: Threads + Wait + Abort + Sync
     requires five { blank.parts ≡ 5 }
 {
     let (desk, mut seats) = Desk::<Intervals, L>::new(alloc, blank, history, CONFIG, 5)?;
-    let (first, second) = write_and_follow(rt, alloc, &desk, seats.as_mut_slice())?;
+    let readings = write_and_follow(rt, alloc, &desk, seats.as_mut_slice())?;
     match desk.finish(rt, seats) {
         Finished::Closing(closing) => {
             assert!(rt; closing.sum() == 1_200);
-            assert!(rt; is_whole(alloc, closing.commits(), &first)?);
-            assert!(rt; is_whole(alloc, closing.commits(), &second)?);
+            assert!(rt; are_whole(alloc, closing.commits(), &readings)?);
         }
         _ => assert!(rt; false, "the seats fit"),
     }

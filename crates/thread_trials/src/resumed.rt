@@ -1,6 +1,6 @@
 ghost use Rattle.std.specs.Prelude.{◌≡◌};
 
-use crate::moves::{CONFIG, Clients, at_once, is_whole, reading};
+use crate::moves::{CONFIG, are_whole, follow_both, reading};
 use change_list::{Item, Write};
 use desk::{Desk, Ended, Finished, Seat, Taker};
 use history::{BlankHistory, Naming};
@@ -172,21 +172,15 @@ fn write_and_resume<L: Ledger + Naming + Send + Sync, R: Threads + Wait + Abort 
     let Some(mark) = last_mark(&before) else {
         return Err(Refusal::NotHere.into());
     };
-    let mut resumed = desk.open_from(rt, seat, all(), 2, mark)?;
-    let mut whole = desk.open_from(rt, seat, all(), 4_096, 0)?;
-    let mut taken = Vec::new(alloc);
-    let mut others = Vec::new(alloc);
-    let (writers, readers) = seats.split_at_mut(4);
-    at_once(
-        rt,
-        desk,
-        writers,
-        (&mut resumed, &mut taken),
-        (&mut whole, &mut others),
-    );
-    let after = reading(rt, desk, &mut readers[0], resumed, taken);
-    let second = reading(rt, desk, &mut readers[0], whole, others);
+    let resumed = desk.open_from(rt, seat, all(), 2, mark)?;
+    let whole = desk.open_from(rt, seat, all(), 4_096, 0)?;
+    let (after, second) = follow_both(rt, alloc, desk, seats, resumed, whole)?;
     Ok((joined(before, after)?, second))
+}
+
+/// Whether both readers have receipts: the one for the changes after the tenth commit, the other for all.
+fn are_received(readings: &(Reading<Interval>, Reading<Interval>)) -> bool {
+    is_received(&readings.0.ended, 10) && is_received(&readings.1.ended, 0)
 }
 
 fn five_seats<L: Ledger + Naming + Send + Sync, R: Threads + Wait + Abort + Sync>(
@@ -201,13 +195,12 @@ fn five_seats<L: Ledger + Naming + Send + Sync, R: Threads + Wait + Abort + Sync
     requires five { blank.parts ≡ 5 }
 {
     let (desk, mut seats) = Desk::<Intervals, L>::new(alloc, blank, history, CONFIG, 5)?;
-    let (first, second) = write_and_resume(rt, alloc, &desk, seats.as_mut_slice())?;
-    assert!(rt; is_received(&first.ended, 10) && is_received(&second.ended, 0));
+    let readings = write_and_resume(rt, alloc, &desk, seats.as_mut_slice())?;
+    assert!(rt; are_received(&readings));
     match desk.finish(rt, seats) {
         Finished::Closing(closing) => {
             assert!(rt; closing.sum() == 1_210);
-            assert!(rt; is_whole(alloc, closing.commits(), &first)?);
-            assert!(rt; is_whole(alloc, closing.commits(), &second)?);
+            assert!(rt; are_whole(alloc, closing.commits(), &readings)?);
         }
         _ => assert!(rt; false, "the seats fit"),
     }
