@@ -361,6 +361,32 @@ where
     if !limits.is_within() {
         return Err(Refusal::BadConfig);
     }
+    storm_within::<L, R>(rt, alloc, blank, history, limits)
+}
+
+/// The same, of numbers that are all in range.
+fn storm_within<L, R>(
+    rt: &R,
+    alloc: Global,
+    blank: Blank,
+    history: BlankHistory<Write<Interval>>,
+    limits: Limits,
+) -> Result<Outcome, Refusal>
+where
+    L: Ledger + Naming + Send + Sync,
+    R: Threads + Wait + Clock + Sync,
+    requires name { blank.name ≡ L.name }
+    requires parts { blank.parts ≡ L.parts }
+    requires history { history ≡ L.history }
+    requires one_each { blank.parts ≡ limits.writers + limits.readers + limits.lookers
+        + hosts_of limits }
+    requires within { IsStorm limits }
+    ensures told { IfOk result IsTrueOutcome }
+    ensures seats { IfOk result
+        (λ o. length o.stamps.items
+        ≡ limits.writers + limits.readers + limits.lookers + hosts_of limits) }
+    ensures refusals { IfErr result (λ why. why ≡ Refusal.OutOfMemory) }
+{
     let (desk, mut writers) = Desk::<Intervals, L>::new(
         alloc,
         blank,

@@ -1,15 +1,11 @@
-use Rattle.std.proofs.Common.{◌≡◌, ◌++◌, ℕ, IsTrue, List, length, take, drop, arith, length-append, length-drop, length-take}
-use Rattle.storm.proofs.outcome.run_storm.Goals as goal
+use Rattle.std.proofs.Common.{◌≡◌, ◌++◌, ℕ, List, length, take, drop, arith, length-append, length-drop, length-take}
+use Rattle.std.proofs.lemmas.Result.{IfOk-weaker}
+use Rattle.storm.proofs.outcome.storm_within.Goals as goal
 
 -- a vector whose elements were all lent out has as many when they are back
 back : {X : Type 0} (len : ℕ) (lent kept : List X) → length lent ≡ len → length kept ≡ len → length (take len (lent ++ drop (length lent) kept)) ≡ len
 back len lent kept lent_all kept_all =
     omega (arith, length-take len (lent ++ drop (length lent) kept), length-append lent (drop (length lent) kept), length-drop (length lent) kept)
-
-pub run_all-requires-after_bounds : goal.run_all-requires-after_bounds
-run_all-requires-after_bounds g c κs lives =
-    let within : IsTrue c.is_within.result = cc c.if-not-is_within.false in
-    c.is_within.ensures.0 within
 
 pub outcome_of-requires : goal.outcome_of-requires
 outcome_of-requires g c =
@@ -23,3 +19,8 @@ outcome_of-requires g c =
     let lookers = back c.in-Ok-lookers_of.lookers.len c.run_all.new.lookers c.in-Ok-lookers_of.lookers.items (omega (arith, c.run_all.auto.lookers, c.as_mut_slice-3.ensures.len)) (omega arith) in
     let hosts = back c.in-Ok-hosts_over.hosts.len c.run_all.new.hosts c.in-Ok-hosts_over.hosts.items (omega (arith, c.run_all.auto.hosts, c.as_mut_slice-4.ensures.len)) (omega arith) in
     omega (arith, grown, writers, readers, lookers, hosts, first.len, first.tail_len, second.len, second.tail_len, third.len, third.tail_len, c.in-Ok-readers_of.ensures, c.in-Ok-lookers_of.ensures, c.in-Ok-hosts_over.ensures, desk.desk, desk.seats, c.seats.ensures)
+
+pub returns-clause-seats : goal.returns-clause-seats
+returns-clause-seats g c =
+    let desk = c.in_ok-desk.ensures in
+    IfOk-weaker c.outcome_of.result _ _ (λ o count. omega (arith, count, desk.desk, desk.seats, c.seats.ensures)) c.outcome_of.ensures.seats
