@@ -66,6 +66,9 @@ impl<K: Key> Renewal<K> {
     /// # Errors
     /// [`Error::CommitsFull`] and [`Error::PagesFull`] where the limits are too small; [`Error::OutOfMemory`]. The commits
     /// before the one that is refused were repeated, and the next call goes on with that one.
+    ///
+    /// # Panics
+    /// If the snapshot is of another store and ends a row that this one never had.
     pub fn catch_up(&mut self, now: &Snapshot<K>) -> Result<u64, Error> {
         let from = self.upto;
         for change in (from + 1..=now.commits()).filter_map(|number| now.commit(number)) {
@@ -97,6 +100,9 @@ impl<K: Key> Renewal<K> {
     ///
     /// # Errors
     /// As [`Renewal::catch_up`]; the store is as before then.
+    ///
+    /// # Panics
+    /// As [`Renewal::catch_up`].
     pub fn finish(mut self, store: &mut Store<K>) -> Result<Replaced<K>, Error> {
         self.catch_up(&store.snapshot()?)?;
         Ok(Replaced {
