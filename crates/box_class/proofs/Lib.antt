@@ -1,3 +1,5 @@
 pub mod Bounds
-pub mod Narrow
+mod Columns
+mod Compared
+mod Narrow
 pub mod Places

@@ -4,7 +4,7 @@ ghost use Rattle.key_class.specs.Rules.{satisfies};
 ghost use Rattle.change_list.specs.Records.{is_unasked, origin_of, write_of};
 
 use crate::write::Write;
-use key_class::{KeyClass, Pred};
+use key_class::{Columned, KeyClass, Pred};
 
 /// A commit as a list stores it.
 ///
@@ -30,17 +30,7 @@ impl<K: Copy> Recorded<K> {
         }
     }
 
-    /// Whether the commit inserts a key that the query doesn't ask for, so that it has no item.
-    pub(crate) fn is_unasked<C: KeyClass<Key = K>>(&self, query: &Pred<C::Atom>) -> bool
-        ensures { result ≡ is_unasked (satisfies C.rules (query_of query.now)) self.now }
-    {
-        match self {
-            Recorded::Insert(key, _) => !query.matches::<C>(*key),
-            Recorded::Delete(_) | Recorded::Move(_, _, _) => false,
-        }
-    }
-
-    /// The number of the insert from which the commit's row descends by moves; `number` is the commit's own.
+    /// The number of the insert with which the moves of its row began; `number` is that of the commit.
     pub(crate) fn origin(self, number: u32) -> u32
         ensures { result ≡ origin_of number self }
     {
@@ -48,6 +38,18 @@ impl<K: Copy> Recorded<K> {
             Recorded::Insert(_, _) => number,
             Recorded::Delete(_) => number,
             Recorded::Move(_, _, origin) => origin,
+        }
+    }
+}
+
+impl<K: Columned> Recorded<K> {
+    /// Whether the commit inserts a key that isn't asked for, so that it has no item.
+    pub(crate) fn is_unasked<C: KeyClass<Key = K>>(&self, query: &Pred<C::Atom>) -> bool
+        ensures { result ≡ is_unasked (satisfies C.rules (query_of query.now)) self.now }
+    {
+        match self {
+            Recorded::Insert(key, _) => !query.matches::<C>(*key),
+            Recorded::Delete(_) | Recorded::Move(_, _, _) => false,
         }
     }
 }

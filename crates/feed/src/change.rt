@@ -5,7 +5,7 @@ ghost use Rattle.change_list.specs.Changes.{moved};
 ghost use Rattle.feed.specs.Changing.{IsChangeOf, TellsItem, asked_row};
 
 use change_list::{Item, Row, Write};
-use key_class::{KeyClass, Pred};
+use key_class::{Columned, KeyClass, Pred};
 use snapshot::Snapshot;
 
 /// What a commit changes, read once for all the queries that it may concern.
@@ -19,7 +19,7 @@ pub(crate) struct Change<K> {
     pub(crate) made: Option<Row<K>>,
 }
 
-impl<K: Copy> Change<K> {
+impl<K: Columned> Change<K> {
     /// What commit `place + 1` changes.
     pub(crate) fn at<C: KeyClass<Key = K>>(snapshot: &Snapshot<C>, place: u64) -> Change<K>
         requires { place < length snapshot.now }

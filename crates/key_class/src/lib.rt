@@ -1,6 +1,8 @@
 //! What a class of keys is: its calls, what they mean, and the laws that hold of them.
 #![tactic(auto)]
 
+mod bits;
+mod block;
 mod class;
 mod grouping;
 pub mod limits;
@@ -8,6 +10,8 @@ mod pred;
 mod refusal;
 mod sides;
 
+pub use bits::eight_bits;
+pub use block::{Block, Columned};
 pub use class::KeyClass;
 pub use grouping::Grouping;
 pub use pred::{Pred, bounds_miss_no_match};

@@ -8,7 +8,7 @@ ghost use Rattle.change_list.specs.Asked.{snapshot_for};
 
 use crate::sameness::is_same_row;
 use change_list::{Item, Row, View, Write};
-use key_class::{KeyClass, Pred, Refusal};
+use key_class::{Columned, KeyClass, Pred, Refusal};
 use std::alloc::Global;
 use std::marker::Model;
 
@@ -31,7 +31,7 @@ impl<K> Model for Remaining<K> {
     ghost invariant = { λ remaining. IsPlaced remaining.slots.items };
 }
 
-impl<K: Copy> Remaining<K> {
+impl<K: Columned> Remaining<K> {
     /// Takes a row, if it remains.
     #[tactic(auto, using(crate::proofs::Slots::taken, crate::proofs::Slots::stands_placed, crate::proofs::Slots::placed_set))]
     pub(crate) fn take<C: KeyClass<Key = K>>(&mut self, row: Row<K>) -> bool

@@ -1,1 +1,2 @@
 pub mod PartEnds
+mod Zipped

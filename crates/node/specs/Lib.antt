@@ -1,3 +1,4 @@
 pub mod Changes
+pub mod EntryBlocks
 pub mod Pages
 pub mod Parts

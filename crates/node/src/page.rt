@@ -5,47 +5,56 @@ ghost use Rattle.node.specs.Parts.{cover_of};
 ghost use Rattle.node.specs.Changes.{split_left, split_right, post_child, post_sibling, grown_left, grown_right, risen, enlarge_parent, enlarge_child, with_rows, with_row, naming_both};
 
 use crate::branch::Branch;
+use crate::branch_block::BranchBlock;
 use crate::parts::{
-    add, add_branch, bury, copied, join_branches, join_rows, keep_left, left_entries, rekey,
-    reserve_one, right_entries, sweep, widen,
+    add_branch, bury, join_branches, join_rows, keep_left, left_entries, rekey, right_entries,
+    sweep, widen,
 };
-use key_class::{KeyClass, Sides};
+use crate::row_block::RowBlock;
+use blocks::Blocks;
+use key_class::{Columned, KeyClass, Sides};
 use row_version::Entry;
 use std::alloc::{AllocError, Global};
 use std::marker::Model;
+
+/// The rows of a leaf, seen as a list of entries.
+pub type Rows<K> = Blocks<Entry<K>, RowBlock<<K as Columned>::Block>>;
+
+/// The branches of an inner page, seen as a list of them.
+pub type Branches<K> = Blocks<Branch<K>, BranchBlock<<K as Columned>::Block>>;
 
 /// A page of the tree: a leaf, of level 0, holds rows, and an inner page branches.
 ///
 /// At most one of its two lists has memory.
 #[derive(Drop)]
-pub struct Page<K> {
+pub struct Page<K: Columned> {
     level: u32,
     nsn: u32,
     right: Option<u32>,
     owed: bool,
     hung: bool,
-    rows: Vec<Entry<K>>,
-    branches: Vec<Branch<K>>,
+    rows: Rows<K>,
+    branches: Branches<K>,
     cover: Option<K>,
 }
 
-impl<K> Model for Page<K> {
+impl<K: Columned> Model for Page<K> {
     ghost use Rattle.node.specs.Pages as model;
 
     ghost Value = { model.Page K };
 
-    ghost view = { λ p. record { level = p.level; nsn = p.nsn; right = p.right; owed = p.owed; hung = p.hung; cover = p.cover; rows = p.rows.items; branches = p.branches.items } };
+    ghost view = { λ p. record { level = p.level; nsn = p.nsn; right = p.right; owed = p.owed; hung = p.hung; cover = p.cover; rows = p.rows; branches = p.branches } };
 }
 
-impl<K> Page<K> {
-    /// An empty leaf with room for `fan` rows.
+impl<K: Columned> Page<K> {
+    /// A leaf with nothing in it, and with room for `fan` rows.
     ///
     /// # Errors
     /// Memory ran out.
     pub fn leaf(alloc: Global, fan: usize) -> Result<Page<K>, AllocError>
         ensures { IfOk result (λ page. page ≡ empty_leaf) }
     {
-        let rows = Vec::with_capacity(alloc, fan)?;
+        let rows = Blocks::with_capacity(alloc, fan)?;
         Ok(Page {
             level: 0,
             nsn: 0,
@@ -53,7 +62,7 @@ impl<K> Page<K> {
             owed: false,
             hung: true,
             rows,
-            branches: Vec::new(alloc),
+            branches: Blocks::new(alloc),
             cover: None,
         })
     }
@@ -93,13 +102,13 @@ impl<K> Page<K> {
         self.hung
     }
 
-    pub fn rows(&self) -> &[Entry<K>]
+    pub fn rows(&self) -> &Rows<K>
         ensures { result.now ≡ self.now.rows }
     {
         &self.rows
     }
 
-    pub fn branches(&self) -> &[Branch<K>]
+    pub fn branches(&self) -> &Branches<K>
         ensures { result.now ≡ self.now.branches }
     {
         &self.branches
@@ -120,21 +129,29 @@ impl<K> Page<K> {
     pub fn has_unneeded(&self, horizon: u32) -> bool
         ensures { result ≡ has_unneeded horizon self.now }
     {
-        self.rows.iter().any(|entry| !entry.is_needed(horizon))
+        for place in 0..self.rows.len() {
+            if !self.rows.get(place).is_needed(horizon) {
+                return true;
+            }
+        }
+        false
     }
 
     /// Whether a branch leads to the child.
     pub fn names(&self, child: u64) -> bool
         ensures { result ≡ names child self.now }
     {
-        self.branches
-            .iter()
-            .any(|branch| u64::from(branch.child) == child)
+        for place in 0..self.branches.len() {
+            if u64::from(self.branches.get(place).child) == child {
+                return true;
+            }
+        }
+        false
     }
 }
 
-impl<K: Copy> Page<K> {
-    /// A bound of everything that it holds; none for page 0.
+impl<K: Columned> Page<K> {
+    /// A bound of all that it holds, none for page 0.
     pub fn cover(&self) -> Option<K>
         ensures { result ≡ self.now.cover }
     {
@@ -167,7 +184,7 @@ impl<K: Copy> Page<K> {
         ensures placed { OnOk result (self.new ≡ with_row self.old entry) }
         ensures unchanged { OnErr result (self.new ≡ self.old) }
     {
-        add(&mut self.rows, entry)
+        self.rows.push(entry)
     }
 
     /// Marks the row as ended by that commit. Commits count from 1.
@@ -274,13 +291,13 @@ impl<K: Copy> Page<K> {
         Ok(lower)
     }
 
-    /// Makes this page a root that has grown: one level higher, with these branches instead of its entries.
-    pub fn rise(&mut self, alloc: Global, branches: Vec<Branch<K>>)
+    /// A root that has grown: one level higher, with those branches in place of its entries.
+    pub fn rise(&mut self, alloc: Global, branches: Branches<K>)
         requires { self.old.level + 1 < 2 ^ 32 }
-        ensures { self.new ≡ risen self.old branches.items }
+        ensures { self.new ≡ risen self.old branches }
     {
         self.level += 1;
-        self.rows = Vec::new(alloc);
+        self.rows = Blocks::new(alloc);
         self.branches = branches;
     }
 
@@ -312,14 +329,14 @@ impl<K: Copy> Page<K> {
         ensures named { OnOk result (self.new ≡ naming_both self.old child sibling) }
         ensures unchanged { OnErr result (self.new ≡ self.old) }
     {
-        reserve_one(&mut self.branches)?;
-        rekey(&mut self.branches, child.0, child.1);
-        add_branch(&mut self.branches, sibling.0, sibling.1);
+        let count = self.branches.len();
+        add_branch(&mut self.branches, sibling.0, sibling.1)?;
+        rekey(&mut self.branches, count, child.0, child.1);
         Ok(())
     }
 }
 
-impl<K: Copy> Clone for Page<K> {
+impl<K: Columned> Clone for Page<K> {
     ghost is_clone = { λ page copy. copy ≡ page };
 
     /// A copy of the page, with the same room.
@@ -330,15 +347,15 @@ impl<K: Copy> Clone for Page<K> {
             right: self.right,
             owed: self.owed,
             hung: self.hung,
-            rows: copied(&self.rows)?,
-            branches: copied(&self.branches)?,
+            rows: self.rows.copied()?,
+            branches: self.branches.copied()?,
             cover: self.cover,
         })
     }
 }
 
-impl<K> Page<K> {
-    /// Marks the page as owing nothing any more, with the number of the posting.
+impl<K: Columned> Page<K> {
+    /// Owes nothing any more, and has the number of the posting.
     pub fn settle(&mut self, nsn: u32)
         ensures { self.new ≡ post_child self.old nsn }
     {
@@ -355,7 +372,7 @@ impl<K> Page<K> {
 }
 
 /// The union of all keys.
-fn cover_of<C: KeyClass>(rows: &[Entry<C::Key>], branches: &[Branch<C::Key>]) -> Option<C::Key>
+fn cover_of<C: KeyClass>(rows: &Rows<C::Key>, branches: &Branches<C::Key>) -> Option<C::Key>
     ensures { result ≡ cover_of C.rules.union_of (keys_of rows.now branches.now) }
 {
     let bound = join_rows::<C>(None, rows);

@@ -1,9 +1,10 @@
 -- A table's pages by number, through its chunks.
-use Rattle.std.proofs.Common.{◌≡◌, ◌≢◌, ℕ, zero, suc, ◌+◌, ◌*◌, ◌/◌, ◌%◌, ◌<◌, ◌≤◌, List, [], ◌∷◌, ◌++◌, All, length, take, drop, set, get_or, refl, sym, subst, ap, ap₂, ◌∙◌, append_assoc, arith}
+use Rattle.std.proofs.Common.{◌≡◌, ◌≢◌, ℕ, zero, suc, ◌+◌, ◌*◌, ◌/◌, ◌%◌, ◌<◌, ◌≤◌, List, [], ◌∷◌, ◌++◌, All, length, take, drop, set, get_or, refl, sym, subst, ap, ap₂, ◌∙◌, append_assoc, arith, ◌-◌}
 use Rattle.std.proofs.lemmas.List.{append-nil, drop_all, take_all, length-append, get_or-take, get_or_append_left, take-append-le, take-set-le, take_more_set, length-take-le}
 use Rattle.std.proofs.lemmas.List.Elements.{All-nil, All-cons, All-append}
 use Rattle.std.proofs.Math.Seq.{take-set-lt}
 use Rattle.std.specs.Prelude.{Result, Ok, Err, OnErr}
+use Rattle.std.proofs.Math.Seq.{take-append_seam}
 use Rattle.node.specs.Pages.{Page}
 use Rattle.node.specs.Changes.{post_parent, post_child, post_sibling, post_up}
 use Rattle.page_table.specs.Chunks.{ArePlaces, Becomes, Chunk1024, HasPlaces, IsFull1024, IsFull16, IsPage, PutsNext, StaysTo, alone, both_changed, first_pages, joined, pages_of_1024, pages_of_16, put_in, three_changed}
@@ -34,47 +35,47 @@ module _ {K : Type 0} where
   abbrev pub put_16 : List (Page K) → ℕ → Page K → List (Page K)
   put_16 chunk i page = put_in (λ old j new. new) no_page 1 chunk i page
 
-  abbrev pub put_1024 : Chunk1024 K → ℕ → Page K → Chunk1024 K
+  abbrev pub put_1024 : Chunk1024 (Page K) → ℕ → Page K → Chunk1024 (Page K)
   put_1024 chunk i page = put_in put_16 [] 16 chunk i page
 
   put_16_becomes : (chunk : List (Page K)) (i : ℕ) (page : Page K) → IsFull16 chunk → i < length (pages_of_16 chunk) → Becomes pages_of_16 IsFull16 (put_16 chunk i page) (set (pages_of_16 chunk) i page)
   put_16_becomes chunk i page full l = put_becomes alone IsPage no_page (λ old j new. new) 1 page_put (λ x j p f m. tt) 16 chunk full i l page
 
-  put_1024_becomes : (chunk : Chunk1024 K) (i : ℕ) (page : Page K) → IsFull1024 chunk → i < length (pages_of_1024 chunk) → Becomes pages_of_1024 IsFull1024 (put_1024 chunk i page) (set (pages_of_1024 chunk) i page)
+  put_1024_becomes : (chunk : Chunk1024 (Page K)) (i : ℕ) (page : Page K) → IsFull1024 chunk → i < length (pages_of_1024 chunk) → Becomes pages_of_1024 IsFull1024 (put_1024 chunk i page) (set (pages_of_1024 chunk) i page)
   put_1024_becomes chunk i page full l =
       put_becomes pages_of_16 IsFull16 [] put_16 16 (λ x j p f m. (put_16_becomes x j p f m).pages) (λ x j p f m. (put_16_becomes x j p f m).full) 64 chunk full i l page
 
   -- all pages of the chunks, those behind the last too
-  abbrev pub all_of : List (Chunk1024 K) → List (Page K)
+  abbrev pub all_of : List (Chunk1024 (Page K)) → List (Page K)
   all_of chunks = joined pages_of_1024 chunks
 
   -- the chunks after a change
-  abbrev pub ChunksBecome : List (Chunk1024 K) → List (Chunk1024 K) → List (Page K) → Type 0
+  abbrev pub ChunksBecome : List (Chunk1024 (Page K)) → List (Chunk1024 (Page K)) → List (Page K) → Type 0
   ChunksBecome old new after = Becomes (joined pages_of_1024) (ArePlaces pages_of_1024 IsFull1024 1024 (length old)) new after
 
-  all_length : (chunks : List (Chunk1024 K)) (n : ℕ) → HasPlaces chunks n → length (all_of chunks) ≡ length chunks * 1024
+  all_length : (chunks : List (Chunk1024 (Page K))) (n : ℕ) → HasPlaces chunks n → length (all_of chunks) ≡ length chunks * 1024
   all_length chunks n has = joined_length pages_of_1024 1024 chunks has.full.sizes
 
-  pub in_all : {chunks : List (Chunk1024 K)} {n : ℕ} (has : HasPlaces chunks n) {i : ℕ} → i < n → i < length (all_of chunks)
+  pub in_all : {chunks : List (Chunk1024 (Page K))} {n : ℕ} (has : HasPlaces chunks n) {i : ℕ} → i < n → i < length (all_of chunks)
   in_all {chunks = chunks} {n = n} has l = omega (arith, l, has.enough, all_length chunks n has)
 
-  pub still_places : {old new : List (Chunk1024 K)} {n : ℕ} {after : List (Page K)} → HasPlaces old n → ChunksBecome old new after → HasPlaces new n
+  pub still_places : {old new : List (Chunk1024 (Page K))} {n : ℕ} {after : List (Page K)} → HasPlaces old n → ChunksBecome old new after → HasPlaces new n
   still_places has becomes = record {
     full = record { count = refl; each = becomes.full.each; sizes = becomes.full.sizes };
     enough = omega (arith, has.enough, becomes.full.count);
   }
 
-  pub fewer : {chunks : List (Chunk1024 K)} {n : ℕ} (m : ℕ) → HasPlaces chunks n → m ≤ n → HasPlaces chunks m
+  pub fewer : {chunks : List (Chunk1024 (Page K))} {n : ℕ} (m : ℕ) → HasPlaces chunks n → m ≤ n → HasPlaces chunks m
   fewer m has h = record { full = has.full; enough = omega (arith, h, has.enough) }
 
-  take-shorter : (chunks : List (Chunk1024 K)) (n m : ℕ) → n ≤ m → take n (first_pages m chunks) ≡ first_pages n chunks
+  take-shorter : (chunks : List (Chunk1024 (Page K))) (n m : ℕ) → n ≤ m → take n (first_pages m chunks) ≡ first_pages n chunks
   take-shorter chunks n m h = take_prefix n m (all_of chunks) h
 
-  first_length : {chunks : List (Chunk1024 K)} {n : ℕ} → HasPlaces chunks n → length (first_pages n chunks) ≡ n
+  first_length : {chunks : List (Chunk1024 (Page K))} {n : ℕ} → HasPlaces chunks n → length (first_pages n chunks) ≡ n
   first_length {chunks = chunks} {n = n} has = length-take-le n (all_of chunks) (omega (arith, has.enough, all_length chunks n has))
 
   -- a page of a chunk is put, where the chunk was read
-  pub page_becomes : {chunks : List (Chunk1024 K)} {n : ℕ} (has : HasPlaces chunks n) {i : ℕ} → i < n → (x : Chunk1024 K) → x ≡ get_or chunks (i / 1024) x → (page : Page K)
+  pub page_becomes : {chunks : List (Chunk1024 (Page K))} {n : ℕ} (has : HasPlaces chunks n) {i : ℕ} → i < n → (x : Chunk1024 (Page K)) → x ≡ get_or chunks (i / 1024) x → (page : Page K)
       → ChunksBecome chunks (set chunks (i / 1024) (put_1024 x (i % 1024) page)) (set (all_of chunks) i page)
   page_becomes {chunks = chunks} {n = n} has {i = i} l x e page =
       let m = in_all has l in
@@ -82,13 +83,13 @@ module _ {K : Type 0} where
       record { full = put_places has.full m x e (put_1024 x (i % 1024) page) page becomes; pages = put_pages has.full m x e (put_1024 x (i % 1024) page) page becomes }
 
   -- the tree of some chunks
-  abbrev pub tree_of : ℕ → List (Chunk1024 K) → ℕ → Tree K
+  abbrev pub tree_of : ℕ → List (Chunk1024 (Page K)) → ℕ → Tree K
   tree_of n chunks k = record { pages = first_pages n chunks; counter = k }
 
   abbrev with_pages : ℕ → List (Page K) → Tree K
   with_pages k pages = record { pages = pages; counter = k }
 
-  module _ {chunks : List (Chunk1024 K)} {n k : ℕ} {t : Tree K} (has : HasPlaces chunks n) (is : tree_of n chunks k ≡ t) where
+  module _ {chunks : List (Chunk1024 (Page K))} {n k : ℕ} {t : Tree K} (has : HasPlaces chunks n) (is : tree_of n chunks k ≡ t) where
     pub count_is : n ≡ length t.pages
     count_is = sym (first_length has) ∙ ap (λ s. length s.pages) is
 
@@ -99,22 +100,22 @@ module _ {K : Type 0} where
     all_at {i = i} l = sym (get_or-take n (all_of chunks) i no_page (within l)) ∙ ap (λ s. page_at s i) is
 
     -- a page that was read from its chunk
-    pub read_page : {i : ℕ} → i < length t.pages → (x : Chunk1024 K) → x ≡ get_or chunks (i / 1024) x → get_or (pages_of_1024 x) (i % 1024) no_page ≡ page_at t i
+    pub read_page : {i : ℕ} → i < length t.pages → (x : Chunk1024 (Page K)) → x ≡ get_or chunks (i / 1024) x → get_or (pages_of_1024 x) (i % 1024) no_page ≡ page_at t i
     read_page l x e = page_is has.full (in_all has (within l)) x e no_page ∙ all_at l
 
-    pub put_tree : {new : List (Chunk1024 K)} {i : ℕ} (page : Page K) → i < length t.pages → ChunksBecome chunks new (set (all_of chunks) i page) → tree_of n new k ≡ replaced t i page
+    pub put_tree : {new : List (Chunk1024 (Page K))} {i : ℕ} (page : Page K) → i < length t.pages → ChunksBecome chunks new (set (all_of chunks) i page) → tree_of n new k ≡ replaced t i page
     put_tree {new = new} {i = i} page l becomes =
         ap (with_pages k) (ap (take n) becomes.pages ∙ take-set-lt n (all_of chunks) i page (within l)) ∙ ap (λ s. replaced s i page) is
 
     -- a page was written in its chunk
-    pub written : {i : ℕ} → i < length t.pages → (x : Chunk1024 K) → x ≡ get_or chunks (i / 1024) x → (page : Page K) → tree_of n (set chunks (i / 1024) (put_1024 x (i % 1024) page)) k ≡ replaced t i page
+    pub written : {i : ℕ} → i < length t.pages → (x : Chunk1024 (Page K)) → x ≡ get_or chunks (i / 1024) x → (page : Page K) → tree_of n (set chunks (i / 1024) (put_1024 x (i % 1024) page)) k ≡ replaced t i page
     written l x e page = put_tree page l (page_becomes has (within l) x e page)
 
-    pub written_places : {i : ℕ} → i < length t.pages → (x : Chunk1024 K) → x ≡ get_or chunks (i / 1024) x → (page : Page K) → HasPlaces (set chunks (i / 1024) (put_1024 x (i % 1024) page)) n
+    pub written_places : {i : ℕ} → i < length t.pages → (x : Chunk1024 (Page K)) → x ≡ get_or chunks (i / 1024) x → (page : Page K) → HasPlaces (set chunks (i / 1024) (put_1024 x (i % 1024) page)) n
     written_places l x e page = still_places has (page_becomes has (within l) x e page)
 
     -- two pages were changed
-    pub both_tree : (up low : Page K → Page K → Page K) {upper lower : ℕ} → upper < length t.pages → lower < length t.pages → {new : List (Chunk1024 K)} → ChunksBecome chunks new (both_changed up low upper lower (all_of chunks))
+    pub both_tree : (up low : Page K → Page K → Page K) {upper lower : ℕ} → upper < length t.pages → lower < length t.pages → {new : List (Chunk1024 (Page K))} → ChunksBecome chunks new (both_changed no_page up low upper lower (all_of chunks))
         → tree_of n new k ≡ replaced (replaced t lower (low (page_at t upper) (page_at t lower))) upper (up (page_at t upper) (page_at t lower))
     both_tree up low {upper = upper} {lower = lower} lu ll becomes =
         let all = all_of chunks in
@@ -130,7 +131,7 @@ module _ {K : Type 0} where
         ∙ ap (λ c. record { pages = after t.pages (page_at t upper) (page_at t lower); counter = c }) (ap (λ s. s.counter) is)
 
     -- a page was put behind the others
-    module _ {new : List (Chunk1024 K)} {page : Page K} (puts : PutsNext n chunks page new) where
+    module _ {new : List (Chunk1024 (Page K))} {page : Page K} (puts : PutsNext n chunks page new) where
       pub next_tree : tree_of (n + 1) new k ≡ added t page
       next_tree = ap (with_pages k) puts.pages ∙ ap (λ s. added s page) is
 
@@ -139,6 +140,18 @@ module _ {K : Type 0} where
 
       pub next_places : HasPlaces new n
       next_places = fewer n puts.places (omega arith)
+
+  -- the last page is given up
+  pub forgotten : {chunks : List (Chunk1024 (Page K))} {n k : ℕ} {s : Tree K} → HasPlaces chunks n → tree_of n chunks k ≡ s → (t : Tree K) (page : Page K) → s ≡ added t page → tree_of (n - 1) chunks k ≡ t
+  forgotten {chunks = chunks} {n = n} {k = k} has is t page e =
+      let all = ap (λ u. u.pages) (is ∙ e) in
+      let one_less : n - 1 ≡ length t.pages = omega (arith, first_length has, ap length all, length-append t.pages (page ∷ [])) in
+      ap (with_pages k)
+      (sym (take-shorter chunks (n - 1) n (omega arith))
+      ∙ ap (take (n - 1)) all
+      ∙ ap (λ m. take m (t.pages ++ page ∷ [])) one_less
+      ∙ take-append_seam t.pages (page ∷ []))
+      ∙ ap (λ c. with_pages c t.pages) (ap (λ u. u.counter) (is ∙ e))
 
   -- a chunk of one thing in each place
   pub filled_places : {X : Type 0} (pages : X → List (Page K)) (is_full : X → Type 0) (size : ℕ) {x : X} {xs : List X} {n : ℕ} → length xs ≡ n → All (λ y. y ≡ x) xs → is_full x → length (pages x) ≡ size → ArePlaces pages is_full size n xs
@@ -151,12 +164,12 @@ module _ {K : Type 0} where
   pub filled_length : {X : Type 0} {pages : X → List (Page K)} {is_full : X → Type 0} {size n : ℕ} {xs : List X} → ArePlaces pages is_full size n xs → length (joined pages xs) ≡ n * size
   filled_length {pages = pages} {size = size} {xs = xs} are = joined_length pages size xs are.sizes ∙ ap (λ m. m * size) are.count
 
-  joined_push : (chunks : List (Chunk1024 K)) (chunk : Chunk1024 K) → all_of (chunks ++ chunk ∷ []) ≡ all_of chunks ++ pages_of_1024 chunk
+  joined_push : (chunks : List (Chunk1024 (Page K))) (chunk : Chunk1024 (Page K)) → all_of (chunks ++ chunk ∷ []) ≡ all_of chunks ++ pages_of_1024 chunk
   joined_push [] chunk = append-nil (pages_of_1024 chunk)
   joined_push (x ∷ chunks) chunk = ap (λ r. pages_of_1024 x ++ r) (joined_push chunks chunk) ∙ sym (append_assoc (pages_of_1024 x) (all_of chunks) (pages_of_1024 chunk))
 
   -- a chunk more
-  pub stays_longer : {old new : List (Chunk1024 K)} {n : ℕ} {chunk : Chunk1024 K} → HasPlaces old n → IsFull1024 chunk → length (pages_of_1024 chunk) ≡ 1024 → new ≡ old ++ chunk ∷ [] → StaysTo n old new
+  pub stays_longer : {old new : List (Chunk1024 (Page K))} {n : ℕ} {chunk : Chunk1024 (Page K)} → HasPlaces old n → IsFull1024 chunk → length (pages_of_1024 chunk) ≡ 1024 → new ≡ old ++ chunk ∷ [] → StaysTo n old new
   stays_longer {old = old} {n = n} {chunk = chunk} has whole size e = subst (λ cs. StaysTo n old cs) (sym e) (record {
     places = record {
       full = record {
@@ -170,7 +183,7 @@ module _ {K : Type 0} where
   })
 
   -- a page in a place behind those that stay
-  pub puts_next : {old chunks new : List (Chunk1024 K)} {n : ℕ} {shown page : Page K} → StaysTo n old chunks → HasPlaces chunks (n + 1) → ChunksBecome chunks new (set (all_of chunks) n shown) → shown ≡ page → PutsNext n old page new
+  pub puts_next : {old chunks new : List (Chunk1024 (Page K))} {n : ℕ} {shown page : Page K} → StaysTo n old chunks → HasPlaces chunks (n + 1) → ChunksBecome chunks new (set (all_of chunks) n shown) → shown ≡ page → PutsNext n old page new
   puts_next {chunks = chunks} {n = n} {shown = shown} stays has becomes is = record {
     places = still_places has becomes;
     pages =
@@ -181,9 +194,9 @@ module _ {K : Type 0} where
   }
 
   -- a posting
-  pub posting_tree : {chunks new : List (Chunk1024 K)} {n k : ℕ} {t : Tree K} (has : HasPlaces chunks n) (is : tree_of n chunks k ≡ t) {p c s number : ℕ}
+  pub posting_tree : {chunks new : List (Chunk1024 (Page K))} {n k : ℕ} {t : Tree K} (has : HasPlaces chunks n) (is : tree_of n chunks k ≡ t) {p c s number : ℕ}
       → p < length t.pages → c < length t.pages → s < length t.pages → p ≢ s → c ≢ s → number ≡ suc t.counter
-      → ChunksBecome chunks new (three_changed (λ upper lower beside. post_parent upper c lower.cover s beside.cover) (λ upper lower beside. post_child lower number) (λ upper lower beside. post_sibling beside) p c s (all_of chunks))
+      → ChunksBecome chunks new (three_changed no_page (λ upper lower beside. post_parent upper c lower.cover s beside.cover) (λ upper lower beside. post_child lower number) (λ upper lower beside. post_sibling beside) p c s (all_of chunks))
       → tree_of n new number ≡ record { pages = (replaced (replaced (replaced t s (post_sibling (page_at t s))) c (post_child (page_at t c) (suc t.counter))) p (post_up (page_at t p) c (page_at t c) s (page_at t s))).pages; counter = suc t.counter }
   posting_tree {chunks = chunks} {n = n} {k = k} {t = t} has is {p = p} {c = c} {s = s} {number = number} lp lc ls ps cs en posts =
       let all = all_of chunks in
@@ -202,25 +215,25 @@ module _ {K : Type 0} where
       ∙ ap₂ (λ m v. set (set (set t.pages s (post_sibling (page_at t s))) c (post_child (page_at t c) m)) p (up (page_at t p) (page_at t c) v)) en (all_at has is ls))
       ∙ ap (λ m. with_pages m (set (set (set t.pages s (post_sibling (page_at t s))) c (post_child (page_at t c) (suc t.counter))) p (post_parent (page_at t p) c (page_at t c).cover s (page_at t s).cover))) en
 
-  pub same_places : {chunks : List (Chunk1024 K)} {n : ℕ} (q : ℕ) {x : Chunk1024 K} → HasPlaces chunks n → x ≡ get_or chunks q x → HasPlaces (set chunks q x) n
+  pub same_places : {chunks : List (Chunk1024 (Page K))} {n : ℕ} (q : ℕ) {x : Chunk1024 (Page K)} → HasPlaces chunks n → x ≡ get_or chunks q x → HasPlaces (set chunks q x) n
   same_places {chunks = chunks} {n = n} q {x = x} has e = subst (λ cs. HasPlaces cs n) (sym (put_same chunks q x e)) has
 
-  same_tree : (chunks : List (Chunk1024 K)) (n q : ℕ) {k : ℕ} {x : Chunk1024 K} {t : Tree K} → tree_of n chunks k ≡ t → x ≡ get_or chunks q x → tree_of n (set chunks q x) k ≡ t
+  same_tree : (chunks : List (Chunk1024 (Page K))) (n q : ℕ) {k : ℕ} {x : Chunk1024 (Page K)} {t : Tree K} → tree_of n chunks k ≡ t → x ≡ get_or chunks q x → tree_of n (set chunks q x) k ≡ t
   same_tree chunks n q {k = k} {x = x} is e = ap (λ cs. tree_of n cs k) (put_same chunks q x e) ∙ is
 
   -- a page with another in its place, among some with one more
   pub replaced_before : (t : Tree K) (page x : Page K) (i : ℕ) → i < length t.pages → replaced (added t page) i x ≡ added (replaced t i x) page
   replaced_before t page x i l = ap (with_pages t.counter) (set_before t.pages (page ∷ []) i x l)
 
-  page_before : (t : Tree K) (page : Page K) (i : ℕ) → i < length t.pages → page_at (added t page) i ≡ page_at t i
+  pub page_before : (t : Tree K) (page : Page K) (i : ℕ) → i < length t.pages → page_at (added t page) i ≡ page_at t i
   page_before t page i l = get_or_append_left t.pages (page ∷ []) no_page i l
 
   longer : (t : Tree K) (page : Page K) (i : ℕ) → i < length t.pages → i < length (added t page).pages
   longer t page i l = omega (arith, l, length-append t.pages (page ∷ []))
 
   -- a page behind the others, and another in the place of one of them
-  module _ {old new : List (Chunk1024 K)} {n k : ℕ} {t : Tree K} (has : HasPlaces old n) (is : tree_of n old k ≡ t) {right : Page K} (puts : PutsNext n old right new)
-      {p : ℕ} (l : p < length t.pages) (chunk : Chunk1024 K) (read : chunk ≡ get_or new (p / 1024) chunk) where
+  module _ {old new : List (Chunk1024 (Page K))} {n k : ℕ} {t : Tree K} (has : HasPlaces old n) (is : tree_of n old k ≡ t) {right : Page K} (puts : PutsNext n old right new)
+      {p : ℕ} (l : p < length t.pages) (chunk : Chunk1024 (Page K)) (read : chunk ≡ get_or new (p / 1024) chunk) where
     pub part_within : p < n + 1
     part_within = omega (arith, within has is l)
 
@@ -240,13 +253,13 @@ module _ {K : Type 0} where
     part_kept_places = same_places (p / 1024) (next_places has is puts) read
 
   -- two pages were put behind the others
-  module _ {old first second : List (Chunk1024 K)} {n k : ℕ} {t : Tree K} (has : HasPlaces old n) (is : tree_of n old k ≡ t) {left : Page K} (puts : PutsNext n old left first) where
+  module _ {old first second : List (Chunk1024 (Page K))} {n k : ℕ} {t : Tree K} (has : HasPlaces old n) (is : tree_of n old k ≡ t) {left : Page K} (puts : PutsNext n old left first) where
     -- the first n pages hide what follows, where some of it is given up too
     pub stays_hidden : StaysTo (n + 1) first second → tree_of n second k ≡ t
     stays_hidden stays =
         ap (with_pages k) (sym (take-shorter second n (n + 1) (omega arith)) ∙ ap (take n) stays.pages ∙ take-shorter first n (n + 1) (omega arith)) ∙ next_hidden has is puts
 
-    module _ {right : Page K} (more : PutsNext (n + 1) first right second) (l : 0 < length t.pages) (chunk : Chunk1024 K) (read : chunk ≡ get_or second 0 chunk) where
+    module _ {right : Page K} (more : PutsNext (n + 1) first right second) (l : 0 < length t.pages) (chunk : Chunk1024 (Page K)) (read : chunk ≡ get_or second 0 chunk) where
       two_tree : tree_of (n + 1 + 1) second k ≡ added (added t left) right
       two_tree = next_tree puts.places (next_tree has is puts) more
 

@@ -5,9 +5,7 @@ use Rattle.std.proofs.lemmas.List.{length-append, length-set, get_or-set_same, g
 use Rattle.std.proofs.lemmas.List.Elements.{All-head, All-tail}
 use Rattle.std.proofs.lemmas.Nat.{div-add-mod'}
 use Rattle.std.proofs.Math.Nat.{div-lt_iff_lt-mul, mod-lt, suc-mul}
-use Rattle.node.specs.Pages.{Page}
 use Rattle.page_table.specs.Chunks.{ArePlaces, Becomes, alone, joined, put_in}
-use Rattle.page_table.specs.Trees.{no_page}
 
 module _ {X : Type 0} where
   pub set_before : (xs ys : List X) (i : ℕ) (x : X) → i < length xs → set (xs ++ ys) i x ≡ set xs i x ++ ys
@@ -36,16 +34,16 @@ positive : (i m size : ℕ) → i < m * size → 0 < size
 positive i m zero l = absurd (omega (arith, l))
 positive i m (suc s) l = omega arith
 
-module _ {K : Type 0} where
-  pub page_put : (old : Page K) (i : ℕ) (page : Page K) → Unit {0} → i < 1 → alone page ≡ set (alone old) i page
+module _ {P : Type 0} where
+  pub page_put : (old : P) (i : ℕ) (page : P) → Unit {0} → i < 1 → alone page ≡ set (alone old) i page
   page_put old zero page full l = refl
   page_put old (suc i) page full l = absurd (omega (arith, l))
 
-  pub page_stays : (old : Page K) (i : ℕ) (page : Page K) → Unit {0} → i < 1 → page ≡ get_or (alone old) i no_page → page ≡ old
-  page_stays old zero page full l e = e
-  page_stays old (suc i) page full l e = absurd (omega (arith, l))
+  pub page_stays : (no_page old : P) (i : ℕ) (page : P) → Unit {0} → i < 1 → page ≡ get_or (alone old) i no_page → page ≡ old
+  page_stays no_page old zero page full l e = e
+  page_stays no_page old (suc i) page full l e = absurd (omega (arith, l))
 
-  module _ {X : Type 0} (pages : X → List (Page K)) (size : ℕ) where
+  module _ {X : Type 0} (pages : X → List P) (size : ℕ) where
     abbrev pub Sized : List X → Type 0
     Sized xs = All (λ x. length (pages x) ≡ size) xs
 
@@ -68,7 +66,7 @@ module _ {K : Type 0} where
     pub at_first : (r : ℕ) → zero * size + r ≡ r
     at_first r = omega arith
 
-    joined_at : (xs : List X) → Sized xs → (q r : ℕ) (x : X) → q < length xs → r < size → x ≡ get_or xs q x → (d : Page K) → get_or (joined pages xs) (q * size + r) d ≡ get_or (pages x) r d
+    joined_at : (xs : List X) → Sized xs → (q r : ℕ) (x : X) → q < length xs → r < size → x ≡ get_or xs q x → (d : P) → get_or (joined pages xs) (q * size + r) d ≡ get_or (pages x) r d
     joined_at [] all q r x l h e d = absurd (omega (arith, l))
     joined_at (y ∷ xs) all zero r x l h e d =
         ap (λ n. get_or (pages y ++ joined pages xs) n d) (at_first r)
@@ -79,8 +77,8 @@ module _ {K : Type 0} where
         ∙ get_or-append-add (pages y) (joined pages xs) (q * size + r) d
         ∙ joined_at xs (tail_sizes y xs all) q r x (omega (arith, l)) h e d
 
-    -- changing one page of a place
-    joined_one : (xs : List X) → Sized xs → (q r : ℕ) (x new : X) → q < length xs → r < size → x ≡ get_or xs q x → (p : Page K)
+    -- one page of a place
+    joined_one : (xs : List X) → Sized xs → (q r : ℕ) (x new : X) → q < length xs → r < size → x ≡ get_or xs q x → (p : P)
         → pages new ≡ set (pages x) r p → joined pages (set xs q new) ≡ set (joined pages xs) (q * size + r) p
     joined_one [] all q r x new l h e p n = absurd (omega (arith, l))
     joined_one (y ∷ xs) all zero r x new l h e p n =
@@ -93,7 +91,7 @@ module _ {K : Type 0} where
         ∙ ap (λ m. set (pages y ++ joined pages xs) m p) (sym (moved y q r (head_size y xs all)))
 
   -- n places, and the number of a page in them
-  module _ {X : Type 0} {pages : X → List (Page K)} {is_full : X → Type 0} {size n : ℕ} {xs : List X} (are : ArePlaces pages is_full size n xs) {i : ℕ} (l : i < length (joined pages xs)) where
+  module _ {X : Type 0} {pages : X → List P} {is_full : X → Type 0} {size n : ℕ} {xs : List X} (are : ArePlaces pages is_full size n xs) {i : ℕ} (l : i < length (joined pages xs)) where
     below : i < length xs * size
     below = omega (arith, l, joined_length pages size xs are.sizes)
 
@@ -119,7 +117,7 @@ module _ {K : Type 0} where
       pub page_within : i % size < length (pages x)
       page_within = omega (arith, page_there, place_size)
 
-      pub page_is : (d : Page K) → get_or (pages x) (i % size) d ≡ get_or (joined pages xs) i d
+      pub page_is : (d : P) → get_or (pages x) (i % size) d ≡ get_or (joined pages xs) i d
       page_is d =
           sym (joined_at pages size xs are.sizes (i / size) (i % size) x place_there page_there e d)
           ∙ ap (λ k. get_or (joined pages xs) k d) sum_is
@@ -138,8 +136,8 @@ module _ {K : Type 0} where
         ];
       }
 
-      -- the place gets another page
-      module _ (new : X) (p : Page K) (becomes : Becomes pages is_full new (set (pages x) (i % size) p)) where
+      -- the place has another page
+      module _ (new : X) (p : P) (becomes : Becomes pages is_full new (set (pages x) (i % size) p)) where
         pub put_places : ArePlaces pages is_full size n (set xs (i / size) new)
         put_places = set_places new becomes.full (ap length becomes.pages ∙ length-set (pages x) (i % size) p ∙ place_size)
 
@@ -148,12 +146,12 @@ module _ {K : Type 0} where
             joined_one pages size xs are.sizes (i / size) (i % size) x new place_there page_there e p becomes.pages
             ∙ ap (λ k. set (joined pages xs) k p) sum_is
 
-  -- another page in a place, when places say how they change
-  module _ {X : Type 0} (pages : X → List (Page K)) (is_full : X → Type 0) (none : X) (put : X → ℕ → Page K → X) (size : ℕ)
-      (put_pages_law : (x : X) (i : ℕ) (p : Page K) → is_full x → i < length (pages x) → pages (put x i p) ≡ set (pages x) i p)
-      (put_full_law : (x : X) (i : ℕ) (p : Page K) → is_full x → i < length (pages x) → is_full (put x i p)) where
+  -- another page in a place, where places tell what becomes of them
+  module _ {X : Type 0} (pages : X → List P) (is_full : X → Type 0) (none : X) (put : X → ℕ → P → X) (size : ℕ)
+      (put_pages_law : (x : X) (i : ℕ) (p : P) → is_full x → i < length (pages x) → pages (put x i p) ≡ set (pages x) i p)
+      (put_full_law : (x : X) (i : ℕ) (p : P) → is_full x → i < length (pages x) → is_full (put x i p)) where
     module _ (n : ℕ) (xs : List X) (are : ArePlaces pages is_full size n xs) (i : ℕ) (l : i < length (joined pages xs)) where
-      pub put_becomes : (p : Page K) → Becomes (joined pages) (ArePlaces pages is_full size n) (put_in put none size xs i p) (set (joined pages xs) i p)
+      pub put_becomes : (p : P) → Becomes (joined pages) (ArePlaces pages is_full size n) (put_in put none size xs i p) (set (joined pages xs) i p)
       put_becomes p =
           let place = get_or xs (i / size) none in
           let read : place ≡ get_or xs (i / size) place = get_or_default xs (i / size) none place (place_there are l) in
@@ -166,14 +164,14 @@ module _ {K : Type 0} where
             pages = put_pages are l place read (put place (i % size) p) p becomes;
           }
 
-      -- a place with another page is put back
-      pub put_back : (x : X) → x ≡ get_or xs (i / size) x → (p : Page K) → set xs (i / size) (put x (i % size) p) ≡ put_in put none size xs i p
+      -- a place with another page, put back
+      pub put_back : (x : X) → x ≡ get_or xs (i / size) x → (p : P) → set xs (i / size) (put x (i % size) p) ≡ put_in put none size xs i p
       put_back x e p = ap (λ z. set xs (i / size) (put z (i % size) p)) (e ∙ get_or_default xs (i / size) x none (place_there are l))
 
-      -- the same page is put back
-      pub put_stays : ((x : X) (j : ℕ) (p : Page K) → is_full x → j < length (pages x) → p ≡ get_or (pages x) j no_page → put x j p ≡ x)
-          → (p : Page K) → p ≡ get_or (joined pages xs) i no_page → put_in put none size xs i p ≡ xs
-      put_stays law p e =
+      -- the page that stands there, put back
+      pub put_stays : (no_page : P) → ((x : X) (j : ℕ) (p : P) → is_full x → j < length (pages x) → p ≡ get_or (pages x) j no_page → put x j p ≡ x)
+          → (p : P) → p ≡ get_or (joined pages xs) i no_page → put_in put none size xs i p ≡ xs
+      put_stays no_page law p e =
           let place = get_or xs (i / size) none in
           let read : place ≡ get_or xs (i / size) place = get_or_default xs (i / size) none place (place_there are l) in
           ap (λ z. set xs (i / size) z) (law place (i % size) p (place_full are l place read) (page_within are l place read) (e ∙ sym (page_is are l place read no_page)))

@@ -4,26 +4,26 @@ ghost use Rattle.node.specs.Pages as model;
 ghost use Rattle.node.specs.Changes.{post_parent, post_child, post_sibling, enlarge_parent, enlarge_child, with_row};
 ghost use Rattle.page_table.specs.LeafChanges.{with_dead};
 
-use key_class::KeyClass;
+use key_class::{Columned, KeyClass};
 use node::Page;
 use row_version::Entry;
 use std::alloc::AllocError;
 
-/// A change of an upper and a lower page at once, together with something else: another page, or nothing. The new
-/// value of each may depend on all of them.
-pub(crate) trait PageChange<K, B> {
+/// A change of two pages at once, an upper and a lower one, and of what is beside them: another page, or nothing. The new value
+/// of each may depend on all.
+pub(crate) trait PageChange<P, B> {
     ghost may: { Self → Type 0 };
 
-    ghost upper_after: { Self → model.Page K → model.Page K → B → model.Page K };
+    ghost upper_after: { Self → P → P → B → P };
 
-    ghost lower_after: { Self → model.Page K → model.Page K → B → model.Page K };
+    ghost lower_after: { Self → P → P → B → P };
 
-    ghost beside_after: { Self → model.Page K → model.Page K → B → B };
+    ghost beside_after: { Self → P → P → B → B };
 
     fn change(
         &self,
-        upper: &mut Page<K>,
-        lower: &mut Page<K>,
+        upper: &mut P,
+        lower: &mut P,
         beside: &mut B,
     ) -> Result<(), AllocError>
         requires { may self.now }
@@ -45,7 +45,7 @@ pub(crate) struct Widening<C: KeyClass> {
     pub(crate) key: C::Key,
 }
 
-impl<C: KeyClass> PageChange<C::Key, ()> for Widening<C> {
+impl<C: KeyClass> PageChange<Page<C::Key>, ()> for Widening<C> {
     ghost may = { λ change. Unit {0} };
 
     ghost upper_after = { λ change upper lower beside. enlarge_parent C.rules.union_of change.child change.key upper };
@@ -75,7 +75,7 @@ pub(crate) struct Posting {
     pub(crate) number: u32,
 }
 
-impl<K: Copy> PageChange<K, Page<K>> for Posting {
+impl<K: Columned> PageChange<Page<K>, Page<K>> for Posting {
     ghost may = { λ change. Unit {0} };
 
     ghost upper_after = { λ change upper lower beside. post_parent upper change.child lower.cover change.sibling beside.cover };
@@ -105,7 +105,7 @@ pub(crate) struct Moving<K> {
     pub(crate) entry: Entry<K>,
 }
 
-impl<K: Copy> PageChange<K, ()> for Moving<K> {
+impl<K: Columned> PageChange<Page<K>, ()> for Moving<K> {
     ghost may = { λ change. 0 < change.commit };
 
     ghost upper_after = { λ change upper lower beside. with_dead upper change.row change.commit };
@@ -132,7 +132,7 @@ pub(crate) struct Turned<'a, C> {
     pub(crate) change: &'a C,
 }
 
-impl<'a, K, C: PageChange<K, Page<K>>> PageChange<K, Page<K>> for Turned<'a, C> {
+impl<'a, P, C: PageChange<P, P>> PageChange<P, P> for Turned<'a, C> {
     ghost may = { λ turned. C.may turned.change.now };
 
     ghost upper_after = { λ turned upper lower beside. C.beside_after turned.change.now lower beside upper };
@@ -143,9 +143,9 @@ impl<'a, K, C: PageChange<K, Page<K>>> PageChange<K, Page<K>> for Turned<'a, C> 
 
     fn change(
         &self,
-        upper: &mut Page<K>,
-        lower: &mut Page<K>,
-        beside: &mut Page<K>,
+        upper: &mut P,
+        lower: &mut P,
+        beside: &mut P,
     ) -> Result<(), AllocError> {
         self.change.change(lower, beside, upper)
     }
@@ -157,7 +157,7 @@ pub(crate) struct Reversed<'a, C> {
     pub(crate) change: &'a C,
 }
 
-impl<'a, K, C: PageChange<K, Page<K>>> PageChange<K, Page<K>> for Reversed<'a, C> {
+impl<'a, P, C: PageChange<P, P>> PageChange<P, P> for Reversed<'a, C> {
     ghost may = { λ reversed. C.may reversed.change.now };
 
     ghost upper_after = { λ reversed upper lower beside. C.beside_after reversed.change.now beside lower upper };
@@ -168,9 +168,9 @@ impl<'a, K, C: PageChange<K, Page<K>>> PageChange<K, Page<K>> for Reversed<'a, C
 
     fn change(
         &self,
-        upper: &mut Page<K>,
-        lower: &mut Page<K>,
-        beside: &mut Page<K>,
+        upper: &mut P,
+        lower: &mut P,
+        beside: &mut P,
     ) -> Result<(), AllocError> {
         self.change.change(beside, lower, upper)
     }

@@ -6,10 +6,9 @@ ghost use Rattle.page_table.specs.Chunks.{ArePlaces, joined, put_in};
 ghost use Rattle.page_table.specs.PlaceLaws.{put_becomes, put_stays as put_in_stays};
 
 use crate::change::PageChange;
-use crate::places::{Places, Single, change_all, change_both};
+use crate::places::{PageLike, Places, Single, change_all, change_both};
 use crate::shared::{Copied, Shared};
 use arrayvec::ArrayVec;
-use node::Page;
 use std::alloc::{AllocError, Global};
 use std::marker::Model;
 
@@ -83,7 +82,7 @@ impl<T: Copied, const SIZE: usize, const LEN: usize> Chunk<T, SIZE, LEN> {
     }
 }
 
-impl<K: Copy, T: Places<K>, const SIZE: usize, const LEN: usize> Places<K> for Chunk<T, SIZE, LEN> {
+impl<P: PageLike, T: Places<P>, const SIZE: usize, const LEN: usize> Places<P> for Chunk<T, SIZE, LEN> {
     ghost pages = { joined T.pages };
 
     ghost is_full = { ArePlaces T.pages T.is_full SIZE LEN };
@@ -92,37 +91,37 @@ impl<K: Copy, T: Places<K>, const SIZE: usize, const LEN: usize> Places<K> for C
 
     ghost put = { put_in T.put T.none SIZE };
 
-    fn slot(this: &Shared<Chunk<T, SIZE, LEN>>, place: usize) -> &Shared<Single<K>> {
+    fn slot(this: &Shared<Chunk<T, SIZE, LEN>>, place: usize) -> &Shared<Single<P>> {
         T::slot(this.get().child(place / SIZE), place % SIZE)
     }
 
-    fn page_mut(&mut self, place: usize) -> Result<&mut Page<K>, AllocError> {
+    fn page_mut(&mut self, place: usize) -> Result<&mut P, AllocError> {
         self.child_mut(place / SIZE)?.page_mut(place % SIZE)
     }
 
-    fn change_two<B, C: PageChange<K, B>>(
+    fn change_two<B, C: PageChange<P, B>>(
         &mut self,
         upper: usize,
         lower: usize,
         beside: &mut B,
         change: &C,
     ) -> Result<(), AllocError> {
-        change_both::<K, T, B, C, SIZE>(self.children.as_mut_slice(), upper, lower, beside, change)
+        change_both::<P, T, B, C, SIZE>(self.children.as_mut_slice(), upper, lower, beside, change)
     }
 
-    fn change_three<C: PageChange<K, Page<K>>>(
+    fn change_three<C: PageChange<P, P>>(
         &mut self,
         upper: usize,
         lower: usize,
         beside: usize,
         change: &C,
     ) -> Result<(), AllocError> {
-        change_all::<K, T, C, SIZE>(self.children.as_mut_slice(), upper, lower, beside, change)
+        change_all::<P, T, C, SIZE>(self.children.as_mut_slice(), upper, lower, beside, change)
     }
 
     ghost put_pages = { λ places i page full l. (put_becomes T.pages T.is_full T.none T.put SIZE T.put_pages T.put_full LEN places full i l page).pages };
 
     ghost put_full = { λ places i page full l. (put_becomes T.pages T.is_full T.none T.put SIZE T.put_pages T.put_full LEN places full i l page).full };
 
-    ghost put_stays = { λ places i page full l. put_in_stays T.pages T.is_full T.none T.put SIZE T.put_pages T.put_full LEN places full i l T.put_stays page };
+    ghost put_stays = { λ places i page full l. put_in_stays T.pages T.is_full T.none T.put SIZE T.put_pages T.put_full LEN places full i l P.no_page T.put_stays page };
 }

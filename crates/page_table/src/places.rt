@@ -11,44 +11,59 @@ ghost use Rattle.page_table.specs.PlaceLaws.{page_put, page_stays};
 use crate::change::{PageChange, Reversed, Turned};
 use crate::chunk::Chunk;
 use crate::shared::{Copied, Shared};
+use key_class::Columned;
 use node::Page;
 use std::alloc::AllocError;
 use std::marker::Model;
 
-/// Places for pages, and the pages in them, numbered from 0.
-pub(crate) trait Places<K>: Copied {
-    ghost pages: { Self → List (model.Page K) };
+/// What stands in places.
+pub(crate) trait PageLike: Copied {
+    /// What is read where there is none.
+    ghost no_page: { Self };
+}
+
+impl<K: Columned> Copied for Page<K> {
+    ghost same = { λ page copy same. same };
+}
+
+impl<K: Columned> PageLike for Page<K> {
+    ghost no_page = { no_page };
+}
+
+/// Places for pages, and the pages in them by number, from 0.
+pub(crate) trait Places<P: PageLike>: Copied {
+    ghost pages: { Self → List P };
 
     /// Whether each place has as many pages as it has room for.
     ghost is_full: { Self → Type 0 };
 
     ghost none: { Self };
 
-    ghost put: { Self → ℕ → model.Page K → Self };
+    ghost put: { Self → ℕ → P → Self };
 
     /// A page, with its owners.
-    fn slot(this: &Shared<Self>, place: usize) -> &Shared<Single<K>>
+    fn slot(this: &Shared<Self>, place: usize) -> &Shared<Single<P>>
         requires full { is_full this.now }
         requires exists { place < length (pages this.now) }
-        ensures { result.now ≡ slice_index_or (pages this.now) place no_page };
+        ensures { result.now ≡ slice_index_or (pages this.now) place P.no_page };
 
     /// A page, for writing. If the page or its chunk has other owners, it is copied first.
     ///
     /// # Errors
-    /// Memory ran out; the pages are unchanged.
-    fn page_mut(&mut self, place: usize) -> Result<&mut Page<K>, AllocError>
+    /// Memory was wanting; the pages are as they were.
+    fn page_mut(&mut self, place: usize) -> Result<&mut P, AllocError>
         requires full { is_full self.old }
         requires exists { place < length (pages self.old) }
         ensures* lends { sem 𝓛
-            (LendsIfOk Self.row (page_row K.row) self.entry result (put self.old place) self.old) }
+            (LendsIfOk Self.row P.row self.entry result (put self.old place) self.old) }
         ensures value { IfOk result
-            (λ page. page.now ≡ slice_index_or (pages self.old) place no_page) };
+            (λ page. page.now ≡ slice_index_or (pages self.old) place P.no_page) };
 
     /// Changes two pages at once, together with something else.
     ///
     /// # Errors
-    /// Memory ran out, or both are the same page; everything is unchanged.
-    fn change_two<B, C: PageChange<K, B>>(
+    /// Memory was wanting, or both are the same page; the pages are as they were, and so is what is beside them.
+    fn change_two<B, C: PageChange<P, B>>(
         &mut self,
         upper: usize,
         lower: usize,
@@ -61,22 +76,22 @@ pub(crate) trait Places<K>: Copied {
         requires may { C.may change.now }
         ensures changed { OnOk result
             (Becomes pages is_full self.new
-            (both_changed
+            (both_changed P.no_page
             (λ x y. C.upper_after change.now x y beside.old)
             (λ x y. C.lower_after change.now x y beside.old)
             upper lower (pages self.old))) }
         ensures beside { OnOk result
             (beside.new ≡ C.beside_after change.now
-            (slice_index_or (pages self.old) upper no_page)
-            (slice_index_or (pages self.old) lower no_page) beside.old) }
+            (slice_index_or (pages self.old) upper P.no_page)
+            (slice_index_or (pages self.old) lower P.no_page) beside.old) }
         ensures unchanged { OnErr result (self.new ≡ self.old) }
         ensures beside_stays { OnErr result (beside.new ≡ beside.old) };
 
     /// Changes three pages at once. The third has a higher number than the two others.
     ///
     /// # Errors
-    /// Memory ran out, or two of them are the same page; the pages are unchanged.
-    fn change_three<C: PageChange<K, Page<K>>>(
+    /// Memory was wanting, or two of them are the same page; the pages are as they were.
+    fn change_three<C: PageChange<P, P>>(
         &mut self,
         upper: usize,
         lower: usize,
@@ -90,64 +105,62 @@ pub(crate) trait Places<K>: Copied {
         requires may { C.may change.now }
         ensures changed { OnOk result
             (Becomes pages is_full self.new
-            (three_changed
+            (three_changed P.no_page
             (C.upper_after change.now) (C.lower_after change.now) (C.beside_after change.now)
             upper lower beside (pages self.old))) }
         ensures unchanged { OnErr result (self.new ≡ self.old) };
 
-    ghost put_pages: { (places : Self) (i : ℕ) (page : model.Page K) → is_full places → i < length (pages places) → pages (put places i page) ≡ slice_set (pages places) i page };
+    ghost put_pages: { (places : Self) (i : ℕ) (page : P) → is_full places → i < length (pages places) → pages (put places i page) ≡ slice_set (pages places) i page };
 
-    ghost put_full: { (places : Self) (i : ℕ) (page : model.Page K) → is_full places → i < length (pages places) → is_full (put places i page) };
+    ghost put_full: { (places : Self) (i : ℕ) (page : P) → is_full places → i < length (pages places) → is_full (put places i page) };
 
-    ghost put_stays: { (places : Self) (i : ℕ) (page : model.Page K) → is_full places → i < length (pages places) → page ≡ slice_index_or (pages places) i no_page → put places i page ≡ places };
+    ghost put_stays: { (places : Self) (i : ℕ) (page : P) → is_full places → i < length (pages places) → page ≡ slice_index_or (pages places) i P.no_page → put places i page ≡ places };
 }
 
 /// A single page, as a place of its own.
 #[derive(Drop)]
-pub(crate) struct Single<K> {
-    pub(crate) page: Page<K>,
+pub(crate) struct Single<P> {
+    pub(crate) page: P,
 }
 
-impl<K> Model for Single<K> {
-    ghost use Rattle.node.specs.Pages as model;
-
-    ghost Value = { model.Page K };
+impl<P> Model for Single<P> {
+    ghost Value = { P };
 
     ghost view = { λ s. s.page };
 }
 
-impl<K: Copy> Clone for Single<K> {
+impl<P: PageLike> Clone for Single<P> {
     ghost is_clone = { λ single copy. copy ≡ single };
 
-    fn clone(&self) -> Result<Single<K>, AllocError> {
+    fn clone(&self) -> Result<Single<P>, AllocError> {
         let page = self.page.clone()?;
         Ok(Single { page })
     }
 }
 
-impl<K: Copy> Copied for Single<K> {
+impl<P: PageLike> Copied for Single<P> {
     ghost same = { λ value copy same. same };
 }
 
-impl<K: Copy> Places<K> for Single<K> {
+impl<P: PageLike> Places<P> for Single<P> {
     ghost pages = { alone };
 
     ghost is_full = { IsPage };
 
-    ghost none = { no_page };
+    ghost none = { P.no_page };
 
     ghost put = { λ old i page. page };
 
-    fn slot(this: &Shared<Single<K>>, _place: usize) -> &Shared<Single<K>> {
+    fn slot(this: &Shared<Single<P>>, _place: usize) -> &Shared<Single<P>> {
         this
     }
 
-    fn page_mut(&mut self, _place: usize) -> Result<&mut Page<K>, AllocError> {
+    fn page_mut(&mut self, _place: usize) -> Result<&mut P, AllocError> {
         Ok(&mut self.page)
     }
 
-    /// Always refused, since there is only one page.
-    fn change_two<B, C: PageChange<K, B>>(
+    /// There is one page alone.
+    fn change_two<B, C: PageChange<P, B>>(
         &mut self,
         _upper: usize,
         _lower: usize,
@@ -157,8 +170,8 @@ impl<K: Copy> Places<K> for Single<K> {
         Err(AllocError)
     }
 
-    /// Always refused, since there is only one page.
-    fn change_three<C: PageChange<K, Page<K>>>(
+    /// There is one page alone.
+    fn change_three<C: PageChange<P, P>>(
         &mut self,
         _upper: usize,
         _lower: usize,
@@ -172,14 +185,14 @@ impl<K: Copy> Places<K> for Single<K> {
 
     ghost put_full = { λ places i page full l. tt };
 
-    ghost put_stays = { page_stays };
+    ghost put_stays = { page_stays P.no_page };
 }
 
 /// Changes two of the pages in places of `SIZE` pages each at once, together with something else.
 ///
 /// # Errors
-/// Memory ran out, or both are the same page; everything is unchanged.
-pub(crate) fn change_both<K: Copy, T: Places<K>, B, C: PageChange<K, B>, const SIZE: usize>(
+/// Memory was wanting, or both are the same page; the pages are as they were, and so is what is beside them.
+pub(crate) fn change_both<P: PageLike, T: Places<P>, B, C: PageChange<P, B>, const SIZE: usize>(
     places: &mut [Shared<T>],
     upper: usize,
     lower: usize,
@@ -192,14 +205,14 @@ pub(crate) fn change_both<K: Copy, T: Places<K>, B, C: PageChange<K, B>, const S
     requires may { C.may change.now }
     ensures changed { OnOk result
         (Becomes (joined T.pages) (ArePlaces T.pages T.is_full SIZE (length places.old)) places.new
-        (both_changed
+        (both_changed P.no_page
         (λ x y. C.upper_after change.now x y beside.old)
         (λ x y. C.lower_after change.now x y beside.old)
         upper lower (joined T.pages places.old))) }
     ensures beside { OnOk result
         (beside.new ≡ C.beside_after change.now
-        (slice_index_or (joined T.pages places.old) upper no_page)
-        (slice_index_or (joined T.pages places.old) lower no_page) beside.old) }
+        (slice_index_or (joined T.pages places.old) upper P.no_page)
+        (slice_index_or (joined T.pages places.old) lower P.no_page) beside.old) }
     ensures unchanged { OnErr result (places.new ≡ places.old) }
     ensures beside_stays { OnErr result (beside.new ≡ beside.old) }
 {
@@ -218,8 +231,8 @@ pub(crate) fn change_both<K: Copy, T: Places<K>, B, C: PageChange<K, B>, const S
 /// are copied first.
 ///
 /// # Errors
-/// Memory ran out; everything is unchanged.
-fn change_parted<K: Copy, T: Places<K>, B, C: PageChange<K, B>>(
+/// Memory was wanting; the pages are as they were, and so is what is beside them.
+fn change_parted<P: PageLike, T: Places<P>, B, C: PageChange<P, B>>(
     above: &mut Shared<T>,
     below: &mut Shared<T>,
     upper: usize,
@@ -236,18 +249,18 @@ fn change_parted<K: Copy, T: Places<K>, B, C: PageChange<K, B>>(
         (Becomes T.pages T.is_full above.new
         (slice_set (T.pages above.old) upper
         (C.upper_after change.now
-        (slice_index_or (T.pages above.old) upper no_page)
-        (slice_index_or (T.pages below.old) lower no_page) beside.old))) }
+        (slice_index_or (T.pages above.old) upper P.no_page)
+        (slice_index_or (T.pages below.old) lower P.no_page) beside.old))) }
     ensures below { OnOk result
         (Becomes T.pages T.is_full below.new
         (slice_set (T.pages below.old) lower
         (C.lower_after change.now
-        (slice_index_or (T.pages above.old) upper no_page)
-        (slice_index_or (T.pages below.old) lower no_page) beside.old))) }
+        (slice_index_or (T.pages above.old) upper P.no_page)
+        (slice_index_or (T.pages below.old) lower P.no_page) beside.old))) }
     ensures beside { OnOk result
         (beside.new ≡ C.beside_after change.now
-        (slice_index_or (T.pages above.old) upper no_page)
-        (slice_index_or (T.pages below.old) lower no_page) beside.old) }
+        (slice_index_or (T.pages above.old) upper P.no_page)
+        (slice_index_or (T.pages below.old) lower P.no_page) beside.old) }
     ensures above_stays { OnErr result (above.new ≡ above.old) }
     ensures below_stays { OnErr result (below.new ≡ below.old) }
     ensures beside_stays { OnErr result (beside.new ≡ beside.old) }
@@ -260,18 +273,18 @@ fn change_parted<K: Copy, T: Places<K>, B, C: PageChange<K, B>>(
 /// A page of a place, for writing. If the page or what holds it has other owners, it is copied first.
 ///
 /// # Errors
-/// Memory ran out; the pages are unchanged.
-fn page_of<K: Copy, T: Places<K>>(
+/// Memory was wanting; the pages are as they were.
+fn page_of<P: PageLike, T: Places<P>>(
     place: &mut Shared<T>,
     number: usize,
-) -> Result<&mut Page<K>, AllocError>
+) -> Result<&mut P, AllocError>
     requires full { T.is_full place.old }
     requires exists { number < length (T.pages place.old) }
     ensures* lends { sem 𝓛
-        (LendsIfOk (shared_row T.row) (page_row K.row) place.entry result
+        (LendsIfOk (shared_row T.row) P.row place.entry result
         (T.put place.old number) place.old) }
     ensures value { IfOk result
-        (λ page. page.now ≡ slice_index_or (T.pages place.old) number no_page) }
+        (λ page. page.now ≡ slice_index_or (T.pages place.old) number P.no_page) }
 {
     place.get_mut()?.page_mut(number)
 }
@@ -280,8 +293,8 @@ fn page_of<K: Copy, T: Places<K>>(
 /// others.
 ///
 /// # Errors
-/// Memory ran out, or two of them are the same page; the pages are unchanged.
-pub(crate) fn change_all<K: Copy, T: Places<K>, C: PageChange<K, Page<K>>, const SIZE: usize>(
+/// Memory was wanting, or two of them are the same page; the pages are as they were.
+pub(crate) fn change_all<P: PageLike, T: Places<P>, C: PageChange<P, P>, const SIZE: usize>(
     places: &mut [Shared<T>],
     upper: usize,
     lower: usize,
@@ -295,7 +308,7 @@ pub(crate) fn change_all<K: Copy, T: Places<K>, C: PageChange<K, Page<K>>, const
     requires may { C.may change.now }
     ensures changed { OnOk result
         (Becomes (joined T.pages) (ArePlaces T.pages T.is_full SIZE (length places.old)) places.new
-        (three_changed
+        (three_changed P.no_page
         (C.upper_after change.now) (C.lower_after change.now) (C.beside_after change.now)
         upper lower beside (joined T.pages places.old))) }
     ensures unchanged { OnErr result (places.new ≡ places.old) }
@@ -333,15 +346,15 @@ pub(crate) fn change_all<K: Copy, T: Places<K>, C: PageChange<K, Page<K>>, const
     }
     let (front, back) = places.split_at_mut(last);
     let page = page_of(&mut back[0], in_beside)?;
-    change_both::<K, T, Page<K>, C, SIZE>(front, upper, lower, page, change)
+    change_both::<P, T, P, C, SIZE>(front, upper, lower, page, change)
 }
 
 /// Changes two pages of one place, together with a page of another place. If the places have other owners, they are
 /// copied first.
 ///
 /// # Errors
-/// Memory ran out, or the two are the same page; the pages are unchanged.
-fn change_pair<K: Copy, T: Places<K>, C: PageChange<K, Page<K>>>(
+/// Memory was wanting, or the two are the same page; the pages are as they were.
+fn change_pair<P: PageLike, T: Places<P>, C: PageChange<P, P>>(
     over: &mut Shared<T>,
     under: &mut Shared<T>,
     upper: usize,
@@ -357,17 +370,17 @@ fn change_pair<K: Copy, T: Places<K>, C: PageChange<K, Page<K>>>(
     requires may { C.may change.now }
     ensures over { OnOk result
         (Becomes T.pages T.is_full over.new
-        (both_changed
-        (λ x y. C.upper_after change.now x y (slice_index_or (T.pages under.old) beside no_page))
-        (λ x y. C.lower_after change.now x y (slice_index_or (T.pages under.old) beside no_page))
+        (both_changed P.no_page
+        (λ x y. C.upper_after change.now x y (slice_index_or (T.pages under.old) beside P.no_page))
+        (λ x y. C.lower_after change.now x y (slice_index_or (T.pages under.old) beside P.no_page))
         upper lower (T.pages over.old))) }
     ensures under { OnOk result
         (Becomes T.pages T.is_full under.new
         (slice_set (T.pages under.old) beside
         (C.beside_after change.now
-        (slice_index_or (T.pages over.old) upper no_page)
-        (slice_index_or (T.pages over.old) lower no_page)
-        (slice_index_or (T.pages under.old) beside no_page)))) }
+        (slice_index_or (T.pages over.old) upper P.no_page)
+        (slice_index_or (T.pages over.old) lower P.no_page)
+        (slice_index_or (T.pages under.old) beside P.no_page)))) }
     ensures over_stays { OnErr result (over.new ≡ over.old) }
     ensures under_stays { OnErr result (under.new ≡ under.old) }
 {

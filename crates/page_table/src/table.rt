@@ -1,10 +1,11 @@
 ghost use Rattle.std.specs.Prelude.{◌≡◌, ◌≢◌, ◌+◌, ◌<◌, ◌^◌, length, true, IfOk, OnOk, OnErr};
 ghost use Rattle.std.specs.Borrow.{LendsIfOk, sem};
-ghost use Rattle.page_table.specs.Trees.{page_at, replaced, added, new_tree};
+ghost use Rattle.page_table.specs.Trees.{Tree, page_at, replaced, added, new_tree};
+ghost use Rattle.node.specs.Pages as model;
 ghost use Rattle.page_table.specs.contracts.table.PageTable.{the_row};
 ghost use Rattle.node.specs.contracts.page.Page.{the_row as page_row};
 ghost use Rattle.node.specs.Pages.{entries_of, has_unneeded};
-ghost use Rattle.node.specs.Changes.{with_row};
+ghost use Rattle.node.specs.Changes.{risen, split_left, with_row};
 ghost use Rattle.page_table.specs.LeafChanges.{after_place, after_sweep, CountsUnneeded, after_bury, after_move, with_dead};
 ghost use Rattle.page_table.specs.PageChanges.{with_rise, with_posting, with_wider, with_part};
 
@@ -13,8 +14,8 @@ use crate::places::{Places, Single};
 use crate::shared::Shared;
 use crate::shared_page::SharedPage;
 use crate::top::{TOP, Top, change_pages, change_three, filler, put_next, shared};
-use key_class::{KeyClass, Sides};
-use node::{Branch, Page};
+use key_class::{Columned, KeyClass, Sides};
+use node::{Branches, Page};
 use row_version::Entry;
 use std::alloc::{AllocError, Global};
 use std::marker::Model;
@@ -24,7 +25,7 @@ use std::marker::Model;
 /// The pages are in chunks of chunks, which tables share until one of them writes to a page: then the two chunks that
 /// lead there are copied.
 #[derive(Drop)]
-pub struct PageTable<K> {
+pub struct PageTable<K: Columned> {
     chunks: Vec<Shared<Top<K>>>,
     /// How many pages there are. What is in the places after them doesn't count.
     count: usize,
@@ -33,7 +34,7 @@ pub struct PageTable<K> {
     filler: Shared<Top<K>>,
 }
 
-impl<K> Model for PageTable<K> {
+impl<K: Columned> Model for PageTable<K> {
     ghost use Rattle.page_table.specs.Trees.{Tree};
     ghost use Rattle.page_table.specs.Chunks.{HasFiller, first_pages};
 
@@ -44,8 +45,8 @@ impl<K> Model for PageTable<K> {
     ghost invariant = { λ t. HasFiller t.filler t.chunks.items t.count };
 }
 
-impl<K: Copy> PageTable<K> {
-    /// The table of a new world: page 0, an empty leaf with room for `fan` rows.
+impl<K: Columned> PageTable<K> {
+    /// The table of a new world: page 0, a leaf with nothing in it and with room for `fan` rows.
     ///
     /// # Errors
     /// Memory ran out.
@@ -117,7 +118,7 @@ impl<K: Copy> PageTable<K> {
         })
     }
 
-    fn slot(&self, number: u32) -> &Shared<Single<K>>
+    fn slot(&self, number: u32) -> &Shared<Single<Page<K>>>
         requires { number < length self.now.pages }
         ensures { result.now ≡ page_at self.now number }
     {
@@ -131,7 +132,7 @@ impl<K: Copy> PageTable<K> {
     /// Memory ran out; the table is unchanged.
     pub fn page_mut(&mut self, number: u32) -> Result<&mut Page<K>, AllocError>
         requires { number < length self.old.pages }
-        ensures* lends { sem 𝓛 (LendsIfOk (the_row K.row) (page_row K.row) self.entry result (λ page. replaced self.old number page) self.old) }
+        ensures* lends { sem 𝓛 (LendsIfOk (the_row K.row K.Block.row K.Clone K.Block.Block K.Block.Clone) (page_row K.row K.Block.row K.Clone K.Block.Block K.Block.Clone) self.entry result (λ page. replaced self.old number page) self.old) }
         ensures value { IfOk result (λ page. page.now ≡ page_at self.old number) }
     {
         self.chunks[number as usize / TOP]
@@ -150,13 +151,36 @@ impl<K: Copy> PageTable<K> {
         ensures unchanged { OnErr result (self.new ≡ self.old) }
     {
         let number = self.count;
-        put_next(&mut self.chunks, &self.filler, number, page)?;
-        self.count = number + 1;
+        self.append(page)?;
         Ok(number as u32)
     }
 
-    /// Makes a page the left half of a split: it owes a posting to the right half, the page given, which gets the
-    /// next number. Gives that number.
+    /// Adds a page behind the others.
+    ///
+    /// # Errors
+    /// Memory was wanting, or no number is left; the table is as it was.
+    fn append(&mut self, page: Page<K>) -> Result<(), AllocError>
+        ensures added { OnOk result (self.new ≡ added self.old page) }
+        ensures unchanged { OnErr result (self.new ≡ self.old) }
+    {
+        let Some(count) = self.count.checked_add(1) else {
+            return Err(AllocError);
+        };
+        put_next(&mut self.chunks, &self.filler, self.count, page)?;
+        self.count = count;
+        Ok(())
+    }
+
+    /// Gives up the last page.
+    fn forget_last(&mut self)
+        requires { 0 < length self.old.pages }
+        ensures { (t : Tree K) (page : model.Page K) → self.old ≡ added t page → self.new ≡ t }
+    {
+        self.count -= 1;
+    }
+
+    /// Leaves the left entries of a page in it, which owes a posting to the page under the next number, the one given.
+    /// Answers that number.
     ///
     /// # Errors
     /// Memory ran out; the table is unchanged.
@@ -174,14 +198,35 @@ impl<K: Copy> PageTable<K> {
             (self.new ≡ with_part C.rules self.old page sides.now right) }
         ensures unchanged { OnErr result (self.new ≡ self.old) }
     {
-        let number = self.count;
-        put_next(&mut self.chunks, &self.filler, number, right)?;
-        self.chunks[page as usize / TOP]
-            .get_mut()?
-            .page_mut(page as usize % TOP)?
-            .keep_left::<C>(sides, number as u32);
-        self.count = number + 1;
-        Ok(number as u32)
+        let number = self.fresh(right)?;
+        match self.keep_left::<C>(page, sides, number) {
+            Ok(()) => Ok(number),
+            Err(error) => {
+                self.forget_last();
+                Err(error)
+            }
+        }
+    }
+
+    /// Leaves the left entries of a page in it, which owes a posting to the sibling.
+    ///
+    /// # Errors
+    /// Memory was wanting; the table is as it was.
+    fn keep_left<C: KeyClass<Key = K>>(
+        &mut self,
+        page: u32,
+        sides: &Sides,
+        sibling: u32,
+    ) -> Result<(), AllocError>
+        requires exists { page < length self.old.pages }
+        requires one_a_place { entries_of (page_at self.old page) ≡ length sides.now }
+        ensures parted { OnOk result
+            (self.new ≡ replaced self.old page
+            (split_left C.rules.union_of (page_at self.old page) sides.now sibling)) }
+        ensures unchanged { OnErr result (self.new ≡ self.old) }
+    {
+        self.page_mut(page)?.keep_left::<C>(sides, sibling);
+        Ok(())
     }
 
     /// Adds two pages under the next numbers, and raises page 0 above them, with these branches.
@@ -192,22 +237,57 @@ impl<K: Copy> PageTable<K> {
         &mut self,
         left: Page<K>,
         right: Page<K>,
-        branches: Vec<Branch<K>>,
+        branches: Branches<K>,
     ) -> Result<(), AllocError>
         requires exists { 0 < length self.old.pages }
         requires low { (page_at self.old 0).level + 1 < 2 ^ 32 }
-        ensures raised { OnOk result (self.new ≡ with_rise self.old branches.items left right) }
+        ensures raised { OnOk result (self.new ≡ with_rise self.old branches left right) }
+        ensures unchanged { OnErr result (self.new ≡ self.old) }
+    {
+        self.append(left)?;
+        match self.raise_beside(right, branches) {
+            Ok(()) => Ok(()),
+            Err(error) => {
+                self.forget_last();
+                Err(error)
+            }
+        }
+    }
+
+    /// Adds a page under the next number, and raises page 0, with those branches.
+    ///
+    /// # Errors
+    /// Memory was wanting; the table is as it was.
+    fn raise_beside(&mut self, right: Page<K>, branches: Branches<K>) -> Result<(), AllocError>
+        requires exists { 0 < length self.old.pages }
+        requires low { (page_at self.old 0).level + 1 < 2 ^ 32 }
+        ensures raised { OnOk result
+            (self.new ≡ added (replaced self.old 0 (risen (page_at self.old 0) branches)) right) }
+        ensures unchanged { OnErr result (self.new ≡ self.old) }
+    {
+        self.append(right)?;
+        match self.raise_root(branches) {
+            Ok(()) => Ok(()),
+            Err(error) => {
+                self.forget_last();
+                Err(error)
+            }
+        }
+    }
+
+    /// Raises page 0, with those branches.
+    ///
+    /// # Errors
+    /// Memory was wanting; the table is as it was.
+    fn raise_root(&mut self, branches: Branches<K>) -> Result<(), AllocError>
+        requires exists { 0 < length self.old.pages }
+        requires low { (page_at self.old 0).level + 1 < 2 ^ 32 }
+        ensures raised { OnOk result
+            (self.new ≡ replaced self.old 0 (risen (page_at self.old 0) branches)) }
         ensures unchanged { OnErr result (self.new ≡ self.old) }
     {
         let alloc = *self.chunks.allocator();
-        let number = self.count;
-        let Some(after) = number.checked_add(2) else {
-            return Err(AllocError);
-        };
-        put_next(&mut self.chunks, &self.filler, number, left)?;
-        put_next(&mut self.chunks, &self.filler, number + 1, right)?;
-        self.chunks[0].get_mut()?.page_mut(0)?.rise(alloc, branches);
-        self.count = after;
+        self.page_mut(0)?.rise(alloc, branches);
         Ok(())
     }
 
@@ -350,7 +430,7 @@ impl<K: Copy> PageTable<K> {
 
 /// Marks a row of a page as ended by that commit, and appends another row to the same page.
 #[tactic(auto, using(crate::proofs::Moving::marked_around))]
-fn move_within<K: Copy>(
+fn move_within<K: Columned>(
     page: &mut Page<K>,
     row: u32,
     commit: u32,

@@ -1,11 +1,13 @@
 //! The chunks that a table holds directly.
 ghost use Rattle.std.specs.Prelude.{◌≡◌, ◌≢◌, ◌+◌, length, All, IfOk, OnOk, OnErr};
+ghost use Rattle.page_table.specs.Trees.{no_page};
 ghost use Rattle.page_table.specs.Chunks.{ArePlaces, Becomes, HasFiller, HasPlaces, IsFull1024, PutsNext, StaysTo, both_changed, joined, pages_of_1024, three_changed};
 
 use crate::change::{PageChange, Reversed, Turned};
 use crate::chunk::Chunk;
 use crate::places::{Places, Single, change_all, change_both};
 use crate::shared::Shared;
+use key_class::Columned;
 use node::Page;
 use std::alloc::{AllocError, Global};
 
@@ -19,15 +21,15 @@ const LOWER: usize = 16;
 
 const UPPER: usize = 64;
 
-type Lower<K> = Chunk<Single<K>, 1, LOWER>;
+type Lower<K> = Chunk<Single<Page<K>>, 1, LOWER>;
 
 pub(crate) type Top<K> = Chunk<Lower<K>, LOWER, UPPER>;
 
 /// Changes two pages at once.
 ///
 /// # Errors
-/// Memory ran out, or both are the same page; the pages are unchanged.
-pub(crate) fn change_pages<K: Copy, C: PageChange<K, ()>>(
+/// Memory was wanting, or both are the same page; the pages are as they were.
+pub(crate) fn change_pages<K: Columned, C: PageChange<Page<K>, ()>>(
     chunks: &mut Vec<Shared<Top<K>>>,
     upper: usize,
     lower: usize,
@@ -38,20 +40,20 @@ pub(crate) fn change_pages<K: Copy, C: PageChange<K, ()>>(
     requires may { C.may change.now }
     ensures changed { OnOk result
         (Becomes (joined pages_of_1024) (ArePlaces pages_of_1024 IsFull1024 1024 (length chunks.old.items)) chunks.new.items
-        (both_changed
+        (both_changed no_page
         (λ x y. C.upper_after change.now x y tt)
         (λ x y. C.lower_after change.now x y tt)
         upper lower (joined pages_of_1024 chunks.old.items))) }
     ensures unchanged { OnErr result (chunks.new.items ≡ chunks.old.items) }
 {
-    change_both::<K, Top<K>, (), C, TOP>(chunks.as_mut_slice(), upper, lower, &mut (), change)
+    change_both::<Page<K>, Top<K>, (), C, TOP>(chunks.as_mut_slice(), upper, lower, &mut (), change)
 }
 
 /// Changes three pages at once.
 ///
 /// # Errors
-/// Memory ran out; the pages are unchanged.
-pub(crate) fn change_three<K: Copy, C: PageChange<K, Page<K>>>(
+/// Memory was wanting; the pages are as they were.
+pub(crate) fn change_three<K: Columned, C: PageChange<Page<K>, Page<K>>>(
     chunks: &mut Vec<Shared<Top<K>>>,
     upper: usize,
     lower: usize,
@@ -67,28 +69,28 @@ pub(crate) fn change_three<K: Copy, C: PageChange<K, Page<K>>>(
     requires may { C.may change.now }
     ensures changed { OnOk result
         (Becomes (joined pages_of_1024) (ArePlaces pages_of_1024 IsFull1024 1024 (length chunks.old.items)) chunks.new.items
-        (three_changed
+        (three_changed no_page
         (C.upper_after change.now) (C.lower_after change.now) (C.beside_after change.now)
         upper lower beside (joined pages_of_1024 chunks.old.items))) }
     ensures unchanged { OnErr result (chunks.new.items ≡ chunks.old.items) }
 {
     let places = chunks.as_mut_slice();
     if upper <= beside && lower <= beside {
-        change_all::<K, Top<K>, C, TOP>(places, upper, lower, beside, change)
+        change_all::<Page<K>, Top<K>, C, TOP>(places, upper, lower, beside, change)
     } else if upper <= lower {
         let change = Turned { change };
-        change_all::<K, Top<K>, Turned<C>, TOP>(places, beside, upper, lower, &change)
+        change_all::<Page<K>, Top<K>, Turned<C>, TOP>(places, beside, upper, lower, &change)
     } else {
         let change = Reversed { change };
-        change_all::<K, Top<K>, Reversed<C>, TOP>(places, beside, lower, upper, &change)
+        change_all::<Page<K>, Top<K>, Reversed<C>, TOP>(places, beside, lower, upper, &change)
     }
 }
 
 /// A chunk of empty pages.
 ///
 /// # Errors
-/// Memory ran out.
-pub(crate) fn filler<K: Copy>(alloc: Global) -> Result<Shared<Top<K>>, AllocError>
+/// Memory was wanting.
+pub(crate) fn filler<K: Columned>(alloc: Global) -> Result<Shared<Top<K>>, AllocError>
     ensures full { IfOk result IsFull1024 }
     ensures size { IfOk result (λ chunk. length (pages_of_1024 chunk) ≡ 1024) }
 {
@@ -132,8 +134,8 @@ fn upper_places<T: Drop>(child: &Shared<T>) -> Result<[Shared<T>; UPPER], AllocE
 /// Puts a page after the first `count`. If there is no place for it, a chunk is added.
 ///
 /// # Errors
-/// Memory ran out; the first pages are unchanged.
-pub(crate) fn put_next<K: Copy>(
+/// Memory was wanting; the first pages are as they were.
+pub(crate) fn put_next<K: Columned>(
     chunks: &mut Vec<Shared<Top<K>>>,
     filler: &Shared<Top<K>>,
     count: usize,
@@ -151,8 +153,8 @@ pub(crate) fn put_next<K: Copy>(
 /// Makes sure that there is a place after the first `count` pages.
 ///
 /// # Errors
-/// Memory ran out; the pages are unchanged.
-fn make_place<K: Copy>(
+/// Memory was wanting; the pages are as they were.
+fn make_place<K: Columned>(
     chunks: &mut Vec<Shared<Top<K>>>,
     filler: &Shared<Top<K>>,
     count: usize,

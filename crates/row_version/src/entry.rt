@@ -1,6 +1,7 @@
 ghost use Rattle.std.specs.Prelude.{◌≡◌, ◌<◌, None, IsTrue, ◌↔◌};
-ghost use Rattle.row_version.specs.Entries.{visible_at, is_needed, died_at, marked};
+ghost use Rattle.row_version.specs.Entries.{visible_at, is_needed, died_at, marked, entry_of, version_of};
 
+use crate::version::Version;
 use std::marker::Model;
 
 /// A row on a leaf, and the commit that ended it.
@@ -27,7 +28,30 @@ impl<K> Model for Entry<K> {
 }
 
 impl<K> Entry<K> {
-    /// A live row, with its commit's number.
+    /// The entry of a key and a version.
+    pub fn of(key: K, version: Version) -> Entry<K>
+        ensures { result ≡ entry_of key version }
+    {
+        Entry {
+            key,
+            tag: version.tag,
+            row: version.row,
+            died: version.died,
+        }
+    }
+
+    /// What the entry is beside its key.
+    pub fn version(&self) -> Version
+        ensures { result ≡ version_of self.now }
+    {
+        Version {
+            tag: self.tag,
+            row: self.row,
+            died: self.died,
+        }
+    }
+
+    /// A live row, inserted by the commit with its number.
     pub fn new(key: K, row: u32, tag: u64) -> Entry<K>
         ensures { result ≡ record { key = key; row = row; tag = tag; died = None } }
     {

@@ -2,5 +2,7 @@
 #![tactic(auto)]
 
 mod entry;
+mod version;
 
 pub use entry::Entry;
+pub use version::Version;

@@ -1,14 +1,18 @@
 -- How the bits that tell some of a list are made, and how those that they tell are taken one by one.
-use Rattle.std.proofs.Common.{◌≡◌, ℕ, zero, suc, ◌+◌, ◌-◌, ◌*◌, ◌/◌, ◌%◌, ◌^◌, ◌<◌, ◌≤◌, ◌==◌, ◌&&◌, Bool, true, false, cond, List, [], ◌∷◌, ◌++◌, length, map, filter, reverse, take, drop, get_or, refl, sym, ap, ap₂, ◌∙◌, arith, subst, pow-suc, append_assoc, length-drop, length-take}
-use Rattle.std.proofs.lemmas.List.{append-nil, map-append, drop-drop, get_or-drop, length-reverse, drop_all, drop_more, reverse-append, take_more}
+use Rattle.std.proofs.Common.{◌≡◌, ℕ, zero, suc, ◌+◌, ◌-◌, ◌*◌, ◌/◌, ◌%◌, ◌^◌, ◌<◌, ◌≤◌, ◌==◌, ◌&&◌, Bool, true, false, cond, List, [], ◌∷◌, ◌++◌, length, map, filter, reverse, take, drop, get_or, refl, sym, ap, ap₂, ◌∙◌, arith, subst, pow-suc, append_assoc, length-drop}
+use Rattle.std.proofs.lemmas.List.{append-nil, map-append, drop-drop, get_or-drop, drop_all, drop_more, reverse-append, take_more, length-map}
 use Rattle.std.proofs.lemmas.List.Elements.{filter-append}
-use Rattle.std.proofs.lemmas.Nat.{ones_cat}
+use Rattle.std.proofs.Common.{⊎_elim}
+use Rattle.std.proofs.lemmas.Bool.{cases_lt}
+use Rattle.std.proofs.lemmas.Nat.{leading_top, ones_cat}
+use Rattle.std.proofs.lemmas.Simd.{mask_l-lt}
 use Rattle.std.specs.Prelude.{count_ones}
-use lib.Count.{count_trailing_zeros, ones, under}
+use lib.Count.{count_leading_zeros, count_trailing_zeros, ones, under}
 use mir.Val.{bool_byte}
 use lib.Pow.{pow_mono, pow_pos, shr-shr}
 use Rattle.node.specs.declared.branch.Branch.{Branch}
 use Rattle.row_version.specs.Entries.{Entry, visible_at}
+use Rattle.key_class.specs.Bits.{bits_of}
 use Rattle.scan.specs.Picks.{HasBitsFor, item_of_child, picked}
 use Rattle.scan.specs.Scanning.{child_items, row_of, seen}
 
@@ -178,6 +182,50 @@ module _ {X : Type 0} where
   none_picked [] = refl
   none_picked (x ∷ xs) = none_picked xs
 
+  -- those that bits tell of a test are those that pass it
+  pub picks : (p : X → Bool) (xs : List X) → picked (bits_of p xs) xs ≡ filter p xs
+  unfolding picked
+  picks p [] = refl
+  picks p (x ∷ xs) =
+      ap₂ (λ b m. cond b (x ∷ picked m xs) (picked m xs)) (low (p x) (bits_of p xs)) (high (p x) (bits_of p xs))
+      ∙ ap (λ r. cond (p x) (x ∷ r) r) (picks p xs)
+    where
+      low : (b : Bool) (m : ℕ) → ((cond b 1 0 + 2 * m) % 2 == 1) ≡ b
+      low true m = let e : (1 + 2 * m) % 2 ≡ 1 = omega arith in ap (λ n. n == 1) e
+      low false m = let e : (0 + 2 * m) % 2 ≡ 0 = omega arith in ap (λ n. n == 1) e
+
+      high : (b : Bool) (m : ℕ) → (cond b 1 0 + 2 * m) / 2 ≡ m
+      high true m = omega arith
+      high false m = omega arith
+
+  pub bits_within : (p : X → Bool) (xs : List X) → HasBitsFor xs (bits_of p xs)
+  bits_within p xs = subst (λ n. bits_of p xs < 2 ^ n) (length-map xs p) (mask_l-lt (map p xs))
+
+  -- the last of those that are told, and those before it
+  pub last_set : (xs : List X) (j bits : ℕ) → j < length xs → 2 ^ j ≤ bits → bits < 2 ^ suc j → (d : X) → picked bits xs ≡ picked (bits - 2 ^ j) xs ++ get_or xs j d ∷ []
+  unfolding picked
+  last_set [] j bits l low high d = absurd (omega (arith, l))
+  last_set (x ∷ xs) zero bits l low high d =
+      let one : bits ≡ 1 = omega (arith, low, high) in
+      let none : bits - 2 ^ 0 ≡ 0 = omega (arith, one) in
+      ap (λ n. picked n (x ∷ xs)) one
+      ∙ ap (λ r. x ∷ r) (none_picked xs)
+      ∙ ap (λ r. r ++ x ∷ []) (sym (none_picked (x ∷ xs)) ∙ ap (λ n. picked n (x ∷ xs)) (sym none))
+  last_set (x ∷ xs) (suc j) bits l low high d =
+      let twice = pow-suc 2 j in
+      let half_low : 2 ^ j ≤ bits / 2 = omega (arith, low, twice) in
+      let half_high : bits / 2 < 2 ^ suc j = omega (arith, high, pow-suc 2 (suc j)) in
+      let same_half : (bits - 2 ^ suc j) / 2 ≡ bits / 2 - 2 ^ j = omega (arith, low, twice) in
+      let same_bit : (bits - 2 ^ suc j) % 2 ≡ bits % 2 = omega (arith, low, twice) in
+      let rest = last_set xs j (bits / 2) (omega (arith, l)) half_low half_high d in
+      ap (λ r. cond (bits % 2 == 1) (x ∷ r) r) rest
+      ∙ front (bits % 2 == 1) (picked (bits / 2 - 2 ^ j) xs) (get_or xs j d)
+      ∙ ap (λ r. r ++ get_or xs j d ∷ []) (ap₂ (λ b r. cond (b == 1) (x ∷ r) r) (sym same_bit) (ap (λ n. picked n xs) (sym same_half)))
+    where
+      front : (b : Bool) (r : List X) (e : X) → cond b (x ∷ (r ++ e ∷ [])) (r ++ e ∷ []) ≡ cond b (x ∷ r) r ++ e ∷ []
+      front true r e = refl
+      front false r e = refl
+
   -- the next of those that are told, from a place on
   module _ (xs : List X) (i bits : ℕ) (some : 0 < bits) (has : HasBitsFor (drop i xs) bits) (few : length xs ≤ 64) where
     abbrev m : ℕ
@@ -198,25 +246,34 @@ module _ {X : Type 0} where
     pub next_told : (x : X) → x ≡ get_or xs (i + m) x → picked bits (drop i xs) ≡ x ∷ picked (bits / 2 ^ m / 2) (drop (i + m + 1) xs)
     next_told x is = next.first x ∙ ap₂ (λ y l. y ∷ picked (bits / 2 ^ m / 2) l) (get_or-drop i xs m x ∙ sym is) behind
 
-  -- the same of a beginning, from its end
-  module _ (xs : List X) (i bits : ℕ) (some : 0 < bits) (within : i ≤ length xs) (has : HasBitsFor (reverse (take i xs)) bits) (few : length xs ≤ 64) where
-    abbrev k : ℕ
-    k = count_trailing_zeros 64 bits
+  -- the last of those that are told
+  module _ (xs : List X) (bits : ℕ) (some : 0 < bits) (has : HasBitsFor xs bits) (few : length xs ≤ 64) where
+    abbrev last : ℕ
+    last = 63 - count_leading_zeros 64 bits
 
-    last : IsFirst (reverse (take i xs)) bits k
-    last = first_picked (reverse (take i xs)) bits 64 some has (omega (arith, few, within, length-reverse (take i xs), length-take i xs))
+    within_word : bits < 2 ^ 64
+    within_word = let most : 2 ^ length xs ≤ 2 ^ 64 = pow_mono {i = length xs} {j = 64} few in omega (arith, has, most)
 
-    pub last_within : k + 1 ≤ i
-    last_within = omega (arith, last.within, length-reverse (take i xs), length-take i xs)
+    same_last : (leading_top 64 bits some within_word).0 ≡ last
+    same_last = omega (arith, (leading_top 64 bits some within_word).1)
 
-    before : drop (suc k) (reverse (take i xs)) ≡ reverse (take (i - (k + 1)) xs)
-    before = let e : suc k ≡ k + 1 = omega arith in reverse_behind (suc k) xs i (omega (arith, last_within)) within ∙ ap (λ j. reverse (take (i - j) xs)) e
+    pub last_low : 2 ^ last ≤ bits
+    last_low = subst (λ j. 2 ^ j ≤ bits) same_last (leading_top 64 bits some within_word).2
 
-    pub last_bits : HasBitsFor (reverse (take (i - (k + 1)) xs)) (bits / 2 ^ k / 2)
-    last_bits = subst (λ l. HasBitsFor l (bits / 2 ^ k / 2)) before last.rest
+    last_high : bits < 2 ^ suc last
+    last_high = subst (λ j. bits < 2 ^ suc j) same_last (leading_top 64 bits some within_word).3
 
-    pub last_told : (x : X) → x ≡ get_or xs (i - (k + 1)) x → picked bits (reverse (take i xs)) ≡ x ∷ picked (bits / 2 ^ k / 2) (reverse (take (i - (k + 1)) xs))
-    last_told x is = last.first x ∙ ap₂ (λ y l. y ∷ picked (bits / 2 ^ k / 2) l) (reverse_at k xs i x (omega (arith, last_within)) within ∙ sym is) before
+    pub last_within : last < length xs
+    last_within = ⊎_elim (λ l. l) (λ l. absurd (omega (arith, pow_mono {i = length xs} {j = last} l, last_low, has))) (cases_lt last (length xs))
+
+    pub last_shifted : 1 * 2 ^ last % 2 ^ 64 ≡ 2 ^ last
+    last_shifted = omega (arith, last_low, within_word)
+
+    pub last_bits : HasBitsFor xs (bits - 2 ^ last)
+    last_bits = omega (arith, has)
+
+    pub last_told : (x : X) → x ≡ get_or xs last x → picked bits xs ≡ picked (bits - 2 ^ last) xs ++ x ∷ []
+    last_told x is = last_set xs last bits last_within last_low last_high x ∙ ap (λ y. picked (bits - 2 ^ last) xs ++ y ∷ []) (sym is)
 
   -- what is made of one of a list that passes a test, and of those behind it
   pub kept_one : {Y : Type 0} (test : X → Bool) (f : X → Y) (old : List Y) (x : X) (rest : List X) → test x ≡ true → (old ++ f x ∷ []) ++ map f (filter test rest) ≡ old ++ map f (filter test (x ∷ rest))
@@ -253,8 +310,8 @@ made_reversed f (x ∷ xs) = ap (map f) (reverse-append (x ∷ []) xs) ∙ map-a
 
 module _ {K : Type 0} where
   -- the items of the wanted branches, the last first
-  pub wanted_items : (wanted : K → Bool) (memo : ℕ) (branches : List (Branch K)) → map (item_of_child memo) (filter (λ b. wanted b.key) (reverse branches)) ≡ child_items wanted memo branches
-  wanted_items wanted memo branches = ap (map (item_of_child memo)) (kept_reversed (λ b. wanted b.key) branches) ∙ made_reversed (item_of_child memo) (filter (λ b. wanted b.key) branches)
+  pub wanted_items : (wanted : K → Bool) (memo : ℕ) (branches : List (Branch K)) → map (item_of_child memo) (reverse (filter (λ b. wanted b.key) branches)) ≡ child_items wanted memo branches
+  wanted_items wanted memo branches = made_reversed (item_of_child memo) (filter (λ b. wanted b.key) branches)
 
   -- the rows of the entries that are accepted and visible
   pub seen_rows : (accepts : K → Bool) (s : ℕ) (entries : List (Entry K)) → map row_of (filter (visible_at s) (filter (λ e. accepts e.key) entries)) ≡ seen accepts s entries

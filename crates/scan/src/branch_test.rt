@@ -1,7 +1,8 @@
 ghost use Rattle.std.specs.Prelude.{◌≡◌, Bool};
+ghost use Rattle.key_class.specs.Bits.{bits_of};
 ghost use Rattle.key_class.specs.Queries.{query_of, consistent_with_query};
 
-use key_class::{KeyClass, Pred};
+use key_class::{Block, Columned, KeyClass, Pred, eight_bits};
 
 /// Which branches a traversal follows, by their bounds.
 pub trait BranchTest<C: KeyClass> {
@@ -9,6 +10,22 @@ pub trait BranchTest<C: KeyClass> {
 
     fn is_wanted(&self, bound: C::Key) -> bool
         ensures { result ≡ wants self.now bound };
+
+    /// Which of eight bounds are wanted, by bits: the lowest tells of the first.
+    fn wanted_block(&self, bounds: &<C::Key as Columned>::Block) -> u64
+        ensures { result ≡ bits_of (wants self.now) (C.Key.Block.items bounds.now) }
+    {
+        eight_bits([
+            self.is_wanted(bounds.get(0)),
+            self.is_wanted(bounds.get(1)),
+            self.is_wanted(bounds.get(2)),
+            self.is_wanted(bounds.get(3)),
+            self.is_wanted(bounds.get(4)),
+            self.is_wanted(bounds.get(5)),
+            self.is_wanted(bounds.get(6)),
+            self.is_wanted(bounds.get(7)),
+        ])
+    }
 }
 
 /// Follows the branches whose bounds cover a key.

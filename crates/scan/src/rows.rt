@@ -6,7 +6,8 @@ ghost use Rattle.scan.specs.QueryVisits.{seen_by};
 use crate::key_test::{KeyTest, OneAtom};
 use crate::picks::{BITS, accepted_bits, note_picked};
 use change_list::Row;
-use key_class::{KeyClass, Pred};
+use key_class::{Columned, KeyClass, Pred};
+use node::Rows;
 use row_version::Entry;
 use std::alloc::{AllocError, Global};
 use std::collections::VecDeque;
@@ -17,7 +18,7 @@ use std::collections::VecDeque;
 /// Memory ran out, and there is such a row.
 pub fn seen_rows<C: KeyClass>(
     alloc: Global,
-    entries: &[Entry<C::Key>],
+    entries: &Rows<C::Key>,
     query: &Pred<C::Atom>,
     commit: u32,
 ) -> Result<VecDeque<Row<C::Key>>, AllocError>
@@ -38,7 +39,7 @@ pub fn seen_rows<C: KeyClass>(
 /// Memory ran out, and there is such a row.
 fn accepted_rows<C: KeyClass, T: KeyTest<C>>(
     alloc: Global,
-    entries: &[Entry<C::Key>],
+    entries: &Rows<C::Key>,
     test: &T,
     commit: u32,
 ) -> Result<VecDeque<Row<C::Key>>, AllocError>
@@ -46,9 +47,10 @@ fn accepted_rows<C: KeyClass, T: KeyTest<C>>(
     ensures memory { OnErr result (seen (T.accepts test.now) commit entries.now ≢ []) }
 {
     let mut rows = VecDeque::new(alloc);
-    for entry in entries {
-        if is_seen::<C, T>(entry, test, commit) {
-            rows.push_back(row_of(entry))?;
+    for place in 0..entries.len() {
+        let entry = entries.get(place);
+        if is_seen::<C, T>(&entry, test, commit) {
+            rows.push_back(row_of(&entry))?;
         }
     }
     Ok(rows)
@@ -56,7 +58,7 @@ fn accepted_rows<C: KeyClass, T: KeyTest<C>>(
 
 /// Appends the rows that are live after the first `commit` commits and match, in order.
 pub fn note_rows<C: KeyClass>(
-    entries: &[Entry<C::Key>],
+    entries: &Rows<C::Key>,
     query: &Pred<C::Atom>,
     commit: u32,
     rows: &mut Vec<Row<C::Key>>,
@@ -75,7 +77,7 @@ pub fn note_rows<C: KeyClass>(
 /// Appends the rows that are live after the first `commit` commits and pass the test, in order. A page of a store
 /// never has more entries than a number has bits.
 fn note_accepted<C: KeyClass, T: KeyTest<C>>(
-    entries: &[Entry<C::Key>],
+    entries: &Rows<C::Key>,
     test: &T,
     commit: u32,
     rows: &mut Vec<Row<C::Key>>,
@@ -85,7 +87,7 @@ fn note_accepted<C: KeyClass, T: KeyTest<C>>(
 {
     if entries.len() <= BITS {
         let accepted = accepted_bits::<C, T>(entries, test);
-        note_picked(entries, accepted, commit, rows);
+        note_picked::<C::Key>(entries, accepted, commit, rows);
     } else {
         note_one_by_one::<C, T>(entries, test, commit, rows);
     }
@@ -93,7 +95,7 @@ fn note_accepted<C: KeyClass, T: KeyTest<C>>(
 
 /// The same, for any number of entries.
 fn note_one_by_one<C: KeyClass, T: KeyTest<C>>(
-    entries: &[Entry<C::Key>],
+    entries: &Rows<C::Key>,
     test: &T,
     commit: u32,
     rows: &mut Vec<Row<C::Key>>,
@@ -101,9 +103,10 @@ fn note_one_by_one<C: KeyClass, T: KeyTest<C>>(
     requires room { vec_len rows.old + length entries.now ≤ vec_capacity rows.old }
     ensures { rows.new.items ≡ rows.old.items ++ seen (T.accepts test.now) commit entries.now }
 {
-    for entry in entries {
-        if is_seen::<C, T>(entry, test, commit) {
-            rows.push_reserved(row_of(entry));
+    for place in 0..entries.len() {
+        let entry = entries.get(place);
+        if is_seen::<C, T>(&entry, test, commit) {
+            rows.push_reserved(row_of(&entry));
         }
     }
 }
@@ -115,11 +118,16 @@ fn is_seen<C: KeyClass, T: KeyTest<C>>(entry: &Entry<C::Key>, test: &T, commit: 
     test.is_accepted(entry.key()) && entry.visible_at(commit)
 }
 
-/// Whether one of the entries is that of the row.
-pub fn holds_row<K>(entries: &[Entry<K>], row: u32) -> bool
+/// Whether an entry is that of the row.
+pub fn holds_row<K: Columned>(entries: &Rows<K>, row: u32) -> bool
     ensures { result ≡ holds row entries.now }
 {
-    entries.iter().any(|entry| entry.row() == row)
+    for place in 0..entries.len() {
+        if entries.get(place).row() == row {
+            return true;
+        }
+    }
+    false
 }
 
 pub(crate) fn row_of<K: Copy>(entry: &Entry<K>) -> Row<K>

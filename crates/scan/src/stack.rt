@@ -1,4 +1,4 @@
-ghost use Rattle.std.specs.Prelude.{Bool, ◌≡◌, ◌≢◌, ◌<◌, ◌≤◌, ◌↔◌, ℕ, ◌+◌, ◌++◌, [], length, true, option_to_list, IfOk, OnOk, OnErr, MatchOption, IsTrue, false};
+ghost use Rattle.std.specs.Prelude.{Bool, ◌≡◌, ◌≢◌, ◌<◌, ◌≤◌, ◌↔◌, ℕ, ◌+◌, ◌++◌, [], length, take, true, option_to_list, IfOk, OnOk, OnErr, MatchOption, IsTrue, false};
 ghost use Rattle.std.specs.Arc.{arc_value};
 ghost use Rattle.smallvec.specs.SmallVec.{HasRoomFor};
 ghost use Rattle.page_table.specs.Stacks.{IsStack, root_stack};
@@ -14,7 +14,7 @@ use crate::prepared::PreparedVisit;
 use crate::rows::{holds_row, note_rows, seen_rows};
 use change_list::Row;
 use key_class::{KeyClass, Pred};
-use node::{Branch, same_page};
+use node::{Branches, same_page};
 use page_table::PageTable;
 use smallvec::SmallVec;
 use std::alloc::{AllocError, Global};
@@ -383,7 +383,7 @@ impl Stack {
         self.items.pop();
         push_link(&mut self.items, page.followed(item.memo), item.memo);
         let memo = table.counter();
-        let rows = push_picked(&mut self.items, branches, wanted, memo, table);
+        let rows = push_picked::<C::Key>(&mut self.items, branches, wanted, memo, table);
         Ok(rows)
     }
 
@@ -401,31 +401,30 @@ impl Stack {
         ensures memory { OnErr result (PushesSome (T.wants test.now) table.now self.old) }
     {
         let page = table.page(item.page);
-        let branches = up_to_wanted::<C, T>(page.branches(), test);
-        make_room(&mut self.items, branches.len())?;
+        let branches = page.branches();
+        let count = up_to_wanted::<C, T>(branches, test);
+        make_room(&mut self.items, count)?;
         self.items.pop();
         push_link(&mut self.items, page.followed(item.memo), item.memo);
-        push_children::<C, T>(&mut self.items, branches, test, table.counter());
+        push_children::<C, T>(&mut self.items, branches, count, test, table.counter());
         Ok(())
     }
 }
 
-/// The branches up to the last that passes the test.
-fn up_to_wanted<'a, C: KeyClass, T: BranchTest<C>>(
-    branches: &'a [Branch<C::Key>],
-    test: &T,
-) -> &'a [Branch<C::Key>]
-    ensures same { KeepsWanted (T.wants test.now) branches.now result.now }
-    ensures wanted { HasWanted (T.wants test.now) branches.now result.now }
+/// How many branches there are up to the last that is wanted.
+fn up_to_wanted<C: KeyClass, T: BranchTest<C>>(branches: &Branches<C::Key>, test: &T) -> usize
+    ensures within { result ≤ length branches.now }
+    ensures same { KeepsWanted (T.wants test.now) branches.now (take result branches.now) }
+    ensures wanted { HasWanted (T.wants test.now) branches.now (take result branches.now) }
 {
     let mut count = branches.len();
     while count > 0 {
-        if test.is_wanted(branches[count - 1].key) {
-            return &branches[..count];
+        if test.is_wanted(branches.get(count - 1).key) {
+            return count;
         }
         count -= 1;
     }
-    &[]
+    0
 }
 
 /// Makes room for `more` further items.
@@ -468,20 +467,23 @@ fn push_pages(items: &mut SmallVec<StackItem, 32>, pages: &[u32], memo: u32)
     }
 }
 
-/// Pushes the children whose branches pass the test, from the last to the first.
+/// Pushes the children that are wanted of the first `count` branches, from the last to the first.
 fn push_children<C: KeyClass, T: BranchTest<C>>(
     items: &mut SmallVec<StackItem, 32>,
-    branches: &[Branch<C::Key>],
+    branches: &Branches<C::Key>,
+    count: usize,
     test: &T,
     memo: u32,
 )
-    requires { HasRoomFor items.old (length branches.now) }
-    ensures { items.new.items ≡ children_on (T.wants test.now) memo branches.now items.old.items }
+    requires within { count ≤ length branches.now }
+    requires room { HasRoomFor items.old count }
+    ensures { items.new.items
+        ≡ children_on (T.wants test.now) memo (take count branches.now) items.old.items }
 {
-    let mut place = branches.len();
+    let mut place = count;
     while place > 0 {
         place -= 1;
-        let branch = branches[place];
+        let branch = branches.get(place);
         if test.is_wanted(branch.key) {
             items.push_reserved(StackItem {
                 page: branch.child,

@@ -2,9 +2,9 @@ ghost use Rattle.std.specs.Prelude.{◌≡◌, ℕ, IfOk};
 ghost use Rattle.page_table.specs.Soundness.{IsSound};
 ghost use Rattle.snapshot.specs.Life.{TellsLife, holds_live};
 
-use key_class::KeyClass;
+use key_class::{Columned, KeyClass};
+use node::Rows;
 use page_table::PageTable;
-use row_version::Entry;
 use scan::{Sought, Stack};
 use std::alloc::{AllocError, Global};
 
@@ -31,11 +31,15 @@ pub(crate) fn lives<C: KeyClass>(
     Ok(false)
 }
 
-/// Whether an entry is that of the row, and is live.
-fn holds_live<K>(entries: &[Entry<K>], row: u32) -> bool
+/// Whether an entry is that of the row, and lives.
+fn holds_live<K: Columned>(entries: &Rows<K>, row: u32) -> bool
     ensures { result ≡ holds_live row entries.now }
 {
-    entries
-        .iter()
-        .any(|entry| entry.row() == row && entry.is_live())
+    for place in 0..entries.len() {
+        let entry = entries.get(place);
+        if entry.row() == row && entry.is_live() {
+            return true;
+        }
+    }
+    false
 }

@@ -6,7 +6,8 @@
 ghost use Rattle.std.specs.Prelude.{◌≡◌, slice_index_or};
 ghost use Rattle.world.specs.Hints.{hint_to, with_hint, with_hints};
 
-use row_version::Entry;
+use key_class::Columned;
+use node::Rows;
 
 /// A page's number, as a hint stores it.
 pub(crate) fn hint_to(page: u64) -> u16
@@ -25,12 +26,12 @@ fn note_row(hints: &mut Vec<u16>, page: u16, row: u32)
     }
 }
 
-/// Records that these rows are on a page.
-pub(crate) fn note_all<K>(hints: &mut Vec<u16>, page: u16, rows: &[Entry<K>])
+/// Notes that these rows stand on a page.
+pub(crate) fn note_all<K: Columned>(hints: &mut Vec<u16>, page: u16, rows: &Rows<K>)
     ensures { hints.new.items ≡ with_hints page rows.now hints.old.items }
 {
-    for entry in rows {
-        note_row(hints, page, entry.row());
+    for place in 0..rows.len() {
+        note_row(hints, page, rows.get(place).row());
     }
 }
 

@@ -5,6 +5,6 @@ use Rattle.node.proofs.parts.keep_left.Given as goal
 abbrev pub invariant-loop-place : goal.invariant-loop-place
 invariant-loop-place g l = record {
   behind : l.kept ≤ l.place;
-  as_many : length l.entries.items ≡ length l.fn.entries.items;
-  left : take l.kept l.entries.items ++ left_part (drop l.place l.sides) (drop l.place l.entries.items) ≡ left_part l.sides l.fn.entries.items;
+  as_many : length l.entries ≡ length l.fn.entries;
+  left : take l.kept l.entries ++ left_part (drop l.place l.sides) (drop l.place l.entries) ≡ left_part l.sides l.fn.entries;
 }

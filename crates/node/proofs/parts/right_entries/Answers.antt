@@ -1,5 +1,6 @@
+use Rattle.std.proofs.Common.{arith}
 use Rattle.node.proofs.PartEnds.{right_part_whole}
 use Rattle.node.proofs.parts.right_entries.Goals as goal
 
 pub returns : goal.returns
-returns g c = right_part_whole c.args.sides.now c.args.entries.now c.loop-place.place _ _ c.loop-place-test.false c.loop-place.invariant.taken
+returns g c = right_part_whole c.args.sides.now c.args.entries.now c.loop-place.place _ _ (omega (arith, c.loop-place-test.false, c.len-place-end.ensures)) c.loop-place.invariant.taken

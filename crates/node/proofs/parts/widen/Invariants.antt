@@ -4,6 +4,6 @@ use Rattle.node.proofs.parts.widen.Given as goal
 
 abbrev pub invariant-loop-place : goal.invariant-loop-place
 invariant-loop-place g l = record {
-  done : take l.place l.branches.items ++ map (widened g.C.KeyClass.rules.union_of l.child l.key) (drop l.place l.branches.items) ≡ map (widened g.C.KeyClass.rules.union_of l.child l.key) l.fn.branches.items;
-  len : length l.branches.items ≡ length l.fn.branches.items;
+  done : take l.place l.branches ++ map (widened g.C.KeyClass.rules.union_of l.child l.key) (drop l.place l.branches) ≡ map (widened g.C.KeyClass.rules.union_of l.child l.key) l.fn.branches;
+  len : length l.branches ≡ length l.fn.branches;
 }

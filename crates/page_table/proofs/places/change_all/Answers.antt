@@ -49,7 +49,7 @@ returns-then-below-last-clause-changed g c =
     let change = c.args.change.now in
     let place = c.in_ok-get_mut.field-0.now in
     let read : place ≡ get_or c.args.places.now (c.args.beside / g.row.SIZE) place = search rules in
-    on_ok_weaker c.change_three.result (three_within c.requires.full
+    on_ok_weaker c.change_three.result (three_within g.P.PageLike.no_page c.requires.full
     (g.C.PageChange.upper_after change) (g.C.PageChange.lower_after change) (g.C.PageChange.beside_after change) c.requires.upper c.requires.lower c.requires.beside
     c.if-above-last.true c.if-below-last.true place c.change_three.new.self read) c.change_three.ensures.changed
 
@@ -84,7 +84,7 @@ returns-then-above-last-clause-changed g c =
     let change = c.args.change.now in
     let upper : c.args.upper < length (joined g.T.Places.pages c.args.places.now) = omega (arith, c.requires.upper, c.requires.beside) in
     let lower : c.args.lower < length (joined g.T.Places.pages c.args.places.now) = omega (arith, c.requires.lower, c.requires.beside) in
-    on_ok_both c.change_pair.result (pair_becomes c.requires.full
+    on_ok_both c.change_pair.result (pair_becomes g.P.PageLike.no_page c.requires.full
     (g.C.PageChange.upper_after change) (g.C.PageChange.lower_after change) (g.C.PageChange.beside_after change) upper lower c.requires.beside
     c.if-above-last.true (λ f. c.if-below-last.false (sym f)) c.two_of-over.result.0.now c.two_of-over.result.1.now c.change_pair.new.over c.change_pair.new.under c.two_of-over.ensures.first c.two_of-over.ensures.second)
     c.change_pair.ensures.over c.change_pair.ensures.under
@@ -124,7 +124,7 @@ returns-then-below-last-2-clause-changed g c =
     let lower : c.args.lower < length (joined g.T.Places.pages c.args.places.now) = omega (arith, c.requires.lower, c.requires.beside) in
     let two = c.two_of-over-then-below-last-2 in
     let pair = c.change_pair-then-below-last-2 in
-    on_ok_both pair.result (other_pair_becomes c.requires.full
+    on_ok_both pair.result (other_pair_becomes g.P.PageLike.no_page c.requires.full
     (g.C.PageChange.upper_after change) (g.C.PageChange.lower_after change) (g.C.PageChange.beside_after change) upper lower c.requires.beside
     c.if-below-last-2.true (λ f. c.if-above-last.false (sym f)) two.result.0.now two.result.1.now pair.new.over pair.new.under two.ensures.first two.ensures.second)
     pair.ensures.over pair.ensures.under
@@ -162,17 +162,17 @@ page_of-requires-clause-exists g c =
 pub change_both-requires-clause-full : goal.change_both-requires-clause-full
 change_both-requires-clause-full g c =
     let cut = c.split_at_mut-front in
-    front_places cut.result.0.now cut.result.1.now c.requires.full cut.ensures.value
+    front_places g.P.PageLike.no_page cut.result.0.now cut.result.1.now c.requires.full cut.ensures.value
 
 pub change_both-requires-clause-upper : goal.change_both-requires-clause-upper
 change_both-requires-clause-upper g c =
     let cut = c.split_at_mut-front in
-    in_front_pages cut.result.0.now cut.result.1.now c.requires.full cut.ensures.value c.requires.beside cut.ensures.front_len c.requires.upper c.if-above-last.false
+    in_front_pages g.P.PageLike.no_page cut.result.0.now cut.result.1.now c.requires.full cut.ensures.value c.requires.beside cut.ensures.front_len c.requires.upper c.if-above-last.false
 
 pub change_both-requires-clause-lower : goal.change_both-requires-clause-lower
 change_both-requires-clause-lower g c =
     let cut = c.split_at_mut-front in
-    in_front_pages cut.result.0.now cut.result.1.now c.requires.full cut.ensures.value c.requires.beside cut.ensures.front_len c.requires.lower c.if-below-last-2.false
+    in_front_pages g.P.PageLike.no_page cut.result.0.now cut.result.1.now c.requires.full cut.ensures.value c.requires.beside cut.ensures.front_len c.requires.lower c.if-below-last-2.false
 
 pub returns-clause-changed : goal.returns-clause-changed
 returns-clause-changed g c =
@@ -189,10 +189,10 @@ returns-clause-changed g c =
     let new = c.change_both.new.beside in
     let put : Becomes g.T.Places.pages g.T.Places.is_full (g.T.Places.put place i new) (set (g.T.Places.pages place) i new) =
     record { full = g.met.T.Places.put_full place i new full within; pages = g.met.T.Places.put_pages place i new full within } in
-    on_ok_both c.change_both.result (split_becomes front back c.requires.full cut.ensures.value
+    on_ok_both c.change_both.result (split_becomes g.P.PageLike.no_page front back c.requires.full cut.ensures.value
     (g.C.PageChange.upper_after change) (g.C.PageChange.lower_after change) (g.C.PageChange.beside_after change) c.requires.beside cut.ensures.front_len
-    (in_front_pages front back c.requires.full cut.ensures.value c.requires.beside cut.ensures.front_len c.requires.upper c.if-above-last.false)
-    (in_front_pages front back c.requires.full cut.ensures.value c.requires.beside cut.ensures.front_len c.requires.lower c.if-below-last-2.false)
+    (in_front_pages g.P.PageLike.no_page front back c.requires.full cut.ensures.value c.requires.beside cut.ensures.front_len c.requires.upper c.if-above-last.false)
+    (in_front_pages g.P.PageLike.no_page front back c.requires.full cut.ensures.value c.requires.beside cut.ensures.front_len c.requires.lower c.if-below-last-2.false)
     place (g.T.Places.put place i new) read c.in_ok-page.page.now new c.in_ok-page.ensures.value put c.change_both.new.places) c.change_both.ensures.changed c.change_both.ensures.beside
 
 pub returns-clause-unchanged : goal.returns-clause-unchanged

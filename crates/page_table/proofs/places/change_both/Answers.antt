@@ -51,7 +51,7 @@ returns-then-above-below-clause-changed g c =
     let change = c.args.change.now in
     let beside = c.args.beside.now in
     let read : c.in_ok-get_mut.field-0.now ≡ get_or c.args.places.now (c.args.upper / g.row.SIZE) c.in_ok-get_mut.field-0.now = search rules in
-    on_ok_weaker c.change_two.result (both_within c.requires.full
+    on_ok_weaker c.change_two.result (both_within g.P.PageLike.no_page c.requires.full
     (λ x y. g.C.PageChange.upper_after change x y beside) (λ x y. g.C.PageChange.lower_after change x y beside) c.requires.upper c.requires.lower
     c.if-above-below.true c.in_ok-get_mut.field-0.now c.change_two.new.self read) c.change_two.ensures.changed
 
@@ -61,7 +61,7 @@ returns-then-above-below-clause-beside g c =
     let beside = c.args.beside.now in
     let place = c.in_ok-get_mut.field-0.now in
     let read : place ≡ get_or c.args.places.now (c.args.upper / g.row.SIZE) place = search rules in
-    on_ok_weaker c.change_two.result (λ same. same ∙ both_read c.requires.full
+    on_ok_weaker c.change_two.result (λ same. same ∙ both_read g.P.PageLike.no_page c.requires.full
     (λ x y. g.C.PageChange.upper_after change x y beside) (λ x y. g.C.PageChange.lower_after change x y beside) c.requires.upper c.requires.lower
     (λ x y. g.C.PageChange.beside_after change x y beside) place place read (read ∙ ap (λ q. get_or c.args.places.now q place) c.if-above-below.true)) c.change_two.ensures.beside
 
@@ -85,7 +85,7 @@ pub returns-clause-changed : goal.returns-clause-changed
 returns-clause-changed g c =
     let change = c.args.change.now in
     let beside = c.args.beside.now in
-    on_ok_both c.change_parted.result (both_apart c.requires.full
+    on_ok_both c.change_parted.result (both_apart g.P.PageLike.no_page c.requires.full
     (λ x y. g.C.PageChange.upper_after change x y beside) (λ x y. g.C.PageChange.lower_after change x y beside) c.requires.upper c.requires.lower
     c.if-above-below.false c.two_of-over.result.0.now c.two_of-over.result.1.now c.change_parted.new.above c.change_parted.new.below c.two_of-over.ensures.first c.two_of-over.ensures.second)
     c.change_parted.ensures.above c.change_parted.ensures.below
@@ -94,6 +94,6 @@ pub returns-clause-beside : goal.returns-clause-beside
 returns-clause-beside g c =
     let change = c.args.change.now in
     let beside = c.args.beside.now in
-    on_ok_weaker c.change_parted.result (λ same. same ∙ both_read c.requires.full
+    on_ok_weaker c.change_parted.result (λ same. same ∙ both_read g.P.PageLike.no_page c.requires.full
     (λ x y. g.C.PageChange.upper_after change x y beside) (λ x y. g.C.PageChange.lower_after change x y beside) c.requires.upper c.requires.lower
     (λ x y. g.C.PageChange.beside_after change x y beside) c.two_of-over.result.0.now c.two_of-over.result.1.now c.two_of-over.ensures.first c.two_of-over.ensures.second) c.change_parted.ensures.beside

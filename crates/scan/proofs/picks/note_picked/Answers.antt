@@ -9,23 +9,20 @@ use Rattle.scan.proofs.Picking.{kept_one, left_one, next_within, next_bits, next
 use Rattle.scan.proofs.picks.note_picked.Goals.{then-visible_at, else-visible_at}
 use Rattle.scan.proofs.picks.note_picked.Goals as goal
 
-pub offset_bounds-entries-place : goal.offset_bounds-entries-place
-offset_bounds-entries-place g c = omega (arith, next_within c.args.entries.now c.loop-bits.place c.loop-bits.bits (omega (arith, c.loop-bits-test.true)) c.loop-bits.invariant.bits c.requires.few)
-
-pub bounds-entries-place : goal.bounds-entries-place
-bounds-entries-place g c = next_within c.args.entries.now c.loop-bits.place c.loop-bits.bits (omega (arith, c.loop-bits-test.true)) c.loop-bits.invariant.bits c.requires.few
+pub get-entry-requires : goal.get-entry-requires
+get-entry-requires g c = next_within c.args.entries.now c.loop-bits.place c.loop-bits.bits (omega (arith, c.loop-bits-test.true)) c.loop-bits.invariant.bits c.requires.few
 
 pub loop-bits-preserved : goal.loop-bits-preserved
 loop-bits-preserved g c =
     let entries = c.args.entries.now in
     let loop = c.loop-bits in
-    let entry = c.index-entries-place.result in
+    let entry = c.get-entry.result in
     let visible = visible_at c.args.commit in
     let passed = count_trailing_zeros 64 loop.bits in
     let rest = picked (loop.bits / 2 ^ passed / 2) (drop (loop.place + passed + 1) entries) in
     let some : 0 < loop.bits = omega (arith, c.loop-bits-test.true) in
     let within = next_within entries loop.place loop.bits some loop.invariant.bits c.requires.few in
-    let told = next_told entries loop.place loop.bits some loop.invariant.bits c.requires.few entry c.index-entries-place.is in record {
+    let told = next_told entries loop.place loop.bits some loop.invariant.bits c.requires.few entry c.get-entry.ensures in record {
       within = omega (arith, within);
       bits = next_bits entries loop.place loop.bits some loop.invariant.bits c.requires.few;
       room = elim c.if-visible_at.branch [

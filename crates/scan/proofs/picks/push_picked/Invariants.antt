@@ -1,17 +1,15 @@
-use Rattle.std.proofs.Common.{◌≡◌, ◌≤◌, ◌++◌, length, map, reverse, take}
+use Rattle.std.proofs.Common.{◌≡◌, ◌++◌, length, map, reverse}
 use Rattle.smallvec.specs.SmallVec.{HasRoomFor}
 use Rattle.scan.specs.Picks.{HasBitsFor, item_of_child, picked}
 use Rattle.scan.proofs.picks.push_picked.Given as goal
 
 abbrev pub invariant-loop-bits : goal.invariant-loop-bits
-invariant-loop-bits g l =
-    let before = reverse (take l.place l.branches) in record {
-      within : l.place ≤ length l.branches;
-      bits : HasBitsFor before l.bits;
-      room : HasRoomFor l.items (length (picked l.bits before));
-      pushed : l.items.items ++ map (item_of_child l.memo) (picked l.bits before)
-          ≡ l.initial.items.items ++ map (item_of_child l.memo) (picked l.fn.bits (reverse l.branches));
-    }
+invariant-loop-bits g l = record {
+  bits : HasBitsFor l.branches l.bits;
+  room : HasRoomFor l.items (length (picked l.bits l.branches));
+  pushed : l.items.items ++ map (item_of_child l.memo) (reverse (picked l.bits l.branches))
+      ≡ l.initial.items.items ++ map (item_of_child l.memo) (reverse (picked l.fn.bits l.branches));
+}
 
 abbrev pub decreases-loop-bits : goal.decreases-loop-bits
-decreases-loop-bits g l = l.place
+decreases-loop-bits g l = l.bits

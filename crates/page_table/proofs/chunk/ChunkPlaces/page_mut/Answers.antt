@@ -3,7 +3,6 @@ use borrow.Follows.Closed.{read_of}
 use mathlib.Core.Path.{fun_ext}
 use Rattle.std.specs.Borrow.{name_if_ok}
 use Rattle.page_table.specs.PlaceLaws.{page_is, page_within, place_full, place_there, put_back, put_same, size_there}
-use Rattle.page_table.specs.Trees.{no_page}
 use Rattle.page_table.proofs.chunk.ChunkPlaces.page_mut.Goals as goal
 
 pub nonzero_div-place : goal.nonzero_div-place
@@ -26,7 +25,7 @@ returns g c =
     let places = c.args.self.now in
     let child = c.in_ok-child_mut.field-0.now in
     let read : child ≡ get_or places (c.args.place / g.row.SIZE) child = c.in_ok-child_mut.ensures.value in
-    let found = page_is c.requires.full c.requires.exists child read no_page in (
+    let found = page_is c.requires.full c.requires.exists child read g.P.PageLike.no_page in (
       ap₂ (λ f v. read_of (name_if_ok (λ x. x.ghost_name) c.page_mut.result) f v)
           (fun_ext (λ p. put_back g.T.Places.pages g.T.Places.is_full g.T.Places.none g.T.Places.put g.row.SIZE g.met.T.Places.put_pages g.met.T.Places.put_full g.row.LEN places c.requires.full c.args.place c.requires.exists child read p))
           (put_same places (c.args.place / g.row.SIZE) child read),

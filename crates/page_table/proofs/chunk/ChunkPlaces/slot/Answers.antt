@@ -1,6 +1,5 @@
 use Rattle.std.proofs.Common.{rules, ◌≡◌, ◌/◌, get_or, ◌∙◌, arith}
 use Rattle.page_table.specs.PlaceLaws.{page_is, page_within, place_full, place_there, size_there}
-use Rattle.page_table.specs.Trees.{no_page}
 use Rattle.page_table.proofs.chunk.ChunkPlaces.slot.Goals as goal
 
 pub nonzero_div-place : goal.nonzero_div-place
@@ -25,4 +24,4 @@ slot-requires-clause-exists g c =
 pub returns : goal.returns
 returns g c =
     let read : c.child.result.now ≡ get_or c.args.this.now (c.args.place / g.row.SIZE) c.child.result.now = search rules in
-    c.slot.ensures ∙ page_is c.requires.full c.requires.exists c.child.result.now read no_page
+    c.slot.ensures ∙ page_is c.requires.full c.requires.exists c.child.result.now read g.P.PageLike.no_page

@@ -2,9 +2,6 @@ use Rattle.std.proofs.Common.{arith}
 use Rattle.page_table.proofs.Tables.{count_is}
 use Rattle.page_table.proofs.table.PageTable.fresh.Goals as goal
 
-pub overflow_add-self : goal.overflow_add-self
-overflow_add-self g c = omega (arith, count_is c.self.invariant.places c.self.view_is, c.requires)
-
 pub overflow_cast-result : goal.overflow_cast-result
 overflow_cast-result g c = omega (arith, count_is c.self.invariant.places c.self.view_is, c.requires)
 

@@ -1,0 +1,182 @@
+ghost use Rattle.std.specs.Prelude.{◌≡◌, ◌<◌, ◌≤◌, ◌↔◌, ◌++◌, ◌∷◌, [], ◌%◌, ◌^◌, length, take, slice_index_or, slice_set, IfOk, OnOk, OnErr, IsTrue, vec_len, vec_capacity};
+ghost use Rattle.key_class.specs.Bits.{bits_of};
+ghost use Rattle.blocks.specs.Values.{values_of};
+
+use crate::test::BlockTest;
+use key_class::Block;
+use std::alloc::{AllocError, Global};
+use std::marker::{Model, PhantomData};
+
+/// How many values a block has.
+const SIZE: usize = 8;
+
+/// A list of values in blocks of eight. What the last block has behind the last value doesn't count.
+#[derive(Drop)]
+pub struct Blocks<T: Copy, B: Block<T>> {
+    blocks: Vec<B>,
+    count: usize,
+    of: PhantomData<T>,
+}
+
+impl<T: Copy, B: Block<T>> Model for Blocks<T, B> {
+    ghost use Rattle.std.specs.Prelude.{List, length, take};
+    ghost use Rattle.blocks.specs.Values.{AreBlocksFor, values_of};
+
+    ghost Value = { List T };
+
+    ghost view = { λ l. take l.count (values_of B.items l.blocks.items) };
+
+    ghost invariant = { λ l. AreBlocksFor l.count (length l.blocks.items) };
+}
+
+impl<T: Copy, B: Block<T>> Blocks<T, B> {
+    /// No values. It takes no memory.
+    pub fn new(alloc: Global) -> Blocks<T, B>
+        ensures { result ≡ [] }
+    {
+        Blocks {
+            blocks: Vec::new(alloc),
+            count: 0,
+            of: PhantomData,
+        }
+    }
+
+    /// No values, with room for some.
+    ///
+    /// # Errors
+    /// Memory was wanting.
+    pub fn with_capacity(alloc: Global, capacity: usize) -> Result<Blocks<T, B>, AllocError>
+        ensures { IfOk result (λ list. list ≡ []) }
+    {
+        let blocks = Vec::with_capacity(alloc, capacity.div_ceil(SIZE))?;
+        Ok(Blocks {
+            blocks,
+            count: 0,
+            of: PhantomData,
+        })
+    }
+
+    pub fn len(&self) -> usize
+        ensures { result ≡ length self.now }
+    {
+        self.count
+    }
+
+    pub fn is_empty(&self) -> bool
+        ensures { IsTrue result ↔ (self.now ≡ []) }
+    {
+        self.len() == 0
+    }
+
+    pub fn get(&self, place: usize) -> T
+        requires { place < length self.now }
+        ensures { result ≡ slice_index_or self.now place result }
+    {
+        self.blocks[place / SIZE].get(place % SIZE)
+    }
+
+    pub fn set(&mut self, place: usize, value: T)
+        requires { place < length self.old }
+        ensures { self.new ≡ slice_set self.old place value }
+    {
+        self.blocks[place / SIZE].set(place % SIZE, value);
+    }
+
+    /// Adds a value at the end. A full list gets a third more room: one that had three quarters of a page has all of it
+    /// then, and no more.
+    ///
+    /// # Errors
+    /// Memory was wanting; the list is as it was.
+    pub fn push(&mut self, value: T) -> Result<(), AllocError>
+        ensures pushed { OnOk result (self.new ≡ self.old ++ value ∷ []) }
+        ensures unchanged { OnErr result (self.new ≡ self.old) }
+    {
+        let place = self.count;
+        let Some(count) = place.checked_add(1) else {
+            return Err(AllocError);
+        };
+        if place % SIZE == 0 {
+            reserve_one(&mut self.blocks)?;
+            self.blocks.push_reserved(B::filled(value));
+        } else {
+            self.blocks[place / SIZE].set(place % SIZE, value);
+        }
+        self.count = count;
+        Ok(())
+    }
+
+    /// Leaves the first `count` values.
+    pub fn truncate(&mut self, count: usize)
+        ensures { self.new ≡ take count self.old }
+    {
+        if count < self.count {
+            self.blocks.truncate(count.div_ceil(SIZE));
+            self.count = count;
+        }
+    }
+
+    /// The same values, with the same room.
+    ///
+    /// # Errors
+    /// Memory was wanting.
+    pub fn copied(&self) -> Result<Blocks<T, B>, AllocError>
+        ensures { IfOk result (λ copy. copy ≡ self.now) }
+    {
+        let mut blocks = Vec::with_capacity(*self.blocks.allocator(), self.blocks.capacity())?;
+        blocks.extend_from_slice(self.blocks.as_slice())?;
+        Ok(Blocks {
+            blocks,
+            count: self.count,
+            of: PhantomData,
+        })
+    }
+
+    /// Which of at most 64 values pass a test, by bits: the lowest tells of the first.
+    pub fn bits<S: BlockTest<T, B>>(&self, test: &S) -> u64
+        requires { length self.now ≤ 64 }
+        ensures { result ≡ bits_of (S.passes test.now) self.now }
+    {
+        let bits = all_bits::<T, B, S>(&self.blocks, test);
+        first_bits(bits, self.count)
+    }
+}
+
+/// Makes room for one block more.
+///
+/// # Errors
+/// Memory was wanting.
+fn reserve_one<B: Copy>(blocks: &mut Vec<B>) -> Result<(), AllocError>
+    ensures items { blocks.new.items ≡ blocks.old.items }
+    ensures room { OnOk result (vec_len blocks.new < vec_capacity blocks.new) }
+{
+    if blocks.len() < blocks.capacity() {
+        return Ok(());
+    }
+    blocks.reserve_exact(blocks.capacity().div_ceil(3).max(1))
+}
+
+/// Which values of some blocks pass a test, those behind the last one too.
+fn all_bits<T: Copy, B: Block<T>, S: BlockTest<T, B>>(blocks: &[B], test: &S) -> u64
+    requires { length blocks.now ≤ 8 }
+    ensures { result ≡ bits_of (S.passes test.now) (values_of B.items blocks.now) }
+{
+    let mut bits = 0;
+    let mut number = blocks.len();
+    while number > 0 {
+        number -= 1;
+        bits = 256 * bits + test.tested(&blocks[number]);
+    }
+    bits
+}
+
+/// The lowest bits of a number.
+fn first_bits(bits: u64, count: usize) -> u64
+    requires { count ≤ 64 }
+    ensures { result ≡ bits % 2 ^ count }
+{
+    if count < 64 {
+        bits % (1 << count)
+    } else {
+        bits
+    }
+}

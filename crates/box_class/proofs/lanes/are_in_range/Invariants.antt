@@ -1,0 +1,7 @@
+use Rattle.std.proofs.Common.{ℕ, ◌<◌, get_or, pos}
+use mir.Val.{SFits}
+use mir.Syntax.{w32}
+use Rattle.box_class.proofs.lanes.are_in_range.Given as goal
+
+abbrev pub invariant-loop-number : goal.invariant-loop-number
+invariant-loop-number l = (k : ℕ) → k < l.number-index → SFits w32 (get_or l.fn.numbers k (pos 0))

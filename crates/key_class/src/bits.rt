@@ -1,0 +1,18 @@
+ghost use Rattle.std.specs.Prelude.{◌≡◌, ◌∷◌, []};
+ghost use Rattle.std.specs.Simd.Lanes.{mask_l};
+
+/// Eight answers as the bits of a number: the first is the lowest.
+pub fn eight_bits(answers: [bool; 8]) -> u64
+    ensures { result ≡ mask_l answers }
+{
+    let [first, second, third, fourth, fifth, sixth, seventh, eighth] = answers;
+    four_bits(first, second, third, fourth) + 16 * four_bits(fifth, sixth, seventh, eighth)
+}
+
+fn four_bits(first: bool, second: bool, third: bool, fourth: bool) -> u64
+    ensures { result ≡ mask_l (first ∷ second ∷ third ∷ fourth ∷ []) }
+{
+    let low = u64::from(first) + 2 * u64::from(second);
+    let high = u64::from(third) + 2 * u64::from(fourth);
+    low + 4 * high
+}

@@ -1,0 +1,26 @@
+ghost use Rattle.std.specs.Prelude.{◌≡◌, ◌<◌, List, replicate, length, slice_get, slice_set, Some};
+
+/// Eight values, kept as they are tested fastest.
+pub trait Block<T: Copy>: Copy {
+    /// The values, by their places.
+    ghost items: { Self → List T };
+
+    /// Eight times the same.
+    fn filled(item: T) -> Self
+        ensures { items result ≡ replicate 8 item };
+
+    fn get(&self, place: usize) -> T
+        requires { place < 8 }
+        ensures { slice_get (items self.now) place ≡ Some result };
+
+    fn set(&mut self, place: usize, item: T)
+        requires { place < 8 }
+        ensures { items self.new ≡ slice_set (items self.old) place item };
+
+    ghost eight: { (block : Self) → length (items block) ≡ 8 };
+}
+
+/// A key that tells in what blocks its like are kept.
+pub trait Columned: Copy {
+    type Block: Block<Self>;
+}
