@@ -10,7 +10,7 @@ use std::marker::{Model, PhantomData};
 /// How many values a block has.
 const SIZE: usize = 8;
 
-/// A list of values in blocks of eight. What the last block has behind the last value doesn't count.
+/// A list of values, kept in blocks of eight. What the last block has after the last value doesn't count.
 #[derive(Drop)]
 pub struct Blocks<T: Copy, B: Block<T>> {
     blocks: Vec<B>,
@@ -30,7 +30,7 @@ impl<T: Copy, B: Block<T>> Model for Blocks<T, B> {
 }
 
 impl<T: Copy, B: Block<T>> Blocks<T, B> {
-    /// No values. It takes no memory.
+    /// An empty list. It needs no memory.
     pub fn new(alloc: Global) -> Blocks<T, B>
         ensures { result ≡ [] }
     {
@@ -41,10 +41,10 @@ impl<T: Copy, B: Block<T>> Blocks<T, B> {
         }
     }
 
-    /// No values, with room for some.
+    /// An empty list with room for `capacity` values.
     ///
     /// # Errors
-    /// Memory was wanting.
+    /// Memory ran out.
     pub fn with_capacity(alloc: Global, capacity: usize) -> Result<Blocks<T, B>, AllocError>
         ensures { IfOk result (λ list. list ≡ []) }
     {
@@ -82,11 +82,11 @@ impl<T: Copy, B: Block<T>> Blocks<T, B> {
         self.blocks[place / SIZE].set(place % SIZE, value);
     }
 
-    /// Adds a value at the end. A full list gets a third more room: one that had three quarters of a page has all of it
-    /// then, and no more.
+    /// Adds a value at the end. A full list gets a third more room, so one with three quarters of a page then has exactly a
+    /// page.
     ///
     /// # Errors
-    /// Memory was wanting; the list is as it was.
+    /// Memory ran out; the list is unchanged.
     pub fn push(&mut self, value: T) -> Result<(), AllocError>
         ensures pushed { OnOk result (self.new ≡ self.old ++ value ∷ []) }
         ensures unchanged { OnErr result (self.new ≡ self.old) }
@@ -105,7 +105,7 @@ impl<T: Copy, B: Block<T>> Blocks<T, B> {
         Ok(())
     }
 
-    /// Leaves the first `count` values.
+    /// Keeps only the first `count` values.
     pub fn truncate(&mut self, count: usize)
         ensures { self.new ≡ take count self.old }
     {
@@ -115,10 +115,10 @@ impl<T: Copy, B: Block<T>> Blocks<T, B> {
         }
     }
 
-    /// The same values, with the same room.
+    /// A copy of the list, with the same room.
     ///
     /// # Errors
-    /// Memory was wanting.
+    /// Memory ran out.
     pub fn copied(&self) -> Result<Blocks<T, B>, AllocError>
         ensures { IfOk result (λ copy. copy ≡ self.now) }
     {
@@ -131,7 +131,7 @@ impl<T: Copy, B: Block<T>> Blocks<T, B> {
         })
     }
 
-    /// Which of at most 64 values pass a test, by bits: the lowest tells of the first.
+    /// Which of at most 64 values pass a test, as bits; the lowest bit is the first value's.
     pub fn bits<S: BlockTest<T, B>>(&self, test: &S) -> u64
         requires { length self.now ≤ 64 }
         ensures { result ≡ bits_of (S.passes test.now) self.now }
@@ -141,10 +141,10 @@ impl<T: Copy, B: Block<T>> Blocks<T, B> {
     }
 }
 
-/// Makes room for one block more.
+/// Makes room for one more block.
 ///
 /// # Errors
-/// Memory was wanting.
+/// Memory ran out.
 fn reserve_one<B: Copy>(blocks: &mut Vec<B>) -> Result<(), AllocError>
     ensures items { blocks.new.items ≡ blocks.old.items }
     ensures room { OnOk result (vec_len blocks.new < vec_capacity blocks.new) }
@@ -155,7 +155,7 @@ fn reserve_one<B: Copy>(blocks: &mut Vec<B>) -> Result<(), AllocError>
     blocks.reserve_exact(blocks.capacity().div_ceil(3).max(1))
 }
 
-/// Which values of some blocks pass a test, those behind the last one too.
+/// Which values of some blocks pass a test, including what the last block has after the last value.
 fn all_bits<T: Copy, B: Block<T>, S: BlockTest<T, B>>(blocks: &[B], test: &S) -> u64
     requires { length blocks.now ≤ 8 }
     ensures { result ≡ bits_of (S.passes test.now) (values_of B.items blocks.now) }

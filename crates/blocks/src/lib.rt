@@ -1,4 +1,4 @@
-//! Lists of values that are kept in blocks of eight.
+//! Lists of values that are kept in blocks of eight, so that eight can be tested at once.
 #![tactic(auto)]
 
 mod blocks;

@@ -4,7 +4,7 @@ ghost use Rattle.std.specs.Prelude.{ℕ, ◌≤ℤ◌, pos, slice_index_or};
 use crate::boxes::BoxKey;
 use key_class::{Block, Columned};
 
-/// Eight boxes, each of their ends in a column.
+/// Eight boxes: each of their four ends has a column.
 #[derive(Clone, Copy)]
 pub struct BoxBlock {
     pub lefts: [i32; 8],

@@ -1,4 +1,4 @@
-//! Eight boxes are tested at once.
+//! Tests of eight boxes at once.
 ghost use Rattle.std.specs.Prelude.{◌≡◌, ◌&&◌, int_le};
 ghost use Rattle.std.specs.Simd.Lanes.{Each1};
 ghost use Rattle.key_class.specs.Bits.{bits_of};
@@ -9,7 +9,7 @@ ghost use mir.Syntax.{w32};
 use crate::block::BoxBlock;
 use std::simd::prelude::*;
 
-/// Which of eight keys begin at the most or before it, and end at the least or behind it, in both directions.
+/// Which of eight keys begin at `x_most` or before it and end at `x_least` or after it, and the same along y.
 pub fn reaching(keys: &BoxBlock, x_most: &i32, x_least: &i32, y_most: &i32, y_least: &i32) -> u64
     ensures { result ≡ bits_of (λ key.
         (int_le key.x1 x_most.now && int_le x_least.now key.x2)
@@ -26,7 +26,7 @@ pub fn reaching(keys: &BoxBlock, x_most: &i32, x_least: &i32, y_most: &i32, y_le
     ((left & right) & (low & high)).to_bitmask()
 }
 
-/// Which of eight keys begin at the least or behind it, and end at the most or before it, in both directions.
+/// Which of eight keys begin at `x_least` or after it and end at `x_most` or before it, and the same along y.
 pub fn between(keys: &BoxBlock, x_least: &i32, x_most: &i32, y_least: &i32, y_most: &i32) -> u64
     ensures { result ≡ bits_of (λ key.
         (int_le x_least.now key.x1 && int_le key.x2 x_most.now)
@@ -43,7 +43,7 @@ pub fn between(keys: &BoxBlock, x_least: &i32, x_most: &i32, y_least: &i32, y_mo
     ((left & right) & (low & high)).to_bitmask()
 }
 
-/// Nothing is left of this loop: it tells proofs the numbers' range.
+/// A proof hint, which costs nothing when it runs: each number is in its type's range.
 #[inline(always)]
 fn are_in_range(numbers: &[i32])
     ensures { Each1 (SFits w32) numbers.now }
@@ -53,7 +53,7 @@ fn are_in_range(numbers: &[i32])
     }
 }
 
-/// Nothing is left of this call: it tells proofs the number's range.
+/// A proof hint, which costs nothing when it runs: the number is in its type's range.
 #[inline(always)]
 fn is_in_range(number: &i32)
     ensures { SFits w32 number.now }

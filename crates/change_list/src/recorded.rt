@@ -30,7 +30,7 @@ impl<K: Copy> Recorded<K> {
         }
     }
 
-    /// The number of the insert with which the moves of its row began; `number` is that of the commit.
+    /// The number of the insert from which the commit's row descends by moves; `number` is the commit's own.
     pub(crate) fn origin(self, number: u32) -> u32
         ensures { result ≡ origin_of number self }
     {
@@ -43,7 +43,7 @@ impl<K: Copy> Recorded<K> {
 }
 
 impl<K: Columned> Recorded<K> {
-    /// Whether the commit inserts a key that isn't asked for, so that it has no item.
+    /// Whether the commit inserts a key that the query doesn't ask for, so that it has no item.
     pub(crate) fn is_unasked<C: KeyClass<Key = K>>(&self, query: &Pred<C::Atom>) -> bool
         ensures { result ≡ is_unasked (satisfies C.rules (query_of query.now)) self.now }
     {

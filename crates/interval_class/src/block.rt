@@ -4,7 +4,7 @@ ghost use Rattle.std.specs.Prelude.{ℕ, ◌≤ℤ◌, pos, slice_index_or};
 use crate::interval::Interval;
 use key_class::{Block, Columned};
 
-/// Eight intervals, their lower ends in one column and their upper ends in another.
+/// Eight intervals: their lower ends are in one column and their upper ends in another.
 #[derive(Clone, Copy)]
 pub struct IntervalBlock {
     pub lows: [i64; 8],

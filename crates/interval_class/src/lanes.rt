@@ -1,4 +1,4 @@
-//! Eight intervals are tested at once.
+//! Tests of eight intervals at once.
 ghost use Rattle.std.specs.Prelude.{◌≡◌, ◌&&◌, int_le};
 ghost use Rattle.std.specs.Simd.Lanes.{Each1};
 ghost use Rattle.key_class.specs.Bits.{bits_of};
@@ -9,7 +9,7 @@ ghost use mir.Syntax.{w64};
 use crate::block::IntervalBlock;
 use std::simd::prelude::*;
 
-/// Which of eight keys begin at `most` or before it, and end at `least` or behind it.
+/// Which of eight keys begin at `most` or before it, and end at `least` or after it.
 pub fn reaching(keys: &IntervalBlock, most: &i64, least: &i64) -> u64
     ensures { result
         ≡ bits_of (λ key. int_le key.lo most.now && int_le least.now key.hi) (intervals_of keys.now) }
@@ -21,7 +21,7 @@ pub fn reaching(keys: &IntervalBlock, most: &i64, least: &i64) -> u64
     (begin & reach).to_bitmask()
 }
 
-/// Which of eight keys begin at `least` or behind it, and end at `most` or before it.
+/// Which of eight keys begin at `least` or after it, and end at `most` or before it.
 pub fn between(keys: &IntervalBlock, least: &i64, most: &i64) -> u64
     ensures { result
         ≡ bits_of (λ key. int_le least.now key.lo && int_le key.hi most.now) (intervals_of keys.now) }
@@ -33,7 +33,7 @@ pub fn between(keys: &IntervalBlock, least: &i64, most: &i64) -> u64
     (begin & end).to_bitmask()
 }
 
-/// Nothing is left of this loop: it tells proofs the numbers' range.
+/// A proof hint, which costs nothing when it runs: each number is in its type's range.
 #[inline(always)]
 fn are_in_range(numbers: &[i64])
     ensures { Each1 (SFits w64) numbers.now }
@@ -43,7 +43,7 @@ fn are_in_range(numbers: &[i64])
     }
 }
 
-/// Nothing is left of this call: it tells proofs the number's range.
+/// A proof hint, which costs nothing when it runs: the number is in its type's range.
 #[inline(always)]
 fn is_in_range(number: &i64)
     ensures { SFits w64 number.now }

@@ -1,7 +1,7 @@
 ghost use Rattle.std.specs.Prelude.{◌≡◌, ◌∷◌, []};
 ghost use Rattle.std.specs.Simd.Lanes.{mask_l};
 
-/// Eight answers as the bits of a number: the first is the lowest.
+/// Eight answers as the bits of a number; the lowest bit is the first answer.
 pub fn eight_bits(answers: [bool; 8]) -> u64
     ensures { result ≡ mask_l answers }
 {

@@ -1,11 +1,11 @@
 ghost use Rattle.std.specs.Prelude.{◌≡◌, ◌<◌, List, replicate, length, slice_get, slice_set, Some};
 
-/// Eight values, kept as they are tested fastest.
+/// Eight values, laid out as they are tested fastest.
 pub trait Block<T: Copy>: Copy {
-    /// The values, by their places.
+    /// The values, in order.
     ghost items: { Self → List T };
 
-    /// Eight times the same.
+    /// Eight times the same value.
     fn filled(item: T) -> Self
         ensures { items result ≡ replicate 8 item };
 
@@ -20,7 +20,7 @@ pub trait Block<T: Copy>: Copy {
     ghost eight: { (block : Self) → length (items block) ≡ 8 };
 }
 
-/// A key that tells in what blocks its like are kept.
+/// A key that says in which blocks such keys are kept.
 pub trait Columned: Copy {
     type Block: Block<Self>;
 }

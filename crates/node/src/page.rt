@@ -17,10 +17,10 @@ use row_version::Entry;
 use std::alloc::{AllocError, Global};
 use std::marker::Model;
 
-/// The rows of a leaf, seen as a list of entries.
+/// The rows of a leaf: a list of entries, kept in blocks of eight.
 pub type Rows<K> = Blocks<Entry<K>, RowBlock<<K as Columned>::Block>>;
 
-/// The branches of an inner page, seen as a list of them.
+/// The branches of an inner page, kept in blocks of eight.
 pub type Branches<K> = Blocks<Branch<K>, BranchBlock<<K as Columned>::Block>>;
 
 /// A page of the tree: a leaf, of level 0, holds rows, and an inner page branches.
@@ -47,7 +47,7 @@ impl<K: Columned> Model for Page<K> {
 }
 
 impl<K: Columned> Page<K> {
-    /// A leaf with nothing in it, and with room for `fan` rows.
+    /// An empty leaf with room for `fan` rows.
     ///
     /// # Errors
     /// Memory ran out.
@@ -151,7 +151,7 @@ impl<K: Columned> Page<K> {
 }
 
 impl<K: Columned> Page<K> {
-    /// A bound of all that it holds, none for page 0.
+    /// A bound of everything that it holds; none for page 0.
     pub fn cover(&self) -> Option<K>
         ensures { result ≡ self.now.cover }
     {
@@ -179,7 +179,7 @@ impl<K: Columned> Page<K> {
     /// Adds a row at the end.
     ///
     /// # Errors
-    /// Memory was wanting; the page is as it was.
+    /// Memory ran out; the page is unchanged.
     pub fn place(&mut self, entry: Entry<K>) -> Result<(), AllocError>
         ensures placed { OnOk result (self.new ≡ with_row self.old entry) }
         ensures unchanged { OnErr result (self.new ≡ self.old) }
@@ -275,7 +275,7 @@ impl<K: Columned> Page<K> {
     /// The page of the right entries below a root that grows.
     ///
     /// # Errors
-    /// Memory was wanting.
+    /// Memory ran out.
     pub fn lower_right<C: KeyClass<Key = K>>(
         &self,
         alloc: Global,
@@ -291,7 +291,7 @@ impl<K: Columned> Page<K> {
         Ok(lower)
     }
 
-    /// A root that has grown: one level higher, with those branches in place of its entries.
+    /// Makes this page a root that has grown: one level higher, with these branches instead of its entries.
     pub fn rise(&mut self, alloc: Global, branches: Branches<K>)
         requires { self.old.level + 1 < 2 ^ 32 }
         ensures { self.new ≡ risen self.old branches }
@@ -355,7 +355,7 @@ impl<K: Columned> Clone for Page<K> {
 }
 
 impl<K: Columned> Page<K> {
-    /// Owes nothing any more, and has the number of the posting.
+    /// Marks the page as owing nothing any more, with the number of the posting.
     pub fn settle(&mut self, nsn: u32)
         ensures { self.new ≡ post_child self.old nsn }
     {

@@ -16,30 +16,30 @@ module _ {P : Type 0} where
     pub each : All is_full places
     pub sizes : All (λ x. length (pages x) ≡ size) places
 
-  -- with another page in a place
+  -- the places, with another page in one
   abbrev pub put_in : {X : Type 0} → (X → ℕ → P → X) → X → ℕ → List X → ℕ → P → List X
   put_in put none size places i page = slice_set places (i / size) (put (slice_index_or places (i / size) none) (i % size) page)
 
-  -- with two pages changed by both
+  -- the places, with two pages changed by both
   abbrev pub both_changed : P → (P → P → P) → (P → P → P) → ℕ → ℕ → List P → List P
   both_changed no_page up low upper lower pages =
       let above = slice_index_or pages upper no_page in
       let below = slice_index_or pages lower no_page in
       slice_set (slice_set pages lower (low above below)) upper (up above below)
 
-  -- with three pages changed by all
+  -- the places, with three pages changed by all
   abbrev pub three_changed : P → (P → P → P → P) → (P → P → P → P) → (P → P → P → P) → ℕ → ℕ → ℕ → List P → List P
   three_changed no_page up low by upper lower beside pages =
       let page = slice_index_or pages beside no_page in
       slice_set (both_changed no_page (λ x y. up x y page) (λ x y. low x y page) upper lower pages) beside
       (by (slice_index_or pages upper no_page) (slice_index_or pages lower no_page) page)
 
-  -- full as before, and these are its pages
+  -- full as before, and with these pages
   pub record Becomes {X : Type 0} (pages_of : X → List P) (is_full : X → Type 0) (new : X) (after : List P) : Type 0 where
     pub full : is_full new
     pub pages : pages_of new ≡ after
 
-  -- a page alone
+  -- a single page
   abbrev pub alone : P → List P
   alone page = page ∷ []
 
@@ -73,12 +73,12 @@ module _ {P : Type 0} where
     pub size : length (pages_of_1024 filler) ≡ 1024
     pub places : HasPlaces chunks n
 
-  -- the first n are as they were
+  -- the first n pages are unchanged
   pub record StaysTo (n : ℕ) (old new : List (Chunk1024 P)) : Type 0 where
     pub places : HasPlaces new n
     pub pages : first_pages n new ≡ first_pages n old
 
-  -- and a page follows them
+  -- the first n pages are unchanged, and this page follows them
   pub record PutsNext (n : ℕ) (old : List (Chunk1024 P)) (page : P) (new : List (Chunk1024 P)) : Type 0 where
     pub places : HasPlaces new (n + 1)
     pub pages : first_pages (n + 1) new ≡ first_pages n old ++ page ∷ []

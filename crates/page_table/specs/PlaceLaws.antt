@@ -77,7 +77,7 @@ module _ {P : Type 0} where
         ∙ get_or-append-add (pages y) (joined pages xs) (q * size + r) d
         ∙ joined_at xs (tail_sizes y xs all) q r x (omega (arith, l)) h e d
 
-    -- one page of a place
+    -- changing one page of a place
     joined_one : (xs : List X) → Sized xs → (q r : ℕ) (x new : X) → q < length xs → r < size → x ≡ get_or xs q x → (p : P)
         → pages new ≡ set (pages x) r p → joined pages (set xs q new) ≡ set (joined pages xs) (q * size + r) p
     joined_one [] all q r x new l h e p n = absurd (omega (arith, l))
@@ -136,7 +136,7 @@ module _ {P : Type 0} where
         ];
       }
 
-      -- the place has another page
+      -- the place gets another page
       module _ (new : X) (p : P) (becomes : Becomes pages is_full new (set (pages x) (i % size) p)) where
         pub put_places : ArePlaces pages is_full size n (set xs (i / size) new)
         put_places = set_places new becomes.full (ap length becomes.pages ∙ length-set (pages x) (i % size) p ∙ place_size)
@@ -146,7 +146,7 @@ module _ {P : Type 0} where
             joined_one pages size xs are.sizes (i / size) (i % size) x new place_there page_there e p becomes.pages
             ∙ ap (λ k. set (joined pages xs) k p) sum_is
 
-  -- another page in a place, where places tell what becomes of them
+  -- another page in a place, when places say how they change
   module _ {X : Type 0} (pages : X → List P) (is_full : X → Type 0) (none : X) (put : X → ℕ → P → X) (size : ℕ)
       (put_pages_law : (x : X) (i : ℕ) (p : P) → is_full x → i < length (pages x) → pages (put x i p) ≡ set (pages x) i p)
       (put_full_law : (x : X) (i : ℕ) (p : P) → is_full x → i < length (pages x) → is_full (put x i p)) where
@@ -164,11 +164,11 @@ module _ {P : Type 0} where
             pages = put_pages are l place read (put place (i % size) p) p becomes;
           }
 
-      -- a place with another page, put back
+      -- a place with another page is put back
       pub put_back : (x : X) → x ≡ get_or xs (i / size) x → (p : P) → set xs (i / size) (put x (i % size) p) ≡ put_in put none size xs i p
       put_back x e p = ap (λ z. set xs (i / size) (put z (i % size) p)) (e ∙ get_or_default xs (i / size) x none (place_there are l))
 
-      -- the page that stands there, put back
+      -- the same page is put back
       pub put_stays : (no_page : P) → ((x : X) (j : ℕ) (p : P) → is_full x → j < length (pages x) → p ≡ get_or (pages x) j no_page → put x j p ≡ x)
           → (p : P) → p ≡ get_or (joined pages xs) i no_page → put_in put none size xs i p ≡ xs
       put_stays no_page law p e =

@@ -9,8 +9,8 @@ use node::Page;
 use row_version::Entry;
 use std::alloc::AllocError;
 
-/// A change of two pages at once, an upper and a lower one, and of what is beside them: another page, or nothing. The new value
-/// of each may depend on all.
+/// A change of an upper and a lower page at once, together with something else: another page, or nothing. The new
+/// value of each may depend on all of them.
 pub(crate) trait PageChange<P, B> {
     ghost may: { Self → Type 0 };
 

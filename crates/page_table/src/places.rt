@@ -16,9 +16,9 @@ use node::Page;
 use std::alloc::AllocError;
 use std::marker::Model;
 
-/// What stands in places.
+/// What is kept in places.
 pub(crate) trait PageLike: Copied {
-    /// What is read where there is none.
+    /// What a place without one is read as.
     ghost no_page: { Self };
 }
 
@@ -30,7 +30,7 @@ impl<K: Columned> PageLike for Page<K> {
     ghost no_page = { no_page };
 }
 
-/// Places for pages, and the pages in them by number, from 0.
+/// Places for pages, and the pages in them, numbered from 0.
 pub(crate) trait Places<P: PageLike>: Copied {
     ghost pages: { Self → List P };
 
@@ -50,7 +50,7 @@ pub(crate) trait Places<P: PageLike>: Copied {
     /// A page, for writing. If the page or its chunk has other owners, it is copied first.
     ///
     /// # Errors
-    /// Memory was wanting; the pages are as they were.
+    /// Memory ran out; the pages are unchanged.
     fn page_mut(&mut self, place: usize) -> Result<&mut P, AllocError>
         requires full { is_full self.old }
         requires exists { place < length (pages self.old) }
@@ -62,7 +62,7 @@ pub(crate) trait Places<P: PageLike>: Copied {
     /// Changes two pages at once, together with something else.
     ///
     /// # Errors
-    /// Memory was wanting, or both are the same page; the pages are as they were, and so is what is beside them.
+    /// Memory ran out, or both are the same page; everything is unchanged.
     fn change_two<B, C: PageChange<P, B>>(
         &mut self,
         upper: usize,
@@ -90,7 +90,7 @@ pub(crate) trait Places<P: PageLike>: Copied {
     /// Changes three pages at once. The third has a higher number than the two others.
     ///
     /// # Errors
-    /// Memory was wanting, or two of them are the same page; the pages are as they were.
+    /// Memory ran out, or two of them are the same page; the pages are unchanged.
     fn change_three<C: PageChange<P, P>>(
         &mut self,
         upper: usize,
@@ -159,7 +159,7 @@ impl<P: PageLike> Places<P> for Single<P> {
         Ok(&mut self.page)
     }
 
-    /// There is one page alone.
+    /// Always refused, since there is only one page.
     fn change_two<B, C: PageChange<P, B>>(
         &mut self,
         _upper: usize,
@@ -170,7 +170,7 @@ impl<P: PageLike> Places<P> for Single<P> {
         Err(AllocError)
     }
 
-    /// There is one page alone.
+    /// Always refused, since there is only one page.
     fn change_three<C: PageChange<P, P>>(
         &mut self,
         _upper: usize,
@@ -191,7 +191,7 @@ impl<P: PageLike> Places<P> for Single<P> {
 /// Changes two of the pages in places of `SIZE` pages each at once, together with something else.
 ///
 /// # Errors
-/// Memory was wanting, or both are the same page; the pages are as they were, and so is what is beside them.
+/// Memory ran out, or both are the same page; everything is unchanged.
 pub(crate) fn change_both<P: PageLike, T: Places<P>, B, C: PageChange<P, B>, const SIZE: usize>(
     places: &mut [Shared<T>],
     upper: usize,
@@ -231,7 +231,7 @@ pub(crate) fn change_both<P: PageLike, T: Places<P>, B, C: PageChange<P, B>, con
 /// are copied first.
 ///
 /// # Errors
-/// Memory was wanting; the pages are as they were, and so is what is beside them.
+/// Memory ran out; everything is unchanged.
 fn change_parted<P: PageLike, T: Places<P>, B, C: PageChange<P, B>>(
     above: &mut Shared<T>,
     below: &mut Shared<T>,
@@ -273,7 +273,7 @@ fn change_parted<P: PageLike, T: Places<P>, B, C: PageChange<P, B>>(
 /// A page of a place, for writing. If the page or what holds it has other owners, it is copied first.
 ///
 /// # Errors
-/// Memory was wanting; the pages are as they were.
+/// Memory ran out; the pages are unchanged.
 fn page_of<P: PageLike, T: Places<P>>(
     place: &mut Shared<T>,
     number: usize,
@@ -293,7 +293,7 @@ fn page_of<P: PageLike, T: Places<P>>(
 /// others.
 ///
 /// # Errors
-/// Memory was wanting, or two of them are the same page; the pages are as they were.
+/// Memory ran out, or two of them are the same page; the pages are unchanged.
 pub(crate) fn change_all<P: PageLike, T: Places<P>, C: PageChange<P, P>, const SIZE: usize>(
     places: &mut [Shared<T>],
     upper: usize,
@@ -353,7 +353,7 @@ pub(crate) fn change_all<P: PageLike, T: Places<P>, C: PageChange<P, P>, const S
 /// copied first.
 ///
 /// # Errors
-/// Memory was wanting, or the two are the same page; the pages are as they were.
+/// Memory ran out, or the two are the same page; the pages are unchanged.
 fn change_pair<P: PageLike, T: Places<P>, C: PageChange<P, P>>(
     over: &mut Shared<T>,
     under: &mut Shared<T>,

@@ -46,7 +46,7 @@ impl<K: Columned> Model for PageTable<K> {
 }
 
 impl<K: Columned> PageTable<K> {
-    /// The table of a new world: page 0, a leaf with nothing in it and with room for `fan` rows.
+    /// The table of a new world: page 0, an empty leaf with room for `fan` rows.
     ///
     /// # Errors
     /// Memory ran out.
@@ -155,10 +155,10 @@ impl<K: Columned> PageTable<K> {
         Ok(number as u32)
     }
 
-    /// Adds a page behind the others.
+    /// Adds a page after the others.
     ///
     /// # Errors
-    /// Memory was wanting, or no number is left; the table is as it was.
+    /// Memory ran out, or no number is left; the table is unchanged.
     fn append(&mut self, page: Page<K>) -> Result<(), AllocError>
         ensures added { OnOk result (self.new ≡ added self.old page) }
         ensures unchanged { OnErr result (self.new ≡ self.old) }
@@ -171,7 +171,7 @@ impl<K: Columned> PageTable<K> {
         Ok(())
     }
 
-    /// Gives up the last page.
+    /// Removes the last page.
     fn forget_last(&mut self)
         requires { 0 < length self.old.pages }
         ensures { (t : Tree K) (page : model.Page K) → self.old ≡ added t page → self.new ≡ t }
@@ -179,8 +179,8 @@ impl<K: Columned> PageTable<K> {
         self.count -= 1;
     }
 
-    /// Leaves the left entries of a page in it, which owes a posting to the page under the next number, the one given.
-    /// Answers that number.
+    /// Makes a page the left half of a split: it owes a posting to the right half, the page given, which gets the
+    /// next number. Gives that number.
     ///
     /// # Errors
     /// Memory ran out; the table is unchanged.
@@ -208,10 +208,10 @@ impl<K: Columned> PageTable<K> {
         }
     }
 
-    /// Leaves the left entries of a page in it, which owes a posting to the sibling.
+    /// Makes a page the left half of a split: it owes a posting to the sibling.
     ///
     /// # Errors
-    /// Memory was wanting; the table is as it was.
+    /// Memory ran out; the table is unchanged.
     fn keep_left<C: KeyClass<Key = K>>(
         &mut self,
         page: u32,
@@ -254,10 +254,10 @@ impl<K: Columned> PageTable<K> {
         }
     }
 
-    /// Adds a page under the next number, and raises page 0, with those branches.
+    /// Adds a page under the next number, and makes page 0 a root that has grown, with these branches.
     ///
     /// # Errors
-    /// Memory was wanting; the table is as it was.
+    /// Memory ran out; the table is unchanged.
     fn raise_beside(&mut self, right: Page<K>, branches: Branches<K>) -> Result<(), AllocError>
         requires exists { 0 < length self.old.pages }
         requires low { (page_at self.old 0).level + 1 < 2 ^ 32 }
@@ -275,10 +275,10 @@ impl<K: Columned> PageTable<K> {
         }
     }
 
-    /// Raises page 0, with those branches.
+    /// Makes page 0 a root that has grown, with these branches.
     ///
     /// # Errors
-    /// Memory was wanting; the table is as it was.
+    /// Memory ran out; the table is unchanged.
     fn raise_root(&mut self, branches: Branches<K>) -> Result<(), AllocError>
         requires exists { 0 < length self.old.pages }
         requires low { (page_at self.old 0).level + 1 < 2 ^ 32 }

@@ -28,7 +28,7 @@ pub(crate) type Top<K> = Chunk<Lower<K>, LOWER, UPPER>;
 /// Changes two pages at once.
 ///
 /// # Errors
-/// Memory was wanting, or both are the same page; the pages are as they were.
+/// Memory ran out, or both are the same page; the pages are unchanged.
 pub(crate) fn change_pages<K: Columned, C: PageChange<Page<K>, ()>>(
     chunks: &mut Vec<Shared<Top<K>>>,
     upper: usize,
@@ -52,7 +52,7 @@ pub(crate) fn change_pages<K: Columned, C: PageChange<Page<K>, ()>>(
 /// Changes three pages at once.
 ///
 /// # Errors
-/// Memory was wanting; the pages are as they were.
+/// Memory ran out; the pages are unchanged.
 pub(crate) fn change_three<K: Columned, C: PageChange<Page<K>, Page<K>>>(
     chunks: &mut Vec<Shared<Top<K>>>,
     upper: usize,
@@ -89,7 +89,7 @@ pub(crate) fn change_three<K: Columned, C: PageChange<Page<K>, Page<K>>>(
 /// A chunk of empty pages.
 ///
 /// # Errors
-/// Memory was wanting.
+/// Memory ran out.
 pub(crate) fn filler<K: Columned>(alloc: Global) -> Result<Shared<Top<K>>, AllocError>
     ensures full { IfOk result IsFull1024 }
     ensures size { IfOk result (λ chunk. length (pages_of_1024 chunk) ≡ 1024) }
@@ -134,7 +134,7 @@ fn upper_places<T: Drop>(child: &Shared<T>) -> Result<[Shared<T>; UPPER], AllocE
 /// Puts a page after the first `count`. If there is no place for it, a chunk is added.
 ///
 /// # Errors
-/// Memory was wanting; the first pages are as they were.
+/// Memory ran out; the first pages are unchanged.
 pub(crate) fn put_next<K: Columned>(
     chunks: &mut Vec<Shared<Top<K>>>,
     filler: &Shared<Top<K>>,
@@ -153,7 +153,7 @@ pub(crate) fn put_next<K: Columned>(
 /// Makes sure that there is a place after the first `count` pages.
 ///
 /// # Errors
-/// Memory was wanting; the pages are as they were.
+/// Memory ran out; the pages are unchanged.
 fn make_place<K: Columned>(
     chunks: &mut Vec<Shared<Top<K>>>,
     filler: &Shared<Top<K>>,

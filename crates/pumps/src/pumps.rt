@@ -5,7 +5,7 @@ use crossbeam_channel::Receiver;
 use desk::Desk;
 use history::Naming;
 use key_class::limits::MAX_PUMPS;
-use key_class::{KeyClass, Refusal};
+use key_class::{Columned, KeyClass, Refusal};
 use std::alloc::Global;
 use std::marker::Model;
 use std::rt::Clock;
@@ -211,6 +211,7 @@ impl<G: Gate> Pumps<G> {
         G: Sync,
         C: KeyClass + Send + Sync,
         C::Key: Send + Sync,
+        <C::Key as Columned>::Block: Send + Sync,
         C::Atom: Send + Sync,
         L: Ledger + Naming + Send + Sync,
         R: Threads + Wait + Clock + Sync,

@@ -9,7 +9,7 @@ pub record Entry (K : Type 0) : Type 0 where
   -- the number of the commit that ended it, none while it is live
   pub died : Option ℕ
 
--- an entry beside its key
+-- everything of an entry but its key
 pub record Version : Type 0 where
   pub row : ℕ
   pub tag : ℕ
@@ -21,7 +21,7 @@ entry_of key v = record { key = key; row = v.row; tag = v.tag; died = v.died }
 abbrev pub version_of : {K : Type 0} → Entry K → Version
 version_of e = record { row = e.row; tag = e.tag; died = e.died }
 
--- alive, or dead only after the commit s
+-- live, or dead only after commit s
 abbrev pub lives_at : ℕ → Option ℕ → Bool
 lives_at s None = true
 lives_at s (Some n) = nat_lt s n

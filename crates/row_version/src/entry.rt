@@ -28,7 +28,7 @@ impl<K> Model for Entry<K> {
 }
 
 impl<K> Entry<K> {
-    /// The entry of a key and a version.
+    /// The entry with this key and version.
     pub fn of(key: K, version: Version) -> Entry<K>
         ensures { result ≡ entry_of key version }
     {
@@ -40,7 +40,7 @@ impl<K> Entry<K> {
         }
     }
 
-    /// What the entry is beside its key.
+    /// Everything of the entry but its key.
     pub fn version(&self) -> Version
         ensures { result ≡ version_of self.now }
     {
@@ -51,7 +51,7 @@ impl<K> Entry<K> {
         }
     }
 
-    /// A live row, inserted by the commit with its number.
+    /// A live row, with its commit's number.
     pub fn new(key: K, row: u32, tag: u64) -> Entry<K>
         ensures { result ≡ record { key = key; row = row; tag = tag; died = None } }
     {

@@ -11,7 +11,7 @@ pub trait BranchTest<C: KeyClass> {
     fn is_wanted(&self, bound: C::Key) -> bool
         ensures { result ≡ wants self.now bound };
 
-    /// Which of eight bounds are wanted, by bits: the lowest tells of the first.
+    /// Which of eight bounds are wanted, as bits; the lowest bit is the first bound's.
     fn wanted_block(&self, bounds: &<C::Key as Columned>::Block) -> u64
         ensures { result ≡ bits_of (wants self.now) (C.Key.Block.items bounds.now) }
     {

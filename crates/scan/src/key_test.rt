@@ -12,7 +12,7 @@ pub trait KeyTest<C: KeyClass> {
     fn is_accepted(&self, key: C::Key) -> bool
         ensures { result ≡ accepts self.now key };
 
-    /// Which of eight keys are accepted, by bits: the lowest tells of the first.
+    /// Which of eight keys are accepted, as bits; the lowest bit is the first key's.
     fn accepted_block(&self, keys: &<C::Key as Columned>::Block) -> u64
         ensures { result ≡ bits_of (accepts self.now) (C.Key.Block.items keys.now) }
     {

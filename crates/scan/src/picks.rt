@@ -20,7 +20,7 @@ use std::marker::PhantomData;
 /// How many bits a number has. Each says whether one entry or branch passes a test.
 pub(crate) const BITS: usize = 64;
 
-/// A test of keys, which entries are asked by eight.
+/// A test of keys, made of eight entries at once.
 #[derive(Drop)]
 struct ByKeys<'a, C, T> {
     test: &'a T,
@@ -37,7 +37,7 @@ impl<'a, C: KeyClass, T: KeyTest<C>> BlockTest<Entry<C::Key>, RowBlock<<C::Key a
     }
 }
 
-/// A test of bounds, which branches are asked by eight.
+/// A test of bounds, made of eight branches at once.
 #[derive(Drop)]
 struct ByBounds<'a, C, T> {
     test: &'a T,
@@ -54,7 +54,7 @@ impl<'a, C: KeyClass, T: BranchTest<C>>
     }
 }
 
-/// The entries whose keys are accepted, by bits: the lowest is the first entry's.
+/// The entries whose keys pass the test, as bits; the lowest bit is the first entry's. Eight keys are tested at once.
 pub(crate) fn accepted_bits<C: KeyClass, T: KeyTest<C>>(entries: &Rows<C::Key>, test: &T) -> u64
     requires few { length entries.now ≤ 64 }
     ensures within { HasBitsFor entries.now result }
@@ -67,7 +67,7 @@ pub(crate) fn accepted_bits<C: KeyClass, T: KeyTest<C>>(entries: &Rows<C::Key>, 
     })
 }
 
-/// The branches whose bounds are wanted, by bits: the lowest is the first branch's.
+/// The branches whose bounds pass the test, as bits; the lowest bit is the first branch's.
 pub(crate) fn wanted_bits<C: KeyClass, T: BranchTest<C>>(
     branches: &Branches<C::Key>,
     test: &T,
@@ -83,7 +83,7 @@ pub(crate) fn wanted_bits<C: KeyClass, T: BranchTest<C>>(
     })
 }
 
-/// Appends the rows of the picked entries that are there after the first `commit` commits, in their order.
+/// Appends the picked entries' rows that are live after the first `commit` commits, in order.
 pub(crate) fn note_picked<K: Columned>(
     entries: &Rows<K>,
     mut bits: u64,
@@ -109,8 +109,8 @@ pub(crate) fn note_picked<K: Columned>(
     }
 }
 
-/// Pushes the children of the picked branches, the last first. Answers how many rows these pages have: the head of each
-/// is read here, where none waits for the one before, and not first by its visit.
+/// Pushes the children of the picked branches, the last one first. Gives how many rows these pages have: their heads are
+/// read here, all at once, so that the memory is in the cache when they are visited.
 pub(crate) fn push_picked<K: Columned>(
     items: &mut SmallVec<StackItem, 32>,
     branches: &Branches<K>,
@@ -135,7 +135,7 @@ pub(crate) fn push_picked<K: Columned>(
     rows
 }
 
-/// How many rows a page has, where there is one with that number.
+/// How many rows a page has, if there is one with that number.
 fn rows_on<K: Columned>(table: &PageTable<K>, page: u32) -> usize {
     if page as usize >= table.len() {
         return 0;

@@ -118,7 +118,7 @@ fn is_seen<C: KeyClass, T: KeyTest<C>>(entry: &Entry<C::Key>, test: &T, commit: 
     test.is_accepted(entry.key()) && entry.visible_at(commit)
 }
 
-/// Whether an entry is that of the row.
+/// Whether one of the entries is that of the row.
 pub fn holds_row<K: Columned>(entries: &Rows<K>, row: u32) -> bool
     ensures { result ≡ holds row entries.now }
 {

@@ -411,7 +411,7 @@ impl Stack {
     }
 }
 
-/// How many branches there are up to the last that is wanted.
+/// How many branches there are up to the last that passes the test.
 fn up_to_wanted<C: KeyClass, T: BranchTest<C>>(branches: &Branches<C::Key>, test: &T) -> usize
     ensures within { result ≤ length branches.now }
     ensures same { KeepsWanted (T.wants test.now) branches.now (take result branches.now) }
@@ -467,7 +467,7 @@ fn push_pages(items: &mut SmallVec<StackItem, 32>, pages: &[u32], memo: u32)
     }
 }
 
-/// Pushes the children that are wanted of the first `count` branches, from the last to the first.
+/// Pushes the children whose branches, of the first `count`, pass the test, from the last to the first.
 fn push_children<C: KeyClass, T: BranchTest<C>>(
     items: &mut SmallVec<StackItem, 32>,
     branches: &Branches<C::Key>,

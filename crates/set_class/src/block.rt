@@ -3,7 +3,7 @@ use crate::elements::Elements;
 use crate::methods::{lower, upper};
 use key_class::{Block, Columned};
 
-/// Eight sets, the lower halves of their masks in one column and the upper halves in another.
+/// Eight sets: the lower halves of their masks are in one column and the upper halves in another.
 #[derive(Clone, Copy)]
 pub struct SetBlock {
     pub lowers: [u64; 8],

@@ -1,5 +1,6 @@
 use crate::shared::SharedFeed;
 use history::Naming;
+use key_class::Columned;
 use reach::Reach;
 use std::sync::ledger::Ledger;
 
@@ -10,6 +11,7 @@ fn may_be_shared<T: Sync>() {}
 pub fn shared_feeds_may_cross<C: Reach, L: Ledger + Naming>()
 where
     C::Key: Send + Sync,
+    <C::Key as Columned>::Block: Send + Sync,
     C::Atom: Send + Sync,
     L: Send + Sync,
 {

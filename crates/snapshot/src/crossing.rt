@@ -1,5 +1,5 @@
 use crate::snapshot::Snapshot;
-use key_class::KeyClass;
+use key_class::{Columned, KeyClass};
 
 /// Compile-time check that `T: Send + Sync`.
 fn may_cross<T: Send + Sync>() {}
@@ -8,6 +8,7 @@ fn may_cross<T: Send + Sync>() {}
 pub fn snapshots_may_cross<C: KeyClass>()
 where
     C::Key: Send + Sync,
+    <C::Key as Columned>::Block: Send + Sync,
 {
     may_cross::<Snapshot<C>>();
 }

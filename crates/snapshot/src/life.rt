@@ -31,7 +31,7 @@ pub(crate) fn lives<C: KeyClass>(
     Ok(false)
 }
 
-/// Whether an entry is that of the row, and lives.
+/// Whether an entry is that of the row, and is live.
 fn holds_live<K: Columned>(entries: &Rows<K>, row: u32) -> bool
     ensures { result ≡ holds_live row entries.now }
 {

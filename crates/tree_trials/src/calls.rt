@@ -3,7 +3,7 @@ ghost use Rattle.node.specs.Pages.{entries_of};
 
 use interval_class::{Interval, Intervals};
 use key_class::{Refusal, Side, Sides};
-use node::{Branch, Page, same_page, two_branches};
+use node::{Branches, Page, same_page, two_branches};
 use page_table::{
     PageTable, SharedPage, traversals_follow_chains, traversals_survive_steps, visits_lose_nothing,
 };
@@ -185,7 +185,7 @@ fn changes_a_page(rt: HostRuntime) -> Result<(), Fail> {
 }
 
 /// Branches to page 1, over (2 9), and to page 2, which has no rows.
-fn branches(alloc: Global) -> Result<Vec<Branch<Interval>>, Fail> {
+fn branches(alloc: Global) -> Result<Branches<Interval>, Fail> {
     Ok(two_branches(alloc, 4, (1, Some(key(2, 9)?)), (2, None))?)
 }
 
@@ -208,11 +208,12 @@ fn rename(root: &mut Page<Interval>) -> Result<(), Fail> {
     Ok(())
 }
 
-fn is_named(branches: &[Branch<Interval>], at: usize, child: u32, key: Interval) -> bool {
-    match branches.get(at) {
-        Some(branch) => branch.child == child && branch.key == key,
-        None => false,
+fn is_named(branches: &Branches<Interval>, at: usize, child: u32, key: Interval) -> bool {
+    if at >= branches.len() {
+        return false;
     }
+    let branch = branches.get(at);
+    branch.child == child && branch.key == key
 }
 
 #[test]

@@ -1,4 +1,4 @@
-use crate::limits::Limits;
+use crate::limits::{Limit, Limits};
 use change_list::listings_go_on;
 use cursor::cursors_survive_steps;
 use mailbox::Tray;
@@ -16,6 +16,6 @@ fn keeps_laws_of_scans() {
 
 #[test]
 fn keeps_laws_of_cursors() {
-    cursors_survive_steps::<Limits, Tray<u8>>();
+    cursors_survive_steps::<Limits, Tray<Limit>>();
     listings_go_on::<u8>();
 }

@@ -1,52 +1,64 @@
 ghost use Rattle.std.specs.Prelude.{max, nat_eq, nat_le};
 
-use key_class::{KeyClass, Refusal, Sides};
+use key_class::{Columned, KeyClass, Plain, Refusal, Sides};
 use std::alloc::Global;
+
+/// A key that is kept in no columns.
+#[derive(Clone, Copy, PartialEq, Eq)]
+pub struct Limit {
+    pub number: u8,
+}
+
+impl Columned for Limit {
+    type Block = Plain<Limit>;
+}
 
 /// A class of numbers, where each covers itself and every lesser one. An atom matches only its own number.
 #[derive(Clone, Copy)]
 pub struct Limits;
 
 impl KeyClass for Limits {
-    type Key = u8;
+    type Key = Limit;
 
     type Atom = u8;
 
     ghost rules = { record {
-      is_match = nat_eq;
-      is_consistent = nat_le;
-      union_of = max;
-      is_cover = λ bound key. nat_le key bound;
-      size_of = λ key. key;
+      is_match = λ atom key. nat_eq atom key.number;
+      is_consistent = λ atom bound. nat_le atom bound.number;
+      union_of = λ a b. record { number = max a.number b.number };
+      is_cover = λ bound key. nat_le key.number bound.number;
+      size_of = λ key. key.number;
       picks = λ keys least sides. ⊥;
     } };
 
-    fn matches(atom: &u8, key: u8) -> bool {
-        *atom == key
+    fn matches(atom: &u8, key: Limit) -> bool {
+        *atom == key.number
     }
 
-    fn consistent(atom: &u8, bound: u8) -> bool {
-        *atom <= bound
+    fn consistent(atom: &u8, bound: Limit) -> bool {
+        *atom <= bound.number
     }
 
-    fn union(a: u8, b: u8) -> u8 {
-        a.max(b)
+    fn union(a: Limit, b: Limit) -> Limit {
+        Limit {
+            number: a.number.max(b.number),
+        }
     }
 
-    fn covers(bound: u8, key: u8) -> bool {
-        key <= bound
+    fn covers(bound: Limit, key: Limit) -> bool {
+        key.number <= bound.number
     }
 
-    fn size(key: u8) -> u128 {
-        u128::from(key)
+    fn size(key: Limit) -> u128 {
+        u128::from(key.number)
     }
 
-    fn penalty(bound: u8, key: u8) -> u128 {
-        u128::from(bound.max(key) - bound)
+    fn penalty(bound: Limit, key: Limit) -> u128 {
+        u128::from(bound.number.max(key.number) - bound.number)
     }
 
     /// Never called, since no page is split here.
-    fn pick_split(_: Global, keys: &[u8], least: usize) -> Result<Sides, Refusal> {
+    fn pick_split(_: Global, keys: &[Limit], least: usize) -> Result<Sides, Refusal> {
         if keys.len() / 2 < least {
             Err(Refusal::TooFew)
         } else {

@@ -26,7 +26,7 @@ fn note_row(hints: &mut Vec<u16>, page: u16, row: u32)
     }
 }
 
-/// Notes that these rows stand on a page.
+/// Records that these rows are on a page.
 pub(crate) fn note_all<K: Columned>(hints: &mut Vec<u16>, page: u16, rows: &Rows<K>)
     ensures { hints.new.items ≡ with_hints page rows.now hints.old.items }
 {

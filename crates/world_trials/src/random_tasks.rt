@@ -220,11 +220,11 @@ impl Pair {
 /// The keys of a page's entries.
 fn keys_of(alloc: Global, page: &Page<Interval>) -> Result<Vec<Interval>, Fail> {
     let mut keys = Vec::new(alloc);
-    for entry in page.rows() {
-        keys.push(entry.key())?;
+    for place in 0..page.rows().len() {
+        keys.push(page.rows().get(place).key())?;
     }
-    for branch in page.branches() {
-        keys.push(branch.key)?;
+    for place in 0..page.branches().len() {
+        keys.push(page.branches().get(place).key)?;
     }
     Ok(keys)
 }

@@ -1,7 +1,7 @@
 //! Random events for a world whose pages have at most four entries.
 use super::steps::{Answer, Ask, Ends, Query, Step, Trial};
 use interval_class::Interval;
-use node::Page;
+use node::{Page, Rows};
 use rand_core::Rng;
 use rand_pcg::Pcg32;
 use std::alloc::Global;
@@ -24,9 +24,19 @@ impl Use {
             Use::Splitting => page.rows().len().max(page.branches().len()) == 4,
             Use::Posting => page.is_owed(),
             Use::Enlarging => page.level() > 0,
-            Use::Sweeping => page.rows().iter().any(|entry| !entry.is_live()),
+            Use::Sweeping => has_dead(page.rows()),
         }
     }
+}
+
+/// Whether a row has ended.
+fn has_dead(rows: &Rows<Interval>) -> bool {
+    for place in 0..rows.len() {
+        if !rows.get(place).is_live() {
+            return true;
+        }
+    }
+    false
 }
 
 /// A source of random events for a world.
@@ -128,13 +138,11 @@ impl Source {
     /// The number of a page, mostly a child of the parent.
     fn child(&mut self, world: &Trial, parent: u64) -> u64 {
         let place = self.below(4) as usize;
-        let child = world
-            .page(parent)
-            .and_then(|page| page.branches().get(place))
-            .map(|branch| u64::from(branch.child));
-        match child {
-            Some(child) => child,
-            None => self.any_page(world),
+        match world.page(parent) {
+            Some(page) if place < page.branches().len() => {
+                u64::from(page.branches().get(place).child)
+            }
+            _ => self.any_page(world),
         }
     }
 
