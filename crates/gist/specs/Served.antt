@@ -31,8 +31,8 @@ use Rattle.gist.specs.CommandLine.{texts_of, AreWellFormed, GivesSettings, NameN
 use Rattle.gist.specs.declared.options.Class.{Class}
 use Rattle.gist.specs.declared.options.Class.TheVariants as classes
 use Rattle.gist.specs.declared.options.StoreOptions.{StoreOptions}
-use Rattle.gist.specs.declared.options.Ending.{Ending}
-use Rattle.gist.specs.declared.options.Ending.TheVariants as ending
+use Rattle.gist.specs.declared.options.ExitStatus.{ExitStatus}
+use Rattle.gist.specs.declared.options.ExitStatus.TheVariants as exit_status
 use Rattle.gist.specs.declared.options.Settings.{Settings}
 use Rattle.gist.specs.declared.options.Settings.TheVariants as settings
 
@@ -85,8 +85,8 @@ abbrev pub DoesAsked : List (Bor Text) → Exchange → Type 0
 DoesAsked words io = (settings : Settings) × GivesSettings (texts_of words) settings × Does settings io
 
 -- if a command ended well, this holds
-abbrev pub IfWell : Result Ending Fault → Type 0 → Type 0
-IfWell returned P = returned ≡ Ok ending.Well → P
+abbrev pub IfWell : Result ExitStatus Fault → Type 0 → Type 0
+IfWell returned P = returned ≡ Ok exit_status.Well → P
 
 -- a number of the options is out of range
 abbrev pub HaveBadLimits : StoreOptions → Type 0

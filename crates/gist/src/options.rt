@@ -42,7 +42,7 @@ pub enum Role {
 
 /// How a command ended.
 #[derive(Clone, Copy, Debug, PartialEq, Eq)]
-pub enum Ending {
+pub enum ExitStatus {
     Well,
     /// Rows of a storm were refused, or a reader, a looker or a subscriber isn't whole.
     StormFailed,
