@@ -25,7 +25,7 @@ use Rattle.front.specs.Sessions.{ToldAll}
 use Rattle.front.specs.Replays.{ReplayedAll}
 use Rattle.clap.specs.Words.{Text}
 use Rattle.storm.specs.Sizes.{IsStorm}
-use Rattle.storm.specs.declared.limits.Limits.{Limits}
+use Rattle.storm.specs.declared.limits.StormSize.{StormSize}
 use Rattle.gist.specs.Storms.{TellsStorm}
 use Rattle.gist.specs.CommandLine.{texts_of, AreWellFormed, GivesSettings, NameNothing}
 use Rattle.gist.specs.declared.options.Class.{Class}
@@ -71,7 +71,7 @@ abbrev pub Replays : StoreOptions → Exchange → Type 0
 Replays options io = IsWithinLimits (limits_of options) × AnswersEvents options.class (limits_of options) io
 
 -- nothing was read, and a storm passed
-abbrev pub PassesStorm : Limits → Exchange → Type 0
+abbrev pub PassesStorm : StormSize → Exchange → Type 0
 PassesStorm limits io = (io.has_left ≡ io.had_left) × TellsStorm io.had io.has limits
 
 -- what the settings ask for was done

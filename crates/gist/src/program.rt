@@ -33,7 +33,7 @@ use std::sync::Wait;
 use std::sync::ledger::Blank;
 use std::thread::Threads;
 use store::Store;
-use storm::{Limits, Outcome, Verdict, run_storm};
+use storm::{Outcome, StormSize, Verdict, run_storm};
 use world::World;
 
 /// The options' limits of a page's entries, and the greatest numbers of pages and commits.
@@ -213,7 +213,7 @@ fn tell_storm<W: Write>(writer: &mut W, outcome: &Outcome) -> io::Result<()>
 fn storm<W: Write, T: Threads + Wait + Clock + Sync>(
     rt: &T,
     alloc: Global,
-    limits: Limits,
+    limits: StormSize,
     writer: &mut W,
 ) -> Result<ExitStatus, Fault>
     ensures ok { IfWell result (TellsStorm (W.contents writer.old) (W.contents writer.new) limits) }
