@@ -5,7 +5,7 @@ ghost use Rattle.std.specs.Io.KnownBytes.{Appends};
 ghost use Rattle.change_list.specs.declared.item.Item.TheVariants.{Inserted};
 ghost use Rattle.front.specs.Written.{HasRoomForLine, Says, TakesBeginning};
 
-use crate::reply::Reply;
+use crate::answer::Answer;
 use crate::retrying::write_retrying;
 use arrayvec::ArrayVec;
 use change_list::{Item, Row};
@@ -249,30 +249,30 @@ pub fn gather_refusal<W: Write>(
     send_enough(writer, gathered)
 }
 
-/// Appends the first line of a reply. `line` is scratch: it is overwritten if the reply has a key.
-fn append_line<C: ClassText>(gathered: &mut Gathered, line: &mut Line, reply: &Reply<C::Key>)
+/// Appends the first line of an answer. `line` is scratch: it is overwritten if the answer has a key.
+fn append_line<C: ClassText>(gathered: &mut Gathered, line: &mut Line, reply: &Answer<C::Key>)
     requires room { HasRoomForLine gathered.old.items }
     ensures { gathered.new.items ≡ gathered.old.items ++ first_line C.texts.key_text reply.now }
 {
     match reply {
-        Reply::Committed(number) => append_numbered(gathered, b"committed ", *number),
-        Reply::Opened(cursor) => append_numbered(gathered, b"opened ", *cursor),
-        Reply::Given(item) => append_item::<C>(gathered, line, item),
-        Reply::Empty => append(gathered, b"empty\n"),
-        Reply::Asked => append(gathered, b"asked\n"),
-        Reply::Found(rows) => append_numbered(gathered, b"found ", rows.len() as u64),
-        Reply::Swept(number) => append_numbered(gathered, b"swept ", *number),
-        Reply::Closed => append(gathered, b"closed\n"),
-        Reply::Refused(why) => append_refusal(gathered, *why),
+        Answer::Committed(number) => append_numbered(gathered, b"committed ", *number),
+        Answer::Opened(cursor) => append_numbered(gathered, b"opened ", *cursor),
+        Answer::Given(item) => append_item::<C>(gathered, line, item),
+        Answer::Empty => append(gathered, b"empty\n"),
+        Answer::Asked => append(gathered, b"asked\n"),
+        Answer::Found(rows) => append_numbered(gathered, b"found ", rows.len() as u64),
+        Answer::Swept(number) => append_numbered(gathered, b"swept ", *number),
+        Answer::Closed => append(gathered, b"closed\n"),
+        Answer::Refused(why) => append_refusal(gathered, *why),
     }
 }
 
-/// The rows that a reply lists after its first line.
-fn rows_of<K>(reply: &Reply<K>) -> &[Row<K>]
+/// The rows that an answer lists after its first line.
+fn rows_of<K>(reply: &Answer<K>) -> &[Row<K>]
     ensures { result.now ≡ listed reply.now }
 {
     match reply {
-        Reply::Found(rows) => rows.as_slice(),
+        Answer::Found(rows) => rows.as_slice(),
         _ => &[],
     }
 }
@@ -304,8 +304,8 @@ fn write_rows<C: ClassText, W: Write>(
     Ok(())
 }
 
-/// Appends the lines of a reply to the gathered answers, and writes these when they are enough. `line` is scratch: it
-/// is overwritten if the reply has keys.
+/// Appends the lines of an answer to the gathered ones, and writes these when they are enough. `line` is scratch: it
+/// is overwritten if the answer has keys.
 ///
 /// # Errors
 /// `Write` if the writer failed. It took a beginning of what was gathered.
@@ -313,7 +313,7 @@ pub fn write_reply<C: ClassText, W: Write>(
     writer: &mut W,
     gathered: &mut Gathered,
     line: &mut Line,
-    reply: &Reply<C::Key>,
+    reply: &Answer<C::Key>,
 ) -> Result<(), Fault>
     requires room { HasRoomForLine gathered.old.items }
     ensures written { Says (reply_text C.texts.key_text reply.now) result
