@@ -2,7 +2,7 @@
 ghost use Rattle.std.specs.Prelude.{◌≡◌, ℕ, ◌≤◌, List, length, OnOk, IfErr, vec_capacity, Err};
 ghost use Rattle.query_text.specs.Tokens.{Placed, placed};
 ghost use Rattle.front.specs.Conversations.{AnswersLine, AnsweredAll, AnsweredWhole, AnsweredFirst, IfOutOfMemory, IfReadFails, IfWriteFails, IsConversationFault, Kept, exchange};
-ghost use Rattle.front.specs.Held.{IsRestOf};
+ghost use Rattle.front.specs.Buffered.{IsRestOf};
 ghost use Rattle.front.specs.Written.{HasRoomForLine, Says};
 
 use crate::answers::{Gathered, gather_refusal, send};
