@@ -14,7 +14,7 @@ use crate::commands::{close, delete, find, insert, mark, move_row, next, open, o
 use crate::conversation::{Responder, converse};
 use crate::request::{Request, read_request};
 use key_class::{Fault, KeyClass, Pred, Refusal};
-use query_text::{ClassText, Lexeme, Line, first_of, parse_tokens};
+use query_text::{ClassText, Lexeme, PrintBuffer, first_of, parse_tokens};
 use std::alloc::Global;
 use std::io::{Read, Write};
 use store::Store;
@@ -118,7 +118,7 @@ impl<C: ClassText> Responder for Store<C> {
         lexemes: &[Lexeme],
         writer: &mut W,
         gathered: &mut Gathered,
-        scratch: &mut Line,
+        scratch: &mut PrintBuffer,
     ) -> Result<(), Fault> {
         match reply_to_tokens(alloc, self, text, lexemes) {
             Some(reply) => write_reply::<C, W>(writer, gathered, scratch, &reply),
