@@ -122,7 +122,7 @@ pub fn approach_leaf<C: KeyClass, O: Outlet<C::Key>>(
 ) -> Result<Approach, Refusal>
     ensures nears { IfOk result (λ way. Nears C C.rules world.old page key way world.new) }
     ensures commits { world.new.commits ≡ world.old.commits }
-    ensures one_event { IsOneEvent C O O.End C.rules O.rule seat world.old world.new }
+    ensures one_event { IsOneEvent C O O.Consumer C.rules O.rule seat world.old world.new }
     ensures sound { IsSoundWorld C.rules.is_cover world.new }
     ensures mailboxes { KeepsMailboxes C.rules O.rule world.old world.new }
     ensures unchanged { OnErr result (world.new ≡ world.old) }
