@@ -12,8 +12,8 @@ use Rattle.split.specs.Tests.{first_failing, place_tests, enlarge_tests, split_t
 use Rattle.descent.specs.Choosing.{IsBest}
 use Rattle.descent.specs.declared.step.Plan.{Plan}
 use Rattle.descent.specs.declared.step.Plan.TheVariants as plan
-use Rattle.descent.specs.declared.step.Step.{Step}
-use Rattle.descent.specs.declared.step.Step.TheVariants.{Grow, Split, Post, Enlarge, Place, Down}
+use Rattle.descent.specs.declared.step.WayStep.{WayStep}
+use Rattle.descent.specs.declared.step.WayStep.TheVariants.{Grow, Split, Post, Enlarge, Place, Down}
 
 -- no test fails, or the first that does says that too few pages are left
 abbrev pub OnlyPagesFull : List (Bool × Refusal) → Type 0
@@ -54,7 +54,7 @@ module _ {K : Type 0} where
     IsBestChild c = IsChosen rules.union_of rules.size_of s p key c
 
     -- the step that comes next, a growth or a split by sides that the class picks
-    abbrev pub IsNextStep : Step → Type 0
+    abbrev pub IsNextStep : WayStep → Type 0
     IsNextStep (Grow sides) = (p ≡ 0) × OnlyPagesFull (grow_tests s sides) × IsPick rules s p sides
     IsNextStep (Place leaf) = (leaf ≡ p) × (first_failing (place_tests rules.is_cover s p key) ≡ None)
     IsNextStep (Post parent c) = (parent ≡ p) × IsBestChild c × (first_failing (post_tests s p c) ≡ None)

@@ -590,8 +590,8 @@ impl<C: KeyClass, L: Ledger + Naming> DeskOver<World<C, Ring<C::Key>>, L> {
             Err(page) => page,
         };
         match self.visit_for(rt, cursor, page) {
-            Some(reply) => return reply,
-            None => return self.locked.lock(rt).turn(cursor),
+            Some(reply) => reply,
+            None => self.locked.lock(rt).turn(cursor),
         }
     }
 
@@ -630,8 +630,8 @@ impl<C: KeyClass, L: Ledger + Naming> DeskOver<World<C, Ring<C::Key>>, L> {
     {
         let turned = self.locked.lock(rt).turn_prepared(cursor, task);
         match turned {
-            Some(reply) => return Some(reply),
-            None => return None,
+            Some(reply) => Some(reply),
+            None => None,
         }
     }
 

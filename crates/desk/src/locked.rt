@@ -439,8 +439,8 @@ impl<C: KeyClass, L: Ledger + Naming> Locked<World<C, Ring<C::Key>>, L> {
         ensures held { IsHeld C.rules self.old × IsHeld C.rules self.new }
     {
         match self.world.page_to_visit(cursor) {
-            Some(page) => return Err(page),
-            None => return Ok(self.world.step(Event::Turn(cursor))),
+            Some(page) => Err(page),
+            None => Ok(self.world.step(Event::Turn(cursor))),
         }
     }
 

@@ -7,7 +7,7 @@ use Rattle.std.proofs.KnownBytes.{Consumes-trans, Consumes-kept}
 use Rattle.std.proofs.lemmas.List.{append-nil}
 use Rattle.query_text.specs.Tokens.{Placed}
 use Rattle.front.specs.Lines.{HasNoFeed, ended, AreLines}
-use Rattle.front.specs.Held.{Held, with_room, FillsHeld, IsRestOf}
+use Rattle.front.specs.Buffered.{Buffered, with_room, FillsHeld, IsRestOf}
 use Rattle.front.specs.Written.{Writes, WritesBeginning}
 use Rattle.front.specs.Conversations.{Exchange, AnswersLine, AnswersLines, AnsweredAll, AnsweredWhole, AnsweredFirst}
 use Rattle.front.proofs.Bytes.{no_feed_append}
@@ -67,7 +67,7 @@ lines_before front bytes lines rest n a = record {
 }
 
 -- more bytes are held
-pub holds_filled : (held : Held) (part bytes : List ℕ) → HasNoFeed held.rest → Holds held.overlong held.rest part → Holds (with_room held).overlong ((with_room held).rest ++ bytes) (part ++ bytes)
+pub holds_filled : (held : Buffered) (part bytes : List ℕ) → HasNoFeed held.rest → Holds held.overlong held.rest part → Holds (with_room held).overlong ((with_room held).rest ++ bytes) (part ++ bytes)
 holds_filled held part bytes n h = go (nat_eq (length held.rest) 4097) refl held.overlong h
   where
     let_go : (overlong : Bool) → length held.rest ≡ 4097 → Holds overlong held.rest part → Holds true ([] ++ bytes) (part ++ bytes)
@@ -81,10 +81,10 @@ holds_filled held part bytes n h = go (nat_eq (length held.rest) 4097) refl held
     go : (b : Bool) → nat_eq (length held.rest) 4097 ≡ b → (overlong : Bool) → Holds held.overlong held.rest part → Holds (with_room held).overlong ((with_room held).rest ++ bytes) (part ++ bytes)
     go true e o h =
         let r : with_room held ≡ record { rest = []; overlong = true } = rw e refl in
-        subst (λ (w : Held). Holds w.overlong (w.rest ++ bytes) (part ++ bytes)) (sym r) (let_go held.overlong (search (arith, e)) h)
+        subst (λ (w : Buffered). Holds w.overlong (w.rest ++ bytes) (part ++ bytes)) (sym r) (let_go held.overlong (search (arith, e)) h)
     go false e o h =
         let r : with_room held ≡ held = rw e refl in
-        subst (λ (w : Held). Holds w.overlong (w.rest ++ bytes) (part ++ bytes)) (sym r) (stays held.overlong h)
+        subst (λ (w : Buffered). Holds w.overlong (w.rest ++ bytes) (part ++ bytes)) (sym r) (stays held.overlong h)
 
 -- the whole line of which this is held, and the bytes held after it
 pub record HoldsLine (overlong : Bool) (line rest part : List ℕ) : Type 0 where
@@ -120,10 +120,10 @@ keeps_itself None = tt
 keeps_itself (Some xs) = refl
 
 -- at the reader's end what is held still has no line feed
-pub no_feed_at_end : (r r' : Option (List ℕ)) (held held' : Held) → HasNoFeed held.rest → FillsHeld r r' held false held' → HasNoFeed held'.rest
+pub no_feed_at_end : (r r' : Option (List ℕ)) (held held' : Buffered) → HasNoFeed held.rest → FillsHeld r r' held false held' → HasNoFeed held'.rest
 no_feed_at_end r r' held held' n f =
     let z = (f.none_at_end refl).0 in
-    let e : held'.rest ≡ (with_room held).rest ++ [] = ap (λ (h : Held). h.rest) f.held ∙ ap (λ b. (with_room held).rest ++ b) z in
+    let e : held'.rest ≡ (with_room held).rest ++ [] = ap (λ (h : Buffered). h.rest) f.held ∙ ap (λ b. (with_room held).rest ++ b) z in
     subst HasNoFeed (sym (e ∙ append-nil (with_room held).rest)) (go (nat_eq (length held.rest) 4097) refl)
   where
     go : (b : Bool) → nat_eq (length held.rest) 4097 ≡ b → HasNoFeed (with_room held).rest
@@ -143,7 +143,7 @@ module _ {S : Type 0} (answers : ℕ → S → List Placed → List ℕ → S �
       (s.0, s.1, s.2 ++ said, s.3, lines_next s.1 lines s.2 mid line said new s.4 a, ap (λ x. x ++ said) s.5 ∙ append_assoc s.0 s.2 said)
 
   module _ (r0 w0 : Option (List ℕ)) (s0 : S) where
-    pub record Progress (r w : Option (List ℕ)) (gathered : List ℕ) (s : S) (held : Held) : Type 0 where
+    pub record Progress (r w : Option (List ℕ)) (gathered : List ℕ) (s : S) (held : Buffered) : Type 0 where
       pub lines : List (List ℕ)
       pub text : List ℕ
       pub part : List ℕ
@@ -170,7 +170,7 @@ module _ {S : Type 0} (answers : ℕ → S → List Placed → List ℕ → S �
       wrote = gathers w0 [] [] [] refl;
     }
 
-    module _ (r w : Option (List ℕ)) (gathered : List ℕ) (s : S) (held : Held) (p : Progress r w gathered s held) where
+    module _ (r w : Option (List ℕ)) (gathered : List ℕ) (s : S) (held : Buffered) (p : Progress r w gathered s held) where
       -- every line answered so far counts as carried out
       pub stands_now : (w' : Option (List ℕ)) → WritesBeginning w w' (gathered ++ []) → AnsweredFirst answers s0 s (went r0 r w0 w')
       stands_now w' h =
@@ -201,8 +201,8 @@ module _ {S : Type 0} (answers : ℕ → S → List Placed → List ℕ → S �
         wrote = writes_then_nothing w0 w w' [] gathered gathered' p.text p.wrote h;
       }
 
-      pub filled : (r' : Option (List ℕ)) (more : Bool) (held' : Held) → HasNoFeed held.rest → FillsHeld r r' held more held' → Progress r' w gathered s held'
-      filled r' more held' n f = subst (λ (h : Held). Progress r' w gathered s h) (sym f.held) (record {
+      pub filled : (r' : Option (List ℕ)) (more : Bool) (held' : Buffered) → HasNoFeed held.rest → FillsHeld r r' held more held' → Progress r' w gathered s held'
+      filled r' more held' n f = subst (λ (h : Buffered). Progress r' w gathered s h) (sym f.held) (record {
         lines = p.lines;
         text = p.text;
         part = p.part ++ f.bytes;

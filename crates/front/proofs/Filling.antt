@@ -3,7 +3,7 @@ use Rattle.std.proofs.Common.{◌≡◌, ℕ, suc, zero, ◌+◌, ◌-◌, ◌<�
 use Rattle.std.specs.Prelude.{nat_eq, nat_lt}
 use Rattle.std.specs.Io.KnownBytes.{Consumes, IsAtEnd}
 use Rattle.std.proofs.lemmas.List.{length-take, length-drop}
-use Rattle.front.specs.Held.{Held, with_room, FillsHeld}
+use Rattle.front.specs.Buffered.{Buffered, with_room, FillsHeld}
 use Rattle.front.proofs.Bytes.{take_nothing}
 
 pub take_both : (a b : ℕ) (xs : List ℕ) → take (a + b) xs ≡ take a xs ++ take b (drop a xs)
@@ -11,7 +11,7 @@ take_both zero b xs = let e : zero + b ≡ b = omega arith in ap (λ k. take k x
 take_both (suc a) b [] = take_nothing (suc a + b) ∙ sym (take_nothing b)
 take_both (suc a) b (x ∷ xs) = let e : suc a + b ≡ suc (a + b) = omega arith in ap (λ k. take k (x ∷ xs)) e ∙ ap (λ ys. x ∷ ys) (take_both a b xs)
 
-abbrev pub holding : List ℕ → ℕ → ℕ → Bool → Held
+abbrev pub holding : List ℕ → ℕ → ℕ → Bool → Buffered
 holding items start end overlong = record { rest = take (end - start) (drop start items); overlong = overlong }
 
 held_length : (items : List ℕ) (start end : ℕ) → start ≤ end → end ≤ length items → length (take (end - start) (drop start items)) ≡ end - start
@@ -29,7 +29,7 @@ room_made items start end overlong o w l =
     let t : nat_eq (length (take (end - start) (drop start items))) 4097 ≡ true = search (arith, held_length items start end o w, l) in
     rw t refl
 
-pub fills : (before after : Option (List ℕ)) (old : Held) (bytes : List ℕ) (held count : ℕ) (overlong : Bool) → Consumes before after (take count (drop held bytes)) → (count ≡ 0 → IsAtEnd after)
+pub fills : (before after : Option (List ℕ)) (old : Buffered) (bytes : List ℕ) (held count : ℕ) (overlong : Bool) → Consumes before after (take count (drop held bytes)) → (count ≡ 0 → IsAtEnd after)
     → held + count ≤ length bytes → take held bytes ≡ (with_room old).rest → overlong ≡ (with_room old).overlong → FillsHeld before after old (nat_lt 0 count) (holding bytes 0 (held + count) overlong)
 fills before after old bytes held count overlong c e w r o = record {
   bytes = take count (drop held bytes);
@@ -42,5 +42,5 @@ fills before after old bytes held count overlong c e w r o = record {
   some_before = λ m none. let z : 0 < count = search (arith, m) in omega (arith, z, w, ap length none, length-take count (drop held bytes), length-drop held bytes);
 }
   where
-    joined : (a b : List ℕ) (p q : Bool) → a ≡ b → p ≡ q → ◌≡◌ {A = Held} (record { rest = a; overlong = p }) (record { rest = b; overlong = q })
+    joined : (a b : List ℕ) (p q : Bool) → a ≡ b → p ≡ q → ◌≡◌ {A = Buffered} (record { rest = a; overlong = p }) (record { rest = b; overlong = q })
     joined a b p q e f = λ i. record { rest = e i; overlong = f i }

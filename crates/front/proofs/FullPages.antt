@@ -7,8 +7,8 @@ use Rattle.key_class.specs.Rules.{Rules}
 use Rattle.store.specs.States.{StoreState}
 use Rattle.query_text.specs.Tokens.{Placed}
 use Rattle.query_text.specs.ClassTexts.{Texts}
-use Rattle.front.specs.declared.reply.Reply.{Reply}
-use Rattle.front.specs.declared.reply.Reply.TheVariants as reply
+use Rattle.front.specs.declared.answer.Answer.{Answer}
+use Rattle.front.specs.declared.answer.Answer.TheVariants as answer
 use Rattle.front.specs.Requests.{Command, insert_row, delete_row, move_row, next_item, ask_mark, close_cursor, open_cursor, find_rows, sweep_all, asked_by, verb_of}
 use Rattle.front.specs.Told.{Told, RefusesToEnd, RepliesInsert, RepliesDelete, RepliesMove, RepliesOpen, RepliesNext, RepliesMark, RepliesFind, RepliesSweep, RepliesClose}
 use Rattle.front.specs.Conversations.{AnswersLine, AnswersLines}
@@ -18,11 +18,11 @@ module _ {K A : Type 0} where
   abbrev full : Told K A → Bool
   full told = told.pages_full
 
-  insert_keeps : (key : K) (tag : ℕ) (said : Reply K) (old new : Told K A) → RepliesInsert key tag said old new → full old ≡ true → full new ≡ true
-  insert_keeps key tag (reply.Committed n) old new h is = ap full h.2 ∙ is
-  insert_keeps key tag (reply.Refused refusal.CommitsFull) old new h is = ap full h.1 ∙ is
-  insert_keeps key tag (reply.Refused refusal.PagesFull) old new h is = ap full h.2
-  insert_keeps key tag (reply.Refused refusal.OutOfMemory) old new h is = ap full h.1 ∙ is
+  insert_keeps : (key : K) (tag : ℕ) (said : Answer K) (old new : Told K A) → RepliesInsert key tag said old new → full old ≡ true → full new ≡ true
+  insert_keeps key tag (answer.Committed n) old new h is = ap full h.2 ∙ is
+  insert_keeps key tag (answer.Refused refusal.CommitsFull) old new h is = ap full h.1 ∙ is
+  insert_keeps key tag (answer.Refused refusal.PagesFull) old new h is = ap full h.2
+  insert_keeps key tag (answer.Refused refusal.OutOfMemory) old new h is = ap full h.1 ∙ is
   insert_keeps key tag _ old new h is = absurd h
 
   end_keeps : (row : ℕ) (why : Refusal) (old new : Told K A) → RefusesToEnd row why old new → full old ≡ true → full new ≡ true
@@ -33,61 +33,61 @@ module _ {K A : Type 0} where
   end_keeps row refusal.FindersFull old new h is = ap full h.3 ∙ is
   end_keeps row _ old new h is = absurd h
 
-  delete_keeps : (row : ℕ) (said : Reply K) (old new : Told K A) → RepliesDelete row said old new → full old ≡ true → full new ≡ true
-  delete_keeps row (reply.Committed n) old new h is = ap full h.3 ∙ is
-  delete_keeps row (reply.Refused why) old new h is = end_keeps row why old new h is
+  delete_keeps : (row : ℕ) (said : Answer K) (old new : Told K A) → RepliesDelete row said old new → full old ≡ true → full new ≡ true
+  delete_keeps row (answer.Committed n) old new h is = ap full h.3 ∙ is
+  delete_keeps row (answer.Refused why) old new h is = end_keeps row why old new h is
   delete_keeps row _ old new h is = absurd h
 
-  move_keeps : (row : ℕ) (key : K) (said : Reply K) (old new : Told K A) → RepliesMove row key said old new → full old ≡ true → full new ≡ true
-  move_keeps row key (reply.Committed n) old new h is = ap full h.3 ∙ is
-  move_keeps row key (reply.Refused why) old new (inl h) is = end_keeps row why old new h is
-  move_keeps row key (reply.Refused why) old new (inr h) is = ap full h.4
+  move_keeps : (row : ℕ) (key : K) (said : Answer K) (old new : Told K A) → RepliesMove row key said old new → full old ≡ true → full new ≡ true
+  move_keeps row key (answer.Committed n) old new h is = ap full h.3 ∙ is
+  move_keeps row key (answer.Refused why) old new (inl h) is = end_keeps row why old new h is
+  move_keeps row key (answer.Refused why) old new (inr h) is = ap full h.4
   move_keeps row key _ old new h is = absurd h
 
-  open_keeps : (room : ℕ) (from : Option ℕ) (query : Query A) (said : Reply K) (old new : Told K A) → RepliesOpen room from query said old new → full old ≡ true → full new ≡ true
-  open_keeps room from query (reply.Opened c) old new h is = ap full h.3 ∙ is
-  open_keeps room from query (reply.Refused refusal.BadConfig) old new h is = ap full h.1 ∙ is
-  open_keeps room from query (reply.Refused refusal.FromFuture) old new h is = ap full h.2 ∙ is
-  open_keeps room from query (reply.Refused refusal.CursorsFull) old new h is = ap full h.2 ∙ is
-  open_keeps room from query (reply.Refused refusal.OutOfMemory) old new h is = ap full h.2 ∙ is
+  open_keeps : (room : ℕ) (from : Option ℕ) (query : Query A) (said : Answer K) (old new : Told K A) → RepliesOpen room from query said old new → full old ≡ true → full new ≡ true
+  open_keeps room from query (answer.Opened c) old new h is = ap full h.3 ∙ is
+  open_keeps room from query (answer.Refused refusal.BadConfig) old new h is = ap full h.1 ∙ is
+  open_keeps room from query (answer.Refused refusal.FromFuture) old new h is = ap full h.2 ∙ is
+  open_keeps room from query (answer.Refused refusal.CursorsFull) old new h is = ap full h.2 ∙ is
+  open_keeps room from query (answer.Refused refusal.OutOfMemory) old new h is = ap full h.2 ∙ is
   open_keeps room from query _ old new h is = absurd h
 
-  mark_keeps : (c : ℕ) (said : Reply K) (old new : Told K A) → RepliesMark c said old new → full old ≡ true → full new ≡ true
-  mark_keeps c reply.Asked old new h is = ap full h.2 ∙ is
-  mark_keeps c (reply.Refused why) old new h is = ap full h.1 ∙ is
+  mark_keeps : (c : ℕ) (said : Answer K) (old new : Told K A) → RepliesMark c said old new → full old ≡ true → full new ≡ true
+  mark_keeps c answer.Asked old new h is = ap full h.2 ∙ is
+  mark_keeps c (answer.Refused why) old new h is = ap full h.1 ∙ is
   mark_keeps c _ old new h is = absurd h
 
-  close_keeps : (c : ℕ) (said : Reply K) (old new : Told K A) → RepliesClose c said old new → full old ≡ true → full new ≡ true
-  close_keeps c reply.Closed old new h is = ap full h.2 ∙ is
-  close_keeps c (reply.Refused why) old new h is = ap full h.1 ∙ is
+  close_keeps : (c : ℕ) (said : Answer K) (old new : Told K A) → RepliesClose c said old new → full old ≡ true → full new ≡ true
+  close_keeps c answer.Closed old new h is = ap full h.2 ∙ is
+  close_keeps c (answer.Refused why) old new h is = ap full h.1 ∙ is
   close_keeps c _ old new h is = absurd h
 
-  sweep_keeps : (said : Reply K) (old new : Told K A) → RepliesSweep said old new → full old ≡ true → full new ≡ true
-  sweep_keeps (reply.Swept n) old new h is = ap full h.5 ∙ is
-  sweep_keeps (reply.Refused refusal.OutOfMemory) old new h is = ap full h.3 ∙ is
+  sweep_keeps : (said : Answer K) (old new : Told K A) → RepliesSweep said old new → full old ≡ true → full new ≡ true
+  sweep_keeps (answer.Swept n) old new h is = ap full h.5 ∙ is
+  sweep_keeps (answer.Refused refusal.OutOfMemory) old new h is = ap full h.3 ∙ is
   sweep_keeps _ old new h is = absurd h
 
   module _ (rules : Rules K A) where
-    find_keeps : (query : Query A) (said : Reply K) (old new : Told K A) → RepliesFind rules query said old new → full old ≡ true → full new ≡ true
-    find_keeps query (reply.Found rows) old new h is = ap full h.1 ∙ is
-    find_keeps query (reply.Refused refusal.OutOfMemory) old new h is = ap full h ∙ is
+    find_keeps : (query : Query A) (said : Answer K) (old new : Told K A) → RepliesFind rules query said old new → full old ≡ true → full new ≡ true
+    find_keeps query (answer.Found rows) old new h is = ap full h.1 ∙ is
+    find_keeps query (answer.Refused refusal.OutOfMemory) old new h is = ap full h ∙ is
     find_keeps query _ old new h is = absurd h
 
-    next_keeps : (c : ℕ) (said : Reply K) (old new : Told K A) → RepliesNext rules c said old new → full old ≡ true → full new ≡ true
-    next_keeps c (reply.Given given) old new h is = ap full h.5 ∙ is
-    next_keeps c reply.Empty old new h is = ap full h.4 ∙ is
-    next_keeps c (reply.Refused why) old new h is = ap full h.1 ∙ is
+    next_keeps : (c : ℕ) (said : Answer K) (old new : Told K A) → RepliesNext rules c said old new → full old ≡ true → full new ≡ true
+    next_keeps c (answer.Given given) old new h is = ap full h.5 ∙ is
+    next_keeps c answer.Empty old new h is = ap full h.4 ∙ is
+    next_keeps c (answer.Refused why) old new h is = ap full h.1 ∙ is
     next_keeps c _ old new h is = absurd h
 
 module _ {K A : Type 0} (texts : Texts K A) where
-  query_keeps : (len : ℕ) (ts : List Placed) (replies : Query A → Reply K → Told K A → Told K A → Type 0) (said : Reply K) (old new : Told K A)
+  query_keeps : (len : ℕ) (ts : List Placed) (replies : Query A → Answer K → Told K A → Told K A → Type 0) (said : Answer K) (old new : Told K A)
       → ((q : Query A) → replies q said old new → full old ≡ true → full new ≡ true) → WithQuery texts len ts replies said old new → full old ≡ true → full new ≡ true
   query_keeps len ts replies said old new k (inl h) is = k h.0 h.2 is
   query_keeps len ts replies said old new k (inr (inl h)) is = ap full h.3 ∙ is
   query_keeps len ts replies said old new k (inr (inr h)) is = ap full h.1 ∙ is
 
   module _ (rules : Rules K A) where
-    command_keeps : (len : ℕ) (command : Command K) (said : Reply K) (old new : Told K A) → RepliesTo texts rules len command said old new → full old ≡ true → full new ≡ true
+    command_keeps : (len : ℕ) (command : Command K) (said : Answer K) (old new : Told K A) → RepliesTo texts rules len command said old new → full old ≡ true → full new ≡ true
     command_keeps len (insert_row key tag) said old new h is = insert_keeps key tag said old new h is
     command_keeps len (delete_row row) said old new h is = delete_keeps row said old new h is
     command_keeps len (move_row row key) said old new h is = move_keeps row key said old new h is
@@ -98,11 +98,11 @@ module _ {K A : Type 0} (texts : Texts K A) where
     command_keeps len sweep_all said old new h is = sweep_keeps said old new h is
     command_keeps len (close_cursor c) said old new h is = close_keeps c said old new h is
 
-    asked_keeps : (len : ℕ) (asked : Result (Command K) ℕ) (said : Option (Reply K)) (old new : Told K A) → RepliesAsked texts rules len asked said old new → full old ≡ true → full new ≡ true
+    asked_keeps : (len : ℕ) (asked : Result (Command K) ℕ) (said : Option (Answer K)) (old new : Told K A) → RepliesAsked texts rules len asked said old new → full old ≡ true → full new ≡ true
     asked_keeps len (Ok command) said old new h is = command_keeps len command h.0 old new h.2 is
     asked_keeps len (Err place) said old new h is = ap full h.1 ∙ is
 
-    tokens_keep : (len : ℕ) (ts : List Placed) (said : Option (Reply K)) (old new : Told K A) → RepliesTokens texts rules len ts said old new → full old ≡ true → full new ≡ true
+    tokens_keep : (len : ℕ) (ts : List Placed) (said : Option (Answer K)) (old new : Told K A) → RepliesTokens texts rules len ts said old new → full old ≡ true → full new ≡ true
     tokens_keep len [] said old new h is = ap full h.1 ∙ is
     tokens_keep len (t ∷ ts) said old new h is = asked_keeps len (asked_by texts.key_at len t.place (verb_of t.token) ts) said old new h is
 

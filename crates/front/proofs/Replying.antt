@@ -15,8 +15,8 @@ use Rattle.store.specs.States.{StoreState, DeadRow, Commits, Keeps, IsOpened, Is
 use Rattle.query_text.specs.Tokens.{Placed}
 use Rattle.query_text.specs.ClassTexts.{Texts}
 use Rattle.query_text.specs.Grammar.{RefusesTokens, IsParseRefusal}
-use Rattle.front.specs.declared.reply.Reply.{Reply}
-use Rattle.front.specs.declared.reply.Reply.TheVariants as reply
+use Rattle.front.specs.declared.answer.Answer.{Answer}
+use Rattle.front.specs.declared.answer.Answer.TheVariants as answer
 use Rattle.front.specs.Told.{Told, with_client_cursor, IsFullAsTold, HasNoCursorLeft, MayLackPages, IsBadRoom, IsAhead, MayBegin, RefusesToEnd, RepliesInsert, RepliesDelete, RepliesMove, RepliesOpen, RepliesNext, RepliesMark, RepliesSweep, RepliesClose}
 use Rattle.front.specs.AsTold.{IsAsTold}
 use Rattle.front.specs.Sessions.{WithQuery}
@@ -36,7 +36,7 @@ module _ {K A : Type 0} (rules : Rules K A) (old new : StoreState K A) (told : T
 
   pub insert_committed : (key : K) (tag n : ℕ) (r : Result ℕ Refusal) → r ≡ Ok n → n ≡ length old.commits + 1 → ((r ≡ Err refusal.CommitsFull) ↔ (old.limit ≤ length old.commits))
       → Commits rules.is_match old (write.Insert key tag) new → IsPermutation old.dead new.dead → new.finders ≡ old.finders
-      → (after : Told K A) × RepliesInsert key tag (reply.Committed n) told after × IsAsTold rules new after
+      → (after : Told K A) × RepliesInsert key tag (answer.Committed n) told after × IsAsTold rules new after
   insert_committed key tag n r e m f c d w = (
     record told { commits = told.commits ++ write.Insert key tag ∷ [] },
     (λ h. let x : r ≡ Err refusal.CommitsFull = f.1 (full_told.1 h) in let y : Ok n ≡ Err refusal.CommitsFull = sym e ∙ x in absurd (cc), omega (arith, m, ap length t.commits), refl),
@@ -45,7 +45,7 @@ module _ {K A : Type 0} (rules : Rules K A) (old new : StoreState K A) (told : T
 
   pub insert_refused : (key : K) (tag : ℕ) (why : Refusal) (r : Result ℕ Refusal) → r ≡ Err why → ((r ≡ Err refusal.CommitsFull) ↔ (old.limit ≤ length old.commits))
       → (why ≡ refusal.OutOfMemory) ⊎ (why ≡ refusal.CommitsFull) ⊎ ((why ≡ refusal.PagesFull) × (new.pages_left < 2)) → Keeps rules.is_match old new → new.finders ≡ old.finders
-      → new.page_limit ≤ new.pages_left + length new.commits + 1 → (after : Told K A) × RepliesInsert key tag (reply.Refused why) told after × IsAsTold rules new after
+      → new.page_limit ≤ new.pages_left + length new.commits + 1 → (after : Told K A) × RepliesInsert key tag (answer.Refused why) told after × IsAsTold rules new after
   insert_refused key tag why r e f w k n few = says why e w
     where
       full : Told K A
@@ -64,12 +64,12 @@ module _ {K A : Type 0} (rules : Rules K A) (old new : StoreState K A) (told : T
       lacking less = omega (arith, less, few, k.page_limit, t.page_limit, ap length k.commits, ap length t.commits)
 
       says : (x : Refusal) → r ≡ Err x → (x ≡ refusal.OutOfMemory) ⊎ (x ≡ refusal.CommitsFull) ⊎ ((x ≡ refusal.PagesFull) × (new.pages_left < 2))
-          → (after : Told K A) × RepliesInsert key tag (reply.Refused x) told after × IsAsTold rules new after
-      says x p (inl a) = (told, subst (λ y. RepliesInsert key tag (reply.Refused y) told told) (sym a) (not_full refusal.OutOfMemory (p ∙ ap Err a) (λ q. cc), refl), kept)
-      says x p (inr (inl a)) = (told, subst (λ y. RepliesInsert key tag (reply.Refused y) told told) (sym a) (full_told.0 (f.0 (p ∙ ap Err a)), refl), kept)
+          → (after : Told K A) × RepliesInsert key tag (answer.Refused x) told after × IsAsTold rules new after
+      says x p (inl a) = (told, subst (λ y. RepliesInsert key tag (answer.Refused y) told told) (sym a) (not_full refusal.OutOfMemory (p ∙ ap Err a) (λ q. cc), refl), kept)
+      says x p (inr (inl a)) = (told, subst (λ y. RepliesInsert key tag (answer.Refused y) told told) (sym a) (full_told.0 (f.0 (p ∙ ap Err a)), refl), kept)
       says x p (inr (inr a)) = (
         full,
-        subst (λ y. RepliesInsert key tag (reply.Refused y) told full) (sym a.0) (not_full refusal.PagesFull (p ∙ ap Err a.0) (λ q. cc), lacking a.1, refl),
+        subst (λ y. RepliesInsert key tag (answer.Refused y) told full) (sym a.0) (not_full refusal.PagesFull (p ∙ ap Err a.0) (λ q. cc), lacking a.1, refl),
         told_full rules old told t new k finders a.1,
       )
 
@@ -99,7 +99,7 @@ module _ {K A : Type 0} (rules : Rules K A) (old new : StoreState K A) (told : T
 
   pub delete_committed : (row n : ℕ) (r : Result ℕ Refusal) → r ≡ Ok n → n ≡ length old.commits + 1 → EndRefusals row r → Commits rules.is_match old (write.Delete row) new
       → IsPermutation ((record { row = row; died = length old.commits + 1 }) ∷ old.dead) new.dead → new.finders ≤ old.finders + 1
-      → (after : Told K A) × RepliesDelete row (reply.Committed n) told after × IsAsTold rules new after
+      → (after : Told K A) × RepliesDelete row (answer.Committed n) told after × IsAsTold rules new after
   delete_committed row n r e m d c p w =
       let may = may_end row n r e d in (
         record told { commits = told.commits ++ write.Delete row ∷ []; dead = (record { row = row; died = n }) ∷ told.dead; finders = told.finders + 1 },
@@ -109,7 +109,7 @@ module _ {K A : Type 0} (rules : Rules K A) (old new : StoreState K A) (told : T
 
   pub move_committed : (row : ℕ) (key : K) (n : ℕ) (r : Result ℕ Refusal) → r ≡ Ok n → n ≡ length old.commits + 1 → EndRefusals row r → Commits rules.is_match old (write.Move row key) new
       → IsPermutation ((record { row = row; died = length old.commits + 1 }) ∷ old.dead) new.dead → new.finders ≤ old.finders + 1
-      → (after : Told K A) × RepliesMove row key (reply.Committed n) told after × IsAsTold rules new after
+      → (after : Told K A) × RepliesMove row key (answer.Committed n) told after × IsAsTold rules new after
   move_committed row key n r e m d c p w =
       let may = may_end row n r e d in (
         record told { commits = told.commits ++ write.Move row key ∷ []; dead = (record { row = row; died = n }) ∷ told.dead; finders = told.finders + 1 },
@@ -148,7 +148,7 @@ module _ {K A : Type 0} (rules : Rules K A) (old new : StoreState K A) (told : T
             alike refusal.FindersFull a.0 (λ z. cc) (may.0, may.1, omega (arith, t.finders, a.1), refl)
 
     pub move_refused : (key : K) → MayRefuseMove old new why → Keeps rules.is_match old new → (why ≢ refusal.OutOfMemory → new.finders ≡ old.finders) → new.finders ≤ old.finders + 1
-        → new.page_limit ≤ new.pages_left + length new.commits + 1 → (after : Told K A) × RepliesMove row key (reply.Refused why) told after × IsAsTold rules new after
+        → new.page_limit ≤ new.pages_left + length new.commits + 1 → (after : Told K A) × RepliesMove row key (answer.Refused why) told after × IsAsTold rules new after
     move_refused key (inl w) k u n few = let said = end_refused w k u n in (said.0, inl said.1, said.2)
     move_refused key (inr w) k u n few =
         let may = may_else refusal.PagesFull w.0 (λ z. cc) (λ z. cc) (λ z. cc) in
@@ -189,7 +189,7 @@ module _ {K A : Type 0} (rules : Rules K A) (old new : StoreState K A) (told : T
     is_left b f c h = c (by.full.1 (λ g. b (by.bad.1 g), (may_begin b f).is_there, none_left.1 h))
 
     opens_at : (follows : Bool) (opened c : ℕ) → r ≡ Ok c → IsBegun rules old told t from follows opened → IsOpened rules.is_match old query follows opened c new
-        → (after : Told K A) × RepliesOpen room from query (reply.Opened c) told after × IsAsTold rules new after
+        → (after : Told K A) × RepliesOpen room from query (answer.Opened c) told after × IsAsTold rules new after
     opens_at follows opened c e begun o =
         let b : r ≡ Err refusal.BadConfig → ⊥ = λ x. (let y : Ok c ≡ Err refusal.BadConfig = sym e ∙ x in cc) in
         let f : r ≡ Err refusal.FromFuture → ⊥ = λ x. (let y : Ok c ≡ Err refusal.FromFuture = sym e ∙ x in cc) in
@@ -200,24 +200,24 @@ module _ {K A : Type 0} (rules : Rules K A) (old new : StoreState K A) (told : T
         )
 
     refuses_opening : (why : Refusal) → r ≡ Err why → (why ≡ refusal.FromFuture) ⊎ (why ≡ refusal.BadConfig) ⊎ (why ≡ refusal.CursorsFull) ⊎ (why ≡ refusal.OutOfMemory) → new ≡ old
-        → (after : Told K A) × RepliesOpen room from query (reply.Refused why) told after × IsAsTold rules new after
+        → (after : Told K A) × RepliesOpen room from query (answer.Refused why) told after × IsAsTold rules new after
     refuses_opening why e w n = (told, says why e w, subst (λ (x : StoreState K A). IsAsTold rules x told) (sym n) t)
       where
-        says : (x : Refusal) → r ≡ Err x → (x ≡ refusal.FromFuture) ⊎ (x ≡ refusal.BadConfig) ⊎ (x ≡ refusal.CursorsFull) ⊎ (x ≡ refusal.OutOfMemory) → RepliesOpen room from query (reply.Refused x) told told
+        says : (x : Refusal) → r ≡ Err x → (x ≡ refusal.FromFuture) ⊎ (x ≡ refusal.BadConfig) ⊎ (x ≡ refusal.CursorsFull) ⊎ (x ≡ refusal.OutOfMemory) → RepliesOpen room from query (answer.Refused x) told told
         says x p (inl a) =
             let h = by.future.0 (p ∙ ap Err a) in
-            subst (λ y. RepliesOpen room from query (reply.Refused y) told told) (sym a) (λ g. h.0 ((bad_room query room by.shallow).1 g), h.1, refl)
-        says x p (inr (inl a)) = subst (λ y. RepliesOpen room from query (reply.Refused y) told told) (sym a) ((bad_room query room by.shallow).0 (by.bad.0 (p ∙ ap Err a)), refl)
+            subst (λ y. RepliesOpen room from query (answer.Refused y) told told) (sym a) (λ g. h.0 ((bad_room query room by.shallow).1 g), h.1, refl)
+        says x p (inr (inl a)) = subst (λ y. RepliesOpen room from query (answer.Refused y) told told) (sym a) ((bad_room query room by.shallow).0 (by.bad.0 (p ∙ ap Err a)), refl)
         says x p (inr (inr (inl a))) =
             let h = by.full.0 (p ∙ ap Err a) in
-            subst (λ y. RepliesOpen room from query (reply.Refused y) told told) (sym a)
+            subst (λ y. RepliesOpen room from query (answer.Refused y) told told) (sym a)
             (record { room_is_good = λ g. h.0 ((bad_room query room by.shallow).1 g); is_there = h.1 }, none_left.0 h.2, refl)
         says x p (inr (inr (inr a))) =
             let q : r ≡ Err refusal.OutOfMemory = p ∙ ap Err a in
             let b : r ≡ Err refusal.BadConfig → ⊥ = λ x. (let y : Err refusal.OutOfMemory ≡ Err refusal.BadConfig = sym q ∙ x in cc) in
             let f : r ≡ Err refusal.FromFuture → ⊥ = λ x. (let y : Err refusal.OutOfMemory ≡ Err refusal.FromFuture = sym q ∙ x in cc) in
             let c : r ≡ Err refusal.CursorsFull → ⊥ = λ x. (let y : Err refusal.OutOfMemory ≡ Err refusal.CursorsFull = sym q ∙ x in cc) in
-            subst (λ y. RepliesOpen room from query (reply.Refused y) told told) (sym a) (may_begin b f, is_left b f c, refl)
+            subst (λ y. RepliesOpen room from query (answer.Refused y) told told) (sym a) (may_begin b f, is_left b f c, refl)
 
   -- at the present commits
   by_now : (room : ℕ) (query : Query A) (r : Result ℕ Refusal) → depth_of query ≤ 32 → ((r ≡ Err refusal.BadConfig) ↔ IsBadOpening query room)
@@ -231,13 +231,13 @@ module _ {K A : Type 0} (rules : Rules K A) (old new : StoreState K A) (told : T
 
   pub opens : (room c : ℕ) (query : Query A) (r : Result ℕ Refusal) → r ≡ Ok c → depth_of query ≤ 32 → ((r ≡ Err refusal.BadConfig) ↔ IsBadOpening query room)
       → ((r ≡ Err refusal.CursorsFull) ↔ ((¬ IsBadOpening query room) × IsFullOf old)) → IsOpened rules.is_match old query false (length old.commits) c new
-      → (after : Told K A) × RepliesOpen room None query (reply.Opened c) told after × IsAsTold rules new after
+      → (after : Told K A) × RepliesOpen room None query (answer.Opened c) told after × IsAsTold rules new after
   opens room c query r e s b f o =
       opens_at room None query r (by_now room query r s b f (λ x. (let y : Ok c ≡ Err refusal.FromFuture = sym e ∙ x in cc))) false (length old.commits) c e (begun_now rules old told t) o
 
   pub open_refused : (room : ℕ) (query : Query A) (why : Refusal) (r : Result ℕ Refusal) → r ≡ Err why → depth_of query ≤ 32 → ((r ≡ Err refusal.BadConfig) ↔ IsBadOpening query room)
       → ((r ≡ Err refusal.CursorsFull) ↔ ((¬ IsBadOpening query room) × IsFullOf old)) → (why ≡ refusal.BadConfig) ⊎ (why ≡ refusal.CursorsFull) ⊎ (why ≡ refusal.OutOfMemory) → new ≡ old
-      → (after : Told K A) × RepliesOpen room None query (reply.Refused why) told after × IsAsTold rules new after
+      → (after : Told K A) × RepliesOpen room None query (answer.Refused why) told after × IsAsTold rules new after
   open_refused room query why r e s b f w n =
       refuses_opening room None query r (by_now room query r s b f (λ x. never why w (let y : Err why ≡ Err refusal.FromFuture = sym e ∙ x in cc))) why e (inr w) n
     where
@@ -263,15 +263,15 @@ module _ {K A : Type 0} (rules : Rules K A) (old new : StoreState K A) (told : T
 
   pub follows : (room commit c : ℕ) (query : Query A) (r : Result ℕ Refusal) → r ≡ Ok c → depth_of query ≤ 32 → ((r ≡ Err refusal.BadConfig) ↔ IsBadOpening query room)
       → ((r ≡ Err refusal.FromFuture) ↔ IsFromFuture old query room commit) → ((r ≡ Err refusal.CursorsFull) ↔ HasNoFollowerFor old query room commit) → IsOpened rules.is_match old query true commit c new
-      → (after : Told K A) × RepliesOpen room (Some commit) query (reply.Opened c) told after × IsAsTold rules new after
+      → (after : Told K A) × RepliesOpen room (Some commit) query (answer.Opened c) told after × IsAsTold rules new after
   follows room commit c query r e s b f n o = opens_at room (Some commit) query r (by_commit room commit query r s b f n) true commit c e (begun_behind rules old told t commit) o
 
   pub follow_refused : (room commit : ℕ) (query : Query A) (why : Refusal) (r : Result ℕ Refusal) → r ≡ Err why → depth_of query ≤ 32 → ((r ≡ Err refusal.BadConfig) ↔ IsBadOpening query room)
       → ((r ≡ Err refusal.FromFuture) ↔ IsFromFuture old query room commit) → ((r ≡ Err refusal.CursorsFull) ↔ HasNoFollowerFor old query room commit) → RefusesFollower why → new ≡ old
-      → (after : Told K A) × RepliesOpen room (Some commit) query (reply.Refused why) told after × IsAsTold rules new after
+      → (after : Told K A) × RepliesOpen room (Some commit) query (answer.Refused why) told after × IsAsTold rules new after
   follow_refused room commit query why r e s b f n w same = refuses_opening room (Some commit) query r (by_commit room commit query r s b f n) why e w same
 
-  pub swept : (n : ℕ) → SweepsStore rules.is_match old n new → (after : Told K A) × RepliesSweep (reply.Swept n) told after × IsAsTold rules new after
+  pub swept : (n : ℕ) → SweepsStore rules.is_match old n new → (after : Told K A) × RepliesSweep (answer.Swept n) told after × IsAsTold rules new after
   swept n s =
       let gone = filter (λ (d : DeadRow). not (is_dead_needed old d)) old.dead in
       let both : IsPermutation old.dead (gone ++ filter (is_dead_needed old) old.dead) =
@@ -280,33 +280,33 @@ module _ {K A : Type 0} (rules : Rules K A) (old new : StoreState K A) (told : T
       let many : n ≡ length gone = omega (arith, s.counted, length_permutation _ _ t.dead, length_permutation _ _ parted, length-append gone new.dead) in
       (record told { dead = new.dead }, (gone, new.dead, parted, many, each_needed rules old told t new.dead s.needed, refl), told_swept rules old told t new s.rest)
 
-  pub swept_some : SweepsStorePart rules.is_match old new → (after : Told K A) × RepliesSweep (reply.Refused refusal.OutOfMemory) told after × IsAsTold rules new after
+  pub swept_some : SweepsStorePart rules.is_match old new → (after : Told K A) × RepliesSweep (answer.Refused refusal.OutOfMemory) told after × IsAsTold rules new after
   swept_some s = (record told { dead = new.dead }, (s.gone, new.dead, IsPermutation-trans _ _ _ t.dead s.parted, refl), told_swept rules old told t new s.rest)
 
-  pub next_given : (c : ℕ) (given : Item K) → Nexts rules.is_match old c (Some given) new → (after : Told K A) × RepliesNext rules c (reply.Given given) told after × IsAsTold rules new after
+  pub next_given : (c : ℕ) (given : Item K) → Nexts rules.is_match old c (Some given) new → (after : Told K A) × RepliesNext rules c (answer.Given given) told after × IsAsTold rules new after
   next_given c given n =
       let k = told_given rules old told t c given new n in
       (record told { cursors = with_client_cursor told.cursors c (Ok (record k.f { given = k.f.given ++ given ∷ []; asked = k.asked })) }, (k.f, k.asked, k.is, k.gives, k.begins, refl), k.after)
 
-  pub next_empty : (c : ℕ) → Nexts rules.is_match old c None new → (after : Told K A) × RepliesNext rules c reply.Empty told after × IsAsTold rules new after
+  pub next_empty : (c : ℕ) → Nexts rules.is_match old c None new → (after : Told K A) × RepliesNext rules c answer.Empty told after × IsAsTold rules new after
   next_empty c n = let k = told_empty rules old told t c new n in (told, (k.f, k.is, k.unasked, k.listing, refl), k.after)
 
-  pub next_refused : (c : ℕ) (why : Refusal) → RefusesNext rules.is_match old c why new → (after : Told K A) × RepliesNext rules c (reply.Refused why) told after × IsAsTold rules new after
+  pub next_refused : (c : ℕ) (why : Refusal) → RefusesNext rules.is_match old c why new → (after : Told K A) × RepliesNext rules c (answer.Refused why) told after × IsAsTold rules new after
   next_refused c why (inl p) = (told, (inl (told_refusal rules old told t c why p.0), refl), subst (λ (x : StoreState K A). IsAsTold rules x told) (sym p.1) t)
   next_refused c why (inr p) = let w = told_wanting rules old told t c new p.1 in (told, (inr (p.0, w.0.0, w.0.1), refl), w.1)
 
-  pub mark_asked : (c : ℕ) → ChangesCursor with_asking old c new → (after : Told K A) × RepliesMark c reply.Asked told after × IsAsTold rules new after
+  pub mark_asked : (c : ℕ) → ChangesCursor with_asking old c new → (after : Told K A) × RepliesMark c answer.Asked told after × IsAsTold rules new after
   mark_asked c n =
       let k = told_asked rules old told t c new n in
       (record told { cursors = with_client_cursor told.cursors c (Ok (record k.0 { asked = true })) }, (k.0, k.1, refl), k.2)
 
-  pub closes : (c : ℕ) → Closes old c new → (after : Told K A) × RepliesClose c reply.Closed told after × IsAsTold rules new after
+  pub closes : (c : ℕ) → Closes old c new → (after : Told K A) × RepliesClose c answer.Closed told after × IsAsTold rules new after
   closes c n =
       let k = told_closed rules old told t c new n in
       (record told { cursors = with_client_cursor told.cursors c (Err refusal.CursorClosed); open_cursors = told.open_cursors - 1 }, (k.0, k.1, refl), k.2)
 
 -- a query whose text is refused, or for which memory ran out
-pub refused_query : {K A : Type 0} (texts : Texts K A) (rules : Rules K A) (old : StoreState K A) (told : Told K A) → IsAsTold rules old told → (len : ℕ) (ts : List Placed) (replies : Query A → Reply K → Told K A → Told K A → Type 0) (why : Refusal) → IsParseRefusal why
-    → ((place : ℕ) → why ≡ refusal.QueryText place → RefusesTokens texts len ts place) → (after : Told K A) × WithQuery texts len ts replies (reply.Refused why) told after × IsAsTold rules old after
-refused_query texts rules old told t len ts replies why (inl memory) refuses = (told, inr (inr (ap reply.Refused memory, refl)), t)
-refused_query texts rules old told t len ts replies why (inr at) refuses = (told, inr (inl (at.0, refuses at.0 at.1, ap reply.Refused at.1, refl)), t)
+pub refused_query : {K A : Type 0} (texts : Texts K A) (rules : Rules K A) (old : StoreState K A) (told : Told K A) → IsAsTold rules old told → (len : ℕ) (ts : List Placed) (replies : Query A → Answer K → Told K A → Told K A → Type 0) (why : Refusal) → IsParseRefusal why
+    → ((place : ℕ) → why ≡ refusal.QueryText place → RefusesTokens texts len ts place) → (after : Told K A) × WithQuery texts len ts replies (answer.Refused why) told after × IsAsTold rules old after
+refused_query texts rules old told t len ts replies why (inl memory) refuses = (told, inr (inr (ap answer.Refused memory, refl)), t)
+refused_query texts rules old told t len ts replies why (inr at) refuses = (told, inr (inl (at.0, refuses at.0 at.1, ap answer.Refused at.1, refl)), t)

@@ -33,7 +33,7 @@ module _ {K A : Type 0} (rules : Rules K A) where
     -- once the client was told that the pages are full, fewer than two pages are left for good
     pub pages : told.pages_full ≡ true → state.pages_left < 2
 
-  -- If the state of the store agreed with what was told before, the replies are allowed, and the new state agrees
+  -- If the state of the store agreed with what was told before, the answers are allowed, and the new state agrees
   -- with what is told then.
   abbrev pub Tells : StoreState K A → StoreState K A → (Told K A → Told K A → Type 0) → Type 0
   Tells old new replies = (told : Told K A) → IsAsTold old told → (after : Told K A) × replies told after × IsAsTold new after

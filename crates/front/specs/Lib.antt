@@ -1,8 +1,8 @@
 pub mod AsTold
+pub mod Buffered
 pub mod Conversations
 pub mod EventLines
 pub mod EventReplies
-pub mod Held
 pub mod Lines
 pub mod Replays
 pub mod Replies

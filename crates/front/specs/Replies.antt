@@ -1,4 +1,4 @@
--- How replies are written.
+-- How answers are written.
 use Rattle.std.specs.Prelude.{ℕ, List, [], ◌++◌, length, codes}
 use Rattle.std.specs.List.{flat_map}
 use Rattle.std.specs.Fmt.{decimal}
@@ -7,12 +7,12 @@ use Rattle.key_class.specs.declared.refusal.Refusal.{Refusal}
 use Rattle.change_list.specs.declared.item.Row.{Row}
 use Rattle.change_list.specs.declared.item.Item.{Item}
 use Rattle.change_list.specs.declared.item.Item.TheVariants as item
-use Rattle.front.specs.declared.reply.Reply.{Reply}
-use Rattle.front.specs.declared.reply.Reply.TheVariants as reply
+use Rattle.front.specs.declared.answer.Answer.{Answer}
+use Rattle.front.specs.declared.answer.Answer.TheVariants as answer
 
--- the rows that a reply lists
-abbrev pub listed : {K : Type 0} → Reply K → List (Row K)
-listed (reply.Found rows) = rows.items
+-- the rows that an answer lists
+abbrev pub listed : {K : Type 0} → Answer K → List (Row K)
+listed (answer.Found rows) = rows.items
 listed _ = []
 
 -- a line of some words and a number
@@ -50,18 +50,18 @@ module _ {K : Type 0} (key_text : K → List ℕ) where
   item_line (item.Moved r ended) = moved_line r ended
   item_line (item.Mark n) = codes "mark " ++ (decimal n ++ codes "\n")
 
-  -- the first line of a reply
-  abbrev pub first_line : Reply K → List ℕ
-  first_line (reply.Committed n) = codes "committed " ++ (decimal n ++ codes "\n")
-  first_line (reply.Opened c) = codes "opened " ++ (decimal c ++ codes "\n")
-  first_line (reply.Given given) = item_line given
-  first_line reply.Empty = codes "empty\n"
-  first_line reply.Asked = codes "asked\n"
-  first_line (reply.Found rows) = codes "found " ++ (decimal (length rows.items) ++ codes "\n")
-  first_line (reply.Swept n) = codes "swept " ++ (decimal n ++ codes "\n")
-  first_line reply.Closed = codes "closed\n"
-  first_line (reply.Refused why) = refusal_line why
+  -- the first line of an answer
+  abbrev pub first_line : Answer K → List ℕ
+  first_line (answer.Committed n) = codes "committed " ++ (decimal n ++ codes "\n")
+  first_line (answer.Opened c) = codes "opened " ++ (decimal c ++ codes "\n")
+  first_line (answer.Given given) = item_line given
+  first_line answer.Empty = codes "empty\n"
+  first_line answer.Asked = codes "asked\n"
+  first_line (answer.Found rows) = codes "found " ++ (decimal (length rows.items) ++ codes "\n")
+  first_line (answer.Swept n) = codes "swept " ++ (decimal n ++ codes "\n")
+  first_line answer.Closed = codes "closed\n"
+  first_line (answer.Refused why) = refusal_line why
 
-  -- the lines of a reply: the first, and then one for each row that was found
-  abbrev pub reply_text : Reply K → List ℕ
+  -- the lines of an answer: the first, and then one for each row that was found
+  abbrev pub reply_text : Answer K → List ℕ
   reply_text reply = first_line reply ++ flat_map row_line (listed reply)

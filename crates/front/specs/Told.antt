@@ -1,4 +1,4 @@
--- What a client of a session was told so far, and which replies are allowed to which requests.
+-- What a client of a session was told so far, and which answers are allowed to which requests.
 use Rattle.std.specs.Prelude.{◌≡◌, ℕ, ◌+◌, ◌-◌, ◌<◌, ◌≤◌, Bool, true, false, List, [], ◌∷◌, ◌++◌, length, Option, Some, None, Result, Ok, Err, ◌⊎◌, IsPermutation, nat_eq, if◌then◌else◌}
 use Rattle.std.specs.List.{AllByRecursion}
 use Rattle.key_class.specs.declared.refusal.Refusal.{Refusal}
@@ -14,8 +14,8 @@ use Rattle.change_list.specs.declared.item.Item.TheVariants as item
 use Rattle.change_list.specs.Changes.{status_of, snapshot}
 use Rattle.change_list.specs.Listings.{IsListingFor, BeginsListingFor, without_marks}
 use Rattle.store.specs.States.{DeadRow}
-use Rattle.front.specs.declared.reply.Reply.{Reply}
-use Rattle.front.specs.declared.reply.Reply.TheVariants as reply
+use Rattle.front.specs.declared.answer.Answer.{Answer}
+use Rattle.front.specs.declared.answer.Answer.TheVariants as answer
 
 -- an open cursor, as its client sees it
 pub record ClientCursor (K A : Type 0) : Type 0 where
@@ -78,12 +78,12 @@ module _ {K A : Type 0} where
   abbrev pub TellsPagesFull : Told K A → Told K A → Type 0
   TellsPagesFull old new = new ≡ record old { pages_full = true }
 
-  abbrev pub RepliesInsert : K → ℕ → Reply K → Told K A → Told K A → Type 0
-  RepliesInsert key tag (reply.Committed n) old new =
+  abbrev pub RepliesInsert : K → ℕ → Answer K → Told K A → Told K A → Type 0
+  RepliesInsert key tag (answer.Committed n) old new =
       (¬ IsFullAsTold old) × (n ≡ length old.commits + 1) × (new ≡ record old { commits = old.commits ++ write.Insert key tag ∷ [] })
-  RepliesInsert key tag (reply.Refused refusal.CommitsFull) old new = IsFullAsTold old × (new ≡ old)
-  RepliesInsert key tag (reply.Refused refusal.PagesFull) old new = (¬ IsFullAsTold old) × MayLackPages old × TellsPagesFull old new
-  RepliesInsert key tag (reply.Refused refusal.OutOfMemory) old new = (¬ IsFullAsTold old) × (new ≡ old)
+  RepliesInsert key tag (answer.Refused refusal.CommitsFull) old new = IsFullAsTold old × (new ≡ old)
+  RepliesInsert key tag (answer.Refused refusal.PagesFull) old new = (¬ IsFullAsTold old) × MayLackPages old × TellsPagesFull old new
+  RepliesInsert key tag (answer.Refused refusal.OutOfMemory) old new = (¬ IsFullAsTold old) × (new ≡ old)
   RepliesInsert key tag _ old new = ⊥
 
   -- why ending a row is refused
@@ -99,18 +99,18 @@ module _ {K A : Type 0} where
   abbrev pub LacksPagesFor : ℕ → Refusal → Told K A → Told K A → Type 0
   LacksPagesFor row why old new = (why ≡ refusal.PagesFull) × (status_of old.commits row ≡ status.Live) × (¬ IsFullAsTold old) × MayLackPages old × TellsPagesFull old new
 
-  abbrev pub RepliesDelete : ℕ → Reply K → Told K A → Told K A → Type 0
-  RepliesDelete row (reply.Committed n) old new =
+  abbrev pub RepliesDelete : ℕ → Answer K → Told K A → Told K A → Type 0
+  RepliesDelete row (answer.Committed n) old new =
       (status_of old.commits row ≡ status.Live) × (¬ IsFullAsTold old) × (n ≡ length old.commits + 1)
       × (new ≡ record old { commits = old.commits ++ write.Delete row ∷ []; dead = (record { row = row; died = n }) ∷ old.dead; finders = old.finders + 1 })
-  RepliesDelete row (reply.Refused why) old new = RefusesToEnd row why old new
+  RepliesDelete row (answer.Refused why) old new = RefusesToEnd row why old new
   RepliesDelete row _ old new = ⊥
 
-  abbrev pub RepliesMove : ℕ → K → Reply K → Told K A → Told K A → Type 0
-  RepliesMove row key (reply.Committed n) old new =
+  abbrev pub RepliesMove : ℕ → K → Answer K → Told K A → Told K A → Type 0
+  RepliesMove row key (answer.Committed n) old new =
       (status_of old.commits row ≡ status.Live) × (¬ IsFullAsTold old) × (n ≡ length old.commits + 1)
       × (new ≡ record old { commits = old.commits ++ write.Move row key ∷ []; dead = (record { row = row; died = n }) ∷ old.dead; finders = old.finders + 1 })
-  RepliesMove row key (reply.Refused why) old new = RefusesToEnd row why old new ⊎ LacksPagesFor row why old new
+  RepliesMove row key (answer.Refused why) old new = RefusesToEnd row why old new ⊎ LacksPagesFor row why old new
   RepliesMove row key _ old new = ⊥
 
   -- a new cursor of the client: at the present commits, or after a commit that it follows
@@ -128,30 +128,30 @@ module _ {K A : Type 0} where
     pub room_is_good : ¬ IsBadRoom room
     pub is_there : ¬ IsAhead told from
 
-  abbrev pub RepliesOpen : ℕ → Option ℕ → Query A → Reply K → Told K A → Told K A → Type 0
-  RepliesOpen room from query (reply.Opened c) old new =
+  abbrev pub RepliesOpen : ℕ → Option ℕ → Query A → Answer K → Told K A → Told K A → Type 0
+  RepliesOpen room from query (answer.Opened c) old new =
       MayBegin old room from × (¬ HasNoCursorLeft old) × (c ≡ old.last + 1)
       × (new ≡ record old {
         cursors = with_client_cursor old.cursors c (Ok (client_cursor old query from));
         open_cursors = old.open_cursors + 1;
         last = c;
       })
-  RepliesOpen room from query (reply.Refused refusal.BadConfig) old new = IsBadRoom room × (new ≡ old)
-  RepliesOpen room from query (reply.Refused refusal.FromFuture) old new = (¬ IsBadRoom room) × IsAhead old from × (new ≡ old)
-  RepliesOpen room from query (reply.Refused refusal.CursorsFull) old new = MayBegin old room from × HasNoCursorLeft old × (new ≡ old)
-  RepliesOpen room from query (reply.Refused refusal.OutOfMemory) old new = MayBegin old room from × (¬ HasNoCursorLeft old) × (new ≡ old)
+  RepliesOpen room from query (answer.Refused refusal.BadConfig) old new = IsBadRoom room × (new ≡ old)
+  RepliesOpen room from query (answer.Refused refusal.FromFuture) old new = (¬ IsBadRoom room) × IsAhead old from × (new ≡ old)
+  RepliesOpen room from query (answer.Refused refusal.CursorsFull) old new = MayBegin old room from × HasNoCursorLeft old × (new ≡ old)
+  RepliesOpen room from query (answer.Refused refusal.OutOfMemory) old new = MayBegin old room from × (¬ HasNoCursorLeft old) × (new ≡ old)
   RepliesOpen room from query _ old new = ⊥
 
-  abbrev pub RepliesMark : ℕ → Reply K → Told K A → Told K A → Type 0
-  RepliesMark c reply.Asked old new = (f : ClientCursor K A) × (old.cursors c ≡ Ok f) × (new ≡ record old { cursors = with_client_cursor old.cursors c (Ok (record f { asked = true })) })
-  RepliesMark c (reply.Refused why) old new = (old.cursors c ≡ Err why) × (new ≡ old)
+  abbrev pub RepliesMark : ℕ → Answer K → Told K A → Told K A → Type 0
+  RepliesMark c answer.Asked old new = (f : ClientCursor K A) × (old.cursors c ≡ Ok f) × (new ≡ record old { cursors = with_client_cursor old.cursors c (Ok (record f { asked = true })) })
+  RepliesMark c (answer.Refused why) old new = (old.cursors c ≡ Err why) × (new ≡ old)
   RepliesMark c _ old new = ⊥
 
-  abbrev pub RepliesClose : ℕ → Reply K → Told K A → Told K A → Type 0
-  RepliesClose c reply.Closed old new =
+  abbrev pub RepliesClose : ℕ → Answer K → Told K A → Told K A → Type 0
+  RepliesClose c answer.Closed old new =
       (f : ClientCursor K A) × (old.cursors c ≡ Ok f)
       × (new ≡ record old { cursors = with_client_cursor old.cursors c (Err refusal.CursorClosed); open_cursors = old.open_cursors - 1 })
-  RepliesClose c (reply.Refused why) old new = (old.cursors c ≡ Err why) × (new ≡ old)
+  RepliesClose c (answer.Refused why) old new = (old.cursors c ≡ Err why) × (new ≡ old)
   RepliesClose c _ old new = ⊥
 
   -- a dead row that a sweep leaves died after the opening of some open cursor with a snapshot, which may still need
@@ -163,11 +163,11 @@ module _ {K A : Type 0} where
     pub has_rows : cursor.follows ≡ false
     pub opened : cursor.opened < dead.died
 
-  abbrev pub RepliesSweep : Reply K → Told K A → Told K A → Type 0
-  RepliesSweep (reply.Swept n) old new =
+  abbrev pub RepliesSweep : Answer K → Told K A → Told K A → Type 0
+  RepliesSweep (answer.Swept n) old new =
       (gone left : List DeadRow) × IsPermutation old.dead (gone ++ left) × (n ≡ length gone)
       × AllByRecursion (DiedAfterOpening old) left × (new ≡ record old { dead = left })
-  RepliesSweep (reply.Refused refusal.OutOfMemory) old new =
+  RepliesSweep (answer.Refused refusal.OutOfMemory) old new =
       (gone left : List DeadRow) × IsPermutation old.dead (gone ++ left) × (new ≡ record old { dead = left })
   RepliesSweep _ old new = ⊥
 
@@ -175,9 +175,9 @@ module _ {K A : Type 0} (rules : Rules K A) where
   abbrev pub client_wants : ClientCursor K A → K → Bool
   client_wants f = satisfies rules f.query
 
-  abbrev pub RepliesFind : Query A → Reply K → Told K A → Told K A → Type 0
-  RepliesFind query (reply.Found rows) old new = (rows.items ≡ snapshot (satisfies rules query) (length old.commits) old.commits) × (new ≡ old)
-  RepliesFind query (reply.Refused refusal.OutOfMemory) old new = new ≡ old
+  abbrev pub RepliesFind : Query A → Answer K → Told K A → Told K A → Type 0
+  RepliesFind query (answer.Found rows) old new = (rows.items ≡ snapshot (satisfies rules query) (length old.commits) old.commits) × (new ≡ old)
+  RepliesFind query (answer.Refused refusal.OutOfMemory) old new = new ≡ old
   RepliesFind query _ old new = ⊥
 
   -- A mark comes only if one was asked for, and tells the number of commits; then everything up to it has been given.
@@ -185,12 +185,12 @@ module _ {K A : Type 0} (rules : Rules K A) where
   GivesTo commits f (item.Mark n) asked = (f.asked ≡ true) × (n ≡ length commits) × (asked ≡ false) × IsListingFor f.follows (client_wants f) f.opened n commits (without_marks f.given)
   GivesTo commits f other asked = asked ≡ f.asked
 
-  abbrev pub RepliesNext : ℕ → Reply K → Told K A → Told K A → Type 0
-  RepliesNext c (reply.Given given) old new =
+  abbrev pub RepliesNext : ℕ → Answer K → Told K A → Told K A → Type 0
+  RepliesNext c (answer.Given given) old new =
       (f : ClientCursor K A) × (asked : Bool) × (old.cursors c ≡ Ok f) × GivesTo old.commits f given asked
       × BeginsListingFor f.follows (client_wants f) f.opened (length old.commits) old.commits (without_marks (f.given ++ given ∷ []))
       × (new ≡ record old { cursors = with_client_cursor old.cursors c (Ok (record f { given = f.given ++ given ∷ []; asked = asked })) })
-  RepliesNext c reply.Empty old new =
+  RepliesNext c answer.Empty old new =
       (f : ClientCursor K A) × (old.cursors c ≡ Ok f) × (f.asked ≡ false) × IsListingFor f.follows (client_wants f) f.opened (length old.commits) old.commits (without_marks f.given) × (new ≡ old)
-  RepliesNext c (reply.Refused why) old new = ((old.cursors c ≡ Err why) ⊎ ((why ≡ refusal.OutOfMemory) × (f : ClientCursor K A) × (old.cursors c ≡ Ok f))) × (new ≡ old)
+  RepliesNext c (answer.Refused why) old new = ((old.cursors c ≡ Err why) ⊎ ((why ≡ refusal.OutOfMemory) × (f : ClientCursor K A) × (old.cursors c ≡ Ok f))) × (new ≡ old)
   RepliesNext c _ old new = ⊥

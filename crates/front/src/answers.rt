@@ -5,13 +5,13 @@ ghost use Rattle.std.specs.Io.KnownBytes.{Appends};
 ghost use Rattle.change_list.specs.declared.item.Item.TheVariants.{Inserted};
 ghost use Rattle.front.specs.Written.{HasRoomForLine, Says, TakesBeginning};
 
-use crate::reply::Reply;
+use crate::answer::Answer;
 use crate::retrying::write_retrying;
 use arrayvec::ArrayVec;
 use change_list::{Item, Row};
 use itoa::write_digits;
 use key_class::{Fault, Refusal};
-use query_text::{ClassText, Line, append, append_number};
+use query_text::{ClassText, PrintBuffer, append, append_number};
 use std::io::Write;
 
 /// How many bytes of answers are gathered before they are written: a write for each line would be slow.
@@ -107,7 +107,7 @@ pub fn append_pair(gathered: &mut Gathered, words: &[u8], first: u64, second: u6
 
 /// Puts a row's key, its tag and a line feed in front of the bytes in `line`.
 #[inline]
-fn put_content<C: ClassText>(line: &mut Line, row: &Row<C::Key>)
+fn put_content<C: ClassText>(line: &mut PrintBuffer, row: &Row<C::Key>)
     requires room { length line.old ≤ 3200 }
     ensures text { line.new ≡ content_text C.texts.key_text row.now ++ (codes "\n" ++ line.old) }
     ensures short { length line.new ≤ length line.old + 425 }
@@ -120,7 +120,7 @@ fn put_content<C: ClassText>(line: &mut Line, row: &Row<C::Key>)
 
 /// Puts a row's number, its key, its tag and a line feed in front of the bytes in `line`.
 #[inline]
-fn put_row<C: ClassText>(line: &mut Line, row: &Row<C::Key>)
+fn put_row<C: ClassText>(line: &mut PrintBuffer, row: &Row<C::Key>)
     requires room { length line.old ≤ 3200 }
     ensures text { line.new ≡ row_text C.texts.key_text row.now ++ (codes "\n" ++ line.old) }
     ensures short { length line.new ≤ length line.old + 446 }
@@ -131,7 +131,7 @@ fn put_row<C: ClassText>(line: &mut Line, row: &Row<C::Key>)
 }
 
 /// Appends the line of a row. `line` is scratch: it is overwritten.
-fn append_row_line<C: ClassText>(gathered: &mut Gathered, line: &mut Line, row: &Row<C::Key>)
+fn append_row_line<C: ClassText>(gathered: &mut Gathered, line: &mut PrintBuffer, row: &Row<C::Key>)
     requires room { HasRoomForLine gathered.old.items }
     ensures { gathered.new.items ≡ gathered.old.items ++ row_line C.texts.key_text row.now }
 {
@@ -142,7 +142,7 @@ fn append_row_line<C: ClassText>(gathered: &mut Gathered, line: &mut Line, row: 
 }
 
 /// Writes the lines of rows into `line`, from the last row to the first, since `line` is filled from its end.
-fn put_rows<C: ClassText>(line: &mut Line, rows: &[Row<C::Key>])
+fn put_rows<C: ClassText>(line: &mut PrintBuffer, rows: &[Row<C::Key>])
     requires few { length rows.now ≤ 8 }
     ensures text { line.new ≡ flat_map (row_line C.texts.key_text) rows.now }
     ensures short { length line.new ≤ 3600 }
@@ -157,7 +157,7 @@ fn put_rows<C: ClassText>(line: &mut Line, rows: &[Row<C::Key>])
 }
 
 /// Appends the lines of rows. `line` is scratch: it is overwritten.
-fn append_rows<C: ClassText>(gathered: &mut Gathered, line: &mut Line, rows: &[Row<C::Key>])
+fn append_rows<C: ClassText>(gathered: &mut Gathered, line: &mut PrintBuffer, rows: &[Row<C::Key>])
     requires few { length rows.now ≤ 8 }
     requires room { HasRoomForLine gathered.old.items }
     ensures { gathered.new.items
@@ -168,7 +168,11 @@ fn append_rows<C: ClassText>(gathered: &mut Gathered, line: &mut Line, rows: &[R
 }
 
 /// Appends the line of a row that was inserted. `line` is scratch: it is overwritten.
-fn append_inserted_line<C: ClassText>(gathered: &mut Gathered, line: &mut Line, row: &Row<C::Key>)
+fn append_inserted_line<C: ClassText>(
+    gathered: &mut Gathered,
+    line: &mut PrintBuffer,
+    row: &Row<C::Key>,
+)
     requires room { HasRoomForLine gathered.old.items }
     ensures { gathered.new.items
         ≡ gathered.old.items ++ item_line C.texts.key_text (Inserted row.now) }
@@ -183,7 +187,7 @@ fn append_inserted_line<C: ClassText>(gathered: &mut Gathered, line: &mut Line, 
 /// is overwritten.
 fn append_moved_line<C: ClassText>(
     gathered: &mut Gathered,
-    line: &mut Line,
+    line: &mut PrintBuffer,
     row: &Row<C::Key>,
     ended: u64,
 )
@@ -202,7 +206,11 @@ fn append_moved_line<C: ClassText>(
 }
 
 /// Appends the line of an item. `line` is scratch: it is overwritten if the item has a key.
-pub fn append_item<C: ClassText>(gathered: &mut Gathered, line: &mut Line, item: &Item<C::Key>)
+pub fn append_item<C: ClassText>(
+    gathered: &mut Gathered,
+    line: &mut PrintBuffer,
+    item: &Item<C::Key>,
+)
     requires room { HasRoomForLine gathered.old.items }
     ensures { gathered.new.items ≡ gathered.old.items ++ item_line C.texts.key_text item.now }
 {
@@ -249,30 +257,34 @@ pub fn gather_refusal<W: Write>(
     send_enough(writer, gathered)
 }
 
-/// Appends the first line of a reply. `line` is scratch: it is overwritten if the reply has a key.
-fn append_line<C: ClassText>(gathered: &mut Gathered, line: &mut Line, reply: &Reply<C::Key>)
+/// Appends the first line of an answer. `line` is scratch: it is overwritten if the answer has a key.
+fn append_line<C: ClassText>(
+    gathered: &mut Gathered,
+    line: &mut PrintBuffer,
+    reply: &Answer<C::Key>,
+)
     requires room { HasRoomForLine gathered.old.items }
     ensures { gathered.new.items ≡ gathered.old.items ++ first_line C.texts.key_text reply.now }
 {
     match reply {
-        Reply::Committed(number) => append_numbered(gathered, b"committed ", *number),
-        Reply::Opened(cursor) => append_numbered(gathered, b"opened ", *cursor),
-        Reply::Given(item) => append_item::<C>(gathered, line, item),
-        Reply::Empty => append(gathered, b"empty\n"),
-        Reply::Asked => append(gathered, b"asked\n"),
-        Reply::Found(rows) => append_numbered(gathered, b"found ", rows.len() as u64),
-        Reply::Swept(number) => append_numbered(gathered, b"swept ", *number),
-        Reply::Closed => append(gathered, b"closed\n"),
-        Reply::Refused(why) => append_refusal(gathered, *why),
+        Answer::Committed(number) => append_numbered(gathered, b"committed ", *number),
+        Answer::Opened(cursor) => append_numbered(gathered, b"opened ", *cursor),
+        Answer::Given(item) => append_item::<C>(gathered, line, item),
+        Answer::Empty => append(gathered, b"empty\n"),
+        Answer::Asked => append(gathered, b"asked\n"),
+        Answer::Found(rows) => append_numbered(gathered, b"found ", rows.len() as u64),
+        Answer::Swept(number) => append_numbered(gathered, b"swept ", *number),
+        Answer::Closed => append(gathered, b"closed\n"),
+        Answer::Refused(why) => append_refusal(gathered, *why),
     }
 }
 
-/// The rows that a reply lists after its first line.
-fn rows_of<K>(reply: &Reply<K>) -> &[Row<K>]
+/// The rows that an answer lists after its first line.
+fn rows_of<K>(reply: &Answer<K>) -> &[Row<K>]
     ensures { result.now ≡ listed reply.now }
 {
     match reply {
-        Reply::Found(rows) => rows.as_slice(),
+        Answer::Found(rows) => rows.as_slice(),
         _ => &[],
     }
 }
@@ -285,7 +297,7 @@ fn rows_of<K>(reply: &Reply<K>) -> &[Row<K>]
 fn write_rows<C: ClassText, W: Write>(
     writer: &mut W,
     gathered: &mut Gathered,
-    line: &mut Line,
+    line: &mut PrintBuffer,
     rows: &[Row<C::Key>],
 ) -> Result<(), Fault>
     requires room { HasRoomForLine gathered.old.items }
@@ -304,16 +316,16 @@ fn write_rows<C: ClassText, W: Write>(
     Ok(())
 }
 
-/// Appends the lines of a reply to the gathered answers, and writes these when they are enough. `line` is scratch: it
-/// is overwritten if the reply has keys.
+/// Appends the lines of an answer to the gathered ones, and writes these when they are enough. `line` is scratch: it
+/// is overwritten if the answer has keys.
 ///
 /// # Errors
 /// `Write` if the writer failed. It took a beginning of what was gathered.
 pub fn write_reply<C: ClassText, W: Write>(
     writer: &mut W,
     gathered: &mut Gathered,
-    line: &mut Line,
-    reply: &Reply<C::Key>,
+    line: &mut PrintBuffer,
+    reply: &Answer<C::Key>,
 ) -> Result<(), Fault>
     requires room { HasRoomForLine gathered.old.items }
     ensures written { Says (reply_text C.texts.key_text reply.now) result

@@ -2,14 +2,14 @@
 ghost use Rattle.std.specs.Prelude.{◌≡◌, ℕ, ◌≤◌, List, length, OnOk, IfErr, vec_capacity, Err};
 ghost use Rattle.query_text.specs.Tokens.{Placed, placed};
 ghost use Rattle.front.specs.Conversations.{AnswersLine, AnsweredAll, AnsweredWhole, AnsweredFirst, IfOutOfMemory, IfReadFails, IfWriteFails, IsConversationFault, Kept, exchange};
-ghost use Rattle.front.specs.Held.{IsRestOf};
+ghost use Rattle.front.specs.Buffered.{IsRestOf};
 ghost use Rattle.front.specs.Written.{HasRoomForLine, Says};
 
 use crate::answers::{Gathered, gather_refusal, send};
 use crate::line_buffer::LineBuffer;
 use key_class::limits::MAX_LINE;
 use key_class::{Fault, Refusal};
-use query_text::{Lexeme, Line, scan};
+use query_text::{Lexeme, PrintBuffer, scan};
 use std::alloc::Global;
 use std::io::{Read, Write};
 
@@ -30,7 +30,7 @@ pub trait Responder {
         lexemes: &[Lexeme],
         writer: &mut W,
         gathered: &mut Gathered,
-        scratch: &mut Line,
+        scratch: &mut PrintBuffer,
     ) -> Result<(), Fault>
         requires room { HasRoomForLine gathered.old.items }
         ensures answers { (said : List ℕ)
@@ -49,7 +49,7 @@ fn answer_line<S: Responder, W: Write>(
     lexemes: &mut Vec<Lexeme>,
     writer: &mut W,
     gathered: &mut Gathered,
-    scratch: &mut Line,
+    scratch: &mut PrintBuffer,
 ) -> Result<(), Fault>
     requires capacity { 4096 ≤ vec_capacity lexemes.old }
     requires room { HasRoomForLine gathered.old.items }
@@ -100,7 +100,7 @@ pub fn converse<S: Responder, R: Read, W: Write>(
         return Err(Fault::OutOfMemory);
     };
     let mut gathered = Gathered::new();
-    let mut scratch = Line::new();
+    let mut scratch = PrintBuffer::new();
     // A reader that still hasn't ended after so many reads counts as one that failed (docs/DECISIONS.md, "A reader
     // that never ends").
     'reading: for _ in 0..u64::MAX {

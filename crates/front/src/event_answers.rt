@@ -8,14 +8,14 @@ use crate::answers::{
 };
 use key_class::Fault;
 use mailbox::Outlet;
-use query_text::{ClassText, Line, append};
+use query_text::{ClassText, PrintBuffer, append};
 use std::io::Write;
 use world::Reply;
 
 /// Appends the line of a reply. `line` is scratch: it is overwritten if the reply has a key.
 fn append_line<C: ClassText, O: Outlet<C::Key>>(
     gathered: &mut Gathered,
-    line: &mut Line,
+    line: &mut PrintBuffer,
     reply: &Reply<C, O>,
 )
     requires room { HasRoomForLine gathered.old.items }
@@ -56,7 +56,7 @@ fn append_line<C: ClassText, O: Outlet<C::Key>>(
 pub fn write_event_reply<C: ClassText, O: Outlet<C::Key>, W: Write>(
     writer: &mut W,
     gathered: &mut Gathered,
-    line: &mut Line,
+    line: &mut PrintBuffer,
     reply: &Reply<C, O>,
 ) -> Result<(), Fault>
     requires room { HasRoomForLine gathered.old.items }

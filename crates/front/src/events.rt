@@ -10,7 +10,7 @@ use crate::event_answers::write_event_reply;
 use crate::event_request::{EventRequest, read_event};
 use key_class::{Fault, Pred, Refusal, Side, Sides};
 use mailbox::Tray;
-use query_text::{ClassText, Lexeme, Line, first_of, parse_tokens};
+use query_text::{ClassText, Lexeme, PrintBuffer, first_of, parse_tokens};
 use std::alloc::Global;
 use std::io::{Read, Write};
 use world::{Event, Reply, World};
@@ -110,7 +110,7 @@ impl<C: ClassText> Responder for World<C, Tray<C::Key>> {
         lexemes: &[Lexeme],
         writer: &mut W,
         gathered: &mut Gathered,
-        scratch: &mut Line,
+        scratch: &mut PrintBuffer,
     ) -> Result<(), Fault> {
         let Some((first, rest)) = first_of(lexemes) else {
             return Ok(());

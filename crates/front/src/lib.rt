@@ -1,6 +1,7 @@
 //! Sessions of commands over a store, and replays of events over a world: lines in, lines of answers out.
 #![tactic(auto)]
 
+mod answer;
 mod answers;
 mod commands;
 mod conversation;
@@ -8,12 +9,11 @@ mod event_answers;
 mod event_request;
 mod events;
 mod line_buffer;
-mod reply;
 mod request;
 mod retrying;
 mod serve;
 mod tokens;
 
+pub use answer::Answer;
 pub use events::replay;
-pub use reply::Reply;
 pub use serve::session;

@@ -1,7 +1,7 @@
 ghost use Rattle.std.specs.Prelude.{◌≡◌, ◌≤◌, ◌+◌, ◌-◌, ◌<◌, Ok, [], true, false, length, take, drop, IfOk, IfErr, IfSome, IsNone};
 ghost use Rattle.std.specs.Io.KnownBytes.{IsAtEnd};
 ghost use Rattle.front.specs.Lines.{HasNoFeed, IsFirstFeed, IsFirstLine};
-ghost use Rattle.front.specs.Held.{Held, AreMovedToFront, FailsToRead, FillsFrom, ReadsMore};
+ghost use Rattle.front.specs.Buffered.{Buffered, AreMovedToFront, FailsToRead, FillsFrom, ReadsMore};
 
 use crate::retrying::read_retrying;
 use key_class::Fault;
@@ -27,9 +27,9 @@ pub struct LineBuffer {
 
 impl Model for LineBuffer {
     ghost use Rattle.std.specs.Prelude.{ℕ, ◌≡◌, ◌≤◌, ◌-◌, length, take, drop};
-    ghost use Rattle.front.specs.Held.{Held};
+    ghost use Rattle.front.specs.Buffered.{Buffered};
 
-    ghost Value = { Held };
+    ghost Value = { Buffered };
 
     ghost view = { λ b. record { rest = take (b.end - b.start) (drop b.start b.bytes.items); overlong = b.overlong } };
 

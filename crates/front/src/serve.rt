@@ -8,13 +8,13 @@ ghost use Rattle.store.specs.States.{new_store};
 ghost use Rattle.change_list.specs.declared.config.Config.{Config};
 ghost use Rattle.front.specs.Conversations.{IfOutOfMemory, IfReadFails, IfWriteFails, IsConversationFault, Kept, exchange};
 
+use crate::answer::Answer;
 use crate::answers::{Gathered, write_reply};
 use crate::commands::{close, delete, find, insert, mark, move_row, next, open, open_from, sweep};
 use crate::conversation::{Responder, converse};
-use crate::reply::Reply;
 use crate::request::{Request, read_request};
 use key_class::{Fault, KeyClass, Pred, Refusal};
-use query_text::{ClassText, Lexeme, Line, first_of, parse_tokens};
+use query_text::{ClassText, Lexeme, PrintBuffer, first_of, parse_tokens};
 use std::alloc::Global;
 use std::io::{Read, Write};
 use store::Store;
@@ -25,7 +25,7 @@ fn open_at<C: KeyClass>(
     room: u64,
     from: Option<u64>,
     query: Pred<C::Atom>,
-) -> Reply<C::Key>
+) -> Answer<C::Key>
     requires { depth_of (query_of query) ≤ most_depth }
     ensures { Tells C.rules store.old store.new (RepliesOpen room from (query_of query) result) }
 {
@@ -43,13 +43,13 @@ fn open_query<C: ClassText>(
     room: u64,
     from: Option<u64>,
     lexemes: &[Lexeme],
-) -> Reply<C::Key>
+) -> Answer<C::Key>
     ensures { TellsOpening C.texts C.rules
         store.old store.new text.now lexemes.now room from result }
 {
     match parse_tokens::<C>(alloc, text, lexemes) {
         Ok(query) => open_at(store, room, from, query),
-        Err(why) => Reply::Refused(why),
+        Err(why) => Answer::Refused(why),
     }
 }
 
@@ -59,12 +59,12 @@ fn find_query<C: ClassText>(
     store: &mut Store<C>,
     text: &[u8],
     lexemes: &[Lexeme],
-) -> Reply<C::Key>
+) -> Answer<C::Key>
     ensures { TellsFinding C.texts C.rules store.old store.new text.now lexemes.now result }
 {
     match parse_tokens::<C>(alloc, text, lexemes) {
         Ok(query) => find(store, &query),
-        Err(why) => Reply::Refused(why),
+        Err(why) => Answer::Refused(why),
     }
 }
 
@@ -74,7 +74,7 @@ fn carry_out<C: ClassText>(
     store: &mut Store<C>,
     text: &[u8],
     request: Request<'_, C::Key>,
-) -> Reply<C::Key>
+) -> Answer<C::Key>
     ensures { TellsRequest C.texts C.rules store.old store.new text.now request.entry result }
 {
     match request {
@@ -92,19 +92,19 @@ fn carry_out<C: ClassText>(
     }
 }
 
-/// The reply to the tokens of a line. `None` if there are no tokens.
+/// The answer to the tokens of a line. `None` if there are no tokens.
 fn reply_to_tokens<C: ClassText>(
     alloc: Global,
     store: &mut Store<C>,
     text: &[u8],
     lexemes: &[Lexeme],
-) -> Option<Reply<C::Key>>
+) -> Option<Answer<C::Key>>
     ensures { TellsTokens C.texts C.rules store.old store.new text.now lexemes.now result }
 {
     let (first, rest) = first_of(lexemes)?;
     match read_request::<C>(text, first, rest) {
         Ok(request) => Some(carry_out(alloc, store, text, request)),
-        Err(place) => Some(Reply::Refused(Refusal::Line(place as u64))),
+        Err(place) => Some(Answer::Refused(Refusal::Line(place as u64))),
     }
 }
 
@@ -118,7 +118,7 @@ impl<C: ClassText> Responder for Store<C> {
         lexemes: &[Lexeme],
         writer: &mut W,
         gathered: &mut Gathered,
-        scratch: &mut Line,
+        scratch: &mut PrintBuffer,
     ) -> Result<(), Fault> {
         match reply_to_tokens(alloc, self, text, lexemes) {
             Some(reply) => write_reply::<C, W>(writer, gathered, scratch, &reply),

@@ -12,7 +12,7 @@ use Rattle.gist.specs.Spelling.{IsCommand, OptionKind, store_table, storm_table,
 use Rattle.gist.specs.declared.options.StoreOptions.{StoreOptions}
 use Rattle.gist.specs.declared.options.Settings.{Settings}
 use Rattle.gist.specs.declared.options.Settings.TheVariants as settings
-use Rattle.storm.specs.declared.limits.Limits.{Limits}
+use Rattle.storm.specs.declared.limits.StormSize.{StormSize}
 use Rattle.gist.proofs.Naming.{Spelled, spelled}
 use Rattle.gist.proofs.Reading.{Taken, option_row, rules, value_rule}
 use Rattle.gist.proofs.Serving.{is_free, is_plain}
@@ -56,7 +56,7 @@ options_given names given options taken read = record {
   least = number_from names store_table (codes "least") given 3 options.least (λ value. refl) refl taken read.least;
 }
 
-limits_given : (names : ClassNames) (given : List (Text × Text)) (limits : Limits) → Taken names storm_table [] given → LimitsRead (rows_given names storm_table given) limits → LimitsGiven given limits
+limits_given : (names : ClassNames) (given : List (Text × Text)) (limits : StormSize) → Taken names storm_table [] given → LimitsRead (rows_given names storm_table given) limits → LimitsGiven given limits
 limits_given names given limits taken read = record {
   writers = number_from names storm_table (codes "writers") given 4 limits.writers (λ value. refl) refl taken read.writers;
   inserts = number_from names storm_table (codes "inserts") given 250 limits.inserts (λ value. refl) refl taken read.inserts;

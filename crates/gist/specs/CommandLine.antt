@@ -15,7 +15,7 @@ use Rattle.gist.specs.declared.options.Class.TheVariants as classes
 use Rattle.gist.specs.declared.options.StoreOptions.{StoreOptions}
 use Rattle.gist.specs.declared.options.Settings.{Settings}
 use Rattle.gist.specs.declared.options.Settings.TheVariants as settings
-use Rattle.storm.specs.declared.limits.Limits.{Limits}
+use Rattle.storm.specs.declared.limits.StormSize.{StormSize}
 
 -- the words of a command line, as texts
 abbrev pub texts_of : List (Bor Text) → List Text
@@ -88,7 +88,7 @@ pub record OptionsRead (rows : List Row) (options : StoreOptions) : Type 0 where
   pub least : NumberRead (one_of (codes "least") rows) 3 options.least
 
 -- the same for the size of a storm
-pub record LimitsRead (rows : List Row) (limits : Limits) : Type 0 where
+pub record LimitsRead (rows : List Row) (limits : StormSize) : Type 0 where
   pub writers : NumberRead (one_of (codes "writers") rows) 4 limits.writers
   pub inserts : NumberRead (one_of (codes "inserts") rows) 250 limits.inserts
   pub deletes : NumberRead (one_of (codes "deletes") rows) 0 limits.deletes
@@ -118,7 +118,7 @@ pub record OptionsGiven (given : List (Text × Text)) (options : StoreOptions) :
   pub least : NumberGiven (value_of (codes "least") given) 3 options.least
 
 -- the same for the size of a storm
-pub record LimitsGiven (given : List (Text × Text)) (limits : Limits) : Type 0 where
+pub record LimitsGiven (given : List (Text × Text)) (limits : StormSize) : Type 0 where
   pub writers : NumberGiven (value_of (codes "writers") given) 4 limits.writers
   pub inserts : NumberGiven (value_of (codes "inserts") given) 250 limits.inserts
   pub deletes : NumberGiven (value_of (codes "deletes") given) 0 limits.deletes

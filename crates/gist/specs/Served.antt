@@ -25,14 +25,14 @@ use Rattle.front.specs.Sessions.{ToldAll}
 use Rattle.front.specs.Replays.{ReplayedAll}
 use Rattle.clap.specs.Words.{Text}
 use Rattle.storm.specs.Sizes.{IsStorm}
-use Rattle.storm.specs.declared.limits.Limits.{Limits}
+use Rattle.storm.specs.declared.limits.StormSize.{StormSize}
 use Rattle.gist.specs.Storms.{TellsStorm}
 use Rattle.gist.specs.CommandLine.{texts_of, AreWellFormed, GivesSettings, NameNothing}
 use Rattle.gist.specs.declared.options.Class.{Class}
 use Rattle.gist.specs.declared.options.Class.TheVariants as classes
 use Rattle.gist.specs.declared.options.StoreOptions.{StoreOptions}
-use Rattle.gist.specs.declared.options.Ending.{Ending}
-use Rattle.gist.specs.declared.options.Ending.TheVariants as ending
+use Rattle.gist.specs.declared.options.ExitStatus.{ExitStatus}
+use Rattle.gist.specs.declared.options.ExitStatus.TheVariants as exit_status
 use Rattle.gist.specs.declared.options.Settings.{Settings}
 use Rattle.gist.specs.declared.options.Settings.TheVariants as settings
 
@@ -71,7 +71,7 @@ abbrev pub Replays : StoreOptions → Exchange → Type 0
 Replays options io = IsWithinLimits (limits_of options) × AnswersEvents options.class (limits_of options) io
 
 -- nothing was read, and a storm passed
-abbrev pub PassesStorm : Limits → Exchange → Type 0
+abbrev pub PassesStorm : StormSize → Exchange → Type 0
 PassesStorm limits io = (io.has_left ≡ io.had_left) × TellsStorm io.had io.has limits
 
 -- what the settings ask for was done
@@ -85,8 +85,8 @@ abbrev pub DoesAsked : List (Bor Text) → Exchange → Type 0
 DoesAsked words io = (settings : Settings) × GivesSettings (texts_of words) settings × Does settings io
 
 -- if a command ended well, this holds
-abbrev pub IfWell : Result Ending Fault → Type 0 → Type 0
-IfWell returned P = returned ≡ Ok ending.Well → P
+abbrev pub IfWell : Result ExitStatus Fault → Type 0 → Type 0
+IfWell returned P = returned ≡ Ok exit_status.Well → P
 
 -- a number of the options is out of range
 abbrev pub HaveBadLimits : StoreOptions → Type 0

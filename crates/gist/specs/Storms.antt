@@ -6,7 +6,7 @@ use Rattle.storm.specs.Outcomes.{IsTrueOutcome, IsWholeStorm}
 use Rattle.storm.specs.Sizes.{IsStorm}
 use Rattle.storm.specs.declared.judge.Verdict.{Verdict}
 use Rattle.storm.specs.declared.judge.Verdict.TheVariants as verdict
-use Rattle.storm.specs.declared.limits.Limits.{Limits}
+use Rattle.storm.specs.declared.limits.StormSize.{StormSize}
 use Rattle.storm.specs.declared.outcome.Outcome.{Outcome}
 use Rattle.gist.specs.declared.options.Role.{Role}
 use Rattle.gist.specs.declared.options.Role.TheVariants as role
@@ -50,7 +50,7 @@ storm_text o =
 
 -- A storm passed: all rows were written, each reader, each looker and each subscriber is whole as the commits tell, and that
 -- was written.
-pub record TellsStorm (held written : Option (List ℕ)) (limits : Limits) : Type 0 where
+pub record TellsStorm (held written : Option (List ℕ)) (limits : StormSize) : Type 0 where
   pub outcome : Outcome
   pub within : IsStorm limits
   pub true_outcome : IsTrueOutcome outcome

@@ -1,4 +1,4 @@
-use storm::Limits;
+use storm::StormSize;
 
 /// The class of a store's keys.
 #[derive(Clone, Copy, Debug, PartialEq, Eq)]
@@ -26,7 +26,7 @@ pub enum Settings {
     /// Carry out the lines of standard input as events.
     Replay(StoreOptions),
     /// Run a storm: many clients at one desk at once.
-    Storm(Limits),
+    Storm(StormSize),
 }
 
 /// The kind of a storm's client that is judged in the end.
@@ -42,7 +42,7 @@ pub enum Role {
 
 /// How a command ended.
 #[derive(Clone, Copy, Debug, PartialEq, Eq)]
-pub enum Ending {
+pub enum ExitStatus {
     Well,
     /// Rows of a storm were refused, or a reader, a looker or a subscriber isn't whole.
     StormFailed,

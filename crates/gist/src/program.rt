@@ -10,7 +10,7 @@ ghost use Rattle.gist.specs.Storms.{TellsStorm, Outputs, client_line, client_lin
 ghost use Rattle.gist.specs.CommandLine.{texts_of, AreWellFormed, NameNothing, AreRefused, AsksForText, IsOfWords, WantText};
 ghost use Rattle.gist.specs.Served.{limits_of, AnsweredOver, EventsAnsweredOver, ServesOptions, Replays, Does, DoesAsked, IfWell, HaveBadLimits, AreOutOfLimits, RefusesLimits, NameBadLimits, AreUnfit};
 
-use crate::options::{Class, Ending, Role, Settings, StoreOptions};
+use crate::options::{Class, ExitStatus, Role, Settings, StoreOptions};
 use crate::words::settings;
 use arrayvec::ArrayVec;
 use box_class::Boxes;
@@ -33,7 +33,7 @@ use std::sync::Wait;
 use std::sync::ledger::Blank;
 use std::thread::Threads;
 use store::Store;
-use storm::{Limits, Outcome, Verdict, run_storm};
+use storm::{Outcome, StormSize, Verdict, run_storm};
 use world::World;
 
 /// The options' limits of a page's entries, and the greatest numbers of pages and commits.
@@ -213,9 +213,9 @@ fn tell_storm<W: Write>(writer: &mut W, outcome: &Outcome) -> io::Result<()>
 fn storm<W: Write, T: Threads + Wait + Clock + Sync>(
     rt: &T,
     alloc: Global,
-    limits: Limits,
+    limits: StormSize,
     writer: &mut W,
-) -> Result<Ending, Fault>
+) -> Result<ExitStatus, Fault>
     ensures ok { IfWell result (TellsStorm (W.contents writer.old) (W.contents writer.new) limits) }
     ensures bad { RefusesLimits result ↔ (¬ IsStorm limits) }
     ensures unwritten { ¬ IsStorm limits → writer.new ≡ writer.old }
@@ -231,9 +231,9 @@ fn storm<W: Write, T: Threads + Wait + Clock + Sync>(
         return Err(Fault::Write);
     };
     if outcome.is_whole(limits) {
-        Ok(Ending::Well)
+        Ok(ExitStatus::Well)
     } else {
-        Ok(Ending::StormFailed)
+        Ok(ExitStatus::StormFailed)
     }
 }
 
@@ -244,7 +244,7 @@ fn run<T: Threads + Wait + Clock + Sync, R: Read, W: Write>(
     settings: Settings,
     reader: &mut R,
     writer: &mut W,
-) -> Result<Ending, Fault>
+) -> Result<ExitStatus, Fault>
     ensures ok { IfWell result (Does settings
         (exchange R.remaining reader.old reader.new W.contents writer.old writer.new)) }
     ensures bad { RefusesLimits result ↔ AreOutOfLimits settings }
@@ -255,7 +255,7 @@ fn run<T: Threads + Wait + Clock + Sync, R: Read, W: Write>(
         Settings::Replay(options) => replay(alloc, options, reader, writer)?,
         Settings::Storm(limits) => return storm(rt, alloc, limits, writer),
     }
-    Ok(Ending::Well)
+    Ok(ExitStatus::Well)
 }
 
 /// Writes why there are no settings, or the help or version that was asked for, and gives the status.
@@ -314,8 +314,8 @@ pub fn command<T: Threads + Wait + Clock + Sync, R: Read, W: Write, E: Write>(
         Err(error) => return show(&error, writer, errors),
     };
     match run(rt, alloc, settings, reader, writer) {
-        Ok(Ending::Well) => 0,
-        Ok(Ending::StormFailed) => {
+        Ok(ExitStatus::Well) => 0,
+        Ok(ExitStatus::StormFailed) => {
             let _ = writeln!(errors, "gist: storm failed");
             1
         }

@@ -12,7 +12,7 @@ use crate::help::{
 use crate::options::{Class, Settings, StoreOptions};
 use clap::{Arg, ArgMatches, Command, Error, value_parser};
 use std::alloc::{AllocError, Global};
-use storm::Limits;
+use storm::StormSize;
 
 /// The names of the classes on the command line.
 static CLASSES: [&str; 3] = ["interval", "box", "set"];
@@ -28,7 +28,7 @@ const DEFAULT_FAN: u32 = 8;
 const DEFAULT_LEAST: u32 = 3;
 
 /// The size of a storm, if no option changes it.
-const DEFAULT_STORM: Limits = Limits {
+const DEFAULT_STORM: StormSize = StormSize {
     writers: 4,
     inserts: 250,
     deletes: 0,
@@ -144,11 +144,11 @@ fn store_options(options: &ArgMatches<'_>) -> StoreOptions
 }
 
 /// The options of a storm, each with its default.
-fn storm_limits(options: &ArgMatches<'_>) -> Limits
+fn storm_limits(options: &ArgMatches<'_>) -> StormSize
     ensures { LimitsRead (rows_of (found_of options.now)) result }
 {
     let usual = DEFAULT_STORM;
-    Limits {
+    StormSize {
         writers: options.get_one::<u32>("writers").unwrap_or(usual.writers),
         inserts: options.get_one::<u32>("inserts").unwrap_or(usual.inserts),
         deletes: options.get_one::<u32>("deletes").unwrap_or(usual.deletes),

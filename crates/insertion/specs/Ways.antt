@@ -2,8 +2,8 @@
 use Rattle.std.specs.Prelude.{◌≡◌, ℕ}
 use Rattle.key_class.specs.Rules.{Rules}
 use Rattle.descent.specs.NextSteps.{IsNextStep}
-use Rattle.descent.specs.declared.step.Step.{Step}
-use Rattle.descent.specs.declared.step.Step.TheVariants as step
+use Rattle.descent.specs.declared.step.WayStep.{WayStep}
+use Rattle.descent.specs.declared.step.WayStep.TheVariants as step
 use Rattle.world.specs.Stamps.{Stamp}
 use Rattle.world.specs.States.{State}
 use Rattle.world.specs.Steps.{Places}
@@ -14,7 +14,7 @@ use Rattle.insertion.specs.Visits.{ResumesAt}
 module _ (C : Type 0) {K A : Type 0} (rules : Rules K A) (key : K) where
   -- The step was made from here, and the way goes on at the next page: at the child, at the root that grew, or, after
   -- a posting or a split, at the page where it was.
-  abbrev pub TakesStep : State K A → ℕ → Step → State K A → ℕ → Type 0
+  abbrev pub TakesStep : State K A → ℕ → WayStep → State K A → ℕ → Type 0
   TakesStep old here (step.Down child) new next = (next ≡ child) × (new ≡ old)
   TakesStep old here (step.Enlarge parent child) new next = (next ≡ child) × Moves {C = C} rules.union_of old (event.Enlarge parent child key) new
   TakesStep old here (step.Grow sides) new next = (next ≡ 0) × Moves {C = C} rules.union_of old (event.Grow sides) new
@@ -24,7 +24,7 @@ module _ (C : Type 0) {K A : Type 0} (rules : Rules K A) (key : K) where
 
   -- the way goes on from here by the next step
   pub record AdvancesTo (old : State K A) (here : ℕ) (new : State K A) (next : ℕ) : Type 0 where
-    pub taken : Step
+    pub taken : WayStep
     pub comes_next : IsNextStep rules old.search here key taken
     pub takes : TakesStep old here taken new next
 

@@ -28,7 +28,7 @@ pub enum Approach {
 
 /// What to do next on a way.
 #[derive(Drop)]
-enum Next<C: KeyClass> {
+enum NextAction<C: KeyClass> {
     /// Make the event; then the way goes on at this page.
     Make(Event<C>, u32),
     /// Split this page.
@@ -78,7 +78,7 @@ fn next_on_way<C: KeyClass>(
     search: &SearchTree<C>,
     page: u32,
     key: C::Key,
-) -> Result<Next<C>, Refusal>
+) -> Result<NextAction<C>, Refusal>
     requires exists { page < length search.now.tree.pages }
     requires covers { CoversKey C.rules.is_cover search.now page key }
     requires room { page ≢ 0 → HasRoom search.now page }
@@ -91,18 +91,18 @@ fn next_on_way<C: KeyClass>(
             Plan::Down(child) => here = child,
             Plan::Grow => {
                 let sides = sides_of(alloc, search, 0)?;
-                return Ok(Next::Make(Event::Grow(sides), 0));
+                return Ok(NextAction::Make(Event::Grow(sides), 0));
             }
             Plan::Post(parent, child) => {
                 let posted = Event::Post(u64::from(parent), u64::from(child));
-                return Ok(Next::Make(posted, 0));
+                return Ok(NextAction::Make(posted, 0));
             }
-            Plan::Split(child) => return Ok(Next::Split(child)),
+            Plan::Split(child) => return Ok(NextAction::Split(child)),
             Plan::Enlarge(parent, child) => {
                 let wider = Event::Enlarge(u64::from(parent), u64::from(child), key);
-                return Ok(Next::Make(wider, child));
+                return Ok(NextAction::Make(wider, child));
             }
-            Plan::Place(leaf) => return Ok(Next::At(leaf)),
+            Plan::Place(leaf) => return Ok(NextAction::At(leaf)),
         }
     }
 }
@@ -122,7 +122,7 @@ pub fn approach_leaf<C: KeyClass, O: Outlet<C::Key>>(
 ) -> Result<Approach, Refusal>
     ensures nears { IfOk result (λ way. Nears C C.rules world.old page key way world.new) }
     ensures commits { world.new.commits ≡ world.old.commits }
-    ensures one_event { IsOneEvent C O O.End C.rules O.rule seat world.old world.new }
+    ensures one_event { IsOneEvent C O O.Consumer C.rules O.rule seat world.old world.new }
     ensures sound { IsSoundWorld C.rules.is_cover world.new }
     ensures mailboxes { KeepsMailboxes C.rules O.rule world.old world.new }
     ensures unchanged { OnErr result (world.new ≡ world.old) }
@@ -131,9 +131,9 @@ pub fn approach_leaf<C: KeyClass, O: Outlet<C::Key>>(
     world.recall_soundness();
     let here = resumed(world, page, key);
     match next_on_way(alloc, world.search(), here, key)? {
-        Next::Split(child) => return Ok(Approach::Split(child)),
-        Next::At(leaf) => return Ok(Approach::At(leaf)),
-        Next::Make(event, then) => {
+        NextAction::Split(child) => return Ok(Approach::Split(child)),
+        NextAction::At(leaf) => return Ok(Approach::At(leaf)),
+        NextAction::Make(event, then) => {
             move_pages(world, seat, event)?;
             return Ok(Approach::On(then));
         }

@@ -36,7 +36,7 @@ fn make<C: KeyClass, O: Outlet<C::Key>>(
     event: Event<C>,
 ) -> Result<(), Refusal>
     requires pages { IsOfPages event }
-    ensures makes { Makes C O O.End C.rules O.rule seat world.old event world.new }
+    ensures makes { Makes C O O.Consumer C.rules O.rule seat world.old event world.new }
     ensures moves { OnOk result (MovesUnlessBarred C.rules O.rule world.old event world.new) }
     ensures commits { world.new.commits ≡ world.old.commits }
     ensures sound { IsSoundWorld C.rules.is_cover world.new }
@@ -60,7 +60,8 @@ pub fn split_prepared<C: KeyClass, O: Outlet<C::Key>>(
     seat: u32,
     task: SplitTask<C>,
 ) -> Result<bool, Refusal>
-    ensures splits { TellsInTime C O O.End C.rules O.rule seat world.old task result world.new }
+    ensures splits { TellsInTime C O O.Consumer C.rules O.rule
+        seat world.old task result world.new }
     ensures made { IfOk result (λ in_time.
         IsTrue in_time → SplitsBySides C C.rules O.rule world.old task world.new) }
     ensures commits { world.new.commits ≡ world.old.commits }
@@ -99,7 +100,7 @@ pub fn split_at_once<C: KeyClass, O: Outlet<C::Key>>(
     seat: u32,
     page: u32,
 ) -> Result<(), Refusal>
-    ensures splits { SplitsAtMost C O O.End C.rules O.rule seat world.old page world.new }
+    ensures splits { SplitsAtMost C O O.Consumer C.rules O.rule seat world.old page world.new }
     ensures made { OnOk result (SplitsIfAny C C.rules O.rule world.old page world.new) }
     ensures commits { world.new.commits ≡ world.old.commits }
     ensures sound { IsSoundWorld C.rules.is_cover world.new }

@@ -7,7 +7,7 @@ ghost use Rattle.insertion.specs.Ways.{HasCome, PlacesByWay};
 
 use crate::approach::resumed;
 use crate::page_steps::{move_pages, place};
-use descent::{Step, next_step};
+use descent::{WayStep, next_step};
 use key_class::{KeyClass, Refusal};
 use mailbox::Outlet;
 use std::alloc::Global;
@@ -66,25 +66,25 @@ pub fn make_way<C: KeyClass, O: Outlet<C::Key>>(
     let mut page = 0;
     'descending: loop {
         match next_step(alloc, world.search(), page, key)? {
-            Step::Grow(sides) => {
+            WayStep::Grow(sides) => {
                 move_pages(world, 0, Event::Grow(sides))?;
                 page = 0;
             }
-            Step::Post(parent, child) => {
+            WayStep::Post(parent, child) => {
                 move_pages(world, 0, Event::Post(u64::from(parent), u64::from(child)))?;
                 page = resumed(world, page, key);
             }
-            Step::Split(child, sides) => {
+            WayStep::Split(child, sides) => {
                 move_pages(world, 0, Event::Split(u64::from(child), sides))?;
                 page = resumed(world, page, key);
             }
-            Step::Enlarge(parent, child) => {
+            WayStep::Enlarge(parent, child) => {
                 let wider = Event::Enlarge(u64::from(parent), u64::from(child), key);
                 move_pages(world, 0, wider)?;
                 page = child;
             }
-            Step::Down(child) => page = child,
-            Step::Place(leaf) => return Ok(leaf),
+            WayStep::Down(child) => page = child,
+            WayStep::Place(leaf) => return Ok(leaf),
         }
     }
 }

@@ -18,8 +18,8 @@ pub enum Taken<K> {
 
 /// Where the items of a cursor go.
 pub trait Outlet<K>: Drop {
-    /// What the consumer gets.
-    type End: Drop;
+    /// The other end of an outlet, which the consumer gets.
+    type Consumer: Drop;
 
     /// How many items it has room for.
     ghost room_of: { Self → ℕ };
@@ -30,17 +30,17 @@ pub trait Outlet<K>: Drop {
     /// When an offer may be taken or handed back, and where the outlet is emptied.
     ghost rule: { Rule };
 
-    /// Whether an end is the other end of an outlet.
-    ghost is_end_of: { Self.End → Self → Type 0 };
+    /// Whether a consumer is the other end of an outlet.
+    ghost is_end_of: { Self.Consumer → Self → Type 0 };
 
-    /// Whether nothing has been taken from an end yet.
-    ghost fresh: { Self.End → Type 0 };
+    /// Whether a consumer has taken nothing yet.
+    ghost fresh: { Self.Consumer → Type 0 };
 
     /// An empty outlet with room for so many items, and its other end.
     ///
     /// # Errors
     /// Memory ran out.
-    fn make(alloc: Global, room: u32) -> Result<(Self, Self::End), AllocError>
+    fn make(alloc: Global, room: u32) -> Result<(Self, Self::Consumer), AllocError>
         ensures room { IfOk result (λ made. room_of made.0 ≡ room) }
         ensures empty { IfOk result (λ made. unread made.0 ≡ []) }
         ensures end { IfOk result (λ made. is_end_of made.1 made.0) }
@@ -54,13 +54,13 @@ pub trait Outlet<K>: Drop {
         ensures unchanged { OnErr result (unread self.new ≡ unread self.old) }
         ensures may_refuse { OnErr result (MayRefuse rule (room_of self.old) (unread self.old)) }
         ensures room { room_of self.new ≡ room_of self.old }
-        ensures end { (end : Self.End) → is_end_of end self.old → is_end_of end self.new };
+        ensures end { (end : Self.Consumer) → is_end_of end self.old → is_end_of end self.new };
 
     /// Takes the item at the front.
     fn take(&mut self) -> Taken<K>
         ensures takes { Takes rule.is_emptied_elsewhere (unread self.old) result (unread self.new) }
         ensures room { room_of self.new ≡ room_of self.old }
-        ensures end { (end : Self.End) → is_end_of end self.old → is_end_of end self.new };
+        ensures end { (end : Self.Consumer) → is_end_of end self.old → is_end_of end self.new };
 
     /// Whether outlets of this kind are emptied elsewhere, by a consumer.
     fn is_emptied_elsewhere() -> bool

@@ -28,7 +28,7 @@ impl<K: Copy> Outlet<K> for Ring<K> {
     ghost use Rattle.rtrb.specs.Ring.{received};
     ghost use Rattle.mailbox.specs.Rings.{places, items_sent, ring_rule, IsOtherEnd};
 
-    type End = Consumer<Item<K>>;
+    type Consumer = Consumer<Item<K>>;
 
     ghost room_of = { λ ring. places ring };
 

@@ -27,7 +27,7 @@ impl<K> Model for Tray<K> {
 }
 
 impl<K: Copy> Outlet<K> for Tray<K> {
-    type End = ();
+    type Consumer = ();
 
     ghost room_of = { λ tray. tray.room };
 

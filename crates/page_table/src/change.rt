@@ -99,13 +99,13 @@ impl<K: Columned> PageChange<Page<K>, Page<K>> for Posting {
 
 /// Marks a row of the upper page as ended by a commit, and appends another row to the lower page.
 #[derive(Drop)]
-pub(crate) struct Moving<K> {
+pub(crate) struct MoveRow<K> {
     pub(crate) row: u32,
     pub(crate) commit: u32,
     pub(crate) entry: Entry<K>,
 }
 
-impl<K: Columned> PageChange<Page<K>, ()> for Moving<K> {
+impl<K: Columned> PageChange<Page<K>, ()> for MoveRow<K> {
     ghost may = { λ change. 0 < change.commit };
 
     ghost upper_after = { λ change upper lower beside. with_dead upper change.row change.commit };
@@ -128,18 +128,18 @@ impl<K: Columned> PageChange<Page<K>, ()> for Moving<K> {
 
 /// Applies a change of three pages to them in another order: the second, the third, then the first.
 #[derive(Drop)]
-pub(crate) struct Turned<'a, C> {
+pub(crate) struct Rotated<'a, C> {
     pub(crate) change: &'a C,
 }
 
-impl<'a, P, C: PageChange<P, P>> PageChange<P, P> for Turned<'a, C> {
-    ghost may = { λ turned. C.may turned.change.now };
+impl<'a, P, C: PageChange<P, P>> PageChange<P, P> for Rotated<'a, C> {
+    ghost may = { λ rotated. C.may rotated.change.now };
 
-    ghost upper_after = { λ turned upper lower beside. C.beside_after turned.change.now lower beside upper };
+    ghost upper_after = { λ rotated upper lower beside. C.beside_after rotated.change.now lower beside upper };
 
-    ghost lower_after = { λ turned upper lower beside. C.upper_after turned.change.now lower beside upper };
+    ghost lower_after = { λ rotated upper lower beside. C.upper_after rotated.change.now lower beside upper };
 
-    ghost beside_after = { λ turned upper lower beside. C.lower_after turned.change.now lower beside upper };
+    ghost beside_after = { λ rotated upper lower beside. C.lower_after rotated.change.now lower beside upper };
 
     fn change(
         &self,

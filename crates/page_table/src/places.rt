@@ -8,7 +8,7 @@ ghost use Rattle.page_table.specs.contracts.shared.Shared.{the_row as shared_row
 ghost use Rattle.page_table.specs.Chunks.{ArePlaces, Becomes, IsPage, alone, both_changed, joined, put_in, three_changed};
 ghost use Rattle.page_table.specs.PlaceLaws.{page_put, page_stays};
 
-use crate::change::{PageChange, Reversed, Turned};
+use crate::change::{PageChange, Reversed, Rotated};
 use crate::chunk::Chunk;
 use crate::shared::{Copied, Shared};
 use key_class::Columned;
@@ -330,7 +330,7 @@ pub(crate) fn change_all<P: PageLike, T: Places<P>, C: PageChange<P, P>, const S
             in_beside,
             in_upper,
             in_lower,
-            &Turned { change },
+            &Rotated { change },
         );
     }
     if below == last {

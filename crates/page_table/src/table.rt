@@ -9,7 +9,7 @@ ghost use Rattle.node.specs.Changes.{risen, split_left, with_row};
 ghost use Rattle.page_table.specs.LeafChanges.{after_place, after_sweep, CountsUnneeded, after_bury, after_move, with_dead};
 ghost use Rattle.page_table.specs.PageChanges.{with_rise, with_posting, with_wider, with_part};
 
-use crate::change::{Moving, Posting, Widening};
+use crate::change::{MoveRow, Posting, Widening};
 use crate::places::{Places, Single};
 use crate::shared::Shared;
 use crate::shared_page::SharedPage;
@@ -404,7 +404,7 @@ impl<K: Columned> PageTable<K> {
             &mut self.chunks,
             from as usize,
             to as usize,
-            &Moving { row, commit, entry },
+            &MoveRow { row, commit, entry },
         )
     }
 

@@ -3,7 +3,7 @@ ghost use Rattle.std.specs.Prelude.{◌≡◌, ◌≢◌, ◌+◌, length, All, 
 ghost use Rattle.page_table.specs.Trees.{no_page};
 ghost use Rattle.page_table.specs.Chunks.{ArePlaces, Becomes, HasFiller, HasPlaces, IsFull1024, PutsNext, StaysTo, both_changed, joined, pages_of_1024, three_changed};
 
-use crate::change::{PageChange, Reversed, Turned};
+use crate::change::{PageChange, Reversed, Rotated};
 use crate::chunk::Chunk;
 use crate::places::{Places, Single, change_all, change_both};
 use crate::shared::Shared;
@@ -78,8 +78,8 @@ pub(crate) fn change_three<K: Columned, C: PageChange<Page<K>, Page<K>>>(
     if upper <= beside && lower <= beside {
         change_all::<Page<K>, Top<K>, C, TOP>(places, upper, lower, beside, change)
     } else if upper <= lower {
-        let change = Turned { change };
-        change_all::<Page<K>, Top<K>, Turned<C>, TOP>(places, beside, upper, lower, &change)
+        let change = Rotated { change };
+        change_all::<Page<K>, Top<K>, Rotated<C>, TOP>(places, beside, upper, lower, &change)
     } else {
         let change = Reversed { change };
         change_all::<Page<K>, Top<K>, Reversed<C>, TOP>(places, beside, lower, upper, &change)

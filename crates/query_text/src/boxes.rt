@@ -5,7 +5,7 @@ ghost use Rattle.query_text.specs.KeyLengths.{box_leaves_fewer};
 
 use crate::class::ClassText;
 use crate::lexeme::Lexeme;
-use crate::line::Line;
+use crate::line::PrintBuffer;
 use crate::reader::{close_bracket, open_bracket, signed_32};
 use box_class::{Atom, BoxKey, Boxes};
 use key_class::Rel;
@@ -22,7 +22,7 @@ fn point<'a>(text: &[u8], lexemes: &'a [Lexeme]) -> Result<((i32, i32), &'a [Lex
 }
 
 /// Puts the numbers of a point into a line.
-fn put_point(line: &mut Line, x: i32, y: i32)
+fn put_point(line: &mut PrintBuffer, x: i32, y: i32)
     requires room { length line.old + 41 ≤ 4096 }
     ensures numbers { line.new ≡ point_text x y ++ line.old }
     ensures short { length line.new ≤ length line.old + 41 }
@@ -48,7 +48,7 @@ impl ClassText for Boxes {
     }
 
     #[inline]
-    fn put_text(key: BoxKey, line: &mut Line) {
+    fn put_text(key: BoxKey, line: &mut PrintBuffer) {
         line.put_byte(b')');
         put_point(line, key.x2, key.y2);
         line.put_byte(b' ');

@@ -6,7 +6,7 @@ ghost use Rattle.query_text.specs.ClassTexts.{Texts};
 ghost use Rattle.query_text.specs.Printing.{begins_apart};
 
 use crate::lexeme::Lexeme;
-use crate::line::Line;
+use crate::line::PrintBuffer;
 use key_class::{KeyClass, Rel};
 
 /// A class of keys that have texts.
@@ -24,7 +24,7 @@ pub trait ClassText: KeyClass {
         ensures shorter { IfOk result (λ r. length r.1.now < length lexemes.now) };
 
     /// Puts the key's text into a line, in front of what is there. No key's text has more than 403 bytes.
-    fn put_text(key: Self::Key, line: &mut Line)
+    fn put_text(key: Self::Key, line: &mut PrintBuffer)
         requires room { length line.old ≤ 3600 }
         ensures text { line.new ≡ texts.key_text key ++ line.old }
         ensures short { length line.new ≤ length line.old + 403 }

@@ -4,7 +4,7 @@ ghost use Rattle.query_text.specs.KeyLengths.{interval_leaves_fewer};
 
 use crate::class::ClassText;
 use crate::lexeme::Lexeme;
-use crate::line::Line;
+use crate::line::PrintBuffer;
 use crate::reader::{close_bracket, open_bracket, signed};
 use interval_class::{Atom, Interval, Intervals};
 use key_class::Rel;
@@ -25,7 +25,7 @@ impl ClassText for Intervals {
     }
 
     #[inline]
-    fn put_text(key: Interval, line: &mut Line) {
+    fn put_text(key: Interval, line: &mut PrintBuffer) {
         line.put_byte(b')');
         line.put_signed(key.hi);
         line.put_byte(b' ');

@@ -17,7 +17,7 @@ mod text;
 
 pub use class::ClassText;
 pub use lexeme::{Kind, Lexeme};
-pub use line::{LINE, Line};
+pub use line::{LINE, PrintBuffer};
 pub use parser::{one_meaning_for_text, one_meaning_for_tokens, parse, parse_tokens};
 pub use printer::print;
 pub use reader::first_of;

@@ -10,12 +10,12 @@ pub const LINE: usize = 4_096;
 
 /// The bytes of one or more lines, or of their end. What is put in comes in front of what is there.
 #[derive(Drop)]
-pub struct Line {
+pub struct PrintBuffer {
     bytes: [u8; LINE],
     start: usize,
 }
 
-impl Model for Line {
+impl Model for PrintBuffer {
     ghost use Rattle.std.specs.Prelude.{ℕ, ◌≤◌, List, drop};
 
     ghost Value = { List ℕ };
@@ -25,12 +25,12 @@ impl Model for Line {
     ghost invariant = { λ l. l.start ≤ 4096 };
 }
 
-impl Line {
-    /// A line with no bytes.
-    pub fn new() -> Line
+impl PrintBuffer {
+    /// A buffer with no bytes.
+    pub fn new() -> PrintBuffer
         ensures { result ≡ [] }
     {
-        Line {
+        PrintBuffer {
             bytes: [0; LINE],
             start: LINE,
         }

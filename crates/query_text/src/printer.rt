@@ -6,7 +6,7 @@ ghost use Rattle.query_text.specs.Printing.{is_or, is_and_or_or, text_of, EachAt
 ghost use Rattle.query_text.specs.ClassTexts.{AtomReadsBack};
 
 use crate::class::ClassText;
-use crate::line::Line;
+use crate::line::PrintBuffer;
 use key_class::{Pred, Refusal, Rel};
 use std::alloc::Global;
 use std::io::{self, Write};
@@ -45,7 +45,7 @@ fn write_atom<C: ClassText, W: Write>(atom: &C::Atom, writer: &mut W) -> io::Res
     ensures read_back { OnOk result (AtomReadsBack C.texts atom.now) }
 {
     let (rel, operand) = C::parts(atom);
-    let mut text = Line::new();
+    let mut text = PrintBuffer::new();
     C::put_text(operand, &mut text);
     writer.write_all(word_of(rel).as_bytes())?;
     writer.write_all(text.as_slice())

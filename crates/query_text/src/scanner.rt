@@ -8,7 +8,7 @@ use std::alloc::AllocError;
 
 /// What a text begins with.
 #[derive(Clone, Copy, Debug)]
-pub enum Front {
+pub enum Leading {
     Nothing,
     Space,
     NoToken,
@@ -58,30 +58,30 @@ fn starts_with_digit(bytes: &[u8]) -> bool
     }
 }
 
-fn front_of(bytes: &[u8]) -> Front
+fn front_of(bytes: &[u8]) -> Leading
     ensures is { beginning bytes.now ≡ seen_first bytes.now result }
     ensures fits { FitsIn result bytes.now }
 {
     let [first, rest @ ..] = bytes else {
-        return Front::Nothing;
+        return Leading::Nothing;
     };
     // Most bytes of a line are spaces, digits and letters, so these are tested first.
     if *first == b' ' {
-        return Front::Space;
+        return Leading::Space;
     }
     if matches!(*first, b'0'..=b'9') {
-        return Front::Found(Kind::Number, digits(rest) + 1);
+        return Leading::Found(Kind::Number, digits(rest) + 1);
     }
     if matches!(*first, b'a'..=b'z') {
-        return Front::Found(Kind::Word, letters(rest) + 1);
+        return Leading::Found(Kind::Word, letters(rest) + 1);
     }
     match *first {
-        b'(' => Front::Found(Kind::OpenBracket, 1),
-        b')' => Front::Found(Kind::CloseBracket, 1),
-        b'{' => Front::Found(Kind::OpenBrace, 1),
-        b'}' => Front::Found(Kind::CloseBrace, 1),
-        b'-' if starts_with_digit(rest) => Front::Found(Kind::Number, digits(rest) + 1),
-        _ => Front::NoToken,
+        b'(' => Leading::Found(Kind::OpenBracket, 1),
+        b')' => Leading::Found(Kind::CloseBracket, 1),
+        b'{' => Leading::Found(Kind::OpenBrace, 1),
+        b'}' => Leading::Found(Kind::CloseBrace, 1),
+        b'-' if starts_with_digit(rest) => Leading::Found(Kind::Number, digits(rest) + 1),
+        _ => Leading::NoToken,
     }
 }
 
@@ -139,16 +139,16 @@ fn cut(text: &[u8], lexemes: &mut Vec<Lexeme>)
             }
         } else {
             match front_of(rest) {
-                Front::Nothing => return,
-                Front::Space => {
+                Leading::Nothing => return,
+                Leading::Space => {
                     place += 1;
                     glued = false;
                 }
-                Front::NoToken => {
+                Leading::NoToken => {
                     lexemes.push_reserved(fault_at(place));
                     return;
                 }
-                Front::Found(kind, len) => {
+                Leading::Found(kind, len) => {
                     if lacks_space(glued, kind) {
                         lexemes.push_reserved(fault_at(place));
                         return;

@@ -8,7 +8,7 @@ ghost use Rattle.query_text.specs.KeyLengths.{set_leaves_fewer};
 
 use crate::class::ClassText;
 use crate::lexeme::{Kind, Lexeme};
-use crate::line::Line;
+use crate::line::PrintBuffer;
 use crate::numbers::short_number;
 use crate::reader::{first_of, open_brace};
 use key_class::Rel;
@@ -66,7 +66,7 @@ fn greatest(mask: u128) -> u8
 }
 
 /// Puts an element into a line, with a space in front unless it is the first of its set.
-fn put_element(line: &mut Line, element: u8, is_first: bool)
+fn put_element(line: &mut PrintBuffer, element: u8, is_first: bool)
     requires room { length line.old ≤ 4002 }
     ensures { line.new ≡ element_text element is_first ++ line.old }
 {
@@ -77,7 +77,7 @@ fn put_element(line: &mut Line, element: u8, is_first: bool)
 }
 
 /// Puts the elements of a mask into a line, the greatest first, so that they end up in rising order.
-fn put_elements(line: &mut Line, mask: u128)
+fn put_elements(line: &mut PrintBuffer, mask: u128)
     requires room { length line.old ≤ 3601 }
     ensures { line.new ≡ spaced (elements_below 128 mask) ++ line.old }
 {
@@ -98,7 +98,7 @@ impl ClassText for Sets {
         elements(text, rest)
     }
 
-    fn put_text(key: Elements, line: &mut Line) {
+    fn put_text(key: Elements, line: &mut PrintBuffer) {
         line.put_byte(b'}');
         put_elements(line, key.mask);
         line.put_byte(b'{');

@@ -98,9 +98,9 @@ impl<'f, C: Reach, L: Ledger + Naming> Subscriber<'f, C, L> {
         match self.items.pop() {
             Ok(item) => {
                 self.position = commit_of(item);
-                return Some(item);
+                Some(item)
             }
-            Err(_) => return None,
+            Err(_) => None,
         }
     }
 

@@ -17,7 +17,7 @@ use Rattle.storm.specs.Looking.{TellsSights}
 use Rattle.storm.specs.declared.hearings.Hearing.{Hearing}
 use Rattle.storm.specs.declared.judge.Reading.{Reading}
 use Rattle.storm.specs.declared.judge.Verdict.{Verdict}
-use Rattle.storm.specs.declared.limits.Limits.{Limits}
+use Rattle.storm.specs.declared.limits.StormSize.{StormSize}
 use Rattle.storm.specs.declared.looks.Look.{Look}
 use Rattle.storm.specs.declared.outcome.Outcome.{Outcome}
 
@@ -59,7 +59,7 @@ pub record IsTrueOutcome (o : Outcome) : Type 0 where
   pub woven : IsTrue o.is_woven ↔ Woven commits seats
 
 -- all rows were written and deleted, and each of all readers, lookers and subscribers is whole
-pub record IsWholeStorm (limits : Limits) (o : Outcome) : Type 0 where
+pub record IsWholeStorm (limits : StormSize) (o : Outcome) : Type 0 where
   pub woven : IsTrue o.is_woven
   pub commits : o.commits ≡ limits.writers * (limits.inserts + limits.deletes)
   pub readers : length o.readers.items ≡ limits.readers

@@ -1,13 +1,13 @@
 -- How large a storm may be.
 use Rattle.std.specs.Prelude.{ℕ, ◌+◌, ◌≤◌, min}
 use Rattle.key_class.specs.Limits.{most_room, most_seats}
-use Rattle.storm.specs.declared.limits.Limits.{Limits}
+use Rattle.storm.specs.declared.limits.StormSize.{StormSize}
 
 -- how many threads serve the subscribers, each with a seat
-abbrev pub hosts_of : Limits → ℕ
+abbrev pub hosts_of : StormSize → ℕ
 hosts_of s = min s.subscribers 4
 
-pub record IsStorm (s : Limits) : Type 0 where
+pub record IsStorm (s : StormSize) : Type 0 where
   pub some_writer : 1 ≤ s.writers
   pub writers : s.writers ≤ 32
   pub inserts : s.inserts ≤ 1000

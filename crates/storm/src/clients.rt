@@ -5,7 +5,7 @@ ghost use Rattle.storm.specs.Sizes.{IsStorm};
 
 use crate::hearings::{Hearing, asked_by};
 use crate::judge::Reading;
-use crate::limits::Limits;
+use crate::limits::StormSize;
 use crate::looks::Look;
 use change_list::Item;
 use crossbeam_channel::Sender;
@@ -91,7 +91,7 @@ pub struct Place<'s, L: Ledger + Naming> {
 /// What a storm tells its readers, lookers and hosts.
 #[derive(Drop)]
 pub struct Told<'s> {
-    pub limits: Limits,
+    pub limits: StormSize,
     pub orders: &'s Sender<Order>,
     /// The number of commits once all rows are written, `WRITING` before that.
     pub commits: &'s AtomicU64,
@@ -104,7 +104,7 @@ pub struct Told<'s> {
 /// Where clients of a storm work: writers `W`, readers `V`, lookers `X` and hosts `Y`.
 pub trait Clients<W, V, X, Y> {
     /// Inserts rows and deletes the first of them, up to the first refusal.
-    fn write<R: Wait>(&self, rt: &R, limits: Limits, writer: &mut W);
+    fn write<R: Wait>(&self, rt: &R, limits: StormSize, writer: &mut W);
 
     /// How many commits a writer made.
     fn share(&self, writer: &W) -> u64;
@@ -241,7 +241,7 @@ fn close_all<L: Ledger + Naming, R: Wait>(
 
 impl<L: Ledger + Naming> Clients<Seat<Intervals, L>, Reader<L>, Looker<L>, Host<L>>
     for Place<'_, L> {
-    fn write<R: Wait>(&self, rt: &R, limits: Limits, seat: &mut Seat<Intervals, L>) {
+    fn write<R: Wait>(&self, rt: &R, limits: StormSize, seat: &mut Seat<Intervals, L>) {
         let state = u64::from(limits.seed) + u64::from(seat.number());
         let mut generator = Pcg32::new(state, 0);
         for _ in 0..limits.inserts {
@@ -341,7 +341,7 @@ impl<L: Ledger + Naming> Clients<Seat<Intervals, L>, Reader<L>, Looker<L>, Host<
 }
 
 /// Lets all writers write, each in a thread of its own.
-fn write_all<D, W, V, X, Y, R>(rt: &R, desk: &D, limits: Limits, writers: &mut [W])
+fn write_all<D, W, V, X, Y, R>(rt: &R, desk: &D, limits: StormSize, writers: &mut [W])
 where
     D: Clients<W, V, X, Y> + Sync,
     W: Send,
@@ -512,7 +512,7 @@ pub fn work_beside<D, W, V, X, Y, R, P>(
     rt: &R,
     alloc: Global,
     desk: &D,
-    limits: Limits,
+    limits: StormSize,
     writers: &mut [W],
     readers: &mut [V],
     lookers: &mut [X],

@@ -11,6 +11,6 @@ mod outcome;
 
 pub use hearings::{Hearing, subscriber_judged};
 pub use judge::{Reading, Verdict, begins, is_listing, judged};
-pub use limits::Limits;
+pub use limits::StormSize;
 pub use looks::{Look, looker_judged};
 pub use outcome::{Outcome, run_storm};

@@ -9,7 +9,7 @@ pub(crate) const MAX_HOSTS: u32 = 4;
 
 /// How many clients a storm has, and what they do.
 #[derive(Clone, Copy, Debug, PartialEq, Eq)]
-pub struct Limits {
+pub struct StormSize {
     /// How many threads insert and delete: 1 to 32.
     pub writers: u32,
     /// How many rows each of them inserts: 0 to 1,000.
@@ -32,7 +32,7 @@ pub struct Limits {
     pub seed: u32,
 }
 
-impl Limits {
+impl StormSize {
     /// Whether each number is in its range.
     pub fn is_within(&self) -> bool
         ensures { IsTrue result ↔ IsStorm self.now }

@@ -8,7 +8,7 @@ ghost use Rattle.storm.specs.Sizes.{IsStorm, hosts_of};
 use crate::clients::{Host, Looker, Place, Reader, asked, work_beside};
 use crate::hearings::{Hearing, hearing_judged, hearings_from};
 use crate::judge::{Reading, Verdict, are_whole, judged};
-use crate::limits::{Limits, MAX_HOSTS};
+use crate::limits::{MAX_HOSTS, StormSize};
 use crate::looks::{Look, looker_judged};
 use change_list::{ChangeList, Config, Write};
 use crossbeam_channel::bounded;
@@ -71,7 +71,7 @@ pub struct Outcome {
 
 impl Outcome {
     /// Whether all rows of a storm were written and deleted, and each of its readers, lookers and subscribers is whole.
-    pub fn is_whole(&self, limits: Limits) -> bool
+    pub fn is_whole(&self, limits: StormSize) -> bool
         requires { IsStorm limits }
         ensures { IsTrue result ↔ IsWholeStorm limits self.now }
     {
@@ -93,7 +93,7 @@ fn run_all<L, R>(
     desk: &Desk<Intervals, L>,
     feed: &SharedFeed<Intervals, L>,
     pumps: &Pumps<Open>,
-    limits: Limits,
+    limits: StormSize,
     writers: &mut [Seat<Intervals, L>],
     readers: &mut [Reader<L>],
     lookers: &mut [Looker<L>],
@@ -340,7 +340,7 @@ pub fn run_storm<L, R>(
     alloc: Global,
     blank: Blank,
     history: BlankHistory<Write<Interval>>,
-    limits: Limits,
+    limits: StormSize,
 ) -> Result<Outcome, Refusal>
 where
     L: Ledger + Naming + Send + Sync,
@@ -370,7 +370,7 @@ fn storm_within<L, R>(
     alloc: Global,
     blank: Blank,
     history: BlankHistory<Write<Interval>>,
-    limits: Limits,
+    limits: StormSize,
 ) -> Result<Outcome, Refusal>
 where
     L: Ledger + Naming + Send + Sync,

@@ -23,7 +23,8 @@ impl<C: KeyClass, O: Outlet<C::Key>> World<C, O> {
         key: C::Key,
         tag: u64,
     ) -> Result<Stamped<C::Key>, Refusal>
-        ensures { PlacesRow C O O.End C.rules O.rule seat self.old leaf key tag result self.new }
+        ensures { PlacesRow C O O.Consumer C.rules O.rule
+            seat self.old leaf key tag result self.new }
     {
         self.recall_soundness();
         self.place(seat, leaf, key, tag)
@@ -34,7 +35,7 @@ impl<C: KeyClass, O: Outlet<C::Key>> World<C, O> {
     /// # Errors
     /// Those of the event `Find`; nothing is changed then.
     pub fn open_finder(&mut self, row: u64) -> Result<u64, Refusal>
-        ensures { OpensFinder C O O.End C.rules O.rule self.old row result self.new }
+        ensures { OpensFinder C O O.Consumer C.rules O.rule self.old row result self.new }
     {
         self.recall_soundness();
         self.find(row)
@@ -64,7 +65,7 @@ impl<C: KeyClass, O: Outlet<C::Key>> World<C, O> {
         seat: u32,
         finder: u64,
     ) -> Result<Option<Stamped<C::Key>>, Refusal>
-        ensures { DeletesMet C O O.End C.rules O.rule seat self.old finder result self.new }
+        ensures { DeletesMet C O O.Consumer C.rules O.rule seat self.old finder result self.new }
     {
         self.recall_soundness();
         self.seek(seat, finder)
@@ -82,7 +83,8 @@ impl<C: KeyClass, O: Outlet<C::Key>> World<C, O> {
         leaf: u64,
         key: C::Key,
     ) -> Result<Option<Stamped<C::Key>>, Refusal>
-        ensures { MovesMet C O O.End C.rules O.rule seat self.old finder leaf key result self.new }
+        ensures { MovesMet C O O.Consumer C.rules O.rule
+            seat self.old finder leaf key result self.new }
     {
         self.recall_soundness();
         self.move_row(seat, finder, leaf, key)
@@ -93,7 +95,7 @@ impl<C: KeyClass, O: Outlet<C::Key>> World<C, O> {
     /// # Errors
     /// Those of the event `Sweep`; nothing is changed then.
     pub fn sweep_page(&mut self, page: u64) -> Result<u64, Refusal>
-        ensures { SweepsPage C O O.End C.rules O.rule self.old page result self.new }
+        ensures { SweepsPage C O O.Consumer C.rules O.rule self.old page result self.new }
     {
         self.recall_soundness();
         self.sweep(page)
@@ -103,8 +105,13 @@ impl<C: KeyClass, O: Outlet<C::Key>> World<C, O> {
     ///
     /// # Errors
     /// Those of the event `Open`; nothing is changed then.
-    pub fn open_cursor(&mut self, query: Pred<C::Atom>, room: u64) -> Result<(u64, O::End), Refusal>
-        ensures opens { OpensCursor C O O.End C.rules O.rule self.old query room result self.new }
+    pub fn open_cursor(
+        &mut self,
+        query: Pred<C::Atom>,
+        room: u64,
+    ) -> Result<(u64, O::Consumer), Refusal>
+        ensures opens { OpensCursor C O O.Consumer C.rules O.rule
+            self.old query room result self.new }
         ensures fresh { IfOk result (λ made. O.fresh made.1) }
     {
         self.recall_soundness();
@@ -121,8 +128,8 @@ impl<C: KeyClass, O: Outlet<C::Key>> World<C, O> {
         query: Pred<C::Atom>,
         room: u64,
         commit: u64,
-    ) -> Result<(u64, O::End), Refusal>
-        ensures opens { OpensFollower C O O.End C.rules O.rule
+    ) -> Result<(u64, O::Consumer), Refusal>
+        ensures opens { OpensFollower C O O.Consumer C.rules O.rule
             self.old query room commit result self.new }
         ensures fresh { IfOk result (λ made. O.fresh made.1) }
     {
@@ -135,7 +142,7 @@ impl<C: KeyClass, O: Outlet<C::Key>> World<C, O> {
     /// # Errors
     /// Those of the event `Turn`; nothing is changed then.
     pub fn turn_cursor(&mut self, c: u64) -> Result<Turned, Refusal>
-        ensures { TurnsCursor C O O.End C.rules O.rule self.old c result self.new }
+        ensures { TurnsCursor C O O.Consumer C.rules O.rule self.old c result self.new }
     {
         self.recall_soundness();
         self.turn(c)
@@ -146,7 +153,7 @@ impl<C: KeyClass, O: Outlet<C::Key>> World<C, O> {
     /// # Errors
     /// Those of the event `AskMark`; nothing is changed then.
     pub fn ask_cursor(&mut self, c: u64) -> Result<(), Refusal>
-        ensures { AsksCursor C O O.End C.rules O.rule self.old c result self.new }
+        ensures { AsksCursor C O O.Consumer C.rules O.rule self.old c result self.new }
     {
         self.recall_soundness();
         self.ask_mark(c)
@@ -157,7 +164,7 @@ impl<C: KeyClass, O: Outlet<C::Key>> World<C, O> {
     /// # Errors
     /// Those of the event `Take`; nothing is changed then.
     pub fn take_front(&mut self, c: u64) -> Result<Option<Item<C::Key>>, Refusal>
-        ensures { TakesFront C O O.End C.rules O.rule self.old c result self.new }
+        ensures { TakesFront C O O.Consumer C.rules O.rule self.old c result self.new }
     {
         self.recall_soundness();
         self.take(c)
@@ -168,7 +175,7 @@ impl<C: KeyClass, O: Outlet<C::Key>> World<C, O> {
     /// # Errors
     /// Those of the event `Close`; nothing is changed then.
     pub fn close_cursor(&mut self, c: u64) -> Result<(), Refusal>
-        ensures { ClosesCursor C O O.End C.rules O.rule self.old c result self.new }
+        ensures { ClosesCursor C O O.Consumer C.rules O.rule self.old c result self.new }
     {
         self.recall_soundness();
         self.close(c)

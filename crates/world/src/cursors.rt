@@ -33,7 +33,7 @@ fn furnish<C: KeyClass, O: Outlet<C::Key>>(
     alloc: Global,
     query: Pred<C::Atom>,
     room: u32,
-) -> Result<(Arc<Pred<C::Atom>>, O, O::End), Refusal>
+) -> Result<(Arc<Pred<C::Atom>>, O, O::Consumer), Refusal>
     ensures query { IfOk result (λ made. query_of (arc_value made.0) ≡ query_of query) }
     ensures room { IfOk result (λ made. O.room_of made.1 ≡ room) }
     ensures unread { IfOk result (λ made. O.unread made.1 ≡ []) }
@@ -106,9 +106,13 @@ impl<C: KeyClass, O: Outlet<C::Key>> World<C, O> {
         Ok(())
     }
 
-    pub(crate) fn open(&mut self, query: Pred<C::Atom>, room: u64) -> Result<(u64, O::End), Refusal>
+    pub(crate) fn open(
+        &mut self,
+        query: Pred<C::Atom>,
+        room: u64,
+    ) -> Result<(u64, O::Consumer), Refusal>
         ensures step { Acts C.rules O.rule self.old (event.Open query room)
-            (reply_of_opening C O O.End result) self.new }
+            (reply_of_opening C O O.Consumer result) self.new }
         ensures fresh { IfOk result (λ made. O.fresh made.1) }
     {
         if let Some(refusal) = self.open_refusal(&query, room) {
@@ -133,9 +137,9 @@ impl<C: KeyClass, O: Outlet<C::Key>> World<C, O> {
         query: Pred<C::Atom>,
         room: u64,
         commit: u64,
-    ) -> Result<(u64, O::End), Refusal>
+    ) -> Result<(u64, O::Consumer), Refusal>
         ensures step { Acts C.rules O.rule self.old (event.Follow query room commit)
-            (reply_of_opening C O O.End result) self.new }
+            (reply_of_opening C O O.Consumer result) self.new }
         ensures fresh { IfOk result (λ made. O.fresh made.1) }
     {
         if let Some(refusal) = self.follow_refusal(&query, room, commit) {
@@ -155,7 +159,7 @@ impl<C: KeyClass, O: Outlet<C::Key>> World<C, O> {
 
     pub(crate) fn turn(&mut self, c: u64) -> Result<Turned, Refusal>
         ensures { Acts C.rules O.rule self.old (event.Turn c)
-            (reply_of_turn C O O.End result) self.new }
+            (reply_of_turn C O O.Consumer result) self.new }
     {
         let at = self.place_of(c)?;
         let alloc = self.allocator();
@@ -164,7 +168,7 @@ impl<C: KeyClass, O: Outlet<C::Key>> World<C, O> {
 
     pub(crate) fn ask_mark(&mut self, c: u64) -> Result<(), Refusal>
         ensures { Acts C.rules O.rule self.old (event.AskMark c)
-            (reply_of_asking C O O.End result) self.new }
+            (reply_of_asking C O O.Consumer result) self.new }
     {
         let at = self.place_of(c)?;
         self.cursors[at].ask_mark();
@@ -173,7 +177,7 @@ impl<C: KeyClass, O: Outlet<C::Key>> World<C, O> {
 
     pub(crate) fn take(&mut self, c: u64) -> Result<Option<Item<C::Key>>, Refusal>
         ensures { Acts C.rules O.rule self.old (event.Take c)
-            (reply_of_taking C O O.End result) self.new }
+            (reply_of_taking C O O.Consumer result) self.new }
     {
         let at = self.place_of(c)?;
         match self.cursors[at].take() {
@@ -185,7 +189,7 @@ impl<C: KeyClass, O: Outlet<C::Key>> World<C, O> {
 
     pub(crate) fn close(&mut self, c: u64) -> Result<(), Refusal>
         ensures { Acts C.rules O.rule self.old (event.Close c)
-            (reply_of_closing C O O.End result) self.new }
+            (reply_of_closing C O O.Consumer result) self.new }
     {
         let at = self.place_of(c)?;
         let_go(&mut self.cursors, at);

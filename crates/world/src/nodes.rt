@@ -71,7 +71,7 @@ impl<C: KeyClass, O: Outlet<C::Key>> World<C, O> {
         tag: u64,
     ) -> Result<Stamped<C::Key>, Refusal>
         ensures { Step C.rules O.rule seat self.old (event.Place page key tag)
-            (reply_of_commit C O O.End result) self.new }
+            (reply_of_commit C O O.Consumer result) self.new }
     {
         if let Some(refusal) = self.search.place_refusal(page, key) {
             return Err(refusal);
@@ -86,7 +86,7 @@ impl<C: KeyClass, O: Outlet<C::Key>> World<C, O> {
 
     pub(crate) fn sweep(&mut self, page: u64) -> Result<u64, Refusal>
         ensures { Acts C.rules O.rule self.old (event.Sweep page)
-            (reply_of_sweep C O O.End result) self.new }
+            (reply_of_sweep C O O.Consumer result) self.new }
     {
         let horizon = horizon(self.cursors.as_slice(), self.changes.len() as u32);
         let count = self.search.sweep(page, horizon)?;

@@ -78,7 +78,7 @@ pub enum Reply<C: KeyClass, O: Outlet<C::Key>> {
     /// How many dead rows were removed.
     Swept(u64),
     /// The cursor's serial, and the other end of its mailbox.
-    Opened(u64, O::End),
+    Opened(u64, O::Consumer),
     /// An item went to the mailbox.
     Offered,
     /// The page that was read.
@@ -97,7 +97,7 @@ pub enum Reply<C: KeyClass, O: Outlet<C::Key>> {
 impl<C: KeyClass, O: Outlet<C::Key>> Reply<C, O> {
     /// The reply to an event that commits.
     pub(crate) fn of_commit(answer: Result<Stamped<C::Key>, Refusal>) -> Reply<C, O>
-        ensures { result ≡ call.reply_of_commit C O O.End answer }
+        ensures { result ≡ call.reply_of_commit C O O.Consumer answer }
     {
         match answer {
             Ok(stamp) => Reply::Committed(stamp),
@@ -107,7 +107,7 @@ impl<C: KeyClass, O: Outlet<C::Key>> Reply<C, O> {
 
     /// The reply to a visit of a finder, which commits if it meets its row.
     pub(crate) fn of_visit(answer: Result<Option<Stamped<C::Key>>, Refusal>) -> Reply<C, O>
-        ensures { result ≡ call.reply_of_visit C O O.End answer }
+        ensures { result ≡ call.reply_of_visit C O O.Consumer answer }
     {
         match answer {
             Ok(Some(stamp)) => Reply::Committed(stamp),
@@ -118,7 +118,7 @@ impl<C: KeyClass, O: Outlet<C::Key>> Reply<C, O> {
 
     /// The reply to an event that opens a finder.
     pub(crate) fn of_finder(answer: Result<u64, Refusal>) -> Reply<C, O>
-        ensures { result ≡ call.reply_of_finder C O O.End answer }
+        ensures { result ≡ call.reply_of_finder C O O.Consumer answer }
     {
         match answer {
             Ok(serial) => Reply::Finder(serial),
@@ -128,7 +128,7 @@ impl<C: KeyClass, O: Outlet<C::Key>> Reply<C, O> {
 
     /// The reply to a sweep.
     pub(crate) fn of_sweep(answer: Result<u64, Refusal>) -> Reply<C, O>
-        ensures { result ≡ call.reply_of_sweep C O O.End answer }
+        ensures { result ≡ call.reply_of_sweep C O O.Consumer answer }
     {
         match answer {
             Ok(count) => Reply::Swept(count),
@@ -137,8 +137,8 @@ impl<C: KeyClass, O: Outlet<C::Key>> Reply<C, O> {
     }
 
     /// The reply to an event that opens a cursor.
-    pub(crate) fn of_opening(answer: Result<(u64, O::End), Refusal>) -> Reply<C, O>
-        ensures { result ≡ call.reply_of_opening C O O.End answer }
+    pub(crate) fn of_opening(answer: Result<(u64, O::Consumer), Refusal>) -> Reply<C, O>
+        ensures { result ≡ call.reply_of_opening C O O.Consumer answer }
     {
         match answer {
             Ok((serial, end)) => Reply::Opened(serial, end),
@@ -148,7 +148,7 @@ impl<C: KeyClass, O: Outlet<C::Key>> Reply<C, O> {
 
     /// The reply to a turn.
     pub(crate) fn of_turn(answer: Result<Turned, Refusal>) -> Reply<C, O>
-        ensures { result ≡ call.reply_of_turn C O O.End answer }
+        ensures { result ≡ call.reply_of_turn C O O.Consumer answer }
     {
         match answer {
             Ok(Turned::Offered) => Reply::Offered,
@@ -160,7 +160,7 @@ impl<C: KeyClass, O: Outlet<C::Key>> Reply<C, O> {
 
     /// The reply to an event that asks for a mark.
     pub(crate) fn of_asking(answer: Result<(), Refusal>) -> Reply<C, O>
-        ensures { result ≡ call.reply_of_asking C O O.End answer }
+        ensures { result ≡ call.reply_of_asking C O O.Consumer answer }
     {
         match answer {
             Ok(()) => Reply::Asked,
@@ -170,7 +170,7 @@ impl<C: KeyClass, O: Outlet<C::Key>> Reply<C, O> {
 
     /// The reply to an event that takes an item.
     pub(crate) fn of_taking(answer: Result<Option<Item<C::Key>>, Refusal>) -> Reply<C, O>
-        ensures { result ≡ call.reply_of_taking C O O.End answer }
+        ensures { result ≡ call.reply_of_taking C O O.Consumer answer }
     {
         match answer {
             Ok(Some(item)) => Reply::Taken(item),
@@ -181,7 +181,7 @@ impl<C: KeyClass, O: Outlet<C::Key>> Reply<C, O> {
 
     /// The reply to an event that closes a cursor.
     pub(crate) fn of_closing(answer: Result<(), Refusal>) -> Reply<C, O>
-        ensures { result ≡ call.reply_of_closing C O O.End answer }
+        ensures { result ≡ call.reply_of_closing C O O.Consumer answer }
     {
         match answer {
             Ok(()) => Reply::Closed,

@@ -1,5 +1,5 @@
 use Rattle.std.proofs.Common.{arith, ◌+◌, Bool, length, drop, ap, subst}
-use Rattle.front.specs.Held.{FillsHeld}
+use Rattle.front.specs.Buffered.{FillsHeld}
 use Rattle.front.proofs.Writing.{fails_in}
 use Rattle.front.proofs.Conversing.{begin, stands_now, sent, filled, cut_short, answered, stands_after, ended_all, stands_last, no_feed_at_end, keeps_itself}
 use Rattle.front.proofs.conversation.converse.Goals as goal

@@ -1,6 +1,6 @@
 use Rattle.std.proofs.Common.{refl, subst}
 use Rattle.insertion.specs.Visits.{IsNextOnWay}
-use Rattle.insertion.specs.declared.approach.Next.TheVariants.{Make, Split}
+use Rattle.insertion.specs.declared.approach.NextAction.TheVariants.{Make, Split}
 use Rattle.insertion.proofs.Nearing.{leads_there}
 use Rattle.insertion.proofs.approach.approach_leaf.Goals as goal
 

@@ -1,7 +1,7 @@
 use Rattle.std.proofs.Common.{◌∙◌, refl, subst}
 use Rattle.descent.proofs.Rising.{grow_makes, post_makes, split_makes}
 use Rattle.descent.specs.NextSteps.{IsNextStep, IsOpenBelow}
-use Rattle.descent.specs.declared.step.Step.TheVariants as step
+use Rattle.descent.specs.declared.step.WayStep.TheVariants as step
 use Rattle.world.specs.Steps.{Posts}
 use Rattle.world.specs.declared.event.Event.TheVariants as event
 use Rattle.insertion.specs.PageSteps.{Moves}

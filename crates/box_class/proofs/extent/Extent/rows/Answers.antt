@@ -3,7 +3,7 @@ use Rattle.std.proofs.lemmas.Int.{ints}
 use Rattle.box_class.specs.Boxes.{extent_of}
 use Rattle.box_class.specs.BoxLaws.{cover_from}
 use Rattle.box_class.proofs.Bounds.{order_read, extent_read, extent_below, larger_below}
-use Rattle.box_class.proofs.reach.Reach.rows.Goals as goal
+use Rattle.box_class.proofs.extent.Extent.rows.Goals as goal
 
 pub distance-below-requires : goal.distance-below-requires
 distance-below-requires c =

@@ -6,16 +6,16 @@ use Rattle.key_class.specs.declared.refusal.Fault.{Fault}
 use Rattle.key_class.specs.declared.refusal.Fault.TheVariants as fault
 
 -- the bytes that are held; and whether the line is too long, so that its first bytes were dropped
-pub record Held : Type 0 where
+pub record Buffered : Type 0 where
   pub rest : List ℕ
   pub overlong : Bool
 
 -- when there is no room for another byte, the line is too long, and its bytes are dropped
-abbrev pub with_room : Held → Held
+abbrev pub with_room : Buffered → Buffered
 with_room held = if nat_eq (length held.rest) 4097 then record { rest = []; overlong = true } else held
 
 -- a read appended these bytes to those that are held
-pub record FillsHeld (before after : Option (List ℕ)) (old : Held) (more : Bool) (new : Held) : Type 0 where
+pub record FillsHeld (before after : Option (List ℕ)) (old : Buffered) (more : Bool) (new : Buffered) : Type 0 where
   pub bytes : List ℕ
   pub consumed : Consumes before after bytes
   pub held : new ≡ record { rest = (with_room old).rest ++ bytes; overlong = (with_room old).overlong }
@@ -23,7 +23,7 @@ pub record FillsHeld (before after : Option (List ℕ)) (old : Held) (more : Boo
   pub some_before : more ≡ true → bytes ≢ []
 
 -- The same of a reader. `remaining` gives the bytes that a reader has left.
-abbrev pub FillsFrom : {R : Type 0} → (R → Option (List ℕ)) → R → R → Held → Held → Bool → Type 0
+abbrev pub FillsFrom : {R : Type 0} → (R → Option (List ℕ)) → R → R → Buffered → Buffered → Bool → Type 0
 FillsFrom remaining before after old new more = FillsHeld (remaining before) (remaining after) old more new
 
 -- the reader failed, and still has all that it had

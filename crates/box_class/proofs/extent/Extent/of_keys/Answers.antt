@@ -1,6 +1,6 @@
 use Rattle.std.proofs.Common.{rules, arith}
 use Rattle.box_class.proofs.Bounds.{across_within, along_within, covered_read, extent_read, larger_below}
-use Rattle.box_class.proofs.reach.Reach.of_keys.Goals as goal
+use Rattle.box_class.proofs.extent.Extent.of_keys.Goals as goal
 
 pub loop-key-preserved : goal.loop-key-preserved
 loop-key-preserved c =

@@ -1,7 +1,7 @@
 use Rattle.std.proofs.Common.{arith, rules, ap, length, length-append, length-drop, drop}
 use Rattle.std.specs.Fmt.{decimal}
 use Rattle.query_text.proofs.LineLaws.{size_short}
-use Rattle.query_text.proofs.line.Line.put_signed.Goals as goal
+use Rattle.query_text.proofs.line.PrintBuffer.put_signed.Goals as goal
 
 pub write_digits-self-inside-requires : goal.write_digits-self-inside-requires
 write_digits-self-inside-requires c =

@@ -1,6 +1,6 @@
 use Rattle.std.proofs.Common.{arith}
 use Rattle.box_class.specs.BoxLaws.{mul-mono, size_of-le}
-use Rattle.box_class.proofs.reach.Reach.most_beside.Goals as goal
+use Rattle.box_class.proofs.extent.Extent.most_beside.Goals as goal
 
 pub beside-requires-clause-small : goal.beside-requires-clause-small
 beside-requires-clause-small g c =

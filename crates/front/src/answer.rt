@@ -3,7 +3,7 @@ use key_class::Refusal;
 
 /// What answers a command.
 #[derive(Debug, Drop)]
-pub enum Reply<K> {
+pub enum Answer<K> {
     /// A commit with this number was made.
     Committed(u64),
     /// A cursor with this serial was opened.

@@ -1,6 +1,6 @@
 use Rattle.std.proofs.Common.{◌+◌, ◌≤◌}
 use Rattle.box_class.specs.Boxes.{extent_of}
-use Rattle.box_class.proofs.reach.Reach.of_keys.Given as goal
+use Rattle.box_class.proofs.extent.Extent.of_keys.Given as goal
 
 abbrev pub invariant-loop-key : goal.invariant-loop-key
 invariant-loop-key l = record {

@@ -7,7 +7,7 @@ use crate::methods::distance;
 
 /// How far the common bound of two of these keys may reach.
 #[derive(Clone, Copy, Debug)]
-pub struct Reach {
+pub struct Extent {
     /// Covers all keys.
     pub bound: BoxKey,
     /// The greatest distance of a key's first and last column.
@@ -16,9 +16,9 @@ pub struct Reach {
     pub along: u32,
 }
 
-impl Reach {
-    /// The reach of keys within a bound that covers them.
-    pub fn of_keys(keys: &[BoxKey], bound: BoxKey) -> Reach
+impl Extent {
+    /// The extent of keys within a bound that covers them.
+    pub fn of_keys(keys: &[BoxKey], bound: BoxKey) -> Extent
         requires { All (λ key. is_cover bound key ≡ true) keys.now }
         ensures bound { result.bound ≡ bound }
         ensures across { result.across + 1 ≤ extent_of bound.x1 bound.x2 }
@@ -30,7 +30,7 @@ impl Reach {
             across = across.max(distance(key.x1, key.x2));
             along = along.max(distance(key.y1, key.y2));
         }
-        Reach {
+        Extent {
             bound,
             across,
             along,
