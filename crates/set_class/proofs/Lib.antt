@@ -1,2 +1,3 @@
 mod Columns
+mod Compared
 pub mod Halves
