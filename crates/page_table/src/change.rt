@@ -20,12 +20,7 @@ pub(crate) trait PageChange<P, B> {
 
     ghost beside_after: { Self → P → P → B → B };
 
-    fn change(
-        &self,
-        upper: &mut P,
-        lower: &mut P,
-        beside: &mut B,
-    ) -> Result<(), AllocError>
+    fn change(&self, upper: &mut P, lower: &mut P, beside: &mut B) -> Result<(), AllocError>
         requires { may self.now }
         ensures upper { OnOk result
             (upper.new ≡ upper_after self.now upper.old lower.old beside.old) }
@@ -141,12 +136,7 @@ impl<'a, P, C: PageChange<P, P>> PageChange<P, P> for Rotated<'a, C> {
 
     ghost beside_after = { λ rotated upper lower beside. C.lower_after rotated.change.now lower beside upper };
 
-    fn change(
-        &self,
-        upper: &mut P,
-        lower: &mut P,
-        beside: &mut P,
-    ) -> Result<(), AllocError> {
+    fn change(&self, upper: &mut P, lower: &mut P, beside: &mut P) -> Result<(), AllocError> {
         self.change.change(lower, beside, upper)
     }
 }
@@ -166,12 +156,7 @@ impl<'a, P, C: PageChange<P, P>> PageChange<P, P> for Reversed<'a, C> {
 
     ghost beside_after = { λ reversed upper lower beside. C.upper_after reversed.change.now beside lower upper };
 
-    fn change(
-        &self,
-        upper: &mut P,
-        lower: &mut P,
-        beside: &mut P,
-    ) -> Result<(), AllocError> {
+    fn change(&self, upper: &mut P, lower: &mut P, beside: &mut P) -> Result<(), AllocError> {
         self.change.change(beside, lower, upper)
     }
 }

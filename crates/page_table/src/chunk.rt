@@ -82,7 +82,8 @@ impl<T: Copied, const SIZE: usize, const LEN: usize> Chunk<T, SIZE, LEN> {
     }
 }
 
-impl<P: PageLike, T: Places<P>, const SIZE: usize, const LEN: usize> Places<P> for Chunk<T, SIZE, LEN> {
+impl<P: PageLike, T: Places<P>, const SIZE: usize, const LEN: usize> Places<P>
+    for Chunk<T, SIZE, LEN> {
     ghost pages = { joined T.pages };
 
     ghost is_full = { ArePlaces T.pages T.is_full SIZE LEN };

@@ -28,8 +28,7 @@ struct ByKeys<'a, C, T> {
 }
 
 impl<'a, C: KeyClass, T: KeyTest<C>> BlockTest<Entry<C::Key>, RowBlock<<C::Key as Columned>::Block>>
-    for ByKeys<'a, C, T>
-{
+    for ByKeys<'a, C, T> {
     ghost passes = { λ by entry. T.accepts by.test.now entry.key };
 
     fn tested(&self, block: &RowBlock<<C::Key as Columned>::Block>) -> u64 {
@@ -44,9 +43,10 @@ struct ByBounds<'a, C, T> {
     of: PhantomData<C>,
 }
 
-impl<'a, C: KeyClass, T: BranchTest<C>>
-    BlockTest<Branch<C::Key>, BranchBlock<<C::Key as Columned>::Block>> for ByBounds<'a, C, T>
-{
+impl<'a, C: KeyClass, T: BranchTest<C>> BlockTest<
+    Branch<C::Key>,
+    BranchBlock<<C::Key as Columned>::Block>,
+> for ByBounds<'a, C, T> {
     ghost passes = { λ by branch. T.wants by.test.now branch.key };
 
     fn tested(&self, block: &BranchBlock<<C::Key as Columned>::Block>) -> u64 {

@@ -11,8 +11,11 @@ pub push_children-requires : goal.push_children-requires
 push_children-requires g c =
     let n = c.up_to_wanted-count.result in
     let same : c.args.self.now ≡ c.make_room.new.items.items = sym c.self.view_is ∙ sym c.make_room.ensures.items in
-    record { within = c.up_to_wanted-count.ensures.within; room = c.push_link.ensures.room n
-    (room_popped c.make_room.new.items c.pop.new.self n c.args.item (search rules) (subst (λ (xs : List StackItem). IsNext xs c.args.item) same c.requires.next) c.pop.ensures.rest c.pop.ensures.capacity) }
+    record {
+      within = c.up_to_wanted-count.ensures.within;
+      room = c.push_link.ensures.room n
+          (room_popped c.make_room.new.items c.pop.new.self n c.args.item (search rules) (subst (λ (xs : List StackItem). IsNext xs c.args.item) same c.requires.next) c.pop.ensures.rest c.pop.ensures.capacity);
+    }
 
 pub returns-clause-ok : goal.returns-clause-ok
 returns-clause-ok g c =
