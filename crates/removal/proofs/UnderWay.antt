@@ -106,9 +106,9 @@ module _ {K A : Type 0} (rules : Rules K A) (rule : Rule) where
   }
 
 -- nothing is taken of a cursor by a visit of a finder
-untaken : {K A E : Type 0} (f : ℕ) (how : Ending K) (r : Reply K E) (c : ℕ) → taken_by {A = A} c (event_of_ending f how, r) ≡ None
-untaken f ending.Delete r c = refl
-untaken f (ending.Move leaf key) r c = refl
+untaken : (A : Type 0) {K E : Type 0} (f : ℕ) (how : Ending K) (r : Reply K E) (c : ℕ) → taken_by {A = A} c (event_of_ending f how, r) ≡ None
+untaken A f ending.Delete r c = refl
+untaken A f (ending.Move leaf key) r c = refl
 
 module _ {K A : Type 0} where
   -- what a visit that meets its row makes of a world, but for the pages
@@ -250,7 +250,7 @@ module _ {K A : Type 0} (rules : Rules K A) (rule : Rule) (first : State K A) (r
     number = u.number;
     sound = sound;
     rests = rests_trans rules rule first now new u.rests
-        (step_rests {E = E} rules rule now (event_of_ending f how) reply.Seeking new serves (untaken {E = E} f how reply.Seeking) (ap (λ s. s.limit) on.after) (ap (λ s. s.search.limit) on.after)
+        (step_rests {E = E} rules rule now (event_of_ending f how) reply.Seeking new serves (untaken A {E = E} f how reply.Seeking) (ap (λ s. s.limit) on.after) (ap (λ s. s.search.limit) on.after)
         (let e = ap (λ s. length s.search.tree.pages) on.after in omega (arith, e)) (ap (λ s. s.last) on.after) (ap (λ s. s.cursors) on.after));
   }
 
@@ -261,7 +261,7 @@ module _ {K A : Type 0} (rules : Rules K A) (rule : Rule) (first : State K A) (r
     number_is = m.number ∙ ap (λ s. length s.commits + 1) u.looks.is;
     commits = m.commits ∙ ap (λ s. s.commits ++ write_of_ending m.finder.row how ∷ []) u.looks.is ∙ ap (λ r. first.commits ++ write_of_ending r how ∷ []) row_is;
     rests = rests_trans rules rule first now new u.rests
-        (step_rests {E = E} rules rule now (event_of_ending f how) (reply.Committed stamp) new serves (untaken {E = E} f how (reply.Committed stamp)) m.limit m.page_limit (omega (arith, m.pages)) m.last m.cursors);
+        (step_rests {E = E} rules rule now (event_of_ending f how) (reply.Committed stamp) new serves (untaken A {E = E} f how (reply.Committed stamp)) m.limit m.page_limit (omega (arith, m.pages)) m.last m.cursors);
     dead = subst (λ r. IsPermutation ((r, length first.commits + 1) ∷ deaths first.search.tree) (deaths new.search.tree)) row_is
         (subst (λ s. IsPermutation ((m.finder.row, length s.commits + 1) ∷ deaths s.search.tree) (deaths new.search.tree)) u.looks.is dead);
     pages = m.pages ∙ ap (λ s. length s.search.tree.pages) u.looks.is;
