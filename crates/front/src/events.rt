@@ -39,11 +39,7 @@ fn collect_sides(alloc: Global, letters: &[u8]) -> Result<Sides, Refusal>
 }
 
 /// The event that opens a cursor, at the present commits or after a commit that it follows.
-fn opening<C: ClassText>(
-    query: Pred<C::Atom>,
-    room: u64,
-    from: Option<u64>,
-) -> Event<C::Key, C::Atom>
+fn opening<K, A>(query: Pred<A>, room: u64, from: Option<u64>) -> Event<K, A>
     ensures { result ≡ opening_of query room from }
 {
     match from {
