@@ -17,7 +17,7 @@ use crate::locked::{Guarded, Locked};
 use crate::priority_lock::PriorityLock;
 use crate::seat::{CommitsTold, Seat};
 use crate::taker::Taker;
-use change_list::{Config, View, Write};
+use change_list::{Config, Item, View, Write};
 use history::{BlankHistory, Naming};
 use insertion::Way;
 use key_class::limits::MAX_SEATS;
@@ -25,6 +25,7 @@ use key_class::{KeyClass, Pred, Refusal};
 use mailbox::Ring;
 use relocation::Moving;
 use removal::Search;
+use rtrb::Consumer;
 use snapshot::Snapshot;
 use std::alloc::{AllocError, Global};
 use std::marker::Model;
@@ -336,7 +337,7 @@ impl<C: KeyClass, L: Ledger + Naming> DeskOver<World<C, Ring<C::Key>>, L> {
 
     /// Ends a finder.
     fn end_finder<R: Wait>(&self, rt: &R, finder: u64)
-        ensures { IsFinderEnded C.rules C finder }
+        ensures { IsFinderEnded C.rules finder }
     {
         let _reply = self.locked.lock(rt).unfind(finder);
     }
@@ -352,7 +353,7 @@ impl<C: KeyClass, L: Ledger + Naming> DeskOver<World<C, Ring<C::Key>>, L> {
         row: u64,
     ) -> Result<Search<C::Key>, Refusal>
         requires { 0 < share.old.parts }
-        ensures ended { OnErr result (IsFinderEnded C.rules C finder) }
+        ensures ended { OnErr result (IsFinderEnded C.rules finder) }
         ensures stamp { IfOk result (IsDelete number row) }
         ensures share { IfOk result (CountsSearch share.old.amount share.new.amount) }
         ensures parts { share.new.parts ≡ share.old.parts }
@@ -452,7 +453,7 @@ impl<C: KeyClass, L: Ledger + Naming> DeskOver<World<C, Ring<C::Key>>, L> {
         key: C::Key,
     ) -> Result<Moving<C::Key>, Refusal>
         requires { 0 < share.old.parts }
-        ensures ended { OnErr result (IsFinderEnded C.rules C finder) }
+        ensures ended { OnErr result (IsFinderEnded C.rules finder) }
         ensures full { IfOk result (λ moving. SplitsFull C.rules moving) }
         ensures stamp { IfOk result (IsMove number row key) }
         ensures share { IfOk result (CountsMoving share.old.amount share.new.amount) }
@@ -486,7 +487,7 @@ impl<C: KeyClass, L: Ledger + Naming> DeskOver<World<C, Ring<C::Key>>, L> {
         ensures seen { IsPrefix told.old told.new }
         ensures untold { OnOk result (told.new ≡ told.old) }
         ensures refusals { IfErr result (OutOfMemoryOr (IsInsertRefused C.rules told.new)) }
-        ensures ended { OnErr result (IsFinderEnded C.rules C finder) }
+        ensures ended { OnErr result (IsFinderEnded C.rules finder) }
     {
         let split = self.split_for(rt, number, told, page);
         if split.is_err() {
@@ -581,7 +582,7 @@ impl<C: KeyClass, L: Ledger + Naming> DeskOver<World<C, Ring<C::Key>>, L> {
     ///
     /// # Errors
     /// `NoSuchCursor`, `CursorClosed`, `NoRoom` if its ring is full, `Idle`, or `OutOfMemory`, as a reply.
-    pub fn turn<R: Wait>(&self, rt: &R, cursor: u64) -> Reply<C, Ring<C::Key>>
+    pub fn turn<R: Wait>(&self, rt: &R, cursor: u64) -> Reply<C::Key, Consumer<Item<C::Key>>>
         ensures visit { IsReplied C.rules (event.Turn cursor) result }
     {
         let turned = self.locked.lock(rt).turn_unless_visit(cursor);
@@ -597,7 +598,12 @@ impl<C: KeyClass, L: Ledger + Naming> DeskOver<World<C, Ring<C::Key>>, L> {
 
     /// A turn that visits a page. `None` if the cursor's next turn no longer visits one, or if what the visit reads
     /// kept changing.
-    fn visit_for<R: Wait>(&self, rt: &R, cursor: u64, page: u32) -> Option<Reply<C, Ring<C::Key>>>
+    fn visit_for<R: Wait>(
+        &self,
+        rt: &R,
+        cursor: u64,
+        page: u32,
+    ) -> Option<Reply<C::Key, Consumer<Item<C::Key>>>>
         ensures visit { IfSome result (IsReplied C.rules (event.Turn cursor)) }
     {
         let _latch = self.latches.of(page).lock(rt);
@@ -624,7 +630,7 @@ impl<C: KeyClass, L: Ledger + Naming> DeskOver<World<C, Ring<C::Key>>, L> {
         rt: &R,
         cursor: u64,
         task: VisitTask<C>,
-    ) -> Option<Reply<C, Ring<C::Key>>>
+    ) -> Option<Reply<C::Key, Consumer<Item<C::Key>>>>
         requires { task.cursor ≡ cursor }
         ensures { IfSome result (IsReplied C.rules (event.Turn cursor)) }
     {
@@ -639,7 +645,7 @@ impl<C: KeyClass, L: Ledger + Naming> DeskOver<World<C, Ring<C::Key>>, L> {
     ///
     /// # Errors
     /// `NoSuchCursor` or `CursorClosed`, as a reply.
-    pub fn ask_mark<R: Wait>(&self, rt: &R, cursor: u64) -> Reply<C, Ring<C::Key>>
+    pub fn ask_mark<R: Wait>(&self, rt: &R, cursor: u64) -> Reply<C::Key, Consumer<Item<C::Key>>>
         ensures visit { IsReplied C.rules (event.AskMark cursor) result }
     {
         self.locked.lock(rt).ask_mark(cursor)
@@ -649,14 +655,18 @@ impl<C: KeyClass, L: Ledger + Naming> DeskOver<World<C, Ring<C::Key>>, L> {
     ///
     /// # Errors
     /// `NotHere` if there is no such leaf, or `OutOfMemory`, as a reply.
-    pub fn sweep<R: Wait>(&self, rt: &R, leaf: u64) -> Reply<C, Ring<C::Key>>
+    pub fn sweep<R: Wait>(&self, rt: &R, leaf: u64) -> Reply<C::Key, Consumer<Item<C::Key>>>
         ensures visit { IsReplied C.rules (event.Sweep leaf) result }
     {
         self.locked.lock(rt).sweep(leaf)
     }
 
     /// Closes a cursor.
-    pub(crate) fn close_cursor<R: Wait>(&self, rt: &R, cursor: u64) -> Reply<C, Ring<C::Key>>
+    pub(crate) fn close_cursor<R: Wait>(
+        &self,
+        rt: &R,
+        cursor: u64,
+    ) -> Reply<C::Key, Consumer<Item<C::Key>>>
         ensures visit { IsReplied C.rules (event.Close cursor) result }
     {
         self.locked.lock(rt).close(cursor)
@@ -673,7 +683,7 @@ impl<C: KeyClass, L: Ledger + Naming> DeskOver<World<C, Ring<C::Key>>, L> {
         ensures seen { IsPrefix seat.old.told seat.new.told }
         ensures view { IfSome result (λ view. view ≡ seat.new.told) }
         ensures stamps { IfSome result (λ view. SeatStands view seat.old) }
-        ensures visit { IsVisit C.rules (ClosesWithView C.rules C cursor seat.new.told result) }
+        ensures visit { IsVisit C.rules (ClosesWithView C.rules cursor seat.new.told result) }
         ensures share { IfSome result (λ view. length seat.old.stamps ≤ length view) }
     {
         self.locked

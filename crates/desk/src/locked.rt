@@ -128,10 +128,10 @@ impl<C: KeyClass, L: Ledger + Naming> Locked<World<C, Ring<C::Key>>, L> {
     ) -> Result<Way<C::Key>, Refusal>
         requires { 0 < share.old.parts }
         ensures goes { IfOk result (λ way.
-            Goes C C.rules self.old seat page key tag way self.new) }
+            Goes C.rules self.old seat page key tag way self.new) }
         ensures share { IfOk result (Counts share.old.amount share.new.amount) }
         ensures parts { share.new.parts ≡ share.old.parts }
-        ensures one_event { MakesOneEvent C.rules C seat self.old self.new }
+        ensures one_event { MakesOneEvent C.rules seat self.old self.new }
         ensures held { IsHeld C.rules self.old × IsHeld C.rules self.new }
         ensures unchanged { OnErr result (self.new ≡ self.old) }
         ensures uncounted { OnErr result (share.new.amount ≡ share.old.amount) }
@@ -183,7 +183,7 @@ impl<C: KeyClass, L: Ledger + Naming> Locked<World<C, Ring<C::Key>>, L> {
         told: &mut CommitsTold<C, L>,
         task: SplitTask<C>,
     ) -> Result<bool, Refusal>
-        ensures splits { IfOk result (IsSplitInTime C.rules C seat self.old task self.new) }
+        ensures splits { IfOk result (IsSplitInTime C.rules seat self.old task self.new) }
         ensures commits { self.new.commits ≡ self.old.commits }
         ensures held { IsHeld C.rules self.old × IsHeld C.rules self.new }
         ensures unchanged { OnErr result (self.new ≡ self.old) }
@@ -206,7 +206,7 @@ impl<C: KeyClass, L: Ledger + Naming> Locked<World<C, Ring<C::Key>>, L> {
         told: &mut CommitsTold<C, L>,
         page: u32,
     ) -> Result<(), Refusal>
-        ensures splits { IsSplitAtMost C.rules C seat self.old page self.new }
+        ensures splits { IsSplitAtMost C.rules seat self.old page self.new }
         ensures commits { self.new.commits ≡ self.old.commits }
         ensures held { IsHeld C.rules self.old × IsHeld C.rules self.new }
         ensures unchanged { OnErr result (self.new ≡ self.old) }
@@ -230,7 +230,7 @@ impl<C: KeyClass, L: Ledger + Naming> Locked<World<C, Ring<C::Key>>, L> {
     ) -> Result<u64, Refusal>
         ensures looks { OnOk result (Looks self.old row self.new) }
         ensures serial { IfOk result (λ finder. finder ≡ self.old.last_finder + 1) }
-        ensures one_event { MakesOneEvent C.rules C 0 self.old self.new }
+        ensures one_event { MakesOneEvent C.rules 0 self.old self.new }
         ensures held { IsHeld C.rules self.old × IsHeld C.rules self.new }
         ensures unchanged { OnErr result (self.new ≡ self.old) }
         ensures seen { IsPrefix told.old told.new }
@@ -259,7 +259,7 @@ impl<C: KeyClass, L: Ledger + Naming> Locked<World<C, Ring<C::Key>>, L> {
             Seeks C.rules ring_rule self.old seat finder row Ending.Delete search self.new) }
         ensures share { IfOk result (CountsSearch share.old.amount share.new.amount) }
         ensures parts { share.new.parts ≡ share.old.parts }
-        ensures one_event { MakesOneEvent C.rules C seat self.old self.new }
+        ensures one_event { MakesOneEvent C.rules seat self.old self.new }
         ensures held { IsHeld C.rules self.old × IsHeld C.rules self.new }
         ensures unchanged { OnErr result (self.new ≡ self.old) }
         ensures uncounted { OnErr result (share.new.amount ≡ share.old.amount) }
@@ -306,10 +306,10 @@ impl<C: KeyClass, L: Ledger + Naming> Locked<World<C, Ring<C::Key>>, L> {
     ) -> Result<Moving<C::Key>, Refusal>
         requires { 0 < share.old.parts }
         ensures moves { IfOk result (λ moving.
-            Relocates C C.rules ring_rule self.old seat page finder row key moving self.new) }
+            Relocates C.rules ring_rule self.old seat page finder row key moving self.new) }
         ensures share { IfOk result (CountsMoving share.old.amount share.new.amount) }
         ensures parts { share.new.parts ≡ share.old.parts }
-        ensures one_event { MakesOneEvent C.rules C seat self.old self.new }
+        ensures one_event { MakesOneEvent C.rules seat self.old self.new }
         ensures held { IsHeld C.rules self.old × IsHeld C.rules self.new }
         ensures unchanged { OnErr result (self.new ≡ self.old) }
         ensures uncounted { OnErr result (share.new.amount ≡ share.old.amount) }
@@ -343,7 +343,7 @@ impl<C: KeyClass, L: Ledger + Naming> Locked<World<C, Ring<C::Key>>, L> {
     }
 
     /// Ends a finder.
-    pub(crate) fn unfind(&mut self, finder: u64) -> Reply<C, Ring<C::Key>>
+    pub(crate) fn unfind(&mut self, finder: u64) -> Reply<C::Key, Consumer<Item<C::Key>>>
         ensures step { IsReplyTo C.rules (event.Unfind finder) self.old self.new result }
         ensures held { IsHeld C.rules self.old × IsHeld C.rules self.new }
     {
@@ -367,7 +367,7 @@ impl<C: KeyClass, L: Ledger + Naming> Locked<World<C, Ring<C::Key>>, L> {
         ensures fresh { IfOk result (λ made. received made.2 ≡ []) }
         ensures share { share.new.amount ≡ share.old.amount }
         ensures parts { share.new.parts ≡ share.old.parts }
-        ensures one_event { MakesOneEvent C.rules C 0 self.old self.new }
+        ensures one_event { MakesOneEvent C.rules 0 self.old self.new }
         ensures held { IsHeld C.rules self.old × IsHeld C.rules self.new }
         ensures unchanged { OnErr result (self.new ≡ self.old) }
         ensures seen { IsPrefix told.old told.new }
@@ -405,7 +405,7 @@ impl<C: KeyClass, L: Ledger + Naming> Locked<World<C, Ring<C::Key>>, L> {
         ensures fresh { IfOk result (λ made. received made.1 ≡ []) }
         ensures share { share.new.amount ≡ share.old.amount }
         ensures parts { share.new.parts ≡ share.old.parts }
-        ensures one_event { MakesOneEvent C.rules C 0 self.old self.new }
+        ensures one_event { MakesOneEvent C.rules 0 self.old self.new }
         ensures held { IsHeld C.rules self.old × IsHeld C.rules self.new }
         ensures unchanged { OnErr result (self.new ≡ self.old) }
         ensures seen { IsPrefix told.old told.new }
@@ -424,7 +424,7 @@ impl<C: KeyClass, L: Ledger + Naming> Locked<World<C, Ring<C::Key>>, L> {
     }
 
     /// A cursor's turn.
-    pub(crate) fn turn(&mut self, cursor: u64) -> Reply<C, Ring<C::Key>>
+    pub(crate) fn turn(&mut self, cursor: u64) -> Reply<C::Key, Consumer<Item<C::Key>>>
         ensures step { IsReplyTo C.rules (event.Turn cursor) self.old self.new result }
         ensures held { IsHeld C.rules self.old × IsHeld C.rules self.new }
     {
@@ -432,7 +432,10 @@ impl<C: KeyClass, L: Ledger + Naming> Locked<World<C, Ring<C::Key>>, L> {
     }
 
     /// A cursor's turn, unless it would visit a page: then nothing is done, and the page's number is given.
-    pub(crate) fn turn_unless_visit(&mut self, cursor: u64) -> Result<Reply<C, Ring<C::Key>>, u32>
+    pub(crate) fn turn_unless_visit(
+        &mut self,
+        cursor: u64,
+    ) -> Result<Reply<C::Key, Consumer<Item<C::Key>>>, u32>
         ensures step { IfOk result (IsReplyTo C.rules (event.Turn cursor) self.old self.new) }
         ensures page { IfErr result (VisitsPageNext self.old cursor) }
         ensures unchanged { OnErr result (self.new ≡ self.old) }
@@ -457,7 +460,7 @@ impl<C: KeyClass, L: Ledger + Naming> Locked<World<C, Ring<C::Key>>, L> {
         &mut self,
         cursor: u64,
         task: VisitTask<C>,
-    ) -> Option<Reply<C, Ring<C::Key>>>
+    ) -> Option<Reply<C::Key, Consumer<Item<C::Key>>>>
         requires { task.cursor ≡ cursor }
         ensures step { IfSome result (IsReplyTo C.rules (event.Turn cursor) self.old self.new) }
         ensures late { IfNone result (self.new ≡ self.old) }
@@ -470,7 +473,7 @@ impl<C: KeyClass, L: Ledger + Naming> Locked<World<C, Ring<C::Key>>, L> {
     }
 
     /// Asks a cursor for a mark.
-    pub(crate) fn ask_mark(&mut self, cursor: u64) -> Reply<C, Ring<C::Key>>
+    pub(crate) fn ask_mark(&mut self, cursor: u64) -> Reply<C::Key, Consumer<Item<C::Key>>>
         ensures step { IsReplyTo C.rules (event.AskMark cursor) self.old self.new result }
         ensures held { IsHeld C.rules self.old × IsHeld C.rules self.new }
     {
@@ -478,7 +481,7 @@ impl<C: KeyClass, L: Ledger + Naming> Locked<World<C, Ring<C::Key>>, L> {
     }
 
     /// Sweeps a leaf.
-    pub(crate) fn sweep(&mut self, leaf: u64) -> Reply<C, Ring<C::Key>>
+    pub(crate) fn sweep(&mut self, leaf: u64) -> Reply<C::Key, Consumer<Item<C::Key>>>
         ensures step { IsReplyTo C.rules (event.Sweep leaf) self.old self.new result }
         ensures held { IsHeld C.rules self.old × IsHeld C.rules self.new }
     {
@@ -486,7 +489,7 @@ impl<C: KeyClass, L: Ledger + Naming> Locked<World<C, Ring<C::Key>>, L> {
     }
 
     /// Closes a cursor.
-    pub(crate) fn close(&mut self, cursor: u64) -> Reply<C, Ring<C::Key>>
+    pub(crate) fn close(&mut self, cursor: u64) -> Reply<C::Key, Consumer<Item<C::Key>>>
         ensures step { IsReplyTo C.rules (event.Close cursor) self.old self.new result }
         ensures held { IsHeld C.rules self.old × IsHeld C.rules self.new }
     {
@@ -502,7 +505,7 @@ impl<C: KeyClass, L: Ledger + Naming> Locked<World<C, Ring<C::Key>>, L> {
         told: &mut CommitsTold<C, L>,
         cursor: u64,
     ) -> Option<View<C::Key>>
-        ensures closed { MakesClose C.rules C self.old cursor self.new }
+        ensures closed { MakesClose C.rules self.old cursor self.new }
         ensures view { IfSome result (λ view. view ≡ self.old.commits) }
         ensures number { share.new.amount ≤ length self.old.commits }
         ensures share { share.new.amount ≡ share.old.amount }

@@ -2,20 +2,22 @@
 ghost use Rattle.desk.specs.Turns.{MakesTurns};
 
 use crate::desk::DeskOver;
+use change_list::Item;
 use history::Naming;
 use key_class::KeyClass;
 use mailbox::Ring;
+use rtrb::Consumer;
 use std::sync::Wait;
 use std::sync::ledger::Ledger;
 use world::{Reply, World};
 
 /// The result of some turns of a cursor.
 #[derive(Drop)]
-pub struct TurnsMade<C: KeyClass> {
+pub struct TurnsMade<K> {
     /// How many were made, not counting one that was refused.
     pub made: u64,
     /// The last reply: a refusal, if one ended the turns early. `None` if no turn was asked for.
-    pub last: Option<Reply<C, Ring<C::Key>>>,
+    pub last: Option<Reply<K, Consumer<Item<K>>>>,
 }
 
 impl<C: KeyClass, L: Ledger + Naming> DeskOver<World<C, Ring<C::Key>>, L> {
@@ -23,7 +25,7 @@ impl<C: KeyClass, L: Ledger + Naming> DeskOver<World<C, Ring<C::Key>>, L> {
     ///
     /// # Errors
     /// Those of `turn`, as the last reply.
-    pub fn turns<R: Wait>(&self, rt: &R, cursor: u64, times: u64) -> TurnsMade<C>
+    pub fn turns<R: Wait>(&self, rt: &R, cursor: u64, times: u64) -> TurnsMade<C::Key>
         ensures { MakesTurns C.rules cursor times result.made result.last }
     {
         let mut last = None;

@@ -37,7 +37,7 @@ enum Last {
     Other,
 }
 
-fn last_of(turns: &TurnsMade<Intervals>) -> Last {
+fn last_of(turns: &TurnsMade<Interval>) -> Last {
     match &turns.last {
         None => Last::Nothing,
         Some(Reply::Offered) => Last::Offered,

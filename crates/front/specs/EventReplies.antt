@@ -6,7 +6,7 @@ use Rattle.world.specs.declared.reply.Reply.TheVariants as reply
 use Rattle.front.specs.Replies.{item_line, refusal_line}
 
 -- the line of a reply
-abbrev pub reply_line : {C O K A E : Type 0} → (K → List ℕ) → Reply C O K A E → List ℕ
+abbrev pub reply_line : {K A E : Type 0} → (K → List ℕ) → Reply K E → List ℕ
 reply_line key_text reply.Enlarged = codes "enlarged\n"
 reply_line key_text (reply.Committed stamp) = codes "committed " ++ (decimal stamp.number ++ codes "\n")
 reply_line key_text (reply.Split sibling) = codes "split " ++ (decimal sibling ++ codes "\n")

@@ -18,25 +18,24 @@ use Rattle.front.specs.EventReplies.{reply_line}
 use Rattle.front.specs.Replies.{refusal_line}
 
 -- a reply of a world whose cursors have trays, so that opening one gives no consumer's end
-abbrev pub TrayReply : Type 0 → Type 0 → Type 0 → Type 0
-TrayReply C K A = Reply C (Tray K) K A Unit
+abbrev pub TrayReply : Type 0 → Type 0
+TrayReply K = Reply K Unit
 
--- C: the class
-module _ (C : Type 0) {K A : Type 0} (texts : Texts K A) (rules : Rules K A) where
+module _ {K A : Type 0} (texts : Texts K A) (rules : Rules K A) where
   -- What a line of so many bytes asks is answered so: the event is one step of the world, with this reply; or there
   -- is no event, and nothing changes.
-  abbrev pub RepliesToEvent : ℕ → State K A → Asked C K A → TrayReply C K A → State K A → Type 0
+  abbrev pub RepliesToEvent : ℕ → State K A → Asked K A → TrayReply K → State K A → Type 0
   RepliesToEvent len old asked said new =
-      ((event : Event C K A) × IsEvent texts len asked event × Step rules tray_rule 0 old event said new)
+      ((event : Event K A) × IsEvent texts len asked event × Step rules tray_rule 0 old event said new)
       ⊎ ((why : Refusal) × IsNoEvent texts len asked why × (said ≡ reply.Refused why) × (new ≡ old))
 
   -- the same of a request, with lexemes of a text
-  abbrev pub CarriesOut : List ℕ → EventRequest K → State K A → State K A → TrayReply C K A → Type 0
+  abbrev pub CarriesOut : List ℕ → EventRequest K → State K A → State K A → TrayReply K → Type 0
   CarriesOut text asked old new said = RepliesToEvent (length text) old (asked_of text asked) said new
 
   -- what is asked is answered by the line of the event's reply; a fault of the line is refused at its place
-  abbrev pub AnswersAsked : ℕ → State K A → Result (Asked C K A) ℕ → List ℕ → State K A → Type 0
-  AnswersAsked len old (Ok asked) text new = (said : TrayReply C K A) × RepliesToEvent len old asked said new × (text ≡ reply_line texts.key_text said)
+  abbrev pub AnswersAsked : ℕ → State K A → Result (Asked K A) ℕ → List ℕ → State K A → Type 0
+  AnswersAsked len old (Ok asked) text new = (said : TrayReply K) × RepliesToEvent len old asked said new × (text ≡ reply_line texts.key_text said)
   AnswersAsked len old (Err place) text new = (text ≡ refusal_line (refusal.Line place)) × (new ≡ old)
 
   -- a line without a token has no answer

@@ -16,7 +16,7 @@ use world::Reply;
 fn append_line<C: ClassText, O: Outlet<C::Key>>(
     gathered: &mut Gathered,
     line: &mut PrintBuffer,
-    reply: &Reply<C, O>,
+    reply: &Reply<C::Key, O::Consumer>,
 )
     requires room { HasRoomForLine gathered.old.items }
     ensures { gathered.new.items ≡ gathered.old.items ++ reply_line C.texts.key_text reply.now }
@@ -57,7 +57,7 @@ pub fn write_event_reply<C: ClassText, O: Outlet<C::Key>, W: Write>(
     writer: &mut W,
     gathered: &mut Gathered,
     line: &mut PrintBuffer,
-    reply: &Reply<C, O>,
+    reply: &Reply<C::Key, O::Consumer>,
 ) -> Result<(), Fault>
     requires room { HasRoomForLine gathered.old.items }
     ensures written { Says (reply_line C.texts.key_text reply.now) result

@@ -133,7 +133,7 @@ fn enlarge<'a, C: ClassText>(
     text: &'a [u8],
     lexemes: &'a [Lexeme],
 ) -> Result<EventRequest<'a, C::Key>, usize>
-    ensures { IsEventAsked C C.Atom (two_numbers_and_key C.texts.key_at event.Enlarge)
+    ensures { IsEventAsked C.Atom (two_numbers_and_key C.texts.key_at event.Enlarge)
         text.now lexemes.now result }
 {
     let parent = natural(text, lexemes)?;
@@ -147,7 +147,7 @@ fn place<'a, C: ClassText>(
     text: &'a [u8],
     lexemes: &'a [Lexeme],
 ) -> Result<EventRequest<'a, C::Key>, usize>
-    ensures { IsEventAsked C C.Atom (page_key_and_tag C.texts.key_at) text.now lexemes.now result }
+    ensures { IsEventAsked C.Atom (page_key_and_tag C.texts.key_at) text.now lexemes.now result }
 {
     let page = natural(text, lexemes)?;
     let key = C::read_key(text, page.1)?;
@@ -160,7 +160,7 @@ fn move_row<'a, C: ClassText>(
     text: &'a [u8],
     lexemes: &'a [Lexeme],
 ) -> Result<EventRequest<'a, C::Key>, usize>
-    ensures { IsEventAsked C C.Atom (two_numbers_and_key C.texts.key_at event.Move)
+    ensures { IsEventAsked C.Atom (two_numbers_and_key C.texts.key_at event.Move)
         text.now lexemes.now result }
 {
     let finder = natural(text, lexemes)?;
@@ -174,7 +174,7 @@ fn split<'a, C: ClassText>(
     text: &'a [u8],
     lexemes: &'a [Lexeme],
 ) -> Result<EventRequest<'a, C::Key>, usize>
-    ensures { IsEventAsked C C.Atom page_and_sides text.now lexemes.now result }
+    ensures { IsEventAsked C.Atom page_and_sides text.now lexemes.now result }
 {
     let page = natural(text, lexemes)?;
     let letters = sides(text, page.1)?;
@@ -186,7 +186,7 @@ fn post<'a, C: ClassText>(
     text: &'a [u8],
     lexemes: &'a [Lexeme],
 ) -> Result<EventRequest<'a, C::Key>, usize>
-    ensures { IsEventAsked C C.Atom two_pages text.now lexemes.now result }
+    ensures { IsEventAsked C.Atom two_pages text.now lexemes.now result }
 {
     let parent = natural(text, lexemes)?;
     let child = natural(text, parent.1)?;
@@ -198,7 +198,7 @@ fn grow<'a, C: ClassText>(
     text: &'a [u8],
     lexemes: &'a [Lexeme],
 ) -> Result<EventRequest<'a, C::Key>, usize>
-    ensures { IsEventAsked C C.Atom only_sides text.now lexemes.now result }
+    ensures { IsEventAsked C.Atom only_sides text.now lexemes.now result }
 {
     let letters = sides(text, lexemes)?;
     end(letters.1)?;
@@ -209,7 +209,7 @@ fn open<'a, C: ClassText>(
     text: &'a [u8],
     lexemes: &'a [Lexeme],
 ) -> Result<EventRequest<'a, C::Key>, usize>
-    ensures { IsEventAsked C C.Atom cursor_asked text.now lexemes.now result }
+    ensures { IsEventAsked C.Atom cursor_asked text.now lexemes.now result }
 {
     let room = natural(text, lexemes)?;
     let start = start(text, room.1)?;
@@ -225,7 +225,7 @@ pub fn read_event<'a, C: ClassText>(
     first: Lexeme,
     rest: &'a [Lexeme],
 ) -> Result<EventRequest<'a, C::Key>, usize>
-    ensures { IsEventAsked C C.Atom (event_from C.texts text.now first) text.now rest.now result }
+    ensures { IsEventAsked C.Atom (event_from C.texts text.now first) text.now rest.now result }
 {
     match read_verb(text, first) {
         EventVerb::Enlarge => enlarge::<C>(text, rest),

@@ -39,7 +39,11 @@ fn collect_sides(alloc: Global, letters: &[u8]) -> Result<Sides, Refusal>
 }
 
 /// The event that opens a cursor, at the present commits or after a commit that it follows.
-fn opening<C: ClassText>(query: Pred<C::Atom>, room: u64, from: Option<u64>) -> Event<C>
+fn opening<C: ClassText>(
+    query: Pred<C::Atom>,
+    room: u64,
+    from: Option<u64>,
+) -> Event<C::Key, C::Atom>
     ensures { result ≡ opening_of query room from }
 {
     match from {
@@ -56,9 +60,9 @@ fn event_of<C: ClassText>(
     alloc: Global,
     text: &[u8],
     request: EventRequest<'_, C::Key>,
-) -> Result<Event<C>, Refusal>
+) -> Result<Event<C::Key, C::Atom>, Refusal>
     ensures event { IfOk result (AsksEvent C.texts text.now request.entry) }
-    ensures refused { IfErr result (AsksNoEvent C C.texts text.now request.entry) }
+    ensures refused { IfErr result (AsksNoEvent C.texts text.now request.entry) }
 {
     match request {
         EventRequest::Enlarge(parent, child, key) => Ok(Event::Enlarge(parent, child, key)),
@@ -91,8 +95,8 @@ fn carry_out<C: ClassText>(
     world: &mut World<C, Tray<C::Key>>,
     text: &[u8],
     request: EventRequest<'_, C::Key>,
-) -> Reply<C, Tray<C::Key>>
-    ensures { CarriesOut C C.texts C.rules text.now request.entry world.old world.new result }
+) -> Reply<C::Key, ()>
+    ensures { CarriesOut C.texts C.rules text.now request.entry world.old world.new result }
 {
     match event_of::<C>(alloc, text, request) {
         Ok(event) => world.step(event),
@@ -101,7 +105,7 @@ fn carry_out<C: ClassText>(
 }
 
 impl<C: ClassText> Responder for World<C, Tray<C::Key>> {
-    ghost answers = { λ len old ts text new. AnswersEventTokens C C.texts C.rules len old ts text new };
+    ghost answers = { λ len old ts text new. AnswersEventTokens C.texts C.rules len old ts text new };
 
     fn answer<W: Write>(
         &mut self,
@@ -142,11 +146,11 @@ pub fn replay<C: ClassText, R: Read, W: Write>(
     writer: &mut W,
     world: &mut World<C, Tray<C::Key>>,
 ) -> Result<(), Fault>
-    ensures ok { OnOk result (ReplayedAll C C.texts C.rules world.old world.new
+    ensures ok { OnOk result (ReplayedAll C.texts C.rules world.old world.new
         (exchange R.remaining reader.old reader.new W.contents writer.old writer.new)) }
-    ensures read { IfReadFails result (ReplayedWhole C C.texts C.rules world.old world.new
+    ensures read { IfReadFails result (ReplayedWhole C.texts C.rules world.old world.new
         (exchange R.remaining reader.old reader.new W.contents writer.old writer.new)) }
-    ensures write { IfWriteFails result (ReplayedFirst C C.texts C.rules world.old world.new
+    ensures write { IfWriteFails result (ReplayedFirst C.texts C.rules world.old world.new
         (exchange R.remaining reader.old reader.new W.contents writer.old writer.new)) }
     ensures memory { IfOutOfMemory result (Kept reader.old reader.new writer.old writer.new) }
     ensures unchanged { IfOutOfMemory result (world.new ≡ world.old) }

@@ -10,11 +10,8 @@ use Rattle.key_class.specs.declared.refusal.Fault.TheVariants as fault
 use Rattle.key_class.specs.declared.refusal.Refusal.TheVariants as refusal
 use Rattle.store.specs.States.{StoreState, new_store}
 use Rattle.world.specs.States.{State as World, new_state as new_world}
-use Rattle.interval_class.specs.declared.class.Intervals.{Intervals}
 use Rattle.interval_class.specs.Intervals.{interval_rules}
-use Rattle.box_class.specs.declared.class.Boxes.{Boxes}
 use Rattle.box_class.specs.Boxes.{box_rules}
-use Rattle.set_class.specs.declared.class.Sets.{Sets}
 use Rattle.set_class.specs.Sets.{set_rules}
 use Rattle.query_text.specs.ClassTexts.{Texts}
 use Rattle.query_text.specs.IntervalTexts.{interval_texts}
@@ -55,16 +52,15 @@ AnswersSession classes.Set config io = AnsweredOver set_texts set_rules (new_sto
 abbrev pub ServesOptions : StoreOptions → Exchange → Type 0
 ServesOptions options io = IsWithinLimits (limits_of options) × AnswersSession options.class (limits_of options) io
 
--- All bytes of the reader were lines of events, which were steps of this world, and what was written answers them. C
--- is the class.
-abbrev pub EventsAnsweredOver : (C : Type 0) {K A : Type 0} → Texts K A → Rules K A → World K A → Exchange → Type 0
-EventsAnsweredOver C {K} {A} texts rules world io = (last : World K A) × ReplayedAll C texts rules world last io
+-- All bytes of the reader were lines of events, which were steps of this world, and what was written answers them
+abbrev pub EventsAnsweredOver : {K A : Type 0} → Texts K A → Rules K A → World K A → Exchange → Type 0
+EventsAnsweredOver {K} {A} texts rules world io = (last : World K A) × ReplayedAll texts rules world last io
 
 -- the same for a new world of the class with these limits
 abbrev pub AnswersEvents : Class → Config → Exchange → Type 0
-AnswersEvents classes.Interval config io = EventsAnsweredOver Intervals interval_texts interval_rules (new_world config) io
-AnswersEvents classes.Box config io = EventsAnsweredOver Boxes box_texts box_rules (new_world config) io
-AnswersEvents classes.Set config io = EventsAnsweredOver Sets set_texts set_rules (new_world config) io
+AnswersEvents classes.Interval config io = EventsAnsweredOver interval_texts interval_rules (new_world config) io
+AnswersEvents classes.Box config io = EventsAnsweredOver box_texts box_rules (new_world config) io
+AnswersEvents classes.Set config io = EventsAnsweredOver set_texts set_rules (new_world config) io
 
 -- the limits are in range, and every line of events was answered
 abbrev pub Replays : StoreOptions → Exchange → Type 0

@@ -102,7 +102,7 @@ fn replay_world<C: ClassText, R: Read, W: Write>(
     reader: &mut R,
     writer: &mut W,
 ) -> Result<(), Fault>
-    ensures ok { result ≡ Ok tt → EventsAnsweredOver C C.texts C.rules (new_world config)
+    ensures ok { result ≡ Ok tt → EventsAnsweredOver C.texts C.rules (new_world config)
         (exchange R.remaining reader.old reader.new W.contents writer.old writer.new) }
     ensures within { result ≡ Ok tt → IsWithinLimits config }
     ensures bad { RefusesLimits result ↔ (¬ IsWithinLimits config) }

@@ -84,8 +84,8 @@ module _ {K : Type 0} (s : SearchTree K) where
   wanting_from failing why (inl none) full cause = inl (cause_passed failing why none cause)
   wanting_from failing why (inr e) full cause = inr (cause_full failing why e cause, full e)
 
-module _ {C K A : Type 0} (rules : Rules K A) (rule : Rule) (old new : State K A) where
-  wants_pages : (e : Event C K A) (why : Refusal) → MayMove rules.is_cover old e → IsRefused rules rule old e why new → IsWanting old.search why
+module _ {K A : Type 0} (rules : Rules K A) (rule : Rule) (old new : State K A) where
+  wants_pages : (e : Event K A) (why : Refusal) → MayMove rules.is_cover old e → IsRefused rules rule old e why new → IsWanting old.search why
   wants_pages (event.Enlarge page child key) why may r = inl (cause_passed (first_failing (enlarge_tests rules.is_cover old.search page child key)) why may r.cause)
   wants_pages (event.Post page child) why may r = inl (cause_passed (first_failing (post_tests old.search page child)) why may r.cause)
   wants_pages (event.Split page sides) why may r =
@@ -94,7 +94,7 @@ module _ {C K A : Type 0} (rules : Rules K A) (rule : Rule) (old new : State K A
   wants_pages e why may r = absurd may
 
   -- where it was refused
-  pub refused_wanting : (e : Event C K A) (why : Refusal) → MayMove rules.is_cover old e → IsRefused rules rule old e why new → IsWanting new.search why
+  pub refused_wanting : (e : Event K A) (why : Refusal) → MayMove rules.is_cover old e → IsRefused rules rule old e why new → IsWanting new.search why
   refused_wanting e why may r = subst (λ (s : State K A). IsWanting s.search why) (sym r.unchanged) (wants_pages e why may r)
 
 module _ {K A : Type 0} (rules : Rules K A) (rule : Rule) where
@@ -117,22 +117,22 @@ rows_pages : {K : Type 0} (t : Tree K) (p : ℕ) (rows : List (Entry K)) → len
 unfolding after_rows
 rows_pages t p rows = replaced-length t p (with_rows (page_at t p) rows)
 
-module _ {C K A : Type 0} (is_cover : K → K → Bool) (old : State K A) where
+module _ {K A : Type 0} (is_cover : K → K → Bool) (old : State K A) where
   -- an event that may be made changes pages alone
-  of_pages : (e : Event C K A) → MayMove is_cover old e → IsOfPages e
+  of_pages : (e : Event K A) → MayMove is_cover old e → IsOfPages e
   of_pages (event.Enlarge page child key) may = tt
   of_pages (event.Split page sides) may = tt
   of_pages (event.Post page child) may = tt
   of_pages (event.Grow sides) may = tt
   of_pages e may = absurd may
 
-module _ {C O K A E : Type 0} (rules : Rules K A) (rule : Rule) (old new : State K A) where
+module _ {K A E : Type 0} (rules : Rules K A) (rule : Rule) (old new : State K A) where
   -- an answer that doesn't refuse
-  done_of : (seat : ℕ) (e : Event C K A) (r : Reply C O K A E) → ((why : Refusal) → r ≡ reply.Refused why → ⊥) → Step rules rule seat old e r new → IsCarriedOut rules rule seat old e r new
+  done_of : (seat : ℕ) (e : Event K A) (r : Reply K E) → ((why : Refusal) → r ≡ reply.Refused why → ⊥) → Step rules rule seat old e r new → IsCarriedOut rules rule seat old e r new
   done_of seat e (reply.Refused why) not d = absurd (not why refl)
   done_of seat e r not d = d
 
-  changed_pages : (seat : ℕ) (e : Event C K A) (r : Reply C O K A E) → IsOfPages e → Changes rules rule seat old e r new → Moves rules.union_of old e new
+  changed_pages : (seat : ℕ) (e : Event K A) (r : Reply K E) → IsOfPages e → Changes rules rule seat old e r new → Moves rules.union_of old e new
   changed_pages seat (event.Enlarge page child key) reply.Enlarged own d = d
   changed_pages seat (event.Enlarge page child key) r own d = absurd d
   changed_pages seat (event.Split page sides) (reply.Split sibling) own d = d.1
@@ -144,14 +144,14 @@ module _ {C O K A E : Type 0} (rules : Rules K A) (rule : Rule) (old new : State
   changed_pages seat e r own d = absurd own
 
   -- where an event of pages wasn't refused
-  pub made_of_pages : (seat : ℕ) (e : Event C K A) (r : Reply C O K A E) → IsOfPages e → ((why : Refusal) → r ≡ reply.Refused why → ⊥) → Step rules rule seat old e r new → Moves rules.union_of old e new
+  pub made_of_pages : (seat : ℕ) (e : Event K A) (r : Reply K E) → IsOfPages e → ((why : Refusal) → r ≡ reply.Refused why → ⊥) → Step rules rule seat old e r new → Moves rules.union_of old e new
   made_of_pages seat e r own not d = changed_pages seat e r own (done_of seat e r not d).change
 
   -- where one wasn't that may be made
-  pub made_moves : (seat : ℕ) (e : Event C K A) (r : Reply C O K A E) → MayMove rules.is_cover old e → ((why : Refusal) → r ≡ reply.Refused why → ⊥) → Step rules rule seat old e r new → Moves rules.union_of old e new
+  pub made_moves : (seat : ℕ) (e : Event K A) (r : Reply K E) → MayMove rules.is_cover old e → ((why : Refusal) → r ≡ reply.Refused why → ⊥) → Step rules rule seat old e r new → Moves rules.union_of old e new
   made_moves seat e r may not d = made_of_pages seat e r (of_pages rules.is_cover old e may) not d
 
-  moved_to : (e : Event C K A) (r : Reply C O K A E) (tree : Tree K) → new ≡ with_pages old tree → ServesAll rules rule old e r new → ((c : ℕ) → taken_by c (e, r) ≡ None) → KeepsRows old.search.tree new.search.tree → MovesPages rules rule old new
+  moved_to : (e : Event K A) (r : Reply K E) (tree : Tree K) → new ≡ with_pages old tree → ServesAll rules rule old e r new → ((c : ℕ) → taken_by c (e, r) ≡ None) → KeepsRows old.search.tree new.search.tree → MovesPages rules rule old new
   moved_to e r tree is serves none kept = record {
     rests = step_rests rules rule old e r new serves none (ap (λ (s : State K A). s.limit) is) (ap (λ (s : State K A). s.search.limit) is) kept.pages (ap (λ (s : State K A). s.last) is) (ap (λ (s : State K A). s.cursors) is);
     commits = ap (λ (s : State K A). s.commits) is;
@@ -161,7 +161,7 @@ module _ {C O K A E : Type 0} (rules : Rules K A) (rule : Rule) (old new : State
   }
 
   -- where it was made
-  pub moves_pages : (e : Event C K A) (r : Reply C O K A E) → Moves rules.union_of old e new → ServesAll rules rule old e r new → KeepsRowsUnder old e new → MovesPages rules rule old new
+  pub moves_pages : (e : Event K A) (r : Reply K E) → Moves rules.union_of old e new → ServesAll rules rule old e r new → KeepsRowsUnder old e new → MovesPages rules rule old new
   moves_pages (event.Enlarge page child key) r m serves kept = moved_to (event.Enlarge page child key) r (after_enlarge rules.union_of old.search.tree page child key) m serves (λ c. refl) kept
   moves_pages (event.Split page sides) r m serves kept = moved_to (event.Split page sides) r (after_split rules.union_of old.search.tree page sides) m serves (λ c. refl) kept
   moves_pages (event.Post page child) r m serves kept = moved_to (event.Post page child) r (after_post old.search.tree page child m.sibling) m.after serves (λ c. refl) kept
@@ -169,7 +169,7 @@ module _ {C O K A E : Type 0} (rules : Rules K A) (rule : Rule) (old new : State
   moves_pages e r m serves kept = absurd m
 
   module _ (seat page : ℕ) (key : K) (tag : ℕ) (stamp : Stamp K) (p : Places seat old page key tag stamp new) where
-    pub place_rests : (r : Reply C O K A E) → ServesAll rules rule old (event.Place page key tag) r new → Rests rules rule old new
+    pub place_rests : (r : Reply K E) → ServesAll rules rule old (event.Place page key tag) r new → Rests rules rule old new
     place_rests r serves = step_rests rules rule old (event.Place page key tag) r new serves (λ c. refl) (ap (λ (s : State K A). s.limit) p.after) (ap (λ (s : State K A). s.search.limit) p.after)
         (omega (arith, ap (λ (s : State K A). length s.search.tree.pages) p.after, rows_pages old.search.tree page ((page_at old.search.tree page).rows ++ (record { key = key; row = length old.commits + 1; tag = tag; died = None }) ∷ []))) (ap (λ (s : State K A). s.last) p.after) (ap (λ (s : State K A). s.cursors) p.after)
 

@@ -11,9 +11,9 @@ use Rattle.insertion.specs.Visits.{LeadsOn}
 at_root : {K A : Type 0} (is_cover : K → K → Bool) (s : State K A) (next : ℕ) → next ≡ 0 → IsSoundWorld is_cover s → next < length s.search.tree.pages
 at_root is_cover s next is sound = subst (λ n. n < length s.search.tree.pages) (sym is) sound.tree.sound.root_exists
 
-module _ {C K A : Type 0} (rules : Rules K A) (old new : State K A) (here : ℕ) (key : K) where
+module _ {K A : Type 0} (rules : Rules K A) (old new : State K A) (here : ℕ) (key : K) where
   -- the way goes on at a page that there is
-  pub leads_there : (e : Event C K A) (next : ℕ) → LeadsOn rules old.search here key e next → Moves rules.union_of old e new → IsSoundWorld rules.is_cover new → next < length new.search.tree.pages
+  pub leads_there : (e : Event K A) (next : ℕ) → LeadsOn rules old.search here key e next → Moves rules.union_of old e new → IsSoundWorld rules.is_cover new → next < length new.search.tree.pages
   leads_there (event.Grow sides) next leads moved sound = at_root rules.is_cover new next leads.0 sound
   leads_there (event.Post parent child) next leads moved sound = at_root rules.is_cover new next leads.0 sound
   leads_there (event.Enlarge parent child k) next (is, same, step) moved sound =

@@ -26,9 +26,9 @@ IsFullOrWanting s why = (why ≡ refusal.CommitsFull) ⊎ IsWanting s why
 abbrev pub MayPlace : {K : Type 0} → (K → K → Bool) → SearchTree K → ℕ → K → Type 0
 MayPlace is_cover s leaf key = first_failing (place_tests is_cover s leaf key) ≡ None
 
-module _ {C K A : Type 0} where
+module _ {K A : Type 0} where
   -- the event changes only pages, and none of its tests fails except for too few pages
-  abbrev pub MayMove : (K → K → Bool) → State K A → Event C K A → Type 0
+  abbrev pub MayMove : (K → K → Bool) → State K A → Event K A → Type 0
   MayMove is_cover old (event.Enlarge page child key) = first_failing (enlarge_tests is_cover old.search page child key) ≡ None
   MayMove is_cover old (event.Split page sides) = OnlyPagesFull (split_tests old.search page sides)
   MayMove is_cover old (event.Post page child) = first_failing (post_tests old.search page child) ≡ None
@@ -36,7 +36,7 @@ module _ {C K A : Type 0} where
   MayMove is_cover old event = ⊥
 
   -- how such an event changes a world
-  abbrev pub Moves : (K → K → K) → State K A → Event C K A → State K A → Type 0
+  abbrev pub Moves : (K → K → K) → State K A → Event K A → State K A → Type 0
   Moves union old (event.Enlarge page child key) new = new ≡ with_pages old (after_enlarge union old.search.tree page child key)
   Moves union old (event.Split page sides) new = new ≡ with_pages old (after_split union old.search.tree page sides)
   Moves union old (event.Post page child) new = Posts old page child new

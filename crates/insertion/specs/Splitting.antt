@@ -15,15 +15,15 @@ use Rattle.world.specs.declared.event.Event.{Event}
 use Rattle.world.specs.declared.event.Event.TheVariants as event
 use Rattle.insertion.specs.PageSteps.{Moves}
 
-module _ {C K A : Type 0} (rules : Rules K A) (rule : Rule) where
+module _ {K A : Type 0} (rules : Rules K A) (rule : Rule) where
   -- one of the event's tests fails, other than that of the pages left
-  pub record IsBarred (s : State K A) (e : Event C K A) : Type 0 where
+  pub record IsBarred (s : State K A) (e : Event K A) : Type 0 where
     pub why : Refusal
     pub fails : FirstFails (tests rules rule s e) why
     pub not_full : why ≢ refusal.PagesFull
 
   -- the event was made; or it is barred, and nothing was done
-  abbrev pub MovesUnlessBarred : State K A → Event C K A → State K A → Type 0
+  abbrev pub MovesUnlessBarred : State K A → Event K A → State K A → Type 0
   MovesUnlessBarred old e new = Moves rules.union_of old e new ⊎ (IsBarred old e × (new ≡ old))
 
 module _ {K A : Type 0} where
@@ -32,19 +32,19 @@ module _ {K A : Type 0} where
   HasNoSplit s page =
       ((why : Refusal) × FirstFails (prepare_split_tests s page) why) ⊎ (entries_of (page_at s.search.tree page) < 2 * s.search.least)
 
-module _ (C : Type 0) {K A : Type 0} (rules : Rules K A) (rule : Rule) where
+module _ {K A : Type 0} (rules : Rules K A) (rule : Rule) where
   -- the page of the task was split by the task's sides, or that is barred
   pub record SplitsBySides (old : State K A) (task : SplitTask K) (new : State K A) : Type 0 where
     pub sides : List Side
     pub worked : task.sides ≡ Some sides
-    pub moves : MovesUnlessBarred {C = C} rules rule old (event.Split task.number sides) new
+    pub moves : MovesUnlessBarred rules rule old (event.Split task.number sides) new
 
   -- the page was split by sides that the class picks for it and that split it well, or that is barred
   pub record SplitsUnlessBarred (old : State K A) (page : ℕ) (new : State K A) : Type 0 where
     pub sides : List Side
     pub picked : IsPick rules old.search page sides
     pub parts : PartsPage old.search page sides
-    pub moves : MovesUnlessBarred {C = C} rules rule old (event.Split page sides) new
+    pub moves : MovesUnlessBarred rules rule old (event.Split page sides) new
 
   -- the same; or the page can't be split, and nothing was done
   abbrev pub SplitsIfAny : State K A → ℕ → State K A → Type 0

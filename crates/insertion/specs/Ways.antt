@@ -11,15 +11,15 @@ use Rattle.world.specs.declared.event.Event.TheVariants as event
 use Rattle.insertion.specs.PageSteps.{MayPlace, Moves}
 use Rattle.insertion.specs.Visits.{ResumesAt}
 
-module _ (C : Type 0) {K A : Type 0} (rules : Rules K A) (key : K) where
+module _ {K A : Type 0} (rules : Rules K A) (key : K) where
   -- The step was made from here, and the way goes on at the next page: at the child, at the root that grew, or, after
   -- a posting or a split, at the page where it was.
   abbrev pub TakesStep : State K A → ℕ → WayStep → State K A → ℕ → Type 0
   TakesStep old here (step.Down child) new next = (next ≡ child) × (new ≡ old)
-  TakesStep old here (step.Enlarge parent child) new next = (next ≡ child) × Moves {C = C} rules.union_of old (event.Enlarge parent child key) new
-  TakesStep old here (step.Grow sides) new next = (next ≡ 0) × Moves {C = C} rules.union_of old (event.Grow sides) new
-  TakesStep old here (step.Post parent child) new next = ResumesAt rules.is_cover new.search here key next × Moves {C = C} rules.union_of old (event.Post parent child) new
-  TakesStep old here (step.Split child sides) new next = ResumesAt rules.is_cover new.search here key next × Moves {C = C} rules.union_of old (event.Split child sides) new
+  TakesStep old here (step.Enlarge parent child) new next = (next ≡ child) × Moves rules.union_of old (event.Enlarge parent child key) new
+  TakesStep old here (step.Grow sides) new next = (next ≡ 0) × Moves rules.union_of old (event.Grow sides) new
+  TakesStep old here (step.Post parent child) new next = ResumesAt rules.is_cover new.search here key next × Moves rules.union_of old (event.Post parent child) new
+  TakesStep old here (step.Split child sides) new next = ResumesAt rules.is_cover new.search here key next × Moves rules.union_of old (event.Split child sides) new
   TakesStep old here (step.Place leaf) new next = ⊥
 
   -- the way goes on from here by the next step

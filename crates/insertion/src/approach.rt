@@ -28,9 +28,9 @@ pub enum Approach {
 
 /// What to do next on a way.
 #[derive(Drop)]
-enum NextAction<C: KeyClass> {
+enum NextAction<K, A> {
     /// Make the event; then the way goes on at this page.
-    Make(Event<C>, u32),
+    Make(Event<K, A>, u32),
     /// Split this page.
     Split(u32),
     /// This leaf takes the key.
@@ -78,7 +78,7 @@ fn next_on_way<C: KeyClass>(
     search: &SearchTree<C>,
     page: u32,
     key: C::Key,
-) -> Result<NextAction<C>, Refusal>
+) -> Result<NextAction<C::Key, C::Atom>, Refusal>
     requires exists { page < length search.now.tree.pages }
     requires covers { CoversKey C.rules.is_cover search.now page key }
     requires room { page ≢ 0 → HasRoom search.now page }
@@ -120,9 +120,9 @@ pub fn approach_leaf<C: KeyClass, O: Outlet<C::Key>>(
     page: u32,
     key: C::Key,
 ) -> Result<Approach, Refusal>
-    ensures nears { IfOk result (λ way. Nears C C.rules world.old page key way world.new) }
+    ensures nears { IfOk result (λ way. Nears C.rules world.old page key way world.new) }
     ensures commits { world.new.commits ≡ world.old.commits }
-    ensures one_event { IsOneEvent C O O.Consumer C.rules O.rule seat world.old world.new }
+    ensures one_event { IsOneEvent O.Consumer C.rules O.rule seat world.old world.new }
     ensures sound { IsSoundWorld C.rules.is_cover world.new }
     ensures mailboxes { KeepsMailboxes C.rules O.rule world.old world.new }
     ensures unchanged { OnErr result (world.new ≡ world.old) }

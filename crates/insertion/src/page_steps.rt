@@ -19,13 +19,13 @@ use world::{Event, Reply, Stamped, World};
 pub(crate) fn move_pages<C: KeyClass, O: Outlet<C::Key>>(
     world: &mut World<C, O>,
     seat: u32,
-    event: Event<C>,
+    event: Event<C::Key, C::Atom>,
 ) -> Result<(), Refusal>
     requires may { MayMove C.rules.is_cover world.old event }
     ensures moved { OnOk result (Moves C.rules.union_of world.old event world.new) }
     ensures unchanged { OnErr result (world.new ≡ world.old) }
     ensures kept { MovesPages C.rules O.rule world.old world.new }
-    ensures one_event { IsOneEvent C O O.Consumer C.rules O.rule seat world.old world.new }
+    ensures one_event { IsOneEvent O.Consumer C.rules O.rule seat world.old world.new }
     ensures sound { IsSoundWorld C.rules.is_cover world.new }
     ensures mailboxes { KeepsMailboxes C.rules O.rule world.old world.new }
     ensures refusals { IfErr result (IsWanting world.new.search) }
@@ -54,7 +54,7 @@ pub(crate) fn place<C: KeyClass, O: Outlet<C::Key>>(
     ensures stamped { IfOk result (IsNextStamp world.old seat (Insert key tag)) }
     ensures committed { OnOk result (AddsCommit world.old (Insert key tag) world.new) }
     ensures unchanged { OnErr result (world.new ≡ world.old) }
-    ensures one_event { IsOneEvent C O O.Consumer C.rules O.rule seat world.old world.new }
+    ensures one_event { IsOneEvent O.Consumer C.rules O.rule seat world.old world.new }
     ensures sound { IsSoundWorld C.rules.is_cover world.new }
     ensures mailboxes { KeepsMailboxes C.rules O.rule world.old world.new }
     ensures rests { Rests C.rules O.rule world.old world.new }

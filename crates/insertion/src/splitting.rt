@@ -33,10 +33,10 @@ fn tell_want(why: Refusal) -> Result<(), Refusal>
 fn make<C: KeyClass, O: Outlet<C::Key>>(
     world: &mut World<C, O>,
     seat: u32,
-    event: Event<C>,
+    event: Event<C::Key, C::Atom>,
 ) -> Result<(), Refusal>
     requires pages { IsOfPages event }
-    ensures makes { Makes C O O.Consumer C.rules O.rule seat world.old event world.new }
+    ensures makes { Makes O.Consumer C.rules O.rule seat world.old event world.new }
     ensures moves { OnOk result (MovesUnlessBarred C.rules O.rule world.old event world.new) }
     ensures commits { world.new.commits ≡ world.old.commits }
     ensures sound { IsSoundWorld C.rules.is_cover world.new }
@@ -60,10 +60,10 @@ pub fn split_prepared<C: KeyClass, O: Outlet<C::Key>>(
     seat: u32,
     task: SplitTask<C>,
 ) -> Result<bool, Refusal>
-    ensures splits { TellsInTime C O O.Consumer C.rules O.rule
+    ensures splits { TellsInTime O.Consumer C.rules O.rule
         seat world.old task result world.new }
     ensures made { IfOk result (λ in_time.
-        IsTrue in_time → SplitsBySides C C.rules O.rule world.old task world.new) }
+        IsTrue in_time → SplitsBySides C.rules O.rule world.old task world.new) }
     ensures commits { world.new.commits ≡ world.old.commits }
     ensures sound { IsSoundWorld C.rules.is_cover world.new }
     ensures mailboxes { KeepsMailboxes C.rules O.rule world.old world.new }
@@ -100,8 +100,8 @@ pub fn split_at_once<C: KeyClass, O: Outlet<C::Key>>(
     seat: u32,
     page: u32,
 ) -> Result<(), Refusal>
-    ensures splits { SplitsAtMost C O O.Consumer C.rules O.rule seat world.old page world.new }
-    ensures made { OnOk result (SplitsIfAny C C.rules O.rule world.old page world.new) }
+    ensures splits { SplitsAtMost O.Consumer C.rules O.rule seat world.old page world.new }
+    ensures made { OnOk result (SplitsIfAny C.rules O.rule world.old page world.new) }
     ensures commits { world.new.commits ≡ world.old.commits }
     ensures sound { IsSoundWorld C.rules.is_cover world.new }
     ensures mailboxes { KeepsMailboxes C.rules O.rule world.old world.new }

@@ -37,8 +37,8 @@ pub fn insert_step<C: KeyClass, O: Outlet<C::Key>>(
     key: C::Key,
     tag: u64,
 ) -> Result<Way<C::Key>, Refusal>
-    ensures goes { IfOk result (λ way. Goes C C.rules world.old seat page key tag way world.new) }
-    ensures one_event { IsOneEvent C O O.Consumer C.rules O.rule seat world.old world.new }
+    ensures goes { IfOk result (λ way. Goes C.rules world.old seat page key tag way world.new) }
+    ensures one_event { IsOneEvent O.Consumer C.rules O.rule seat world.old world.new }
     ensures sound { IsSoundWorld C.rules.is_cover world.new }
     ensures mailboxes { KeepsMailboxes C.rules O.rule world.old world.new }
     ensures unchanged { OnErr result (world.new ≡ world.old) }

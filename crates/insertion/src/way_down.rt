@@ -30,7 +30,7 @@ pub fn insert<C: KeyClass, O: Outlet<C::Key>>(
 ) -> Result<u64, Refusal>
     ensures number { IfOk result (λ number. number ≡ length world.old.commits + 1) }
     ensures committed { OnOk result (AddsCommit world.old (Insert key tag) world.new) }
-    ensures way { OnOk result (PlacesByWay C C.rules key world.old tag world.new) }
+    ensures way { OnOk result (PlacesByWay C.rules key world.old tag world.new) }
     ensures unchanged { OnErr result (world.new.commits ≡ world.old.commits) }
     ensures rests { Rests C.rules O.rule world.old world.new }
     ensures dead { IsPermutation (deaths world.old.search.tree) (deaths world.new.search.tree) }
@@ -58,7 +58,7 @@ pub fn make_way<C: KeyClass, O: Outlet<C::Key>>(
     key: C::Key,
 ) -> Result<u32, Refusal>
     ensures leaf { IfOk result (λ leaf. MayPlace C.rules.is_cover world.new.search leaf key) }
-    ensures way { IfOk result (HasCome C C.rules key world.old world.new) }
+    ensures way { IfOk result (HasCome C.rules key world.old world.new) }
     ensures moved { MovesPages C.rules O.rule world.old world.new }
     ensures refusals { IfErr result (IsWanting world.new.search) }
 {

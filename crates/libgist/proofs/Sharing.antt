@@ -14,12 +14,16 @@ use Rattle.std.proofs.MapsCrossing.{BTreeMap-sync}
 use Rattle.std.proofs.alloc.Global.TheSendSync as heap
 use Rattle.interval_class.proofs.interval.Interval.TheSendSync as interval
 use Rattle.interval_class.proofs.atom.Atom.TheSendSync as interval_atom
+use Rattle.interval_class.proofs.block.IntervalBlock.TheSendSync as interval_block
 use Rattle.box_class.proofs.boxes.BoxKey.TheSendSync as box
 use Rattle.box_class.proofs.atom.Atom.TheSendSync as box_atom
+use Rattle.box_class.proofs.block.BoxBlock.TheSendSync as box_block
 use Rattle.set_class.proofs.elements.Elements.TheSendSync as set
 use Rattle.set_class.proofs.atom.Atom.TheSendSync as set_atom
+use Rattle.set_class.proofs.block.SetBlock.TheSendSync as set_block
 use Rattle.key_class.proofs.pred.Pred.TheLaws.TheKnot as pred
 use Rattle.mailbox.proofs.tray.Tray.TheSendSync as tray
+use Rattle.key_class.specs.declared.block.Block as block
 use Rattle.key_class.specs.declared.class.KeyClass as class
 use Rattle.std.specs.declared.clone.Clone as clone
 use Rattle.std.specs.declared.cmp.PartialEq as partial_eq
@@ -57,12 +61,12 @@ use Rattle.snapshot.proofs.snapshot.Snapshot.TheSendSync as snapshot
 use Rattle.libgist.specs.Owning.{HeldState, shown_at}
 use Rattle.libgist.specs.contracts.lent.LentInside as inside
 
-module _ (C O K A E : RattleType) (c : class.Ghosts C.Denot K.Denot A.Denot) (k : partial_eq.Ghosts K.Denot) (a : partial_eq.Ghosts A.Denot) (o : outlet.Ghosts O.Denot K.Denot E.Denot) where
-  cursor_sync : IsSend K → IsSync K → IsSend A → IsSync A → IsSync O → IsSync (Cursor.the_row C O K A E c k a o)
-  cursor_sync sk yk sa ya yo =
-      view_sync (cursor.the_row C O K A E c k a o) _ _ _ _
-      (recorded_sync (cursor.the_field C O K A E c k a o).row _ _ (cursor.the_type C O K A E c k a o).to_one
-      (struct_sync (declared.shape (cursor.the_type C O K A E c k a o)) (
+module _ (C O K A B E : RattleType) (c : class.Ghosts C.Denot K.Denot A.Denot B.Denot) (b : block.Ghosts B.Denot K.Denot) (k : partial_eq.Ghosts K.Denot) (a : partial_eq.Ghosts A.Denot) (o : outlet.Ghosts O.Denot K.Denot E.Denot) where
+  cursor_sync : IsSend K → IsSync K → IsSend A → IsSync A → IsSend B → IsSync B → IsSync O → IsSync (Cursor.the_row C O K A B E c b k a o)
+  cursor_sync sk yk sa ya sb yb yo =
+      view_sync (cursor.the_row C O K A B E c b k a o) _ _ _ _
+      (recorded_sync (cursor.the_field C O K A B E c b k a o).row _ _ (cursor.the_type C O K A B E c b k a o).to_one
+      (struct_sync (declared.shape (cursor.the_type C O K A B E c b k a o)) (
         search sendable depth 20,
         (
           search (crosses, sendable, pred.crosses, pred.crosses_both) depth 20,
@@ -91,12 +95,12 @@ module _ (C O K A E : RattleType) (c : class.Ghosts C.Denot K.Denot A.Denot) (k 
         ),
       )))
 
-  world_sync : IsSend K → IsSync K → IsSend A → IsSync A → IsSync O → IsSync (World.the_row C O K A E c k a o)
-  world_sync sk yk sa ya yo =
-      let one_cursor = cursor_sync sk yk sa ya yo in
-      view_sync (world.the_row C O K A E c k a o) _ _ _ _
-      (recorded_sync (world.the_field C O K A E c k a o).row _ _ (world.the_type C O K A E c k a o).to_one
-      (struct_sync (declared.shape (world.the_type C O K A E c k a o)) (
+  world_sync : (kc : clone.Ghosts K.Denot) (bc : clone.Ghosts B.Denot) → IsSend K → IsSync K → IsSend A → IsSync A → IsSend B → IsSync B → IsSync O → IsSync (World.the_row C O K A B E c kc b bc k a o)
+  world_sync kc bc sk yk sa ya sb yb yo =
+      let one_cursor = cursor_sync sk yk sa ya sb yb yo in
+      view_sync (world.the_row C O K A B E c kc b bc k a o) _ _ _ _
+      (recorded_sync (world.the_field C O K A B E c kc b bc k a o).row _ _ (world.the_type C O K A B E c kc b bc k a o).to_one
+      (struct_sync (declared.shape (world.the_type C O K A B E c kc b bc k a o)) (
         search (tree.the_sync, sendable) depth 20,
         (
           search sendable depth 20,
@@ -122,12 +126,12 @@ module _ (C O K A E : RattleType) (c : class.Ghosts C.Denot K.Denot A.Denot) (k 
         ),
       )))
 
-module _ (C K A : RattleType) (c : class.Ghosts C.Denot K.Denot A.Denot) (kc : clone.Ghosts K.Denot) (kp : partial_eq.Ghosts K.Denot) (ap : partial_eq.Ghosts A.Denot) where
-  store_sync : IsSend K → IsSync K → IsSend A → IsSync A → IsSync (Store.the_row C K A c kc kp ap)
-  store_sync sk yk sa ya =
-      view_sync (store_inside.the_row C K A c kc kp ap) _ _ _ _
-      (recorded_sync (store_inside.the_field C K A c kc kp ap).row _ _ (store_inside.the_type C K A c kc kp ap).to_one
-      (struct_sync (declared.shape (store_inside.the_type C K A c kc kp ap)) (
+module _ (C K A B : RattleType) (c : class.Ghosts C.Denot K.Denot A.Denot B.Denot) (kc : clone.Ghosts K.Denot) (b : block.Ghosts B.Denot K.Denot) (bc : clone.Ghosts B.Denot) (kp : partial_eq.Ghosts K.Denot) (ap : partial_eq.Ghosts A.Denot) where
+  store_sync : IsSend K → IsSync K → IsSend A → IsSync A → IsSend B → IsSync B → IsSync (Store.the_row C K A B c kc b bc kp ap)
+  store_sync sk yk sa ya sb yb =
+      view_sync (store_inside.the_row C K A B c kc b bc kp ap) _ _ _ _
+      (recorded_sync (store_inside.the_field C K A B c kc b bc kp ap).row _ _ (store_inside.the_type C K A B c kc b bc kp ap).to_one
+      (struct_sync (declared.shape (store_inside.the_type C K A B c kc b bc kp ap)) (
         search (heap.the_field_sync, crosses, sendable) depth 20,
         (
           search (world_sync, tray.the_sync, sendable) depth 20,
@@ -168,13 +172,13 @@ slab_sync T yt =
       ),
     )))
 
-module _ (C K A : RattleType) (r : reach.Ghosts C.Denot K.Denot A.Denot) (c : class.Ghosts C.Denot K.Denot A.Denot) (kc : clone.Ghosts K.Denot) (kp : partial_eq.Ghosts K.Denot) (ap : partial_eq.Ghosts A.Denot) where
-  topics_sync : IsSend K → IsSync K → IsSend A → IsSync A → IsSync (Topics.the_row C K A r c kc kp ap)
-  topics_sync sk yk sa ya =
-      let tree = store_sync C K A c kc kp ap sk yk sa ya in
-      view_sync (topics_inside.the_row C K A r c kc kp ap) _ _ _ _
-      (recorded_sync (topics_inside.the_field C K A r c kc kp ap).row _ _ (topics_inside.the_type C K A r c kc kp ap).to_one
-      (struct_sync (declared.shape (topics_inside.the_type C K A r c kc kp ap)) (
+module _ (C K A B : RattleType) (r : reach.Ghosts C.Denot K.Denot A.Denot B.Denot) (c : class.Ghosts C.Denot K.Denot A.Denot B.Denot) (kc : clone.Ghosts K.Denot) (b : block.Ghosts B.Denot K.Denot) (bc : clone.Ghosts B.Denot) (kp : partial_eq.Ghosts K.Denot) (ap : partial_eq.Ghosts A.Denot) where
+  topics_sync : IsSend K → IsSync K → IsSend A → IsSync A → IsSend B → IsSync B → IsSync (Topics.the_row C K A B r c kc b bc kp ap)
+  topics_sync sk yk sa ya sb yb =
+      let tree = store_sync C K A B c kc b bc kp ap sk yk sa ya sb yb in
+      view_sync (topics_inside.the_row C K A B r c kc b bc kp ap) _ _ _ _
+      (recorded_sync (topics_inside.the_field C K A B r c kc b bc kp ap).row _ _ (topics_inside.the_type C K A B r c kc b bc kp ap).to_one
+      (struct_sync (declared.shape (topics_inside.the_type C K A B r c kc b bc kp ap)) (
         search (heap.the_field_sync, crosses, sendable) depth 20,
         (
           slab_sync (Topic.the_row A) (topic_sync A sa ya),
@@ -191,12 +195,12 @@ module _ (C K A : RattleType) (r : reach.Ghosts C.Denot K.Denot A.Denot) (c : cl
         ),
       )))
 
-  feed_sync : IsSend K → IsSync K → IsSend A → IsSync A → IsSync (Feed.the_row C K A r c kc kp ap)
-  feed_sync sk yk sa ya =
-      let topics = topics_sync sk yk sa ya in
-      view_sync (feed_inside.the_row C K A r c kc kp ap) _ _ _ _
-      (recorded_sync (feed_inside.the_field C K A r c kc kp ap).row _ _ (feed_inside.the_type C K A r c kc kp ap).to_one
-      (struct_sync (declared.shape (feed_inside.the_type C K A r c kc kp ap)) (
+  feed_sync : IsSend K → IsSync K → IsSend A → IsSync A → IsSend B → IsSync B → IsSync (Feed.the_row C K A B r c kc b bc kp ap)
+  feed_sync sk yk sa ya sb yb =
+      let topics = topics_sync sk yk sa ya sb yb in
+      view_sync (feed_inside.the_row C K A B r c kc b bc kp ap) _ _ _ _
+      (recorded_sync (feed_inside.the_field C K A B r c kc b bc kp ap).row _ _ (feed_inside.the_type C K A B r c kc b bc kp ap).to_one
+      (struct_sync (declared.shape (feed_inside.the_type C K A B r c kc b bc kp ap)) (
         search (heap.the_field_sync, crosses, sendable) depth 20,
         (
           search sendable depth 20,
@@ -216,12 +220,12 @@ module _ (C K A : RattleType) (r : reach.Ghosts C.Denot K.Denot A.Denot) (c : cl
         ),
       )))
 
-  following_sync : IsSend K → IsSync K → IsSend A → IsSync A → IsSync (Following.the_row C K A r c kc kp ap)
-  following_sync sk yk sa ya =
-      let feed = feed_sync sk yk sa ya in
-      view_sync (following_inside.the_row C K A r c kc kp ap) _ _ _ _
-      (recorded_sync (following_inside.the_field C K A r c kc kp ap).row _ _ (following_inside.the_type C K A r c kc kp ap).to_one
-      (struct_sync (declared.shape (following_inside.the_type C K A r c kc kp ap)) (
+  following_sync : IsSend K → IsSync K → IsSend A → IsSync A → IsSend B → IsSync B → IsSync (Following.the_row C K A B r c kc b bc kp ap)
+  following_sync sk yk sa ya sb yb =
+      let feed = feed_sync sk yk sa ya sb yb in
+      view_sync (following_inside.the_row C K A B r c kc b bc kp ap) _ _ _ _
+      (recorded_sync (following_inside.the_field C K A B r c kc b bc kp ap).row _ _ (following_inside.the_type C K A B r c kc b bc kp ap).to_one
+      (struct_sync (declared.shape (following_inside.the_type C K A B r c kc b bc kp ap)) (
         search (heap.the_field_sync, crosses, sendable) depth 20,
         (
           search (feed, crosses, sendable) depth 20,
@@ -233,7 +237,7 @@ module _ (C K A : RattleType) (r : reach.Ghosts C.Denot K.Denot A.Denot) (c : cl
       )))
 
 any_sync : IsSync any.the_row
-any_sync = search (store_sync, following_sync, snapshot.the_sync, pred.crosses, pred.crosses_both, interval.the_send, interval.the_sync, interval_atom.the_send, interval_atom.the_sync, box.the_send, box.the_sync, box_atom.the_send, box_atom.the_sync, set.the_send, set.the_sync, set_atom.the_send, set_atom.the_sync, crosses, sendable) depth 40
+any_sync = search (store_sync, following_sync, snapshot.the_sync, pred.crosses, pred.crosses_both, interval.the_send, interval.the_sync, interval_atom.the_send, interval_atom.the_sync, box.the_send, box.the_sync, box_atom.the_send, box_atom.the_sync, set.the_send, set.the_sync, set_atom.the_send, set_atom.the_sync, interval_block.the_send, interval_block.the_sync, box_block.the_send, box_block.the_sync, set_block.the_send, set_block.the_sync, crosses, sendable) depth 40
 
 in_block_keyless : (p : Ptr) → Keyless (in_block p ftrue)
 in_block_keyless (block_ptr b o) = tt

@@ -17,14 +17,18 @@ use Rattle.std.proofs.Crossing.{frees, crosses}
 use Rattle.std.proofs.alloc.Global.TheSendSync as heap
 use Rattle.interval_class.proofs.interval.Interval.TheSendSync as interval
 use Rattle.interval_class.proofs.atom.Atom.TheSendSync as interval_atom
+use Rattle.interval_class.proofs.block.IntervalBlock.TheSendSync as interval_block
 use Rattle.box_class.proofs.boxes.BoxKey.TheSendSync as box
 use Rattle.box_class.proofs.atom.Atom.TheSendSync as box_atom
+use Rattle.box_class.proofs.block.BoxBlock.TheSendSync as box_block
 use Rattle.set_class.proofs.elements.Elements.TheSendSync as set
 use Rattle.set_class.proofs.atom.Atom.TheSendSync as set_atom
+use Rattle.set_class.proofs.block.SetBlock.TheSendSync as set_block
 use Rattle.key_class.proofs.pred.Pred.TheLaws.TheKnot as pred
 use Rattle.snapshot.proofs.snapshot.Snapshot.TheSendSync as snapshot
 use Rattle.mailbox.proofs.tray.Tray.TheSendSync as tray
 use Rattle.world.proofs.Crossing.{world_send}
+use Rattle.key_class.specs.declared.block.Block as block
 use Rattle.key_class.specs.declared.class.KeyClass as class
 use Rattle.std.specs.declared.clone.Clone as clone
 use Rattle.std.specs.declared.cmp.PartialEq as partial_eq
@@ -53,12 +57,12 @@ use Rattle.libgist.specs.Owning.{HeldState, owned}
 use Rattle.libgist.specs.contracts.held.Held as any
 use Rattle.libgist.specs.contracts.inside.Inside as inside
 
-module _ (C K A : RattleType) (c : class.Ghosts C.Denot K.Denot A.Denot) (kc : clone.Ghosts K.Denot) (kp : partial_eq.Ghosts K.Denot) (ap : partial_eq.Ghosts A.Denot) where
-  store_send : IsSend K → IsSync K → IsSend A → IsSync A → IsSend (Store.the_row C K A c kc kp ap)
-  store_send sk yk sa ya =
-      view_send (store_inside.the_row C K A c kc kp ap) _ _ _ _
-      (recorded_send (store_inside.the_field C K A c kc kp ap).row _ _ (store_inside.the_type C K A c kc kp ap).to_one
-      (struct_send (declared.shape (store_inside.the_type C K A c kc kp ap)) (
+module _ (C K A B : RattleType) (c : class.Ghosts C.Denot K.Denot A.Denot B.Denot) (kc : clone.Ghosts K.Denot) (b : block.Ghosts B.Denot K.Denot) (bc : clone.Ghosts B.Denot) (kp : partial_eq.Ghosts K.Denot) (ap : partial_eq.Ghosts A.Denot) where
+  store_send : IsSend K → IsSync K → IsSend A → IsSync A → IsSend B → IsSync B → IsSend (Store.the_row C K A B c kc b bc kp ap)
+  store_send sk yk sa ya sb yb =
+      view_send (store_inside.the_row C K A B c kc b bc kp ap) _ _ _ _
+      (recorded_send (store_inside.the_field C K A B c kc b bc kp ap).row _ _ (store_inside.the_type C K A B c kc b bc kp ap).to_one
+      (struct_send (declared.shape (store_inside.the_type C K A B c kc b bc kp ap)) (
         search (heap.the_field_send, crosses, sendable) depth 20,
         (
           search (world_send, tray.the_send, sendable) depth 20,
@@ -99,13 +103,13 @@ slab_send T st =
       ),
     )))
 
-module _ (C K A : RattleType) (r : reach.Ghosts C.Denot K.Denot A.Denot) (c : class.Ghosts C.Denot K.Denot A.Denot) (kc : clone.Ghosts K.Denot) (kp : partial_eq.Ghosts K.Denot) (ap : partial_eq.Ghosts A.Denot) where
-  topics_send : IsSend K → IsSync K → IsSend A → IsSync A → IsSend (Topics.the_row C K A r c kc kp ap)
-  topics_send sk yk sa ya =
-      let tree = store_send C K A c kc kp ap sk yk sa ya in
-      view_send (topics_inside.the_row C K A r c kc kp ap) _ _ _ _
-      (recorded_send (topics_inside.the_field C K A r c kc kp ap).row _ _ (topics_inside.the_type C K A r c kc kp ap).to_one
-      (struct_send (declared.shape (topics_inside.the_type C K A r c kc kp ap)) (
+module _ (C K A B : RattleType) (r : reach.Ghosts C.Denot K.Denot A.Denot B.Denot) (c : class.Ghosts C.Denot K.Denot A.Denot B.Denot) (kc : clone.Ghosts K.Denot) (b : block.Ghosts B.Denot K.Denot) (bc : clone.Ghosts B.Denot) (kp : partial_eq.Ghosts K.Denot) (ap : partial_eq.Ghosts A.Denot) where
+  topics_send : IsSend K → IsSync K → IsSend A → IsSync A → IsSend B → IsSync B → IsSend (Topics.the_row C K A B r c kc b bc kp ap)
+  topics_send sk yk sa ya sb yb =
+      let tree = store_send C K A B c kc b bc kp ap sk yk sa ya sb yb in
+      view_send (topics_inside.the_row C K A B r c kc b bc kp ap) _ _ _ _
+      (recorded_send (topics_inside.the_field C K A B r c kc b bc kp ap).row _ _ (topics_inside.the_type C K A B r c kc b bc kp ap).to_one
+      (struct_send (declared.shape (topics_inside.the_type C K A B r c kc b bc kp ap)) (
         search (heap.the_field_send, crosses, sendable) depth 20,
         (
           slab_send (Topic.the_row A) (topic_send A sa ya),
@@ -122,12 +126,12 @@ module _ (C K A : RattleType) (r : reach.Ghosts C.Denot K.Denot A.Denot) (c : cl
         ),
       )))
 
-  feed_send : IsSend K → IsSync K → IsSend A → IsSync A → IsSend (Feed.the_row C K A r c kc kp ap)
-  feed_send sk yk sa ya =
-      let topics = topics_send sk yk sa ya in
-      view_send (feed_inside.the_row C K A r c kc kp ap) _ _ _ _
-      (recorded_send (feed_inside.the_field C K A r c kc kp ap).row _ _ (feed_inside.the_type C K A r c kc kp ap).to_one
-      (struct_send (declared.shape (feed_inside.the_type C K A r c kc kp ap)) (
+  feed_send : IsSend K → IsSync K → IsSend A → IsSync A → IsSend B → IsSync B → IsSend (Feed.the_row C K A B r c kc b bc kp ap)
+  feed_send sk yk sa ya sb yb =
+      let topics = topics_send sk yk sa ya sb yb in
+      view_send (feed_inside.the_row C K A B r c kc b bc kp ap) _ _ _ _
+      (recorded_send (feed_inside.the_field C K A B r c kc b bc kp ap).row _ _ (feed_inside.the_type C K A B r c kc b bc kp ap).to_one
+      (struct_send (declared.shape (feed_inside.the_type C K A B r c kc b bc kp ap)) (
         search (heap.the_field_send, crosses, sendable) depth 20,
         (
           search sendable depth 20,
@@ -147,12 +151,12 @@ module _ (C K A : RattleType) (r : reach.Ghosts C.Denot K.Denot A.Denot) (c : cl
         ),
       )))
 
-  following_send : IsSend K → IsSync K → IsSend A → IsSync A → IsSend (Following.the_row C K A r c kc kp ap)
-  following_send sk yk sa ya =
-      let feed = feed_send sk yk sa ya in
-      view_send (following_inside.the_row C K A r c kc kp ap) _ _ _ _
-      (recorded_send (following_inside.the_field C K A r c kc kp ap).row _ _ (following_inside.the_type C K A r c kc kp ap).to_one
-      (struct_send (declared.shape (following_inside.the_type C K A r c kc kp ap)) (
+  following_send : IsSend K → IsSync K → IsSend A → IsSync A → IsSend B → IsSync B → IsSend (Following.the_row C K A B r c kc b bc kp ap)
+  following_send sk yk sa ya sb yb =
+      let feed = feed_send sk yk sa ya sb yb in
+      view_send (following_inside.the_row C K A B r c kc b bc kp ap) _ _ _ _
+      (recorded_send (following_inside.the_field C K A B r c kc b bc kp ap).row _ _ (following_inside.the_type C K A B r c kc b bc kp ap).to_one
+      (struct_send (declared.shape (following_inside.the_type C K A B r c kc b bc kp ap)) (
         search (heap.the_field_send, crosses, sendable) depth 20,
         (
           search (feed, crosses, sendable) depth 20,
@@ -164,7 +168,7 @@ module _ (C K A : RattleType) (r : reach.Ghosts C.Denot K.Denot A.Denot) (c : cl
       )))
 
 any_send : IsSend any.the_row
-any_send = search (store_send, following_send, snapshot.the_send, pred.crosses, pred.crosses_both, interval.the_send, interval.the_sync, interval_atom.the_send, interval_atom.the_sync, box.the_send, box.the_sync, box_atom.the_send, box_atom.the_sync, set.the_send, set.the_sync, set_atom.the_send, set_atom.the_sync, crosses, sendable) depth 40
+any_send = search (store_send, following_send, snapshot.the_send, pred.crosses, pred.crosses_both, interval.the_send, interval.the_sync, interval_atom.the_send, interval_atom.the_sync, box.the_send, box.the_sync, box_atom.the_send, box_atom.the_sync, set.the_send, set.the_sync, set_atom.the_send, set_atom.the_sync, interval_block.the_send, interval_block.the_sync, box_block.the_send, box_block.the_sync, set_block.the_send, set_block.the_sync, crosses, sendable) depth 40
 
 owned_keyless : (alloc : Global) (at : Ptr) (state : Option HeldState) → Keyless (owned alloc at state)
 owned_keyless alloc at None = tt

@@ -37,15 +37,15 @@ module _ {K A : Type 0} (rules : Rules K A) (rule : Rule) where
   SeeksFrom old seat leaf f row key moving.Lost new = Seeks rules rule old seat f row (ending.Move leaf key) search.Lost new
   SeeksFrom old seat leaf f row key (moving.Moved stamp) new = Seeks rules rule old seat f row (ending.Move leaf key) (search.Ended stamp) new
 
-module _ (C : Type 0) {K A : Type 0} (rules : Rules K A) (rule : Rule) where
+module _ {K A : Type 0} (rules : Rules K A) (rule : Rule) where
   -- the way of the key has reached a leaf that takes it, and the row's finder makes a visit
   abbrev pub SeeksAtLeaf : State K A → ℕ → ℕ → ℕ → ℕ → K → Moving K → State K A → Type 0
-  SeeksAtLeaf old seat page f row key moving new = (leaf : ℕ) × Nears C rules old page key (approach.At leaf) old × SeeksFrom rules rule old seat leaf f row key moving new
+  SeeksAtLeaf old seat page f row key moving new = (leaf : ℕ) × Nears rules old page key (approach.At leaf) old × SeeksFrom rules rule old seat leaf f row key moving new
 
   -- what a visit of a move reports whose way has reached the page: the way goes on, or the finder does or ends the
   -- row
   abbrev pub Relocates : State K A → ℕ → ℕ → ℕ → ℕ → K → Moving K → State K A → Type 0
-  Relocates old seat page f row key (moving.On next) new = Nears C rules old page key (approach.On next) new ⊎ SeeksAtLeaf old seat page f row key (moving.On next) new
-  Relocates old seat page f row key (moving.Split full) new = Nears C rules old page key (approach.Split full) new
+  Relocates old seat page f row key (moving.On next) new = Nears rules old page key (approach.On next) new ⊎ SeeksAtLeaf old seat page f row key (moving.On next) new
+  Relocates old seat page f row key (moving.Split full) new = Nears rules old page key (approach.Split full) new
   Relocates old seat page f row key moving.Lost new = SeeksAtLeaf old seat page f row key moving.Lost new
   Relocates old seat page f row key (moving.Moved stamp) new = SeeksAtLeaf old seat page f row key (moving.Moved stamp) new

@@ -47,8 +47,8 @@ pub fn move_step<C: KeyClass, O: Outlet<C::Key>>(
     key: C::Key,
 ) -> Result<Moving<C::Key>, Refusal>
     ensures goes { IfOk result (λ moving.
-        Relocates C C.rules O.rule world.old seat page finder row key moving world.new) }
-    ensures one_event { IsOneEvent C O O.Consumer C.rules O.rule seat world.old world.new }
+        Relocates C.rules O.rule world.old seat page finder row key moving world.new) }
+    ensures one_event { IsOneEvent O.Consumer C.rules O.rule seat world.old world.new }
     ensures sound { IsSoundWorld C.rules.is_cover world.new }
     ensures mailboxes { KeepsMailboxes C.rules O.rule world.old world.new }
     ensures unchanged { OnErr result (world.new ≡ world.old) }
@@ -80,7 +80,7 @@ fn seek_from<C: KeyClass, O: Outlet<C::Key>>(
     requires may { MayPlace C.rules.is_cover world.old.search leaf key }
     ensures seeks { IfOk result (λ moving.
         SeeksFrom C.rules O.rule world.old seat leaf finder row key moving world.new) }
-    ensures one_event { IsOneEvent C O O.Consumer C.rules O.rule seat world.old world.new }
+    ensures one_event { IsOneEvent O.Consumer C.rules O.rule seat world.old world.new }
     ensures sound { IsSoundWorld C.rules.is_cover world.new }
     ensures mailboxes { KeepsMailboxes C.rules O.rule world.old world.new }
     ensures unchanged { OnErr result (world.new ≡ world.old) }

@@ -127,8 +127,8 @@ module _ {K A : Type 0} (rules : Rules K A) (rule : Rule) (first : State K A) (r
         (has_place first row (omega (arith, finders.few, length-append first.finders (u.looks.finder ∷ []))) (omega (arith, finders.last_serial)))
 
     -- the event Find begins it
-    begins_at_root : (C O E : Type 0) → Step {C = C} {O = O} {E = E} rules rule 0 first (event.Find row) (reply.Finder f) (looking first from_root)
-    begins_at_root C O E = record { passed = may_begin; change = record { key = u.looks.finder.key; made = its_key; serial = u.number; after = refl } }
+    begins_at_root : (E : Type 0) → Step {E = E} rules rule 0 first (event.Find row) (reply.Finder f) (looking first from_root)
+    begins_at_root E = record { passed = may_begin; change = record { key = u.looks.finder.key; made = its_key; serial = u.number; after = refl } }
 
     -- and it is under way
     goes_from_root : IsUnderWay rules rule first row f (looking first from_root)
@@ -143,8 +143,8 @@ module _ {K A : Type 0} (rules : Rules K A) (rule : Rule) (first : State K A) (r
         sound = there rules rule first row f now u
 
 -- the visits of a finder
-module _ (C O E : Type 0) {K A : Type 0} (rules : Rules K A) (rule : Rule) {same_key : K → K → Bool} {same_atom : A → A → Bool} (lawful : IsLawful rules same_key same_atom) (first : State K A) (row f : ℕ) (how : Ending K) (live : status_of first.commits row ≡ Live) (room : length first.commits < first.limit) (may : MayEnd rules.is_cover first.search how) where
-  visit_on : (how : Ending K) (s new : State K A) → first_failing (tests {C = C} rules rule s (event_of_ending f how)) ≡ None → SeeksOn rules rule s f new → Step {C = C} {O = O} {E = E} rules rule 0 s (event_of_ending f how) reply.Seeking new
+module _ (E : Type 0) {K A : Type 0} (rules : Rules K A) (rule : Rule) {same_key : K → K → Bool} {same_atom : A → A → Bool} (lawful : IsLawful rules same_key same_atom) (first : State K A) (row f : ℕ) (how : Ending K) (live : status_of first.commits row ≡ Live) (room : length first.commits < first.limit) (may : MayEnd rules.is_cover first.search how) where
+  visit_on : (how : Ending K) (s new : State K A) → first_failing (tests rules rule s (event_of_ending f how)) ≡ None → SeeksOn rules rule s f new → Step {E = E} rules rule 0 s (event_of_ending f how) reply.Seeking new
   visit_on ending.Delete s new passed on = record { passed = passed; change = on }
   visit_on (ending.Move leaf key) s new passed on = record { passed = passed; change = on }
 
@@ -152,7 +152,7 @@ module _ (C O E : Type 0) {K A : Type 0} (rules : Rules K A) (rule : Rule) {same
   record Arrives (from : State K A) : Type 0 where
     pub visits : ℕ
     pub there : State K A
-    pub goes_on : SeekingLeads C O E rules rule visits from f how there
+    pub goes_on : SeekingLeads E rules rule visits from f how there
     pub under_way : IsUnderWay rules rule first row f there
     pub page : ℕ
     pub finds : FindsRow there.search.tree under_way.looks.finder page
@@ -170,7 +170,7 @@ module _ (C O E : Type 0) {K A : Type 0} (rules : Rules K A) (rule : Rule) {same
         | inr on ↦
             let new : State K A = with_finder s on.0 in
             let seeks : SeeksOn rules rule s f new = record { before = k; later = on.0; is_open = is_open; page = next.0.page; further = on.1; after = refl } in
-            let step = visit_on how s new (passes rules rule first row f s u C how live room may) seeks in
+            let step = visit_on how s new (passes rules rule first row f s u how live room may) seeks in
             let serves = step_serves rules rule lawful 0 s u.sound (event_of_ending f how) reply.Seeking new step in
             let sound = step_sound rules rule lawful 0 s u.sound (event_of_ending f how) reply.Seeking new step in
             let fewer = gone_less rules rule first row f s u how new serves seeks sound in
@@ -228,26 +228,26 @@ module _ {K A : Type 0} (rules : Rules K A) (rule : Rule) (first : State K A) (r
     after = same_end b.finder b.page b.is_open b.finds (λ p r t n. after_move t p r n leaf (record { key = key; row = n; tag = b.row.tag; died = None })) (λ r. Move r key) new b.after;
   }
 
-  ends_too : (C O E : Type 0) (how : Ending K) (stamp : Stamp K) (new : State K A) → first_failing (tests {C = C} rules rule other (event_of_ending f how)) ≡ None
-      → Step {C = C} {O = O} {E = E} rules rule 0 now (event_of_ending f how) (reply.Committed stamp) new → Step {C = C} {O = O} {E = E} rules rule 0 other (event_of_ending f how) (reply.Committed stamp) new
-  ends_too C O E ending.Delete stamp new passed step = record { passed = passed; change = buries_too stamp new step.change }
-  ends_too C O E (ending.Move leaf key) stamp new passed step = record { passed = passed; change = moves_too leaf key stamp new step.change }
+  ends_too : (E : Type 0) (how : Ending K) (stamp : Stamp K) (new : State K A) → first_failing (tests rules rule other (event_of_ending f how)) ≡ None
+      → Step {E = E} rules rule 0 now (event_of_ending f how) (reply.Committed stamp) new → Step {E = E} rules rule 0 other (event_of_ending f how) (reply.Committed stamp) new
+  ends_too E ending.Delete stamp new passed step = record { passed = passed; change = buries_too stamp new step.change }
+  ends_too E (ending.Move leaf key) stamp new passed step = record { passed = passed; change = moves_too leaf key stamp new step.change }
 
 -- a finder under way that ends its row: the row ends by events
-pub ends_by_events : {C O K A E : Type 0} (rules : Rules K A) (rule : Rule) {same_key : K → K → Bool} {same_atom : A → A → Bool} → IsLawful rules same_key same_atom → (first : State K A) (row f : ℕ) (now : State K A) → IsUnderWay rules rule first row f now
+pub ends_by_events : {K A E : Type 0} (rules : Rules K A) (rule : Rule) {same_key : K → K → Bool} {same_atom : A → A → Bool} → IsLawful rules same_key same_atom → (first : State K A) (row f : ℕ) (now : State K A) → IsUnderWay rules rule first row f now
     → (how : Ending K) (stamp : Stamp K) (new : State K A) → status_of first.commits row ≡ Live → length first.commits < first.limit → MayEnd rules.is_cover first.search how
-    → Step {C = C} {O = O} {E = E} rules rule 0 now (event_of_ending f how) (reply.Committed stamp) new → EndsByEvents C O E rules rule first row how stamp.number new
-ends_by_events {C} {O} {K} {A} {E} rules rule lawful first row f now u how stamp new live room may step =
+    → Step {E = E} rules rule 0 now (event_of_ending f how) (reply.Committed stamp) new → EndsByEvents E rules rule first row how stamp.number new
+ends_by_events {K} {A} {E} rules rule lawful first row f now u how stamp new live room may step =
     let root : State K A = looking first (from_root rules rule first row f now u) in
-    let way = arrives C O E rules rule lawful first row f how live room may (suc (pages_to_seek f root)) root (goes_from_root rules rule first row f now u live) (omega arith) in
+    let way = arrives E rules rule lawful first row f how live room may (suc (pages_to_seek f root)) root (goes_from_root rules rule first row f now u live) (omega arith) in
     record {
       finder = f;
       found = root;
-      finds = begins_at_root rules rule first row f now u live C O E;
+      finds = begins_at_root rules rule first row f now u live E;
       visits = way.visits;
       there = way.there;
       goes_on = way.goes_on;
       stamp = stamp;
       number_is = refl;
-      ends = ends_too rules rule first row f now way.there u way.under_way way.page way.finds C O E how stamp new (passes rules rule first row f way.there way.under_way C how live room may) step;
+      ends = ends_too rules rule first row f now way.there u way.under_way way.page way.finds E how stamp new (passes rules rule first row f way.there way.under_way how live room may) step;
     }

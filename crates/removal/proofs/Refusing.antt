@@ -35,21 +35,21 @@ module _ {K A : Type 0} (is_cover : K → K → Bool) (old : State K A) where
   by_commits why true e failed = inr (sym (same_Some refusal.CommitsFull why failed), (let full : old.limit ≤ length old.commits = search (arith, e) in full))
   by_commits why false e failed = absurd cc
 
-module _ (C : Type 0) {K A : Type 0} (rules : Rules K A) (rule : Rule) where
-  tested : (old : State K A) (f : ℕ) (how : Ending K) → first_failing (tests {C = C} rules rule old (event_of_ending f how)) ≡ first_failing (visit_tests old f (further rules.is_cover old how))
+module _ {K A : Type 0} (rules : Rules K A) (rule : Rule) where
+  tested : (old : State K A) (f : ℕ) (how : Ending K) → first_failing (tests rules rule old (event_of_ending f how)) ≡ first_failing (visit_tests old f (further rules.is_cover old how))
   unfolding further
   tested old f ending.Delete = refl
   tested old f (ending.Move leaf key) = refl
 
-  memory : (old : State K A) (f : ℕ) (why : Refusal) (how : Ending K) → RefusesLater {C = C} rules rule old (event_of_ending f how) why → why ≡ refusal.OutOfMemory
+  memory : (old : State K A) (f : ℕ) (why : Refusal) (how : Ending K) → RefusesLater rules rule old (event_of_ending f how) why → why ≡ refusal.OutOfMemory
   memory old f why ending.Delete h = h.memory
   memory old f why (ending.Move leaf key) h = h.memory
 
-pub refused_step : {C K A : Type 0} (rules : Rules K A) (rule : Rule) (old new : State K A) (row f : ℕ) (why : Refusal) (k : OpenFinder K) (how : Ending K)
-    → status_of old.commits row ≡ Live → finder_at old f ≡ Some k → k.row ≡ row → MayEnd rules.is_cover old.search how → IsRefused {C = C} rules rule old (event_of_ending f how) why new → RefusesCommit old why
-refused_step {C} rules rule old new row f why k how live found same may r = elim r.cause [
-  | inl failed ↦ by_place (is_at_row old.search.tree k) refl (sym (tested C rules rule old f how) ∙ failed)
-  | inr later ↦ inl (memory C rules rule old f why how later.1)
+pub refused_step : {K A : Type 0} (rules : Rules K A) (rule : Rule) (old new : State K A) (row f : ℕ) (why : Refusal) (k : OpenFinder K) (how : Ending K)
+    → status_of old.commits row ≡ Live → finder_at old f ≡ Some k → k.row ≡ row → MayEnd rules.is_cover old.search how → IsRefused rules rule old (event_of_ending f how) why new → RefusesCommit old why
+refused_step rules rule old new row f why k how live found same may r = elim r.cause [
+  | inl failed ↦ by_place (is_at_row old.search.tree k) refl (sym (tested rules rule old f how) ∙ failed)
+  | inr later ↦ inl (memory rules rule old f why how later.1)
 ]
   where
     alive : is_ended old.commits k.row ≡ false

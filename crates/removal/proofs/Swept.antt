@@ -234,8 +234,8 @@ module _ {K A : Type 0} (rules : Rules K A) (rule : Rule) where
         nothing = (h.sound.tree.sound.shape page within).inner level
 
     -- a leaf is swept
-    pub swept_leaf : {C O E : Type 0} (new : State K A) (count : ℕ) → page < length old.search.tree.pages → ServesAll {C = C} {O = O} {E = E} rules rule now (event.Sweep page) (reply.Swept count) new → SweepsLeaf now page count new → IsSoundWorld rules.is_cover new → HasSwept old (page + 1) (number + count) new
-    swept_leaf {C} {O} {E} new count l serves s sound = record {
+    pub swept_leaf : {E : Type 0} (new : State K A) (count : ℕ) → page < length old.search.tree.pages → ServesAll {E = E} rules rule now (event.Sweep page) (reply.Swept count) new → SweepsLeaf now page count new → IsSoundWorld rules.is_cover new → HasSwept old (page + 1) (number + count) new
+    swept_leaf {E} new count l serves s sound = record {
       horizon = h.horizon;
       is = h.is;
       gone = h.gone ++ lost h.horizon rows;
@@ -260,7 +260,7 @@ module _ {K A : Type 0} (rules : Rules K A) (rule : Rule) where
       ];
       sound = sound;
       rests = rests_trans rules rule old now new h.rests
-          (step_rests {C = C} {O = O} {E = E} rules rule now (event.Sweep page) (reply.Swept count) new serves (λ c. refl) (ap (λ s. s.limit) s.after) (ap (λ s. s.search.limit) s.after)
+          (step_rests {E = E} rules rule now (event.Sweep page) (reply.Swept count) new serves (λ c. refl) (ap (λ s. s.limit) s.after) (ap (λ s. s.search.limit) s.after)
           (omega (arith, pages)) (ap (λ s. s.last) s.after) (ap (λ s. s.cursors) s.after));
       commits = ap (λ s. s.commits) s.after ∙ h.commits;
       pages = pages ∙ h.pages;
@@ -300,7 +300,7 @@ module _ {K A : Type 0} (rules : Rules K A) (rule : Rule) where
         small = omega (arith, counted, (tree_sound.shape page within).fits, h.sound.tree.fan_limit)
 
     -- a sweep of a leaf is refused for want of memory alone
-    pub sweep_refused : {C : Type 0} (new : State K A) (why : Refusal) → is_leaf now.search.tree page ≡ true → IsRefused {C = C} rules rule now (event.Sweep page) why new → (why ≡ refusal.OutOfMemory) × HasSwept old page number new
+    pub sweep_refused : (new : State K A) (why : Refusal) → is_leaf now.search.tree page ≡ true → IsRefused rules rule now (event.Sweep page) why new → (why ≡ refusal.OutOfMemory) × HasSwept old page number new
     sweep_refused new why leaf r = (
       elim r.cause [
         | inl failed ↦ absurd (let e : None ≡ Some why = sym passed ∙ failed in cc)

@@ -106,9 +106,9 @@ module _ {K A : Type 0} (rules : Rules K A) (rule : Rule) where
   }
 
 -- nothing is taken of a cursor by a visit of a finder
-untaken : {C O K A E : Type 0} (f : ℕ) (how : Ending K) (r : Reply C O K A E) (c : ℕ) → taken_by {A = A} c (event_of_ending f how, r) ≡ None
-untaken f ending.Delete r c = refl
-untaken f (ending.Move leaf key) r c = refl
+untaken : (A : Type 0) {K E : Type 0} (f : ℕ) (how : Ending K) (r : Reply K E) (c : ℕ) → taken_by {A = A} c (event_of_ending f how, r) ≡ None
+untaken A f ending.Delete r c = refl
+untaken A f (ending.Move leaf key) r c = refl
 
 module _ {K A : Type 0} where
   -- what a visit that meets its row makes of a world, but for the pages
@@ -239,8 +239,8 @@ module _ {K A : Type 0} (rules : Rules K A) (rule : Rule) (first : State K A) (r
         ∙ ap {A = List (OpenFinder K)} {B = State K A} (λ ks. record first { finders = ks; last_finder = first.last_finder + 1 }) (looking_put rules.is_cover first k u.looks.serial there on.later later_serial)
 
   -- where it goes on, it is under way, with fewer pages left
-  pub gone_on : {C O E : Type 0} (how : Ending K) (new : State K A) → ServesAll {C = C} {O = O} {E = E} rules rule now (event_of_ending f how) reply.Seeking new → SeeksOn rules rule now f new → IsSoundWorld rules.is_cover new → IsUnderWay rules rule first row f new
-  gone_on {C} {O} {E} how new serves on sound = record {
+  pub gone_on : {E : Type 0} (how : Ending K) (new : State K A) → ServesAll {E = E} rules rule now (event_of_ending f how) reply.Seeking new → SeeksOn rules rule now f new → IsSoundWorld rules.is_cover new → IsUnderWay rules rule first row f new
+  gone_on {E} how new serves on sound = record {
     looks = record {
       finder = on.later;
       row_is = ap (λ (x : OpenFinder K). x.row) on.further.after ∙ ap (λ (x : OpenFinder K). x.row) (before_is new on) ∙ u.looks.row_is;
@@ -250,18 +250,18 @@ module _ {K A : Type 0} (rules : Rules K A) (rule : Rule) (first : State K A) (r
     number = u.number;
     sound = sound;
     rests = rests_trans rules rule first now new u.rests
-        (step_rests {C = C} {O = O} {E = E} rules rule now (event_of_ending f how) reply.Seeking new serves (untaken {C = C} {O = O} {E = E} f how reply.Seeking) (ap (λ s. s.limit) on.after) (ap (λ s. s.search.limit) on.after)
+        (step_rests {E = E} rules rule now (event_of_ending f how) reply.Seeking new serves (untaken A {E = E} f how reply.Seeking) (ap (λ s. s.limit) on.after) (ap (λ s. s.search.limit) on.after)
         (let e = ap (λ s. length s.search.tree.pages) on.after in omega (arith, e)) (ap (λ s. s.last) on.after) (ap (λ s. s.cursors) on.after));
   }
 
   -- its row, once it is met, ends
-  pub met : {C O E : Type 0} (how : Ending K) (stamp : Stamp K) (new : State K A) → ServesAll {C = C} {O = O} {E = E} rules rule now (event_of_ending f how) (reply.Committed stamp) new
+  pub met : {E : Type 0} (how : Ending K) (stamp : Stamp K) (new : State K A) → ServesAll {E = E} rules rule now (event_of_ending f how) (reply.Committed stamp) new
       → (m : IsMet now f how stamp new) → AddsDeath now m.finder.row new → Ends rules rule first row how stamp.number new
-  met {C} {O} {E} how stamp new serves m dead = record {
+  met {E} how stamp new serves m dead = record {
     number_is = m.number ∙ ap (λ s. length s.commits + 1) u.looks.is;
     commits = m.commits ∙ ap (λ s. s.commits ++ write_of_ending m.finder.row how ∷ []) u.looks.is ∙ ap (λ r. first.commits ++ write_of_ending r how ∷ []) row_is;
     rests = rests_trans rules rule first now new u.rests
-        (step_rests {C = C} {O = O} {E = E} rules rule now (event_of_ending f how) (reply.Committed stamp) new serves (untaken {C = C} {O = O} {E = E} f how (reply.Committed stamp)) m.limit m.page_limit (omega (arith, m.pages)) m.last m.cursors);
+        (step_rests {E = E} rules rule now (event_of_ending f how) (reply.Committed stamp) new serves (untaken A {E = E} f how (reply.Committed stamp)) m.limit m.page_limit (omega (arith, m.pages)) m.last m.cursors);
     dead = subst (λ r. IsPermutation ((r, length first.commits + 1) ∷ deaths first.search.tree) (deaths new.search.tree)) row_is
         (subst (λ s. IsPermutation ((m.finder.row, length s.commits + 1) ∷ deaths s.search.tree) (deaths new.search.tree)) u.looks.is dead);
     pages = m.pages ∙ ap (λ s. length s.search.tree.pages) u.looks.is;
@@ -276,9 +276,9 @@ module _ {K A : Type 0} (rules : Rules K A) (rule : Rule) (first : State K A) (r
       row_is = its_row m.finder m.is_open
 
   -- a visit passes its tests
-  pub passes : (C : Type 0) (how : Ending K) → status_of first.commits row ≡ Live → length first.commits < first.limit → MayEnd rules.is_cover first.search how
-      → first_failing (tests {C = C} rules rule now (event_of_ending f how)) ≡ None
-  passes C how live room may = by_ending how (subst (λ s. MayEnd rules.is_cover s.search how) (sym u.looks.is) may)
+  pub passes : (how : Ending K) → status_of first.commits row ≡ Live → length first.commits < first.limit → MayEnd rules.is_cover first.search how
+      → first_failing (tests rules rule now (event_of_ending f how)) ≡ None
+  passes how live room may = by_ending how (subst (λ s. MayEnd rules.is_cover s.search how) (sym u.looks.is) may)
     where
       alive : is_ended now.commits k.row ≡ false
       alive = ap (λ s. is_ended s.commits k.row) u.looks.is ∙ ap (is_ended first.commits) u.looks.row_is ∙ live_kept first.commits row live
@@ -286,30 +286,30 @@ module _ {K A : Type 0} (rules : Rules K A) (rule : Rule) (first : State K A) (r
       open_room : length now.commits < now.limit
       open_room = let e = ap (λ s. s.limit) u.looks.is in let g = ap (λ s. length s.commits) u.looks.is in omega (arith, e, g, room)
 
-      by_ending : (how : Ending K) → MayEnd rules.is_cover now.search how → first_failing (tests {C = C} rules rule now (event_of_ending f how)) ≡ None
+      by_ending : (how : Ending K) → MayEnd rules.is_cover now.search how → first_failing (tests rules rule now (event_of_ending f how)) ≡ None
       by_ending ending.Delete may = visit_passes now f k its_finder alive (commit_tests now) (commits_may now open_room)
       by_ending (ending.Move leaf key) may =
           visit_passes now f k its_finder alive (place_tests rules.is_cover now.search leaf key ++ commit_tests now)
           (failing_later (place_tests rules.is_cover now.search leaf key) (commit_tests now) may ∙ commits_may now open_room)
 
   -- it is refused for want of memory alone
-  pub refused : {C : Type 0} (how : Ending K) (why : Refusal) (new : State K A) → status_of first.commits row ≡ Live → length first.commits < first.limit → MayEnd rules.is_cover first.search how
-      → IsRefused {C = C} rules rule now (event_of_ending f how) why new → (why ≡ refusal.OutOfMemory) × (new ≡ now)
-  refused {C} how why new live room may r = (
+  pub refused : (how : Ending K) (why : Refusal) (new : State K A) → status_of first.commits row ≡ Live → length first.commits < first.limit → MayEnd rules.is_cover first.search how
+      → IsRefused rules rule now (event_of_ending f how) why new → (why ≡ refusal.OutOfMemory) × (new ≡ now)
+  refused how why new live room may r = (
     elim r.cause [
-      | inl failed ↦ absurd (let e : None ≡ Some why = sym (passes C how live room may) ∙ failed in cc)
+      | inl failed ↦ absurd (let e : None ≡ Some why = sym (passes how live room may) ∙ failed in cc)
       | inr later ↦ memory how later.1
     ],
     r.unchanged,
   )
     where
-      memory : (how : Ending K) → RefusesLater {C = C} rules rule now (event_of_ending f how) why → why ≡ refusal.OutOfMemory
+      memory : (how : Ending K) → RefusesLater rules rule now (event_of_ending f how) why → why ≡ refusal.OutOfMemory
       memory ending.Delete h = h.memory
       memory (ending.Move leaf key) h = h.memory
 
   -- ended, it leaves the world as it was but for its serial
-  pub ended : {C O E : Type 0} (new : State K A) (r : Reply C O K A E) → Step rules rule 0 now (event.Unfind f) r new → Leaves first new
-  ended {C} {O} {E} new r step = record {
+  pub ended : {E : Type 0} (new : State K A) (r : Reply K E) → Step rules rule 0 now (event.Unfind f) r new → Leaves first new
+  ended {E} new r step = record {
     last_finder = first.last_finder + 1;
     few = omega arith;
     is = done r step
@@ -318,40 +318,40 @@ module _ {K A : Type 0} (rules : Rules K A) (rule : Rule) (first : State K A) (r
         ∙ ap {A = List (OpenFinder K)} {B = State K A} (λ ks. record first { finders = ks; last_finder = first.last_finder + 1 }) (looking_without rules.is_cover first k u.looks.serial there);
   }
     where
-      done : (r : Reply C O K A E) → Step rules rule 0 now (event.Unfind f) r new → new ≡ record now { finders = without (λ x. x.serial) f now.finders }
+      done : (r : Reply K E) → Step rules rule 0 now (event.Unfind f) r new → new ≡ record now { finders = without (λ x. x.serial) f now.finders }
       done reply.Unfound d = d.change
       done (reply.Refused why) d = absurd (elim d.cause [
         | inl failed ↦ let e : None ≡ Some why = sym passed ∙ failed in cc
         | inr later ↦ later.1
       ])
         where
-          passed : first_failing (tests {C = C} rules rule now (event.Unfind f)) ≡ None
+          passed : first_failing (tests rules rule now (event.Unfind f)) ≡ None
           passed = rw its_finder refl
       done other d = absurd d.change
 
 -- a visit by its answer
-module _ {C O K A E : Type 0} (rules : Rules K A) (rule : Rule) (now : State K A) (f : ℕ) (how : Ending K) where
-  pub went_on : (made : Result (Option (Stamp K)) Refusal) (new : State K A) → made ≡ Ok None → SeeksToEnd C O E rules rule 0 now f how made new → IsOneStep C O E rules rule 0 now (event_of_ending f how) reply.Seeking new
-  went_on made new is visits = subst (λ m. SeeksToEnd C O E rules rule 0 now f how m new) is visits
+module _ {K A E : Type 0} (rules : Rules K A) (rule : Rule) (now : State K A) (f : ℕ) (how : Ending K) where
+  pub went_on : (made : Result (Option (Stamp K)) Refusal) (new : State K A) → made ≡ Ok None → SeeksToEnd E rules rule 0 now f how made new → IsOneStep E rules rule 0 now (event_of_ending f how) reply.Seeking new
+  went_on made new is visits = subst (λ m. SeeksToEnd E rules rule 0 now f how m new) is visits
 
-  pub met_row : (stamp : Stamp K) (made : Result (Option (Stamp K)) Refusal) (new : State K A) → made ≡ Ok (Some stamp) → SeeksToEnd C O E rules rule 0 now f how made new
-      → IsOneStep C O E rules rule 0 now (event_of_ending f how) (reply.Committed stamp) new
-  met_row stamp made new is visits = subst (λ m. SeeksToEnd C O E rules rule 0 now f how m new) is visits
+  pub met_row : (stamp : Stamp K) (made : Result (Option (Stamp K)) Refusal) (new : State K A) → made ≡ Ok (Some stamp) → SeeksToEnd E rules rule 0 now f how made new
+      → IsOneStep E rules rule 0 now (event_of_ending f how) (reply.Committed stamp) new
+  met_row stamp made new is visits = subst (λ m. SeeksToEnd E rules rule 0 now f how m new) is visits
 
 -- a visit by its reply: it goes on, or its row ends
-module _ {C O K A E : Type 0} (rules : Rules K A) (rule : Rule) where
-  pub goes_on : (now : State K A) (f : ℕ) (how : Ending K) (new : State K A) → Step {C = C} {O = O} {E = E} rules rule 0 now (event_of_ending f how) reply.Seeking new → SeeksOn rules rule now f new
+module _ {K A E : Type 0} (rules : Rules K A) (rule : Rule) where
+  pub goes_on : (now : State K A) (f : ℕ) (how : Ending K) (new : State K A) → Step {E = E} rules rule 0 now (event_of_ending f how) reply.Seeking new → SeeksOn rules rule now f new
   goes_on now f ending.Delete new d = d.change
   goes_on now f (ending.Move leaf key) new d = d.change
 
   pub ends_by : (first : State K A) (row f : ℕ) (now : State K A) → IsUnderWay rules rule first row f now → (how : Ending K) (stamp : Stamp K) (new : State K A) → status_of first.commits row ≡ Live → MayEnd rules.is_cover first.search how
-      → ServesAll {C = C} {O = O} {E = E} rules rule now (event_of_ending f how) (reply.Committed stamp) new → Step {C = C} {O = O} {E = E} rules rule 0 now (event_of_ending f how) (reply.Committed stamp) new → Ends rules rule first row how stamp.number new
+      → ServesAll {E = E} rules rule now (event_of_ending f how) (reply.Committed stamp) new → Step {E = E} rules rule 0 now (event_of_ending f how) (reply.Committed stamp) new → Ends rules rule first row how stamp.number new
   unfolding met_delete met_move
   ends_by first row f now u ending.Delete stamp new live may serves d =
-      met rules rule first row f now u {C = C} {O = O} {E = E} ending.Delete stamp new serves (met_delete now f stamp new d.change)
+      met rules rule first row f now u {E = E} ending.Delete stamp new serves (met_delete now f stamp new d.change)
       (delete_dies rules.is_cover now u.sound f row (lives_still rules rule first row f now u live) stamp new d.change (its_row rules rule first row f now u d.change.finder d.change.is_open))
   ends_by first row f now u (ending.Move leaf key) stamp new live may serves d =
-      met rules rule first row f now u {C = C} {O = O} {E = E} (ending.Move leaf key) stamp new serves (met_move now f leaf key stamp new d.change)
+      met rules rule first row f now u {E = E} (ending.Move leaf key) stamp new serves (met_move now f leaf key stamp new d.change)
       (move_dies rules.is_cover now u.sound f row (lives_still rules rule first row f now u live) leaf key stamp new (subst (λ s. PlacePasses rules.is_cover s.search leaf key) (sym u.looks.is) may) d.change
       (its_row rules rule first row f now u d.change.finder d.change.is_open))
 
@@ -366,8 +366,8 @@ fewer_left rules rule now new f sound on found =
     omega (arith, less, before, later)
 
 -- a visit that goes on
-pub gone_less : {C O K A E : Type 0} (rules : Rules K A) (rule : Rule) (first : State K A) (row f : ℕ) (now : State K A) → IsUnderWay rules rule first row f now
-    → (how : Ending K) (new : State K A) → ServesAll {C = C} {O = O} {E = E} rules rule now (event_of_ending f how) reply.Seeking new → SeeksOn rules rule now f new → IsSoundWorld rules.is_cover new → pages_to_seek f new < pages_to_seek f now
+pub gone_less : {K A E : Type 0} (rules : Rules K A) (rule : Rule) (first : State K A) (row f : ℕ) (now : State K A) → IsUnderWay rules rule first row f now
+    → (how : Ending K) (new : State K A) → ServesAll {E = E} rules rule now (event_of_ending f how) reply.Seeking new → SeeksOn rules rule now f new → IsSoundWorld rules.is_cover new → pages_to_seek f new < pages_to_seek f now
 unfolding gone_on
 gone_less rules rule first row f now u how new serves on sound =
     fewer_left rules rule now new f u.sound on (its_finder rules rule first row f new (gone_on rules rule first row f now u how new serves on sound))
@@ -388,7 +388,7 @@ module _ {K A : Type 0} where
       ]
 
   -- a finder of a live row is refused for its want of a place exactly where there is none
-  pub refused_finder : {C : Type 0} (rules : Rules K A) (rule : Rule) (old : State K A) (row : ℕ) (why : Refusal) (new : State K A) → IsLegal new.commits → status_of old.commits row ≡ Live → IsRefused {C = C} rules rule old (event.Find row) why new
+  pub refused_finder : (rules : Rules K A) (rule : Rule) (old : State K A) (row : ℕ) (why : Refusal) (new : State K A) → IsLegal new.commits → status_of old.commits row ≡ Live → IsRefused rules rule old (event.Find row) why new
       → (why ≡ refusal.FindersFull) ↔ IsFullOfFinders old
   refused_finder rules rule old row why new legal live r = by_test full refl
     where
@@ -418,7 +418,7 @@ module _ {K A : Type 0} where
           )
 
   -- nothing else refuses it but want of memory
-  pub refuses_finder : {C : Type 0} (rules : Rules K A) (rule : Rule) (old : State K A) (row : ℕ) (why : Refusal) (new : State K A) → IsLegal new.commits → status_of old.commits row ≡ Live → IsRefused {C = C} rules rule old (event.Find row) why new
+  pub refuses_finder : (rules : Rules K A) (rule : Rule) (old : State K A) (row : ℕ) (why : Refusal) (new : State K A) → IsLegal new.commits → status_of old.commits row ≡ Live → IsRefused rules rule old (event.Find row) why new
       → RefusesFinder old why
   refuses_finder rules rule old row why new legal live r = elim r.cause [
     | inl failed ↦ by_test full refl (sym last_test ∙ failed)

@@ -37,20 +37,20 @@ module _ {K A : Type 0} (old : State K A) (f row : ℕ) where
           finders = ap (λ s. s.finders) m.after;
         }
 
-module _ {C O K A E : Type 0} (rules : Rules K A) (rule : Rule) (old : State K A) (seat f : ℕ) where
+module _ {K A E : Type 0} (rules : Rules K A) (rule : Rule) (old : State K A) (seat f : ℕ) where
   -- it goes on
-  pub gone_on : (how : Ending K) (made : Option (Stamp K)) (new : State K A) → made ≡ None → SeeksToEnd C O E rules rule seat old f how (Ok made) new → SeeksOn rules rule old f new
-  gone_on how made new is visits = by_ending how (subst (λ m. SeeksToEnd C O E rules rule seat old f how (Ok m) new) is visits)
+  pub gone_on : (how : Ending K) (made : Option (Stamp K)) (new : State K A) → made ≡ None → SeeksToEnd E rules rule seat old f how (Ok made) new → SeeksOn rules rule old f new
+  gone_on how made new is visits = by_ending how (subst (λ m. SeeksToEnd E rules rule seat old f how (Ok m) new) is visits)
     where
-      by_ending : (how : Ending K) → SeeksToEnd C O E rules rule seat old f how (Ok None) new → SeeksOn rules rule old f new
+      by_ending : (how : Ending K) → SeeksToEnd E rules rule seat old f how (Ok None) new → SeeksOn rules rule old f new
       by_ending ending.Delete visit = visit.step.change
       by_ending (ending.Move leaf key) visit = visit.step.change
 
   -- it meets its row
-  pub met_row : (row : ℕ) → IsFinderOf old f row → (how : Ending K) (made : Option (Stamp K)) (stamp : Stamp K) (new : State K A) → made ≡ Some stamp → SeeksToEnd C O E rules rule seat old f how (Ok made) new
+  pub met_row : (row : ℕ) → IsFinderOf old f row → (how : Ending K) (made : Option (Stamp K)) (stamp : Stamp K) (new : State K A) → made ≡ Some stamp → SeeksToEnd E rules rule seat old f how (Ok made) new
       → EndsMet old seat f row how stamp new
-  met_row row finder how made stamp new is visits = by_ending how (subst (λ m. SeeksToEnd C O E rules rule seat old f how (Ok m) new) is visits)
+  met_row row finder how made stamp new is visits = by_ending how (subst (λ m. SeeksToEnd E rules rule seat old f how (Ok m) new) is visits)
     where
-      by_ending : (how : Ending K) → SeeksToEnd C O E rules rule seat old f how (Ok (Some stamp)) new → EndsMet old seat f row how stamp new
+      by_ending : (how : Ending K) → SeeksToEnd E rules rule seat old f how (Ok (Some stamp)) new → EndsMet old seat f row how stamp new
       by_ending ending.Delete visit = deleted old f row finder seat stamp new visit.step.change
       by_ending (ending.Move leaf key) visit = moved old f row finder seat stamp new leaf key visit.step.change

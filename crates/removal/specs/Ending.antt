@@ -28,16 +28,16 @@ module _ {K : Type 0} where
   MayEnd is_cover search ending.Delete = Unit {0}
   MayEnd is_cover search (ending.Move leaf key) = PlacePasses is_cover search leaf key
 
-module _ {C K A : Type 0} where
+module _ {K A : Type 0} where
   -- a visit of a finder that ends its row in this way if it meets it
-  abbrev pub event_of_ending : ℕ → Ending K → Event C K A
+  abbrev pub event_of_ending : ℕ → Ending K → Event K A
   event_of_ending f ending.Delete = event.Seek f
   event_of_ending f (ending.Move leaf key) = event.Move f leaf key
 
-module _ (C O E : Type 0) {K A : Type 0} (rules : Rules K A) (rule : Rule) where
+module _ (E : Type 0) {K A : Type 0} (rules : Rules K A) (rule : Rule) where
   -- a finder visits a page, and ends its row in this way if it meets it
   abbrev pub SeeksToEnd : ℕ → State K A → ℕ → Ending K → Result (Option (Stamp K)) Refusal → State K A → Type 0
-  SeeksToEnd seat old f how made new = IsOneStep C O E rules rule seat old (event_of_ending f how) (reply_of_visit C O E made) new
+  SeeksToEnd seat old f how made new = IsOneStep E rules rule seat old (event_of_ending f how) (reply_of_visit E made) new
 
 module _ {K A : Type 0} where
   -- the tree has one more dead row, which the next commit ended

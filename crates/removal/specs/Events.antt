@@ -10,21 +10,21 @@ use Rattle.world.specs.Steps.{Step}
 use Rattle.removal.specs.Ending.{event_of_ending}
 use Rattle.removal.specs.declared.ending.Ending.{Ending}
 
-module _ (C O E : Type 0) {K A : Type 0} (rules : Rules K A) (rule : Rule) where
+module _ (E : Type 0) {K A : Type 0} (rules : Rules K A) (rule : Rule) where
   -- the finder visits so many pages without its row, each by an event
   abbrev pub SeekingLeads : ℕ → State K A → ℕ → Ending K → State K A → Type 0
   SeekingLeads zero old f how new = new ≡ old
   SeekingLeads (suc n) old f how new =
-      (mid : State K A) × Step {C = C} {O = O} {E = E} rules rule 0 old (event_of_ending f how) reply.Seeking mid × SeekingLeads n mid f how new
+      (mid : State K A) × Step {E = E} rules rule 0 old (event_of_ending f how) reply.Seeking mid × SeekingLeads n mid f how new
 
   -- the events that end the row in this way, as that commit: Find, then visits, the last of which commits
   pub record EndsByEvents (old : State K A) (row : ℕ) (how : Ending K) (number : ℕ) (new : State K A) : Type 0 where
     pub finder : ℕ
     pub found : State K A
-    pub finds : Step {C = C} {O = O} {E = E} rules rule 0 old (event.Find row) (reply.Finder finder) found
+    pub finds : Step {E = E} rules rule 0 old (event.Find row) (reply.Finder finder) found
     pub visits : ℕ
     pub there : State K A
     pub goes_on : SeekingLeads visits found finder how there
     pub stamp : Stamp K
     pub number_is : stamp.number ≡ number
-    pub ends : Step {C = C} {O = O} {E = E} rules rule 0 there (event_of_ending finder how) (reply.Committed stamp) new
+    pub ends : Step {E = E} rules rule 0 there (event_of_ending finder how) (reply.Committed stamp) new

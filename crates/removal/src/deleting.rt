@@ -28,7 +28,7 @@ pub fn delete<C: KeyClass, O: Outlet<C::Key>>(
     ensures number { IfOk result (λ n. n ≡ length world.old.commits + 1) }
     ensures committed { OnOk result (AddsCommit world.old (Write.Delete row) world.new) }
     ensures events { IfOk result (λ n.
-        EndsByEvents C O O.Consumer C.rules O.rule world.old row Ending.Delete n world.new) }
+        EndsByEvents O.Consumer C.rules O.rule world.old row Ending.Delete n world.new) }
     ensures unchanged { OnErr result (world.new.commits ≡ world.old.commits) }
     ensures rests { Rests C.rules O.rule world.old world.new }
     ensures dead { OnOk result (AddsDeath world.old row world.new) }

@@ -30,7 +30,7 @@ pub(crate) fn visit<C: KeyClass, O: Outlet<C::Key>>(
     finder: u64,
     ending: Ending<C::Key>,
 ) -> Result<Option<Stamped<C::Key>>, Refusal>
-    ensures { SeeksToEnd C O O.Consumer C.rules O.rule
+    ensures { SeeksToEnd O.Consumer C.rules O.rule
         seat world.old finder ending result world.new }
 {
     match ending {
@@ -81,7 +81,7 @@ pub fn end_row<C: KeyClass, O: Outlet<C::Key>>(
     requires may { MayEnd C.rules.is_cover world.old.search ending }
     ensures ended { IfOk result (λ n. Ends C.rules O.rule world.old row ending n world.new) }
     ensures events { IfOk result (λ n.
-        EndsByEvents C O O.Consumer C.rules O.rule world.old row ending n world.new) }
+        EndsByEvents O.Consumer C.rules O.rule world.old row ending n world.new) }
     ensures left { OnErr result (Leaves world.old world.new) }
     ensures unfound { IfErr result (λ why. why ≢ OutOfMemory → world.new ≡ world.old) }
     ensures full { (result ≡ Err FindersFull) ↔ IsFullOfFinders world.old }

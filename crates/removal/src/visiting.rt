@@ -37,7 +37,7 @@ pub fn find_row<C: KeyClass, O: Outlet<C::Key>>(
 ) -> Result<u64, Refusal>
     ensures serial { IfOk result (λ finder. finder ≡ world.old.last_finder + 1) }
     ensures looks { OnOk result (Looks world.old row world.new) }
-    ensures one_event { IsOneEvent C O O.Consumer C.rules O.rule 0 world.old world.new }
+    ensures one_event { IsOneEvent O.Consumer C.rules O.rule 0 world.old world.new }
     ensures sound { IsSoundWorld C.rules.is_cover world.new }
     ensures mailboxes { KeepsMailboxes C.rules O.rule world.old world.new }
     ensures unchanged { OnErr result (world.new ≡ world.old) }
@@ -62,7 +62,7 @@ fn find_live_row<C: KeyClass, O: Outlet<C::Key>>(
     requires live { NamesLive world.old.commits row }
     ensures serial { IfOk result (λ finder. finder ≡ world.old.last_finder + 1) }
     ensures looks { OnOk result (Looks world.old row world.new) }
-    ensures one_event { IsOneEvent C O O.Consumer C.rules O.rule 0 world.old world.new }
+    ensures one_event { IsOneEvent O.Consumer C.rules O.rule 0 world.old world.new }
     ensures sound { IsSoundWorld C.rules.is_cover world.new }
     ensures mailboxes { KeepsMailboxes C.rules O.rule world.old world.new }
     ensures unchanged { OnErr result (world.new ≡ world.old) }
@@ -86,7 +86,7 @@ pub fn seek_row<C: KeyClass, O: Outlet<C::Key>>(
 ) -> Result<Search<C::Key>, Refusal>
     ensures seeks { IfOk result (λ search.
         Seeks C.rules O.rule world.old seat finder row Ending.Delete search world.new) }
-    ensures one_event { IsOneEvent C O O.Consumer C.rules O.rule seat world.old world.new }
+    ensures one_event { IsOneEvent O.Consumer C.rules O.rule seat world.old world.new }
     ensures sound { IsSoundWorld C.rules.is_cover world.new }
     ensures mailboxes { KeepsMailboxes C.rules O.rule world.old world.new }
     ensures unchanged { OnErr result (world.new ≡ world.old) }
@@ -119,7 +119,7 @@ pub fn end_step<C: KeyClass, O: Outlet<C::Key>>(
     requires may { MayEnd C.rules.is_cover world.old.search ending }
     ensures seeks { IfOk result (λ search.
         Seeks C.rules O.rule world.old seat finder row ending search world.new) }
-    ensures one_event { IsOneEvent C O O.Consumer C.rules O.rule seat world.old world.new }
+    ensures one_event { IsOneEvent O.Consumer C.rules O.rule seat world.old world.new }
     ensures sound { IsSoundWorld C.rules.is_cover world.new }
     ensures mailboxes { KeepsMailboxes C.rules O.rule world.old world.new }
     ensures unchanged { OnErr result (world.new ≡ world.old) }

@@ -7,6 +7,7 @@ use Rattle.std.proofs.Crossing.{crosses}
 use Rattle.std.proofs.alloc.Global.TheSendSync as heap
 use Rattle.std.specs.declared.clone.Clone as clone
 use Rattle.std.specs.declared.cmp.PartialEq as eq
+use Rattle.key_class.specs.declared.block.Block as block
 use Rattle.key_class.specs.declared.class.KeyClass as class
 use Rattle.key_class.proofs.pred.Pred.TheLaws.TheKnot as pred
 use Rattle.mailbox.proofs.ring.Ring.TheSendSync as ring
@@ -33,12 +34,12 @@ use Rattle.shared_feed.specs.contracts.shared.SharedFeed as SharedFeed
 use Rattle.store.specs.contracts.store.Store as Store
 use Rattle.store.specs.contracts.store.Store.TheInside as store
 
-module _ (C K A : RattleType) (c : class.Ghosts C.Denot K.Denot A.Denot) (kc : clone.Ghosts K.Denot) (kp : eq.Ghosts K.Denot) (ap : eq.Ghosts A.Denot) where
-  pub store_send : IsSend K → IsSync K → IsSend A → IsSync A → IsSend (Store.the_row C K A c kc kp ap)
-  store_send sk yk sa ya =
-      view_send (store.the_row C K A c kc kp ap) _ _ _ _
-      (recorded_send (store.the_field C K A c kc kp ap).row _ _ (store.the_type C K A c kc kp ap).to_one
-      (struct_send (shape (store.the_type C K A c kc kp ap)) (
+module _ (C K A B : RattleType) (c : class.Ghosts C.Denot K.Denot A.Denot B.Denot) (kc : clone.Ghosts K.Denot) (b : block.Ghosts B.Denot K.Denot) (bc : clone.Ghosts B.Denot) (kp : eq.Ghosts K.Denot) (ap : eq.Ghosts A.Denot) where
+  pub store_send : IsSend K → IsSync K → IsSend A → IsSync A → IsSend B → IsSync B → IsSend (Store.the_row C K A B c kc b bc kp ap)
+  store_send sk yk sa ya sb yb =
+      view_send (store.the_row C K A B c kc b bc kp ap) _ _ _ _
+      (recorded_send (store.the_field C K A B c kc b bc kp ap).row _ _ (store.the_type C K A B c kc b bc kp ap).to_one
+      (struct_send (shape (store.the_type C K A B c kc b bc kp ap)) (
         search (heap.the_field_send, crosses, sendable) depth 20,
         (
           search (world_send, tray.the_send, sendable) depth 20,
@@ -46,12 +47,12 @@ module _ (C K A : RattleType) (c : class.Ghosts C.Denot K.Denot A.Denot) (kc : c
         ),
       )))
 
-module _ (C K A : RattleType) (r : reach.Ghosts C.Denot K.Denot A.Denot) (c : class.Ghosts C.Denot K.Denot A.Denot) (kc : clone.Ghosts K.Denot) (kp : eq.Ghosts K.Denot) (ap : eq.Ghosts A.Denot) where
-  topics_send : IsSend K → IsSync K → IsSend A → IsSync A → IsSend (Topics.the_row C K A r c kc kp ap)
-  topics_send sk yk sa ya =
-      view_send (topics.the_row C K A r c kc kp ap) _ _ _ _
-      (recorded_send (topics.the_field C K A r c kc kp ap).row _ _ (topics.the_type C K A r c kc kp ap).to_one
-      (struct_send (shape (topics.the_type C K A r c kc kp ap)) (
+module _ (C K A B : RattleType) (r : reach.Ghosts C.Denot K.Denot A.Denot B.Denot) (c : class.Ghosts C.Denot K.Denot A.Denot B.Denot) (kc : clone.Ghosts K.Denot) (b : block.Ghosts B.Denot K.Denot) (bc : clone.Ghosts B.Denot) (kp : eq.Ghosts K.Denot) (ap : eq.Ghosts A.Denot) where
+  topics_send : IsSend K → IsSync K → IsSend A → IsSync A → IsSend B → IsSync B → IsSend (Topics.the_row C K A B r c kc b bc kp ap)
+  topics_send sk yk sa ya sb yb =
+      view_send (topics.the_row C K A B r c kc b bc kp ap) _ _ _ _
+      (recorded_send (topics.the_field C K A B r c kc b bc kp ap).row _ _ (topics.the_type C K A B r c kc b bc kp ap).to_one
+      (struct_send (shape (topics.the_type C K A B r c kc b bc kp ap)) (
         search (heap.the_field_send, crosses, sendable) depth 20,
         (
           search (slab.the_send, listeners.the_send, map.the_send, pred.crosses, heap.the_send, crosses, sendable) depth 20,
@@ -68,12 +69,12 @@ module _ (C K A : RattleType) (r : reach.Ghosts C.Denot K.Denot A.Denot) (c : cl
         ),
       )))
 
-  pub feed_send : IsSend K → IsSync K → IsSend A → IsSync A → IsSend (Feed.the_row C K A r c kc kp ap)
-  feed_send sk yk sa ya =
-      let inner = topics_send sk yk sa ya in
-      view_send (feed.the_row C K A r c kc kp ap) _ _ _ _
-      (recorded_send (feed.the_field C K A r c kc kp ap).row _ _ (feed.the_type C K A r c kc kp ap).to_one
-      (struct_send (shape (feed.the_type C K A r c kc kp ap)) (
+  pub feed_send : IsSend K → IsSync K → IsSend A → IsSync A → IsSend B → IsSync B → IsSend (Feed.the_row C K A B r c kc b bc kp ap)
+  feed_send sk yk sa ya sb yb =
+      let inner = topics_send sk yk sa ya sb yb in
+      view_send (feed.the_row C K A B r c kc b bc kp ap) _ _ _ _
+      (recorded_send (feed.the_field C K A B r c kc b bc kp ap).row _ _ (feed.the_type C K A B r c kc b bc kp ap).to_one
+      (struct_send (shape (feed.the_type C K A B r c kc b bc kp ap)) (
         search (heap.the_field_send, crosses, sendable) depth 20,
         (
           search sendable depth 20,
@@ -93,12 +94,12 @@ module _ (C K A : RattleType) (r : reach.Ghosts C.Denot K.Denot A.Denot) (c : cl
         ),
       )))
 
-module _ (C K A : RattleType) (c : class.Ghosts C.Denot K.Denot A.Denot) (kp : eq.Ghosts K.Denot) (ap : eq.Ghosts A.Denot) where
-  supply_send : IsSend K → IsSync K → IsSend A → IsSync A → IsSend (Supply.the_row C K A c kp ap)
-  supply_send sk yk sa ya =
-      view_send (supply.the_row C K A c kp ap) _ _ _ _
-      (recorded_send (supply.the_field C K A c kp ap).row _ _ (supply.the_type C K A c kp ap).to_one
-      (struct_send (shape (supply.the_type C K A c kp ap)) (
+module _ (C K A B : RattleType) (c : class.Ghosts C.Denot K.Denot A.Denot B.Denot) (b : block.Ghosts B.Denot K.Denot) (kp : eq.Ghosts K.Denot) (ap : eq.Ghosts A.Denot) where
+  supply_send : IsSend K → IsSync K → IsSend A → IsSync A → IsSend B → IsSync B → IsSend (Supply.the_row C K A B c b kp ap)
+  supply_send sk yk sa ya sb yb =
+      view_send (supply.the_row C K A B c b kp ap) _ _ _ _
+      (recorded_send (supply.the_field C K A B c b kp ap).row _ _ (supply.the_type C K A B c b kp ap).to_one
+      (struct_send (shape (supply.the_type C K A B c b kp ap)) (
         search (ring.the_send, crosses, sendable) depth 20,
         (
           search (pred.crosses, crosses, sendable) depth 20,
@@ -112,12 +113,12 @@ module _ (C K A : RattleType) (c : class.Ghosts C.Denot K.Denot A.Denot) (kp : e
         ),
       )))
 
-module _ (C L K A : RattleType) (r : reach.Ghosts C.Denot K.Denot A.Denot) (c : class.Ghosts C.Denot K.Denot A.Denot) (kc : clone.Ghosts K.Denot) (kp : eq.Ghosts K.Denot) (ap : eq.Ghosts A.Denot) (l : ledger.Ghosts L.Denot) (n : naming.Ghosts L.Denot) where
-  pub board_send : IsSend K → IsSync K → IsSend A → IsSync A → IsSend L → IsSync L → IsSend (Board.the_row C L K A r c kc kp ap l n)
-  board_send sk yk sa ya sl yl =
-      view_send (board.the_row C L K A r c kc kp ap l n) _ _ _ _
-      (recorded_send (board.the_field C L K A r c kc kp ap l n).row _ _ (board.the_type C L K A r c kc kp ap l n).to_one
-      (struct_send (shape (board.the_type C L K A r c kc kp ap l n)) (
+module _ (C L K A B : RattleType) (r : reach.Ghosts C.Denot K.Denot A.Denot B.Denot) (c : class.Ghosts C.Denot K.Denot A.Denot B.Denot) (kc : clone.Ghosts K.Denot) (b : block.Ghosts B.Denot K.Denot) (bc : clone.Ghosts B.Denot) (kp : eq.Ghosts K.Denot) (ap : eq.Ghosts A.Denot) (l : ledger.Ghosts L.Denot) (n : naming.Ghosts L.Denot) where
+  pub board_send : IsSend K → IsSync K → IsSend A → IsSync A → IsSend B → IsSync B → IsSend L → IsSync L → IsSend (Board.the_row C L K A B r c kc b bc kp ap l n)
+  board_send sk yk sa ya sb yb sl yl =
+      view_send (board.the_row C L K A B r c kc b bc kp ap l n) _ _ _ _
+      (recorded_send (board.the_field C L K A B r c kc b bc kp ap l n).row _ _ (board.the_type C L K A B r c kc b bc kp ap l n).to_one
+      (struct_send (shape (board.the_type C L K A B r c kc b bc kp ap l n)) (
         search (heap.the_field_send, crosses, sendable) depth 20,
         (
           search (feed_send, sendable) depth 20,
@@ -134,11 +135,11 @@ module _ (C L K A : RattleType) (r : reach.Ghosts C.Denot K.Denot A.Denot) (c : 
         ),
       )))
 
-  pub shared_feed_sync : IsSend K → IsSync K → IsSend A → IsSync A → IsSend L → IsSync L → IsSync (SharedFeed.the_row C L K A r c kc kp ap l n)
-  shared_feed_sync sk yk sa ya sl yl =
-      let board = board_send sk yk sa ya sl yl in
-      recorded_sync (SharedFeed.the_field C L K A r c kc kp ap l n).row _ _ (SharedFeed.the_type C L K A r c kc kp ap l n).to_one
-      (struct_sync (shape (SharedFeed.the_type C L K A r c kc kp ap l n)) (
+  pub shared_feed_sync : IsSend K → IsSync K → IsSend A → IsSync A → IsSend B → IsSync B → IsSend L → IsSync L → IsSync (SharedFeed.the_row C L K A B r c kc b bc kp ap l n)
+  shared_feed_sync sk yk sa ya sb yb sl yl =
+      let board = board_send sk yk sa ya sb yb sl yl in
+      recorded_sync (SharedFeed.the_field C L K A B r c kc b bc kp ap l n).row _ _ (SharedFeed.the_type C L K A B r c kc b bc kp ap l n).to_one
+      (struct_sync (shape (SharedFeed.the_type C L K A B r c kc b bc kp ap l n)) (
         search (heap.the_field_sync, crosses, sendable) depth 20,
         (
           search (board, crosses, sendable) depth 20,

@@ -1,5 +1,5 @@
 -- A store that is filled with the rows of another.
-use Rattle.std.proofs.Common.{◌≡◌, inl, inr, ◌+◌, ◌<◌, ℕ, Bool, false, not, List, [], ◌∷◌, ◌++◌, length, filter, map, take, get_or, refl, sym, ap, subst, ◌∙◌, arith}
+use Rattle.std.proofs.Common.{◌≡◌, Result, Ok, Err, inl, inr, ◌+◌, ◌<◌, ℕ, Bool, false, not, List, [], ◌∷◌, ◌++◌, length, filter, map, take, get_or, refl, sym, ap, subst, ◌∙◌, arith}
 use Rattle.std.specs.Prelude.{IsPermutation}
 use Rattle.std.proofs.lemmas.List.{length-map, length-take-le, map-append, take_more}
 use Rattle.std.proofs.lemmas.List.Sorted.{length_permutation}
@@ -48,6 +48,14 @@ module _ {K : Type 0} where
           ∙ ap (λ k. rows made ++ (record { row = k; key = r.key; tag = r.tag }) ∷ []) e
           ∙ ap (λ f. f ++ (record { row = 1 + length l; key = r.key; tag = r.tag }) ∷ []) h
           ∙ sym (numbered_push 1 l r)
+
+-- an error tells its reason
+pub same_reason : {X Y : Type 0} (x y : Y) → ◌≡◌ {A = Result X Y} (Err x) (Err y) → x ≡ y
+same_reason x y e = cc
+
+-- what was made is no error
+pub no_error : {X Y : Type 0} (x : X) (y : Y) → ◌≡◌ {A = Result X Y} (Ok x) (Err y) → ⊥
+no_error x y e = cc
 
 -- no row is refused for the configuration
 pub not_bad : {K A : Type 0} (later : StoreState K A) (why : Refusal) → RefusesRow later why → why ≡ refusal.BadConfig → ⊥

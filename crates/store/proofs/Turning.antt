@@ -402,6 +402,6 @@ module _ {K A : Type 0} (rules : Rules K A) (rule : Rule) where
         record { quiet = now_quiet old now c g; refuses = wants_memory old now c g full why busy r.1 }
 
 -- a turn by its answer
-pub turned_so : {C O K A E : Type 0} (rules : Rules K A) (rule : Rule) (now : world.State K A) (c : ℕ) (how : Turned) (made : Result Turned Refusal) (new : world.State K A) → made ≡ Ok how → TurnsCursor C O E rules rule now c made new
-    → TurnsCursor C O E rules rule now c (Ok how) new
-turned_so {C} {O} {K} {A} {E} rules rule now c how made new is turns = subst (λ m. TurnsCursor C O E rules rule now c m new) is turns
+pub turned_so : {K A E : Type 0} (rules : Rules K A) (rule : Rule) (now : world.State K A) (c : ℕ) (how : Turned) (made : Result Turned Refusal) (new : world.State K A) → made ≡ Ok how → TurnsCursor E rules rule now c made new
+    → TurnsCursor E rules rule now c (Ok how) new
+turned_so {K} {A} {E} rules rule now c how made new is turns = subst (λ m. TurnsCursor E rules rule now c m new) is turns

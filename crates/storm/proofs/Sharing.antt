@@ -6,6 +6,7 @@ use denote.Param.Send.{IsSend, IsSync, sendable, recorded_sync, struct_sync}
 use Rattle.std.specs.declared.sync.ledger.Ledger as ledger
 use Rattle.interval_class.proofs.interval.Interval.TheSendSync as key
 use Rattle.interval_class.proofs.atom.Atom.TheSendSync as atom
+use Rattle.interval_class.proofs.block.IntervalBlock.TheSendSync as block
 use Rattle.history.specs.declared.rule.Naming as naming
 use Rattle.desk.proofs.Crossing.{crosses}
 use Rattle.shared_feed.proofs.Sharing.{shared_feed_sync}
@@ -16,9 +17,9 @@ module _ (ℓ : NamedLft) (L : RattleType) (l : ledger.Ghosts L.Denot) (n : nami
   place_sync sl yl =
       recorded_sync (Place.the_field ℓ L l n).row _ _ (Place.the_type ℓ L l n).to_one
       (struct_sync (shape (Place.the_type ℓ L l n)) (
-        search (crosses, key.the_send, key.the_sync, atom.the_send, atom.the_sync, sendable) depth 40,
+        search (crosses, key.the_send, key.the_sync, atom.the_send, atom.the_sync, block.the_send, block.the_sync, sendable) depth 40,
         (
-          search (shared_feed_sync, key.the_send, key.the_sync, atom.the_send, atom.the_sync, sendable) depth 20,
+          search (shared_feed_sync, key.the_send, key.the_sync, atom.the_send, atom.the_sync, block.the_send, block.the_sync, sendable) depth 20,
           tt,
         ),
       ))

@@ -1,5 +1,5 @@
 use change_list::Config;
-use interval_class::{Interval, Intervals};
+use interval_class::{Atom, Interval, Intervals};
 use key_class::{Refusal, Side, Sides};
 use mailbox::Tray;
 use removal::{delete, sweep_all};
@@ -22,7 +22,7 @@ fn world_of(alloc: Global) -> Result<Trial, Refusal> {
 }
 
 /// Makes an event, which must not be refused.
-fn step(world: &mut Trial, event: Event<Intervals>) -> Result<(), Refusal> {
+fn step(world: &mut Trial, event: Event<Interval, Atom>) -> Result<(), Refusal> {
     match world.step(event) {
         Reply::Refused(why) => Err(why),
         _ => Ok(()),

@@ -31,18 +31,18 @@ pub slice_get_middle : {X : Type 0} (xs ys : List X) (y : X) → slice_get (xs +
 slice_get_middle [] ys y = refl
 slice_get_middle (x ∷ xs) ys y = slice_get_middle xs ys y
 
-module _ {C O K A E : Type 0} where
-  pub commits_push : (trace : Trace C O K A E) (m : Moment C O K A E) → commits_of (trace ++ m ∷ []) ≡ commits_of trace ++ option_to_list (written m)
+module _ {K A E : Type 0} where
+  pub commits_push : (trace : Trace K A E) (m : Moment K A E) → commits_of (trace ++ m ∷ []) ≡ commits_of trace ++ option_to_list (written m)
   commits_push trace m = filter_map_push written trace m
 
   -- the beginnings of a trace stay as they are
-  pub take_push : (trace : Trace C O K A E) (m : Moment C O K A E) (i : ℕ) → i ≤ length trace → take i (trace ++ m ∷ []) ≡ take i trace
+  pub take_push : (trace : Trace K A E) (m : Moment K A E) (i : ℕ) → i ≤ length trace → take i (trace ++ m ∷ []) ≡ take i trace
   take_push trace m i l = take-append-le i trace (m ∷ []) l
 
-  pub take_end : (trace : Trace C O K A E) (m : Moment C O K A E) → take (length trace) (trace ++ m ∷ []) ≡ trace
+  pub take_end : (trace : Trace K A E) (m : Moment K A E) → take (length trace) (trace ++ m ∷ []) ≡ trace
   take_end trace m = take_push trace m (length trace) (omega arith) ∙ take_all (length trace) trace (omega arith)
 
-  pub asking_push : (trace : Trace C O K A E) (m : Moment C O K A E) (c place n k : ℕ) → n ≤ k → IsAsking trace c place n → IsAsking (trace ++ m ∷ []) c place k
+  pub asking_push : (trace : Trace K A E) (m : Moment K A E) (c place n k : ℕ) → n ≤ k → IsAsking trace c place n → IsAsking (trace ++ m ∷ []) c place k
   asking_push trace m c place n k l a =
       let b = slice_get_within trace place _ a.asked in
       record {
@@ -51,7 +51,7 @@ module _ {C O K A E : Type 0} where
       }
 
   -- a longer trace has the same askings, where those of a mark that its last moment took are among them
-  abbrev pub has_push : (trace : Trace C O K A E) (m : Moment C O K A E) (c : ℕ) (h : HasAskings trace c)
+  abbrev pub has_push : (trace : Trace K A E) (m : Moment K A E) (c : ℕ) (h : HasAskings trace c)
       → ((n : ℕ) → m ≡ (event.Take c, reply.Taken (item.Mark n)) → (place : ℕ) × (slice_get h.places (length (marks_of (taken c trace))) ≡ Some place) × IsAsking trace c place n)
       → HasAskings (trace ++ m ∷ []) c
   has_push trace m c h last = record {
@@ -69,7 +69,7 @@ module _ {C O K A E : Type 0} where
   }
 
   -- one asking more, behind the others
-  abbrev pub has_more : (trace : Trace C O K A E) (c place : ℕ) (h : HasAskings trace c) → ((j q : ℕ) → slice_get h.places j ≡ Some q → q < place) → HasAskings trace c
+  abbrev pub has_more : (trace : Trace K A E) (c place : ℕ) (h : HasAskings trace c) → ((j q : ℕ) → slice_get h.places j ≡ Some q → q < place) → HasAskings trace c
   has_more trace c place h behind = record {
     places = h.places ++ place ∷ [];
     rising = λ j first second e f.
@@ -85,13 +85,13 @@ module _ {C O K A E : Type 0} where
   }
 
   -- The askings of an open cursor that was given these marks: one for each, and one more where a mark is asked.
-  pub record FullAskings (trace : Trace C O K A E) (c : ℕ) (marks : List ℕ) (asked : Bool) (count : ℕ) : Type 0 where
+  pub record FullAskings (trace : Trace K A E) (c : ℕ) (marks : List ℕ) (asked : Bool) (count : ℕ) : Type 0 where
     pub has : HasAskings trace c
     pub counted : length has.places ≡ length marks + cond asked 1 0
     pub matched : (j n place : ℕ) → slice_get marks j ≡ Some n → slice_get has.places j ≡ Some place → IsAsking trace c place n
     pub waiting : asked ≡ true → (place : ℕ) → slice_get has.places (length marks) ≡ Some place → IsAsking trace c place count
 
-  module _ (trace : Trace C O K A E) (m : Moment C O K A E) (c : ℕ) (marks : List ℕ) (count more : ℕ) (grown : count ≤ more) where
+  module _ (trace : Trace K A E) (m : Moment K A E) (c : ℕ) (marks : List ℕ) (count more : ℕ) (grown : count ≤ more) where
     abbrev pub Last : (asked : Bool) → FullAskings trace c marks asked count → Type 0
     Last asked f = (n : ℕ) → m ≡ (event.Take c, reply.Taken (item.Mark n)) → (place : ℕ) × (slice_get f.has.places (length (marks_of (taken c trace))) ≡ Some place) × IsAsking trace c place n
 
@@ -145,26 +145,26 @@ module _ {C O K A E : Type 0} where
               ];
         }
 
-module _ {C O K A E : Type 0} where
-  pub taken_push : (trace : Trace C O K A E) (m : Moment C O K A E) (c : ℕ) → taken c (trace ++ m ∷ []) ≡ taken c trace ++ option_to_list (taken_by c m)
+module _ {K A E : Type 0} where
+  pub taken_push : (trace : Trace K A E) (m : Moment K A E) (c : ℕ) → taken c (trace ++ m ∷ []) ≡ taken c trace ++ option_to_list (taken_by c m)
   taken_push trace m c = filter_map_push (taken_by c) trace m
 
   -- what was given to a cursor grows by what was sent to it
-  pub given_push : (trace : Trace C O K A E) (m : Moment C O K A E) (c : ℕ) (before after sent : List (Item K)) → option_to_list (taken_by c m) ++ after ≡ before ++ sent
+  pub given_push : (trace : Trace K A E) (m : Moment K A E) (c : ℕ) (before after sent : List (Item K)) → option_to_list (taken_by c m) ++ after ≡ before ++ sent
       → taken c (trace ++ m ∷ []) ++ after ≡ (taken c trace ++ before) ++ sent
   given_push trace m c before after sent h =
       ap (λ l. l ++ after) (taken_push trace m c) ∙ append_assoc (taken c trace) (option_to_list (taken_by c m)) after ∙ ap (λ l. taken c trace ++ l) h ∙ sym (append_assoc (taken c trace) before sent)
 
-pub taken_same : (C O A E : Type 0) {K : Type 0} (c : ℕ) (x : Item K) → taken_by {C = C} {O = O} {K = K} {A = A} {E = E} c (event.Take c, reply.Taken x) ≡ Some x
-taken_same C O A E c x = let e : nat_eq c c ≡ true = search arith in rw e refl
+pub taken_same : (A E : Type 0) {K : Type 0} (c : ℕ) (x : Item K) → taken_by {K = K} {A = A} {E = E} c (event.Take c, reply.Taken x) ≡ Some x
+taken_same A E c x = let e : nat_eq c c ≡ true = search arith in rw e refl
 
-module _ {C O K A E : Type 0} (rules : Rules K A) (rule : Rule) (trace : Trace C O K A E) (old : State K A) (e : Event C K A) (r : Reply C O K A E) (new : State K A) (c : ℕ) (before after : OpenCursor K A)
+module _ {K A E : Type 0} (rules : Rules K A) (rule : Rule) (trace : Trace K A E) (old : State K A) (e : Event K A) (r : Reply K E) (new : State K A) (c : ℕ) (before after : OpenCursor K A)
     (s : Serves rules rule old e r new c before after) (counted : length old.commits ≡ length (commits_of trace)) (grown : length old.commits ≤ length new.commits)
     (front : (x : Item K) → taken_by c (e, r) ≡ Some x → (rest : List (Item K)) × (before.unread ≡ x ∷ rest))
     (f : FullAskings trace c (marks_of (taken c trace ++ before.unread)) before.asked (length old.commits)) where
   last_taken : Last trace (e, r) c (marks_of (taken c trace ++ before.unread)) (length old.commits) (length new.commits) grown before.asked f
   last_taken n is =
-      let t : taken_by c (e, r) ≡ Some (item.Mark n) = ap (λ m. taken_by c m) is ∙ taken_same C O A E c (item.Mark n) in
+      let t : taken_by c (e, r) ≡ Some (item.Mark n) = ap (λ m. taken_by c m) is ∙ taken_same A E c (item.Mark n) in
       let u = front (item.Mark n) t in
       let marks : marks_of (taken c trace ++ before.unread) ≡ marks_of (taken c trace) ++ n ∷ marks_of u.0 =
       ap (λ l. marks_of (taken c trace ++ l)) u.1 ∙ filter_map-append mark_number (taken c trace) (item.Mark n ∷ u.0) in

@@ -10,8 +10,8 @@ use Rattle.world.specs.declared.reply.Reply.{Reply}
 use Rattle.world.proofs.Mailboxes.{step_fits_mailboxes}
 use Rattle.world.proofs.Stepping.{step_sound, step_serves, step_opens, step_lowers}
 
-module _ (C O E : Type 0) {K A : Type 0} (rules : Rules K A) (rule : Rule) {same_key : K → K → Bool} {same_atom : A → A → Bool} (lawful : IsLawful rules same_key same_atom) (seat : ℕ) (old : State K A) (inv : IsSoundWorld rules.is_cover old) where
-  pub one_step : (e : Event C K A) (r : Reply C O K A E) (new : State K A) → Step rules rule seat old e r new → IsOneStep C O E rules rule seat old e r new
+module _ (E : Type 0) {K A : Type 0} (rules : Rules K A) (rule : Rule) {same_key : K → K → Bool} {same_atom : A → A → Bool} (lawful : IsLawful rules same_key same_atom) (seat : ℕ) (old : State K A) (inv : IsSoundWorld rules.is_cover old) where
+  pub one_step : (e : Event K A) (r : Reply K E) (new : State K A) → Step rules rule seat old e r new → IsOneStep E rules rule seat old e r new
   one_step e r new d = record {
     step = d;
     sound = step_sound rules rule lawful seat old inv e r new d;

@@ -50,54 +50,54 @@ module _ {K A : Type 0} (rules : Rules K A) (rule : Rule) where
     pub unread : cursor.unread ≡ []
     pub fits : Fits rules.is_match new.commits (shown rules rule new.search.tree cursor) []
 
-module _ {C K A : Type 0} where
+module _ {K A : Type 0} where
   -- a commit is the insert that was asked for, or the delete or the move of the row that the finder looks for
-  abbrev pub WritesAs : State K A → Event C K A → Write K → Type 0
+  abbrev pub WritesAs : State K A → Event K A → Write K → Type 0
   WritesAs old (event.Place page key tag) write = write ≡ Insert key tag
   WritesAs old (event.Seek f) write = (k : OpenFinder K) × (finder_at old f ≡ Some k) × (write ≡ Delete k.row)
   WritesAs old (event.Move f leaf key) write = (k : OpenFinder K) × (finder_at old f ≡ Some k) × (write ≡ Move k.row key)
   WritesAs old e write = ⊥
 
-module _ {C O K A E : Type 0} (rules : Rules K A) (rule : Rule) where
-  abbrev pub Opening : State K A → State K A → Event C K A → Reply C O K A E → Type 0
+module _ {K A E : Type 0} (rules : Rules K A) (rule : Rule) where
+  abbrev pub Opening : State K A → State K A → Event K A → Reply K E → Type 0
   Opening old new (event.Open query room) (reply.Opened c end) = IsFresh rules rule old new false (length old.commits) query c
   Opening old new (event.Follow query room n) (reply.Opened c end) = IsFresh rules rule old new true n query c
   Opening old new e (reply.Opened c end) = ⊥
   Opening old new e r = Unit {0}
 
   -- the reply tells the opening of cursor c
-  pub record OpensIt (r : Reply C O K A E) (c : ℕ) : Type 0 where
+  pub record OpensIt (r : Reply K E) (c : ℕ) : Type 0 where
     pub end : E
     pub is : r ≡ reply.Opened c end
 
-  abbrev pub Closing : State K A → Event C K A → Reply C O K A E → Type 0
+  abbrev pub Closing : State K A → Event K A → Reply K E → Type 0
   Closing new (event.Close c) reply.Closed = IsShut new c
   Closing new e r = Unit {0}
 
-  abbrev pub Numbering : State K A → Reply C O K A E → Type 0
+  abbrev pub Numbering : State K A → Reply K E → Type 0
   Numbering old (reply.Committed stamp) = stamp.number ≡ length old.commits + 1
   Numbering old r = Unit {0}
 
   -- a new finder has a serial above the last
-  abbrev pub Finding : State K A → State K A → Event C K A → Reply C O K A E → Type 0
+  abbrev pub Finding : State K A → State K A → Event K A → Reply K E → Type 0
   Finding old new (event.Find row) (reply.Finder f) = (old.last_finder < f) × (f ≤ new.last_finder)
   Finding old new e r = Unit {0}
 
-  abbrev pub Writing : State K A → Event C K A → Reply C O K A E → Type 0
+  abbrev pub Writing : State K A → Event K A → Reply K E → Type 0
   Writing old e (reply.Committed stamp) = WritesAs old e stamp.write
   Writing old e r = Unit {0}
 
   -- an open finder looks for the row for which it was open before, or was opened for
-  abbrev pub WasAsked : State K A → Event C K A → Reply C O K A E → ℕ → ℕ → Type 0
-  WasAsked old e r f row = ((k : OpenFinder K) × (finder_at old f ≡ Some k) × (k.row ≡ row)) ⊎ (◌≡◌ {A = Event C K A × Reply C O K A E} (e, r) (event.Find row, reply.Finder f))
+  abbrev pub WasAsked : State K A → Event K A → Reply K E → ℕ → ℕ → Type 0
+  WasAsked old e r f row = ((k : OpenFinder K) × (finder_at old f ≡ Some k) × (k.row ≡ row)) ⊎ (◌≡◌ {A = Event K A × Reply K E} (e, r) (event.Find row, reply.Finder f))
 
-  pub record FinderEffect (old : State K A) (e : Event C K A) (r : Reply C O K A E) (new : State K A) : Type 0 where
+  pub record FinderEffect (old : State K A) (e : Event K A) (r : Reply K E) (new : State K A) : Type 0 where
     pub last : old.last_finder ≤ new.last_finder
     pub asked : (f : ℕ) (k : OpenFinder K) → finder_at new f ≡ Some k → WasAsked old e r f k.row
     pub finding : Finding old new e r
     pub writing : Writing old e r
 
-  pub record Effect (old : State K A) (e : Event C K A) (r : Reply C O K A E) (new : State K A) : Type 0 where
+  pub record Effect (old : State K A) (e : Event K A) (r : Reply K E) (new : State K A) : Type 0 where
     pub commits : new.commits ≡ old.commits ++ option_to_list (written (e, r))
     pub legal : IsLegal new.commits
     pub serves : ServesAll rules rule old e r new
@@ -115,8 +115,8 @@ module _ {C O K A E : Type 0} (rules : Rules K A) (rule : Rule) where
     pub finders : FinderEffect old e r new
 
 -- a serial that is answered is a new one
-pub opening_serial : {C K A E : Type 0} (O : Type 0) (rules : Rules K A) (rule : Rule) (old new : State K A) (e : Event C K A) (c : ℕ) (end : E) → Opening {C = C} {O = O} {E = E} rules rule old new e (reply.Opened c end)
+pub opening_serial : {K A E : Type 0} (rules : Rules K A) (rule : Rule) (old new : State K A) (e : Event K A) (c : ℕ) (end : E) → Opening {E = E} rules rule old new e (reply.Opened c end)
     → (old.last < c) × (c ≤ new.last)
-opening_serial O rules rule old new (event.Open query room) c end f = (f.serial, f.given)
-opening_serial O rules rule old new (event.Follow query room n) c end f = (f.serial, f.given)
-opening_serial O rules rule old new e c end f = absurd f
+opening_serial rules rule old new (event.Open query room) c end f = (f.serial, f.given)
+opening_serial rules rule old new (event.Follow query room n) c end f = (f.serial, f.given)
+opening_serial rules rule old new e c end f = absurd f

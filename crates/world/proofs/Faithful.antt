@@ -104,25 +104,25 @@ module _ {K A : Type 0} (rules : Rules K A) (rule : Rule) where
   slot_begins s q follows n items (Some k) f = open_begins s q follows n items k f
   slot_begins s q follows n items None f = f
 
-module _ {C O K A E : Type 0} where
+module _ {K A E : Type 0} where
   -- a cursor was opened at the place: at the present commits, with its snapshot, or behind commit n, which it follows
-  abbrev pub IsBeginning : Trace C O K A E → ℕ → ℕ → Bool → ℕ → Pred A → Type 0
+  abbrev pub IsBeginning : Trace K A E → ℕ → ℕ → Bool → ℕ → Pred A → Type 0
   IsBeginning trace i c false n query = IsOpening trace i c query × (n ≡ commits_before i trace)
   IsBeginning trace i c true n query = IsFollowing trace i c n query
 
-module _ {C O K A E : Type 0} (rules : Rules K A) (rule : Rule) where
-  abbrev pub AskingsOf : Trace C O K A E → State K A → ℕ → Option (OpenCursor K A) → Type 0
+module _ {K A E : Type 0} (rules : Rules K A) (rule : Rule) where
+  abbrev pub AskingsOf : Trace K A E → State K A → ℕ → Option (OpenCursor K A) → Type 0
   AskingsOf trace s c (Some k) = FullAskings trace c (marks_of (taken c trace ++ k.unread)) k.asked (length s.commits)
   AskingsOf trace s c None = HasAskings trace c
 
   -- what holds of a trace and the state that it leads to
-  pub record Inv (trace : Trace C O K A E) (s : State K A) : Type 0 where
+  pub record Inv (trace : Trace K A E) (s : State K A) : Type 0 where
     pub commits : s.commits ≡ commits_of trace
     pub legal : IsLegal s.commits
     -- an open cursor was opened, by one opening
     pub seen : (c : ℕ) (k : OpenCursor K A) → cursor_at s c ≡ Some k → WasOpened trace c
-    pub once : (i j c : ℕ) (a b : Event C K A) (end other : E) → slice_get trace i ≡ Some (a, reply.Opened c end) → slice_get trace j ≡ Some (b, reply.Opened c other) → i ≡ j
-    pub issued : (i c : ℕ) (a : Event C K A) (end : E) → slice_get trace i ≡ Some (a, reply.Opened c end) → c ≤ s.last
+    pub once : (i j c : ℕ) (a b : Event K A) (end other : E) → slice_get trace i ≡ Some (a, reply.Opened c end) → slice_get trace j ≡ Some (b, reply.Opened c other) → i ≡ j
+    pub issued : (i c : ℕ) (a : Event K A) (end : E) → slice_get trace i ≡ Some (a, reply.Opened c end) → c ≤ s.last
     pub known : (j c : ℕ) (x : Item K) → slice_get trace j ≡ Some (event.Take c, reply.Taken x) → WasOpened (take j trace) c
     pub opened : (i c : ℕ) (follows : Bool) (n : ℕ) (query : Pred A) → IsBeginning trace i c follows n query → (c ≤ s.last) × SlotFits rules rule s (query_of query) follows n (taken c trace) (cursor_at s c)
     pub untaken : (c : ℕ) → s.last < c → taken c trace ≡ []
@@ -132,13 +132,13 @@ module _ {C O K A E : Type 0} (rules : Rules K A) (rule : Rule) where
         → IsListingFor follows (matches_query rules.is_match (query_of query)) n m s.commits (delivered c (take j trace))
     pub askings : (c : ℕ) → AskingsOf trace s c (cursor_at s c)
     pub closed : (i c : ℕ) → slice_get trace i ≡ Some (event.Close c, reply.Closed) → IsShut s c
-    pub silent : (i j c : ℕ) (later : Event C K A) (answer : Reply C O K A E) → slice_get trace i ≡ Some (event.Close c, reply.Closed) → i < j
+    pub silent : (i j c : ℕ) (later : Event K A) (answer : Reply K E) → slice_get trace i ≡ Some (event.Close c, reply.Closed) → i < j
         → slice_get trace j ≡ Some (later, answer) → asks later c → answer ≡ reply.Refused refusal.CursorClosed
-    pub numbered : (i : ℕ) (e : Event C K A) (stamp : Stamp K) → slice_get trace i ≡ Some (e, reply.Committed stamp) → stamp.number ≡ length (commits_of (take i trace)) + 1
+    pub numbered : (i : ℕ) (e : Event K A) (stamp : Stamp K) → slice_get trace i ≡ Some (e, reply.Committed stamp) → stamp.number ≡ length (commits_of (take i trace)) + 1
     pub finders : Founds trace s
 
-  module _ (trace : Trace C O K A E) (old new : State K A) (e : Event C K A) (r : Reply C O K A E) (I : Inv trace old) (E' : Effect rules rule old e r new) where
-    longer : Trace C O K A E
+  module _ (trace : Trace K A E) (old new : State K A) (e : Event K A) (r : Reply K E) (I : Inv trace old) (E' : Effect rules rule old e r new) where
+    longer : Trace K A E
     longer = trace ++ (e, r) ∷ []
 
     before_push : (i : ℕ) → i ≤ length trace → commits_of (take i (trace ++ (e, r) ∷ [])) ≡ commits_of (take i trace)
@@ -166,10 +166,10 @@ module _ {C O K A E : Type 0} (rules : Rules K A) (rule : Rule) where
         ]
 
     -- a serial that is answered by the last moment is new
-    issued_now : (c : ℕ) (a : Event C K A) (end : E) → ◌≡◌ {A = Event C K A × Reply C O K A E} (e, r) (a, reply.Opened c end) → (old.last < c) × (c ≤ new.last)
-    issued_now c a end h = opening_serial O rules rule old new a c end (subst (λ m. Opening rules rule old new m.0 m.1) h E'.opening)
+    issued_now : (c : ℕ) (a : Event K A) (end : E) → ◌≡◌ {A = Event K A × Reply K E} (e, r) (a, reply.Opened c end) → (old.last < c) × (c ≤ new.last)
+    issued_now c a end h = opening_serial rules rule old new a c end (subst (λ m. Opening rules rule old new m.0 m.1) h E'.opening)
 
-    issued_push : (i c : ℕ) (a : Event C K A) (end : E) → slice_get (trace ++ (e, r) ∷ []) i ≡ Some (a, reply.Opened c end) → c ≤ new.last
+    issued_push : (i c : ℕ) (a : Event K A) (end : E) → slice_get (trace ++ (e, r) ∷ []) i ≡ Some (a, reply.Opened c end) → c ≤ new.last
     issued_push i c a end h =
         elim (slice_get_push trace (e, r) (a, reply.Opened c end) i h) [
           | inl p ↦ omega (arith, I.issued i c a end p.0, E'.last)
@@ -244,7 +244,7 @@ module _ {C O K A E : Type 0} (rules : Rules K A) (rule : Rule) where
             let o = (E'.appears c k was h).3 in
             record { place = length trace; opening = e; end = o.end; is = slice_get_end trace (e, r) ∙ ap (λ x. Some (e, x)) o.is }
 
-    once_push : (i j c : ℕ) (a b : Event C K A) (end other : E) → slice_get (trace ++ (e, r) ∷ []) i ≡ Some (a, reply.Opened c end) → slice_get (trace ++ (e, r) ∷ []) j ≡ Some (b, reply.Opened c other) → i ≡ j
+    once_push : (i j c : ℕ) (a b : Event K A) (end other : E) → slice_get (trace ++ (e, r) ∷ []) i ≡ Some (a, reply.Opened c end) → slice_get (trace ++ (e, r) ∷ []) j ≡ Some (b, reply.Opened c other) → i ≡ j
     once_push i j c a b end other h k =
         elim (slice_get_push trace (e, r) (a, reply.Opened c end) i h) [
           | inl p ↦ elim (slice_get_push trace (e, r) (b, reply.Opened c other) j k) [
@@ -262,7 +262,7 @@ module _ {C O K A E : Type 0} (rules : Rules K A) (rule : Rule) where
         elim (slice_get_push trace (e, r) (event.Take c, reply.Taken x) j h) [
           | inl p ↦ rw (take_push trace (e, r) j (omega (arith, p.1))) (I.known j c x p.0)
           | inr p ↦
-              let t = E'.takes c x (ap (λ m. taken_by c m) p.1 ∙ taken_same C O A E c x) in
+              let t = E'.takes c x (ap (λ m. taken_by c m) p.1 ∙ taken_same A E c x) in
               rw (p.0, take_end trace (e, r)) (I.seen c t.before t.was_open)
         ]
 
@@ -271,16 +271,16 @@ module _ {C O K A E : Type 0} (rules : Rules K A) (rule : Rule) where
         elim (slice_get_push trace (e, r) (event.Take c, reply.Taken x) j h) [
           | inl p ↦ let g = I.taken_given j c x p.0 in (g, omega (arith, g, E'.last))
           | inr p ↦
-              let t = E'.takes c x (ap (λ m. taken_by c m) p.1 ∙ taken_same C O A E c x) in
+              let t = E'.takes c x (ap (λ m. taken_by c m) p.1 ∙ taken_same A E c x) in
               let g = I.within c t.before t.was_open in
               (g, omega (arith, g, E'.last))
         ]
 
     -- the mark of the last moment
-    mark_now : (i c : ℕ) (follows : Bool) (n m : ℕ) (query : Pred A) → IsBeginning trace i c follows n query → ◌≡◌ {A = Event C K A × Reply C O K A E} (e, r) (event.Take c, reply.Taken (item.Mark m))
+    mark_now : (i c : ℕ) (follows : Bool) (n m : ℕ) (query : Pred A) → IsBeginning trace i c follows n query → ◌≡◌ {A = Event K A × Reply K E} (e, r) (event.Take c, reply.Taken (item.Mark m))
         → IsListingFor follows (matches_query rules.is_match (query_of query)) n m old.commits (delivered c trace)
     mark_now i c follows n m query o is =
-        let t = E'.takes c (item.Mark m) (ap (λ m. taken_by c m) is ∙ taken_same C O A E c (item.Mark m)) in
+        let t = E'.takes c (item.Mark m) (ap (λ m. taken_by c m) is ∙ taken_same A E c (item.Mark m)) in
         let f = subst (λ o. SlotFits rules rule old (query_of query) follows n (taken c trace) o) t.was_open (I.opened i c follows n query o).1 in
         rw (← f.query, ← f.follows_is, ← f.opened) (f.fits.marks (taken c trace) t.rest m (ap (λ l. taken c trace ++ l) t.front))
 
@@ -308,7 +308,7 @@ module _ {C O K A E : Type 0} (rules : Rules K A) (rule : Rule) where
             (k.rest, subst (λ (b : OpenCursor K A). b.unread ≡ x ∷ k.rest) eq k.front)
 
         untouched : taken_by c (e, r) ≡ None → HasAskings trace c → HasAskings (trace ++ (e, r) ∷ []) c
-        untouched none h = has_push trace (e, r) c h (λ n is. absurd (let t : None ≡ Some (item.Mark n) = sym none ∙ ap (λ m. taken_by c m) is ∙ taken_same C O A E c (item.Mark n) in cc))
+        untouched none h = has_push trace (e, r) c h (λ n is. absurd (let t : None ≡ Some (item.Mark n) = sym none ∙ ap (λ m. taken_by c m) is ∙ taken_same A E c (item.Mark n) in cc))
 
         go : (o p : Option (OpenCursor K A)) → cursor_at old c ≡ o → cursor_at new c ≡ p → AskingsOf trace old c o → AskingsOf (trace ++ (e, r) ∷ []) new c p
         go (Some before) (Some after) a b f = serve_askings rules rule trace old e r new c before after (E'.serves c before after a b) (ap length I.commits) grown (fronts before a) f
@@ -336,10 +336,10 @@ module _ {C O K A E : Type 0} (rules : Rules K A) (rule : Rule) where
     closed_push i c h =
         elim (slice_get_push trace (e, r) (event.Close c, reply.Closed) i h) [
           | inl p ↦ let was = I.closed i c p.0 in record { positive = was.positive; given = omega (arith, was.given, E'.last); closed = E'.shut c was.given was.closed }
-          | inr p ↦ subst (λ m. Closing {C = C} {O = O} {K = K} {A = A} {E = E} rules rule new m.0 m.1) p.1 E'.closing
+          | inr p ↦ subst (λ m. Closing {K = K} {A = A} {E = E} rules rule new m.0 m.1) p.1 E'.closing
         ]
 
-    silent_push : (i j c : ℕ) (later : Event C K A) (answer : Reply C O K A E) → slice_get (trace ++ (e, r) ∷ []) i ≡ Some (event.Close c, reply.Closed) → i < j
+    silent_push : (i j c : ℕ) (later : Event K A) (answer : Reply K E) → slice_get (trace ++ (e, r) ∷ []) i ≡ Some (event.Close c, reply.Closed) → i < j
         → slice_get (trace ++ (e, r) ∷ []) j ≡ Some (later, answer) → asks later c → answer ≡ reply.Refused refusal.CursorClosed
     silent_push i j c later answer h l k a =
         elim (slice_get_push trace (e, r) (event.Close c, reply.Closed) i h) [
@@ -350,14 +350,14 @@ module _ {C O K A E : Type 0} (rules : Rules K A) (rule : Rule) where
           | inr p ↦ absurd (omega (arith, slice_get_within (trace ++ (e, r) ∷ []) j (later, answer) k, p.0, l, length-append trace ((e, r) ∷ [])))
         ]
 
-    numbered_push : (i : ℕ) (f : Event C K A) (stamp : Stamp K) → slice_get (trace ++ (e, r) ∷ []) i ≡ Some (f, reply.Committed stamp)
+    numbered_push : (i : ℕ) (f : Event K A) (stamp : Stamp K) → slice_get (trace ++ (e, r) ∷ []) i ≡ Some (f, reply.Committed stamp)
         → stamp.number ≡ (length (commits_of (take i (trace ++ (e, r) ∷ []))) + 1)
     numbered_push i f stamp h =
         elim (slice_get_push trace (e, r) (f, reply.Committed stamp) i h) [
           | inl p ↦ I.numbered i f stamp p.0 ∙ ap (λ t. length t + 1) (sym (before_push i (omega (arith, p.1))))
           | inr p ↦
               let at_end : commits_of (take i (trace ++ (e, r) ∷ [])) ≡ old.commits = ap (λ k. commits_of (take k (trace ++ (e, r) ∷ []))) p.0 ∙ before_end in
-              let number : stamp.number ≡ length old.commits + 1 = subst (λ (m : Moment C O K A E). Numbering rules rule old m.1) p.1 E'.numbering in
+              let number : stamp.number ≡ length old.commits + 1 = subst (λ (m : Moment K A E). Numbering rules rule old m.1) p.1 E'.numbering in
               number ∙ ap (λ t. length t + 1) (sym at_end)
         ]
 
@@ -384,7 +384,7 @@ module _ {C O K A E : Type 0} (rules : Rules K A) (rule : Rule) where
       finders = founds_push rules rule trace old new e r I.finders E'.finders;
     }
 
-  pub faithful : (trace : Trace C O K A E) (s : State K A) → Inv trace s → IsFaithful rules.is_match trace
+  pub faithful : (trace : Trace K A E) (s : State K A) → Inv trace s → IsFaithful rules.is_match trace
   faithful trace s I = record {
     numbered = I.numbered;
     writes = I.finders.writes;

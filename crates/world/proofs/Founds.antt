@@ -15,25 +15,25 @@ use Rattle.world.specs.Traces.{Moment, Trace, HasFinder, IsWriteOf}
 use Rattle.world.proofs.Effects.{FinderEffect, Finding, Writing, WritesAs}
 use Rattle.world.proofs.Askings.{take_push, take_end}
 
-module _ {C O K A E : Type 0} where
+module _ {K A E : Type 0} where
   -- what holds of the finders of a trace and of the state that it leads to
-  pub record Founds (trace : Trace C O K A E) (s : State K A) : Type 0 where
+  pub record Founds (trace : Trace K A E) (s : State K A) : Type 0 where
     pub found : (f : ℕ) (k : OpenFinder K) → finder_at s f ≡ Some k → HasFinder trace f k.row
     pub given : (i f row : ℕ) → slice_get trace i ≡ Some (event.Find row, reply.Finder f) → f ≤ s.last_finder
     pub once : (i j f row other : ℕ) → slice_get trace i ≡ Some (event.Find row, reply.Finder f) → slice_get trace j ≡ Some (event.Find other, reply.Finder f) → i ≡ j
-    pub writes : (i : ℕ) (e : Event C K A) (stamp : Stamp K) → slice_get trace i ≡ Some (e, reply.Committed stamp) → IsWriteOf (take i trace) e stamp.write
+    pub writes : (i : ℕ) (e : Event K A) (stamp : Stamp K) → slice_get trace i ≡ Some (e, reply.Committed stamp) → IsWriteOf (take i trace) e stamp.write
 
-  found_push : (trace : Trace C O K A E) (m : Moment C O K A E) (f row : ℕ) → HasFinder trace f row → HasFinder (trace ++ m ∷ []) f row
+  found_push : (trace : Trace K A E) (m : Moment K A E) (f row : ℕ) → HasFinder trace f row → HasFinder (trace ++ m ∷ []) f row
   found_push trace m f row h = record { place = h.place; is = slice_get_before trace (m ∷ []) h.place (slice_get_within trace h.place _ h.is) ∙ h.is }
 
-module _ {C O K A E : Type 0} (rules : Rules K A) (rule : Rule) (trace : Trace C O K A E) (old new : State K A) (e : Event C K A) (r : Reply C O K A E) (F : Founds trace old) (E' : FinderEffect rules rule old e r new) where
-  write_now : (stamp : Stamp K) → Founds trace old → (d : Event C K A) → WritesAs old d stamp.write → IsWriteOf trace d stamp.write
+module _ {K A E : Type 0} (rules : Rules K A) (rule : Rule) (trace : Trace K A E) (old new : State K A) (e : Event K A) (r : Reply K E) (F : Founds trace old) (E' : FinderEffect rules rule old e r new) where
+  write_now : (stamp : Stamp K) → Founds trace old → (d : Event K A) → WritesAs old d stamp.write → IsWriteOf trace d stamp.write
   write_now stamp F (event.Place page key tag) h = h
   write_now stamp F (event.Seek f) h = (h.0.row, F.found f h.0 h.1, h.2)
   write_now stamp F (event.Move f leaf key) h = (h.0.row, F.found f h.0 h.1, h.2)
   write_now stamp F d h = absurd h
 
-  finding_now : (f row : ℕ) → ◌≡◌ {A = Event C K A × Reply C O K A E} (e, r) (event.Find row, reply.Finder f) → (old.last_finder < f) × (f ≤ new.last_finder)
+  finding_now : (f row : ℕ) → ◌≡◌ {A = Event K A × Reply K E} (e, r) (event.Find row, reply.Finder f) → (old.last_finder < f) × (f ≤ new.last_finder)
   finding_now f row is = subst (λ m. Finding rules rule old new m.0 m.1) is E'.finding
 
   pub founds_push : Founds (trace ++ (e, r) ∷ []) new
@@ -58,6 +58,6 @@ module _ {C O K A E : Type 0} (rules : Rules K A) (rule : Rule) (trace : Trace C
     ];
     writes = λ i d stamp h. elim (slice_get_push trace (e, r) (d, reply.Committed stamp) i h) [
       | inl p ↦ rw (take_push trace (e, r) i (omega (arith, p.1))) (F.writes i d stamp p.0)
-      | inr p ↦ rw (p.0, take_end trace (e, r)) (write_now stamp F d (subst (λ (m : Moment C O K A E). Writing rules rule old m.0 m.1) p.1 E'.writing))
+      | inr p ↦ rw (p.0, take_end trace (e, r)) (write_now stamp F d (subst (λ (m : Moment K A E). Writing rules rule old m.0 m.1) p.1 E'.writing))
     ];
   }

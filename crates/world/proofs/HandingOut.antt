@@ -11,13 +11,13 @@ use Rattle.world.specs.Steps.{Step}
 use Rattle.world.specs.Promises.{HandsOut}
 
 -- the event opens no cursor
-abbrev OpensNone : {C K A : Type 0} → Event C K A → Type 0
+abbrev OpensNone : {K A : Type 0} → Event K A → Type 0
 OpensNone (event.Open query room) = ⊥
 OpensNone (event.Follow query room n) = ⊥
 OpensNone e = Unit {0}
 
-module _ {C O K A E : Type 0} (rules : Rules K A) (rule : Rule) (fresh : E → Type 0) (seat : ℕ) (old new : State K A) where
-  pub hands_none : (e : Event C K A) (r : Reply C O K A E) → OpensNone e → Step rules rule seat old e r new → HandsOut fresh r
+module _ {K A E : Type 0} (rules : Rules K A) (rule : Rule) (fresh : E → Type 0) (seat : ℕ) (old new : State K A) where
+  pub hands_none : (e : Event K A) (r : Reply K E) → OpensNone e → Step rules rule seat old e r new → HandsOut fresh r
   hands_none (event.Open query room) (reply.Opened c end) none d = absurd none
   hands_none (event.Follow query room n) (reply.Opened c end) none d = absurd none
   hands_none e (reply.Opened c end) none d = absurd d.change

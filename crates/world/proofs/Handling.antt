@@ -64,8 +64,8 @@ module _ {K A : Type 0} (rules : Rules K A) (rule : Rule) (old : State K A) (inv
       put_sound rules.is_cover old inv c at a before is later (ap (λ (k : OpenCursor K A). k.serial) e)
       (rw e (record { stack = h.stack; from_opening = h.from_opening; within = h.within }))
 
-  pub ask_done : (C O E : Type 0) (seat : ℕ) → later ≡ record before { asked = true } → IsCarriedOut {C = C} {O = O} {E = E} rules rule seat old (event.AskMark c) reply.Asked (record old { cursors = set old.cursors at later })
-  ask_done C O E seat e = record {
+  pub ask_done : (E : Type 0) (seat : ℕ) → later ≡ record before { asked = true } → IsCarriedOut {E = E} rules rule seat old (event.AskMark c) reply.Asked (record old { cursors = set old.cursors at later })
+  ask_done E seat e = record {
     passed = at_passes rules.is_cover old inv c at a;
     change = record {
       before = before;
@@ -80,13 +80,13 @@ module _ {K A : Type 0} (rules : Rules K A) (rule : Rule) (old : State K A) (inv
       put_sound rules.is_cover old inv c at a before is later (ap (λ (k : OpenCursor K A). k.serial) e)
       (rw e (record { stack = h.stack; from_opening = h.from_opening; within = h.within }))
 
-  take_passes : (C : Type 0) → rule.is_emptied_elsewhere ≡ false → first_failing (tests {C = C} rules rule old (event.Take c)) ≡ None
-  take_passes C e = failing_later (cursor_tests old c) ((rule.is_emptied_elsewhere, refusal.NotHere) ∷ []) (at_passes rules.is_cover old inv c at a) ∙ passes_at rule.is_emptied_elsewhere refusal.NotHere [] e
+  take_passes : rule.is_emptied_elsewhere ≡ false → first_failing (tests rules rule old (event.Take c)) ≡ None
+  take_passes e = failing_later (cursor_tests old c) ((rule.is_emptied_elsewhere, refusal.NotHere) ∷ []) (at_passes rules.is_cover old inv c at a) ∙ passes_at rule.is_emptied_elsewhere refusal.NotHere [] e
 
-  pub take_done : (C O E : Type 0) (seat : ℕ) (item : Item K) (unread : List (Item K)) → later ≡ record before { unread = unread } → rule.is_emptied_elsewhere ≡ false → before.unread ≡ item ∷ unread
-      → IsCarriedOut {C = C} {O = O} {E = E} rules rule seat old (event.Take c) (reply.Taken item) (record old { cursors = set old.cursors at later })
-  take_done C O E seat item unread e here front = record {
-    passed = take_passes C here;
+  pub take_done : (E : Type 0) (seat : ℕ) (item : Item K) (unread : List (Item K)) → later ≡ record before { unread = unread } → rule.is_emptied_elsewhere ≡ false → before.unread ≡ item ∷ unread
+      → IsCarriedOut {E = E} rules rule seat old (event.Take c) (reply.Taken item) (record old { cursors = set old.cursors at later })
+  take_done E seat item unread e here front = record {
+    passed = take_passes here;
     change = record {
       before = before;
       is_open = at_open rules.is_cover old inv c at a before is;
@@ -100,14 +100,14 @@ module _ {K A : Type 0} (rules : Rules K A) (rule : Rule) (old : State K A) (inv
   same_put : later ≡ before → record old { cursors = set old.cursors at later } ≡ old
   same_put e = ap (λ k. record old { cursors = set old.cursors at k }) (e ∙ is) ∙ ap (λ ks. record old { cursors = ks }) (set_same old.cursors at before (at_within rules.is_cover old inv c at a))
 
-  pub empty_done : (C O E : Type 0) (seat : ℕ) → later ≡ before → rule.is_emptied_elsewhere ≡ false → before.unread ≡ [] → IsCarriedOut {C = C} {O = O} {E = E} rules rule seat old (event.Take c) reply.Nothing (record old { cursors = set old.cursors at later })
-  empty_done C O E seat e here none = record {
-    passed = take_passes C here;
+  pub empty_done : (E : Type 0) (seat : ℕ) → later ≡ before → rule.is_emptied_elsewhere ≡ false → before.unread ≡ [] → IsCarriedOut {E = E} rules rule seat old (event.Take c) reply.Nothing (record old { cursors = set old.cursors at later })
+  empty_done E seat e here none = record {
+    passed = take_passes here;
     change = record { before = before; is_open = at_open rules.is_cover old inv c at a before is; empty = none; unchanged = same_put e };
   }
 
-  pub elsewhere_refused : (C : Type 0) → later ≡ before → rule.is_emptied_elsewhere ≡ true → IsRefused {C = C} rules rule old (event.Take c) refusal.NotHere (record old { cursors = set old.cursors at later })
-  elsewhere_refused C e there = record {
+  pub elsewhere_refused : later ≡ before → rule.is_emptied_elsewhere ≡ true → IsRefused rules rule old (event.Take c) refusal.NotHere (record old { cursors = set old.cursors at later })
+  elsewhere_refused e there = record {
     cause = inl (failing_later (cursor_tests old c) ((rule.is_emptied_elsewhere, refusal.NotHere) ∷ []) (at_passes rules.is_cover old inv c at a) ∙ fails_at rule.is_emptied_elsewhere refusal.NotHere [] there);
     unchanged = same_put e;
   }
@@ -122,8 +122,8 @@ module _ {K A : Type 0} (rules : Rules K A) (rule : Rule) (old : State K A) (inv
     after = put_as rules.is_cover old inv c at a before is later (turn_serial rules rule old.search.tree old.commits before later (Ok how) t);
   }
 
-  turn_refused : (C : Type 0) (why : Refusal) → Turns rules rule old.search.tree old.commits before (Err why) later → IsRefused {C = C} rules rule old (event.Turn c) why (record old { cursors = set old.cursors at later })
-  turn_refused C why t =
+  turn_refused : (why : Refusal) → Turns rules rule old.search.tree old.commits before (Err why) later → IsRefused rules rule old (event.Turn c) why (record old { cursors = set old.cursors at later })
+  turn_refused why t =
       let e = turn_unchanged rules rule old.search.tree old.commits before later why t in
       record {
         cause = inr (
@@ -138,11 +138,11 @@ module _ {K A : Type 0} (rules : Rules K A) (rule : Rule) (old : State K A) (inv
       }
 
   -- whatever the turn, the event is answered with it
-  pub turn_steps : (C O E : Type 0) (seat : ℕ) (how : Result Turned Refusal) → Turns rules rule old.search.tree old.commits before how later → Step {C = C} rules rule seat old (event.Turn c) (reply_of_turn C O E how) (record old { cursors = set old.cursors at later })
-  turn_steps C O E seat (Ok turned.Offered) t = record { passed = at_passes rules.is_cover old inv c at a; change = turn_done_at turned.Offered t }
-  turn_steps C O E seat (Ok (turned.Visited page)) t = record { passed = at_passes rules.is_cover old inv c at a; change = turn_done_at (turned.Visited page) t }
-  turn_steps C O E seat (Ok (turned.Passed n)) t = record { passed = at_passes rules.is_cover old inv c at a; change = turn_done_at (turned.Passed n) t }
-  turn_steps C O E seat (Err why) t = turn_refused C why t
+  pub turn_steps : (E : Type 0) (seat : ℕ) (how : Result Turned Refusal) → Turns rules rule old.search.tree old.commits before how later → Step rules rule seat old (event.Turn c) (reply_of_turn E how) (record old { cursors = set old.cursors at later })
+  turn_steps E seat (Ok turned.Offered) t = record { passed = at_passes rules.is_cover old inv c at a; change = turn_done_at turned.Offered t }
+  turn_steps E seat (Ok (turned.Visited page)) t = record { passed = at_passes rules.is_cover old inv c at a; change = turn_done_at (turned.Visited page) t }
+  turn_steps E seat (Ok (turned.Passed n)) t = record { passed = at_passes rules.is_cover old inv c at a; change = turn_done_at (turned.Passed n) t }
+  turn_steps E seat (Err why) t = turn_refused why t
 
   pub turn_sound : {same_key : K → K → Bool} {same_atom : A → A → Bool} → IsLawful rules same_key same_atom → (result : Result Turned Refusal) → Turns rules rule old.search.tree old.commits before result later → IsSoundWorld rules.is_cover (record old { cursors = set old.cursors at later })
   turn_sound lawful result t =
@@ -156,5 +156,5 @@ module _ {K A : Type 0} (rules : Rules K A) (rule : Rule) (old : State K A) (inv
   pub close_sound : IsSoundWorld rules.is_cover (record old { cursors = others })
   close_sound = subst (λ s. IsSoundWorld rules.is_cover s) (sym others_as) (closed_sound rules.is_cover old inv c)
 
-  pub close_done : (C O E : Type 0) (seat : ℕ) → IsCarriedOut {C = C} {O = O} {E = E} rules rule seat old (event.Close c) reply.Closed (record old { cursors = others })
-  close_done C O E seat = record { passed = at_passes rules.is_cover old inv c at a; change = others_as }
+  pub close_done : (E : Type 0) (seat : ℕ) → IsCarriedOut {E = E} rules rule seat old (event.Close c) reply.Closed (record old { cursors = others })
+  close_done E seat = record { passed = at_passes rules.is_cover old inv c at a; change = others_as }

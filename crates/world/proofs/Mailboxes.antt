@@ -17,9 +17,9 @@ use Rattle.world.specs.Promises.{MailboxesFit}
 use Rattle.world.proofs.Refusing.{failing_later, passed_first, passed_at}
 use Rattle.world.proofs.Stepping.{step_leads}
 
-module _ {C O K A E : Type 0} (rules : Rules K A) (rule : Rule) (seat : ℕ) (old new : State K A) (there : rule.is_emptied_elsewhere ≡ true) where
+module _ {K A E : Type 0} (rules : Rules K A) (rule : Rule) (seat : ℕ) (old new : State K A) (there : rule.is_emptied_elsewhere ≡ true) where
   -- nothing is taken of a mailbox that is emptied elsewhere
-  untaken : (c : ℕ) (e : Event C K A) (r : Reply C O K A E) → Step rules rule seat old e r new → taken_by c (e, r) ≡ None
+  untaken : (c : ℕ) (e : Event K A) (r : Reply K E) → Step rules rule seat old e r new → taken_by c (e, r) ≡ None
   untaken c (event.Take d) (reply.Taken item) h =
       let first = passed_first (cursor_tests old d) ((rule.is_emptied_elsewhere, refusal.NotHere) ∷ []) h.passed in
       let rest = sym (failing_later (cursor_tests old d) ((rule.is_emptied_elsewhere, refusal.NotHere) ∷ []) first) ∙ h.passed in
@@ -28,8 +28,8 @@ module _ {C O K A E : Type 0} (rules : Rules K A) (rule : Rule) (seat : ℕ) (ol
   untaken c e (reply.Taken item) h = absurd h.change
   untaken c e r h = refl
 
-module _ {C O K A E : Type 0} (rules : Rules K A) (rule : Rule) {same_key : K → K → Bool} {same_atom : A → A → Bool} (lawful : IsLawful rules same_key same_atom) (seat : ℕ) (old : State K A) (inv : IsSoundWorld rules.is_cover old) (there : rule.is_emptied_elsewhere ≡ true) where
-  pub step_fits_mailboxes : (e : Event C K A) (r : Reply C O K A E) (new : State K A) → Step rules rule seat old e r new → MailboxesFit rules rule old → MailboxesFit rules rule new
+module _ {K A E : Type 0} (rules : Rules K A) (rule : Rule) {same_key : K → K → Bool} {same_atom : A → A → Bool} (lawful : IsLawful rules same_key same_atom) (seat : ℕ) (old : State K A) (inv : IsSoundWorld rules.is_cover old) (there : rule.is_emptied_elsewhere ≡ true) where
+  pub step_fits_mailboxes : (e : Event K A) (r : Reply K E) (new : State K A) → Step rules rule seat old e r new → MailboxesFit rules rule old → MailboxesFit rules rule new
   step_fits_mailboxes e r new d fits c k here =
       go (cursor_at old c) refl
     where

@@ -22,20 +22,20 @@ use Rattle.world.proofs.Sounding.{placed_sound}
 use Rattle.world.proofs.PageSteps.{placed_tree}
 use Rattle.world.proofs.Refusing.{failing_first, failing_later, fails_at, passes_at, passed_first, passed_at}
 
-module _ (C : Type 0) {K A : Type 0} (rules : Rules K A) (rule : Rule) (old : State K A) (page : ℕ) (key : K) (tag : ℕ) where
-  pub place_passed : first_failing (place_tests rules.is_cover old.search page key) ≡ None → length old.commits < old.limit → first_failing (tests {C = C} rules rule old (event.Place page key tag)) ≡ None
+module _ {K A : Type 0} (rules : Rules K A) (rule : Rule) (old : State K A) (page : ℕ) (key : K) (tag : ℕ) where
+  pub place_passed : first_failing (place_tests rules.is_cover old.search page key) ≡ None → length old.commits < old.limit → first_failing (tests rules rule old (event.Place page key tag)) ≡ None
   place_passed h room =
       let t : nat_le old.limit (length old.commits) ≡ false = search (arith, room) in
       failing_later (place_tests rules.is_cover old.search page key) ((nat_le old.limit (length old.commits), refusal.CommitsFull) ∷ []) h ∙ passes_at _ refusal.CommitsFull [] t
 
-module _ {C K A : Type 0} (rules : Rules K A) (rule : Rule) (old : State K A) (page : ℕ) (key : K) (tag : ℕ) where
-  pub place_refused : (new : State K A) (why : Refusal) → new ≡ old → first_failing (place_tests rules.is_cover old.search page key) ≡ Some why → IsRefused {C = C} rules rule old (event.Place page key tag) why new
+module _ {K A : Type 0} (rules : Rules K A) (rule : Rule) (old : State K A) (page : ℕ) (key : K) (tag : ℕ) where
+  pub place_refused : (new : State K A) (why : Refusal) → new ≡ old → first_failing (place_tests rules.is_cover old.search page key) ≡ Some why → IsRefused rules rule old (event.Place page key tag) why new
   place_refused new why same h = record {
     cause = inl (failing_first (place_tests rules.is_cover old.search page key) ((nat_le old.limit (length old.commits), refusal.CommitsFull) ∷ []) why h);
     unchanged = same;
   }
 
-  pub place_full : first_failing (place_tests rules.is_cover old.search page key) ≡ None → old.limit ≤ length old.commits → IsRefused {C = C} rules rule old (event.Place page key tag) refusal.CommitsFull old
+  pub place_full : first_failing (place_tests rules.is_cover old.search page key) ≡ None → old.limit ≤ length old.commits → IsRefused rules rule old (event.Place page key tag) refusal.CommitsFull old
   place_full h full =
       let t : nat_le old.limit (length old.commits) ≡ true = search (arith, full) in
       record {
@@ -44,8 +44,8 @@ module _ {C K A : Type 0} (rules : Rules K A) (rule : Rule) (old : State K A) (p
       }
 
   pub place_wanting : (new : State K A) (why : Refusal) → new ≡ old → first_failing (place_tests rules.is_cover old.search page key) ≡ None → length old.commits < old.limit → why ≡ refusal.OutOfMemory
-      → IsRefused {C = C} rules rule old (event.Place page key tag) why new
-  place_wanting new why same h room m = record { cause = inr (place_passed C rules rule old page key tag h room, m); unchanged = same }
+      → IsRefused rules rule old (event.Place page key tag) why new
+  place_wanting new why same h room m = record { cause = inr (place_passed rules rule old page key tag h room, m); unchanged = same }
 
 module _ {K A : Type 0} (rules : Rules K A) (rule : Rule) (old : State K A) (page : ℕ) (key : K) (tag : ℕ) (passed : first_failing (place_tests rules.is_cover old.search page key) ≡ None) where
   pub page_exists : page < length old.search.tree.pages
@@ -60,10 +60,10 @@ module _ {K A : Type 0} (rules : Rules K A) (rule : Rule) (old : State K A) (pag
     pub place_sound : IsSoundWorld rules.is_cover old → IsSoundWorld rules.is_cover (record { search = search'; limit = old.limit; commits = commits; cursors = old.cursors; last = old.last; finders = old.finders; last_finder = old.last_finder })
     place_sound s = rw (placed, pushed, is) (placed_sound rules.is_cover old s page page_exists key tag room (placed_tree rules.is_cover old.search s.tree page key passed _ refl))
 
-    pub place_done : (C O E : Type 0) (seat : ℕ) (stamp : Stamp K) → IsNextStamp old seat (Insert key tag) stamp
-        → IsCarriedOut {C = C} {O = O} {E = E} rules rule seat old (event.Place page key tag) (reply.Committed stamp) (record { search = search'; limit = old.limit; commits = commits; cursors = old.cursors; last = old.last; finders = old.finders; last_finder = old.last_finder })
-    place_done C O E seat stamp stamped = record {
-      passed = place_passed C rules rule old page key tag passed room;
+    pub place_done : (E : Type 0) (seat : ℕ) (stamp : Stamp K) → IsNextStamp old seat (Insert key tag) stamp
+        → IsCarriedOut {E = E} rules rule seat old (event.Place page key tag) (reply.Committed stamp) (record { search = search'; limit = old.limit; commits = commits; cursors = old.cursors; last = old.last; finders = old.finders; last_finder = old.last_finder })
+    place_done E seat stamp stamped = record {
+      passed = place_passed rules rule old page key tag passed room;
       change = record { stamped = stamped; after = rw (placed, pushed, is) refl };
     }
 

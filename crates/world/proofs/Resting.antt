@@ -87,9 +87,9 @@ module _ {K A : Type 0} (rules : Rules K A) (rule : Rule) where
       cursor_in : ℕ → List (OpenCursor K A) → Option (OpenCursor K A)
       cursor_in n l = cursor_at (record a { cursors = l }) n
 
-module _ {C O K A E : Type 0} (rules : Rules K A) (rule : Rule) where
+module _ {K A E : Type 0} (rules : Rules K A) (rule : Rule) where
   -- a step of which no cursor is asked anything
-  pub step_rests : (old : State K A) (e : Event C K A) (r : Reply C O K A E) (new : State K A) → ServesAll rules rule old e r new → ((c : ℕ) → taken_by c (e, r) ≡ None)
+  pub step_rests : (old : State K A) (e : Event K A) (r : Reply K E) (new : State K A) → ServesAll rules rule old e r new → ((c : ℕ) → taken_by c (e, r) ≡ None)
       → new.limit ≡ old.limit → new.search.limit ≡ old.search.limit → length old.search.tree.pages ≤ length new.search.tree.pages → new.last ≡ old.last → new.cursors ≡ old.cursors → Rests rules rule old new
   step_rests old e r new serves none limit page_limit pages last cursors = record { limit = limit; page_limit = page_limit; pages = pages; last = last; cursors = cursors; fits = fits }
     where

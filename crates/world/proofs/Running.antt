@@ -24,12 +24,12 @@ use Rattle.world.proofs.Sounding.{new_sound_world}
 use Rattle.world.proofs.Stepping.{step_leads}
 use Rattle.world.proofs.Faithful.{Inv, IsBeginning, Inv-push, faithful}
 
-no_beginning : (C O K A E : Type 0) (i c : ℕ) (follows : Bool) (n : ℕ) (query : Pred A) → IsBeginning {C = C} {O = O} {K = K} {E = E} [] i c follows n query → ⊥
-no_beginning C O K A E i c false n query o = let h = o.0.is in cc
-no_beginning C O K A E i c true n query o = let h = o.is in cc
+no_beginning : (K A E : Type 0) (i c : ℕ) (follows : Bool) (n : ℕ) (query : Pred A) → IsBeginning {K = K} {E = E} [] i c follows n query → ⊥
+no_beginning K A E i c false n query o = let h = o.0.is in cc
+no_beginning K A E i c true n query o = let h = o.is in cc
 
-module _ {C O K A E : Type 0} (rules : Rules K A) (rule : Rule) where
-  inv_start : (config : Config) → Inv {C = C} {O = O} {E = E} rules rule [] (new_state config)
+module _ {K A E : Type 0} (rules : Rules K A) (rule : Rule) where
+  inv_start : (config : Config) → Inv {E = E} rules rule [] (new_state config)
   inv_start config = record {
     commits = refl;
     legal = λ place write h. absurd (cc);
@@ -37,7 +37,7 @@ module _ {C O K A E : Type 0} (rules : Rules K A) (rule : Rule) where
     once = λ i j c a b end other h k. absurd (cc);
     issued = λ i c a end h. absurd (cc);
     known = λ j c x h. absurd (cc);
-    opened = λ i c follows n query o. absurd (no_beginning C O K A E i c follows n query o);
+    opened = λ i c follows n query o. absurd (no_beginning K A E i c follows n query o);
     untaken = λ c l. refl;
     taken_given = λ j c x h. absurd (cc);
     within = λ c k h. absurd (cc);
@@ -54,64 +54,64 @@ module _ {C O K A E : Type 0} (rules : Rules K A) (rule : Rule) where
     };
   }
 
-  inv_runs : {same_key : K → K → Bool} {same_atom : A → A → Bool} → IsLawful rules same_key same_atom → (done todo : Trace C O K A E) (old new : State K A) → IsSoundWorld rules.is_cover old → Inv rules rule done old → Runs rules rule old todo new → Inv rules rule (done ++ todo) new
+  inv_runs : {same_key : K → K → Bool} {same_atom : A → A → Bool} → IsLawful rules same_key same_atom → (done todo : Trace K A E) (old new : State K A) → IsSoundWorld rules.is_cover old → Inv rules rule done old → Runs rules rule old todo new → Inv rules rule (done ++ todo) new
   inv_runs lawful done [] old new s I h = rw (append-nil done, h) I
   inv_runs lawful done (m ∷ todo) old new s I h =
       let leads = step_leads rules rule lawful 0 old s m.0 m.1 h.0 h.1 in
       let more = inv_runs lawful (done ++ m ∷ []) todo h.0 new leads.sound (Inv-push rules rule done old h.0 m.0 m.1 I leads.effect) h.2 in
       rw append_assoc at more
 
-  runs_faithful : {same_key : K → K → Bool} {same_atom : A → A → Bool} → IsLawful rules same_key same_atom → (config : Config) → IsWithinLimits config → (trace : Trace C O K A E) (last : State K A) → Runs rules rule (new_state config) trace last → IsFaithful rules.is_match trace
+  runs_faithful : {same_key : K → K → Bool} {same_atom : A → A → Bool} → IsLawful rules same_key same_atom → (config : Config) → IsWithinLimits config → (trace : Trace K A E) (last : State K A) → Runs rules rule (new_state config) trace last → IsFaithful rules.is_match trace
   runs_faithful lawful config limits trace last h =
       faithful rules rule trace last (inv_runs lawful [] trace (new_state config) last (new_sound_world rules.is_cover config limits) (inv_start config) h)
 
   -- a beginning of a run is a run
-  runs_take : (old new : State K A) (trace : Trace C O K A E) (count : ℕ) → Runs rules rule old trace new → (mid : State K A) × Runs rules rule old (take count trace) mid
+  runs_take : (old new : State K A) (trace : Trace K A E) (count : ℕ) → Runs rules rule old trace new → (mid : State K A) × Runs rules rule old (take count trace) mid
   runs_take old new trace zero h = (old, refl)
   runs_take old new [] (suc count) h = (old, refl)
   runs_take old new (m ∷ trace) (suc count) h =
       let rest = runs_take h.0 new trace count h.2 in
       (rest.0, (h.0, h.1, rest.1))
 
-  pub runs_always_faithful : {same_key : K → K → Bool} {same_atom : A → A → Bool} → IsLawful rules same_key same_atom → (config : Config) → IsWithinLimits config → (trace : Trace C O K A E) (last : State K A) → Runs rules rule (new_state config) trace last → IsAlwaysFaithful rules.is_match trace
+  pub runs_always_faithful : {same_key : K → K → Bool} {same_atom : A → A → Bool} → IsLawful rules same_key same_atom → (config : Config) → IsWithinLimits config → (trace : Trace K A E) (last : State K A) → Runs rules rule (new_state config) trace last → IsAlwaysFaithful rules.is_match trace
   runs_always_faithful lawful config limits trace last h count =
       let beginning = runs_take (new_state config) last trace count h in
       runs_faithful lawful config limits (take count trace) beginning.0 beginning.1
 
   -- a run that goes on by one step
-  runs_push : (old mid new : State K A) (trace : Trace C O K A E) (e : Event C K A) (r : Reply C O K A E) → Runs rules rule old trace mid → Step rules rule 0 mid e r new → Runs rules rule old (trace ++ (e, r) ∷ []) new
+  runs_push : (old mid new : State K A) (trace : Trace K A E) (e : Event K A) (r : Reply K E) → Runs rules rule old trace mid → Step rules rule 0 mid e r new → Runs rules rule old (trace ++ (e, r) ∷ []) new
   runs_push old mid new [] e r h d = (new, subst (λ s. Step rules rule 0 s e r new) h d, refl)
   runs_push old mid new (m ∷ trace) e r h d = (h.0, h.1, runs_push h.0 mid new trace e r h.2 d)
 
   -- a step by a copy is a step by the event
-  step_copied : (old : State K A) (e copy : Event C K A) (r : Reply C O K A E) (new : State K A) → IsCopy e copy → Step rules rule 0 old copy r new → Step rules rule 0 old e r new
+  step_copied : (old : State K A) (e copy : Event K A) (r : Reply K E) (new : State K A) → IsCopy e copy → Step rules rule 0 old copy r new → Step rules rule 0 old e r new
   step_copied old (event.Open query room) copy r new h d = opened r (subst (λ k. Step rules rule 0 old k r new) h.2 d)
     where
-      opened : (r : Reply C O K A E) → Step rules rule 0 old (event.Open h.0 room) r new → Step rules rule 0 old (event.Open query room) r new
+      opened : (r : Reply K E) → Step rules rule 0 old (event.Open h.0 room) r new → Step rules rule 0 old (event.Open query room) r new
       opened (reply.Refused why) d = record { cause = rw (← h.1) d.cause; unchanged = d.unchanged }
       opened (reply.Opened c end) d = record { passed = rw (← h.1) d.passed; change = record { serial = d.change.serial; after = rw (← h.1) d.change.after } }
       opened r d = absurd d.change
   step_copied old (event.Follow query room n) copy r new h d = opened r (subst (λ k. Step rules rule 0 old k r new) h.2 d)
     where
-      opened : (r : Reply C O K A E) → Step rules rule 0 old (event.Follow h.0 room n) r new → Step rules rule 0 old (event.Follow query room n) r new
+      opened : (r : Reply K E) → Step rules rule 0 old (event.Follow h.0 room n) r new → Step rules rule 0 old (event.Follow query room n) r new
       opened (reply.Refused why) d = record { cause = rw (← h.1) d.cause; unchanged = d.unchanged }
       opened (reply.Opened c end) d = record { passed = rw (← h.1) d.passed; change = record { serial = d.change.serial; after = rw (← h.1) d.change.after } }
       opened r d = absurd d.change
   step_copied old e copy r new h d = subst (λ k. Step rules rule 0 old k r new) h d
 
   -- the first events were answered by a run from a new world
-  pub record HasRun (config : Config) (events : List (Event C K A)) (count : ℕ) (replies : List (Reply C O K A E)) (s : State K A) : Type 0 where
+  pub record HasRun (config : Config) (events : List (Event K A)) (count : ℕ) (replies : List (Reply K E)) (s : State K A) : Type 0 where
     pub counted : length replies ≡ count
     pub ran : Runs rules rule (new_state config) (zip (take count events) replies) s
 
-  pub has_run_none : (config : Config) (events : List (Event C K A)) → HasRun config events 0 [] (new_state config)
+  pub has_run_none : (config : Config) (events : List (Event K A)) → HasRun config events 0 [] (new_state config)
   has_run_none config events = record { counted = refl; ran = refl }
 
-  pub has_run_push : (config : Config) (events : List (Event C K A)) (count : ℕ) (replies : List (Reply C O K A E)) (s new : State K A) (e copy : Event C K A) (r : Reply C O K A E)
+  pub has_run_push : (config : Config) (events : List (Event K A)) (count : ℕ) (replies : List (Reply K E)) (s new : State K A) (e copy : Event K A) (r : Reply K E)
       → HasRun config events count replies s → count < length events → get_or events count e ≡ e → IsCopy e copy → Step rules rule 0 s copy r new → HasRun config events (count + 1) (replies ++ r ∷ []) new
   has_run_push config events count replies s new e copy r h l is same d =
       let step = step_copied s e copy r new same d in
-      let n : length (take count events) ≡ length replies = omega (arith, length-take {A = Event C K A}, h.counted) in
+      let n : length (take count events) ≡ length replies = omega (arith, length-take {A = Event K A}, h.counted) in
       record {
         counted = omega (arith, h.counted, length-append replies (r ∷ []));
         ran = rw (take_more events count e l, is, zip_push (take count events) replies e r n) (runs_push (new_state config) s new (zip (take count events) replies) e r h.ran step);

@@ -42,9 +42,9 @@ same_or_not (suc c) (suc d) = elim (same_or_not c d) [ inl e ↦ inl (ap suc e) 
 pub at_work_of : {K A : Type 0} (is_cover : K → K → Bool) (old : State K A) → IsSoundWorld is_cover old → (c : ℕ) (k : OpenCursor K A) → cursor_at old c ≡ Some k → IsAtWork old.search.tree old.commits k
 at_work_of is_cover old inv c k h = member_all (λ k. k.serial) (λ k. IsAtWork old.search.tree old.commits k) c old.cursors k h inv.at_work
 
-module _ {C O K A E : Type 0} (rules : Rules K A) (rule : Rule) {same_key : K → K → Bool} {same_atom : A → A → Bool} (lawful : IsLawful rules same_key same_atom) (old : State K A) (inv : IsSoundWorld rules.is_cover old) where
+module _ {K A E : Type 0} (rules : Rules K A) (rule : Rule) {same_key : K → K → Bool} {same_atom : A → A → Bool} (lawful : IsLawful rules same_key same_atom) (old : State K A) (inv : IsSoundWorld rules.is_cover old) where
   -- a cursor as it was, while nothing is taken of it
-  pub untouched : (e : Event C K A) (r : Reply C O K A E) (new : State K A) (c : ℕ) (k : OpenCursor K A) → taken_by c (e, r) ≡ None
+  pub untouched : (e : Event K A) (r : Reply K E) (new : State K A) (c : ℕ) (k : OpenCursor K A) → taken_by c (e, r) ≡ None
       → ((items : List (Item K)) → Fits rules.is_match old.commits (shown rules rule old.search.tree k) items → Fits rules.is_match new.commits (shown rules rule new.search.tree k) items) → Serves rules rule old e r new c k k
   untouched e r new c k none fits = record {
     query = refl;
@@ -57,7 +57,7 @@ module _ {C O K A E : Type 0} (rules : Rules K A) (rule : Rule) {same_key : K �
   }
 
   -- a step of the tree that keeps the rows
-  pub served_by_moves : (e : Event C K A) (r : Reply C O K A E) (tree : Tree K) → KeepsRows old.search.tree tree → (c : ℕ) (before after : OpenCursor K A) → taken_by c (e, r) ≡ None
+  pub served_by_moves : (e : Event K A) (r : Reply K E) (tree : Tree K) → KeepsRows old.search.tree tree → (c : ℕ) (before after : OpenCursor K A) → taken_by c (e, r) ≡ None
       → cursor_at old c ≡ Some before → cursor_at (with_pages old tree) c ≡ Some after → Serves rules rule old e r (with_pages old tree) c before after
   served_by_moves e r tree kept c before after none a b =
       let same : before ≡ after = let s : Some before ≡ Some after = sym a ∙ b in cc in
@@ -66,7 +66,7 @@ module _ {C O K A E : Type 0} (rules : Rules K A) (rule : Rule) {same_key : K �
       (untouched e r (with_pages old tree) c before none (λ items f. same_fits rules rule lawful old.search.tree tree old.commits before items (keeps_find (wants rules rule before) before.opened old.search.tree before.stack tree kept h.stack) f))
 
   -- a commit whose row goes to a leaf
-  pub served_by_place : (e : Event C K A) (r : Reply C O K A E) (p : ℕ) → p < length old.search.tree.pages → (key : K) (tag : ℕ) (new : State K A)
+  pub served_by_place : (e : Event K A) (r : Reply K E) (p : ℕ) → p < length old.search.tree.pages → (key : K) (tag : ℕ) (new : State K A)
       → new ≡ record old {
         search = record old.search { tree = after_rows old.search.tree p ((page_at old.search.tree p).rows ++ (record { key = key; row = length old.commits + 1; tag = tag; died = None }) ∷ []) };
         commits = old.commits ++ Insert key tag ∷ [];
@@ -84,7 +84,7 @@ module _ {C O K A E : Type 0} (rules : Rules K A) (rule : Rule) {same_key : K �
       (place_find (wants rules rule before) before.opened old.search.tree before.stack h.stack rules.is_cover old.search.fan inv.tree.sound p l (record { key = key; row = length old.commits + 1; tag = tag; died = None }) (omega (arith, h.from_opening, h.within))) f))))
 
   -- a commit that deletes a row where it stands
-  pub served_by_bury : (e : Event C K A) (r : Reply C O K A E) (p : ℕ) → p < length old.search.tree.pages → (row : ℕ) → status_of old.commits row ≡ Live → (new : State K A)
+  pub served_by_bury : (e : Event K A) (r : Reply K E) (p : ℕ) → p < length old.search.tree.pages → (row : ℕ) → status_of old.commits row ≡ Live → (new : State K A)
       → new.search.tree ≡ after_bury old.search.tree p row (length old.commits + 1) → new.commits ≡ old.commits ++ Delete row ∷ [] → new.cursors ≡ old.cursors
       → (c : ℕ) (before after : OpenCursor K A) → taken_by c (e, r) ≡ None → cursor_at old c ≡ Some before → cursor_at new c ≡ Some after → Serves rules rule old e r new c before after
   served_by_bury e r p l row live new tree commits cursors c before after none a b =
@@ -98,7 +98,7 @@ module _ {C O K A E : Type 0} (rules : Rules K A) (rule : Rule) {same_key : K �
       (bury_find (wants rules rule before) before.opened old.search.tree before.stack h.stack rules.is_cover old.search.fan inv.tree.sound p l old.commits inv.agrees row (length old.commits + 1) (omega (arith, h.from_opening, h.within)) live) f))))
 
   -- a commit that moves a row from where it stands to a leaf
-  pub served_by_move : (e : Event C K A) (r : Reply C O K A E) (p : ℕ) → p < length old.search.tree.pages → (row leaf : ℕ) (key : K) → status_of old.commits row ≡ Live → leaf < length old.search.tree.pages
+  pub served_by_move : (e : Event K A) (r : Reply K E) (p : ℕ) → p < length old.search.tree.pages → (row leaf : ℕ) (key : K) → status_of old.commits row ≡ Live → leaf < length old.search.tree.pages
       → IsSound rules.is_cover old.search.fan (after_bury old.search.tree p row (length old.commits + 1)) → (entry : Entry K) → entry.row ≡ length old.commits + 1 → (new : State K A)
       → new.search.tree ≡ after_move old.search.tree p row (length old.commits + 1) leaf entry → new.commits ≡ old.commits ++ Move row key ∷ [] → new.cursors ≡ old.cursors
       → (c : ℕ) (before after : OpenCursor K A) → taken_by c (e, r) ≡ None → cursor_at old c ≡ Some before → cursor_at new c ≡ Some after → Serves rules rule old e r new c before after
@@ -119,7 +119,7 @@ module _ {C O K A E : Type 0} (rules : Rules K A) (rule : Rule) {same_key : K �
       (bury_find (wants rules rule before) before.opened old.search.tree before.stack h.stack rules.is_cover old.search.fan inv.tree.sound p l old.commits inv.agrees row (length old.commits + 1) (omega (arith, h.from_opening, h.within)) live) f)))))
 
   -- a sweep of what no cursor has still to find
-  pub served_by_sweep : (e : Event C K A) (r : Reply C O K A E) (p : ℕ) → p < length old.search.tree.pages → (horizon : ℕ) → IsHorizon (length old.commits) old.cursors horizon → (new : State K A)
+  pub served_by_sweep : (e : Event K A) (r : Reply K E) (p : ℕ) → p < length old.search.tree.pages → (horizon : ℕ) → IsHorizon (length old.commits) old.cursors horizon → (new : State K A)
       → new ≡ with_pages old (after_sweep old.search.tree p horizon)
       → (c : ℕ) (before after : OpenCursor K A) → taken_by c (e, r) ≡ None → cursor_at old c ≡ Some before → cursor_at new c ≡ Some after → Serves rules rule old e r new c before after
   served_by_sweep e r p l horizon is new made c before after none a b =
@@ -133,7 +133,7 @@ module _ {C O K A E : Type 0} (rules : Rules K A) (rule : Rule) {same_key : K �
       (sweep_find (wants rules rule before) before.opened old.search.tree before.stack h.stack rules.is_cover old.search.fan inv.tree.sound p l horizon (horizon_below (length old.commits) old.cursors horizon at.0 before is at.1)) f)))
 
   -- a step that writes back one cursor d
-  pub served_by_put : (e : Event C K A) (r : Reply C O K A E) (d : ℕ) (was later : OpenCursor K A) (new : State K A) → new ≡ with_cursor old later → cursor_at old d ≡ Some was → later.serial ≡ was.serial
+  pub served_by_put : (e : Event K A) (r : Reply K E) (d : ℕ) (was later : OpenCursor K A) (new : State K A) → new ≡ with_cursor old later → cursor_at old d ≡ Some was → later.serial ≡ was.serial
       → ((c : ℕ) → c ≢ d → taken_by c (e, r) ≡ None) → Serves rules rule old e r new d was later → (c : ℕ) (before after : OpenCursor K A) → cursor_at old c ≡ Some before → cursor_at new c ≡ Some after → Serves rules rule old e r new c before after
   served_by_put e r d was later new made is_open same others here c before after a b =
       let number : later.serial ≡ d = same ∙ member_serial (λ k. k.serial) d old.cursors was is_open in
@@ -154,7 +154,7 @@ module _ {C O K A E : Type 0} (rules : Rules K A) (rule : Rule) {same_key : K �
       ]
 
   -- a turn
-  sends_as : (e : Event C K A) (r : Reply C O K A E) (d : ℕ) (was later : OpenCursor K A) (sent : List (Item K)) → was.position ≤ length old.commits → SendsItems old.commits was sent later → SendsAtMostOne rules rule old e r d was sent later
+  sends_as : (e : Event K A) (r : Reply K E) (d : ℕ) (was later : OpenCursor K A) (sent : List (Item K)) → was.position ≤ length old.commits → SendsItems old.commits was sent later → SendsAtMostOne rules rule old e r d was sent later
   sends_as e r d was later [] within h = inl h
   sends_as e r d was later (item.Row row ∷ []) within h = inl h
   sends_as e r d was later (item.Inserted row ∷ []) within h = inl h
@@ -163,7 +163,7 @@ module _ {C O K A E : Type 0} (rules : Rules K A) (rule : Rule) {same_key : K �
   sends_as e r d was later (item.Mark n ∷ []) within h = (h.0, omega (arith, h.1, h.2, within), h.3)
   sends_as e r d was later (x ∷ y ∷ items) within h = absurd h
 
-  pub turn_serves : (e : Event C K A) (r : Reply C O K A E) (d : ℕ) (was later : OpenCursor K A) (how : Result Turned Refusal) (new : State K A) → taken_by d (e, r) ≡ None → new ≡ with_cursor old later → cursor_at old d ≡ Some was
+  pub turn_serves : (e : Event K A) (r : Reply K E) (d : ℕ) (was later : OpenCursor K A) (how : Result Turned Refusal) (new : State K A) → taken_by d (e, r) ≡ None → new ≡ with_cursor old later → cursor_at old d ≡ Some was
       → Turns rules rule old.search.tree old.commits was how later → Serves rules rule old e r new d was later
   turn_serves e r d was later how new none made is_open turn =
       let h = at_work_of rules.is_cover old inv d was is_open in

@@ -56,36 +56,36 @@ none_is_some x o a b = let c : None ≡ Some x = sym a ∙ b in cc
 nat_eq_other : (c d : ℕ) → c ≢ d → nat_eq d c ≡ false
 nat_eq_other c d n = search (arith, n)
 
-module _ {C K A : Type 0} (rules : Rules K A) (rule : Rule) where
+module _ {K A : Type 0} (rules : Rules K A) (rule : Rule) where
   -- a closed cursor refuses what is asked of it, whatever the event
-  asked_tests : (old : State K A) (e : Event C K A) (c : ℕ) → IsShut old c → asks e c → first_failing (tests rules rule old e) ≡ Some refusal.CursorClosed
+  asked_tests : (old : State K A) (e : Event K A) (c : ℕ) → IsShut old c → asks e c → first_failing (tests rules rule old e) ≡ Some refusal.CursorClosed
   asked_tests old (event.Turn d) c s a = subst (λ n. first_failing (cursor_tests old n) ≡ Some refusal.CursorClosed) (sym a) (closed_fails old c s.positive s.given s.closed)
   asked_tests old (event.AskMark d) c s a = subst (λ n. first_failing (cursor_tests old n) ≡ Some refusal.CursorClosed) (sym a) (closed_fails old c s.positive s.given s.closed)
   asked_tests old (event.Close d) c s a = subst (λ n. first_failing (cursor_tests old n) ≡ Some refusal.CursorClosed) (sym a) (closed_fails old c s.positive s.given s.closed)
   asked_tests old (event.Take d) c s a =
-      subst (λ n. first_failing (tests {C = C} rules rule old (event.Take n)) ≡ Some refusal.CursorClosed) (sym a)
+      subst (λ n. first_failing (tests rules rule old (event.Take n)) ≡ Some refusal.CursorClosed) (sym a)
       (failing_first (cursor_tests old c) ((rule.is_emptied_elsewhere, refusal.NotHere) ∷ []) refusal.CursorClosed (closed_fails old c s.positive s.given s.closed))
   asked_tests old e c s a = absurd a
 
-module _ {C O K A E : Type 0} (rules : Rules K A) (rule : Rule) (seat : ℕ) (old : State K A) (e : Event C K A) (new : State K A) where
-  silent_refused : (why : Refusal) → IsRefused rules rule old e why new → first_failing (tests rules rule old e) ≡ Some refusal.CursorClosed → ◌≡◌ {A = Reply C O K A E} (reply.Refused why) (reply.Refused refusal.CursorClosed)
+module _ {K A E : Type 0} (rules : Rules K A) (rule : Rule) (seat : ℕ) (old : State K A) (e : Event K A) (new : State K A) where
+  silent_refused : (why : Refusal) → IsRefused rules rule old e why new → first_failing (tests rules rule old e) ≡ Some refusal.CursorClosed → ◌≡◌ {A = Reply K E} (reply.Refused why) (reply.Refused refusal.CursorClosed)
   silent_refused why d t =
       elim d.cause [
         | inl h ↦ let s : Some why ≡ Some refusal.CursorClosed = sym h ∙ t in let f : why ≡ refusal.CursorClosed = cc in ap (λ x. reply.Refused x) f
         | inr p ↦ absurd (none_is_some refusal.CursorClosed (first_failing (tests rules rule old e)) p.0 t)
       ]
 
-  silent_done : (r : Reply C O K A E) → IsCarriedOut rules rule seat old e r new → first_failing (tests rules rule old e) ≡ Some refusal.CursorClosed → r ≡ reply.Refused refusal.CursorClosed
+  silent_done : (r : Reply K E) → IsCarriedOut rules rule seat old e r new → first_failing (tests rules rule old e) ≡ Some refusal.CursorClosed → r ≡ reply.Refused refusal.CursorClosed
   silent_done r d t = absurd (none_is_some refusal.CursorClosed (first_failing (tests rules rule old e)) d.passed t)
 
-  silent_step : (r : Reply C O K A E) → Step rules rule seat old e r new → first_failing (tests rules rule old e) ≡ Some refusal.CursorClosed → r ≡ reply.Refused refusal.CursorClosed
+  silent_step : (r : Reply K E) → Step rules rule seat old e r new → first_failing (tests rules rule old e) ≡ Some refusal.CursorClosed → r ≡ reply.Refused refusal.CursorClosed
   silent_step (reply.Refused why) d t = silent_refused why d t
   silent_step r d t = silent_done r d t
 
-  pub silent_when_shut : (r : Reply C O K A E) → Step rules rule seat old e r new → (c : ℕ) → IsShut old c → asks e c → r ≡ reply.Refused refusal.CursorClosed
+  pub silent_when_shut : (r : Reply K E) → Step rules rule seat old e r new → (c : ℕ) → IsShut old c → asks e c → r ≡ reply.Refused refusal.CursorClosed
   silent_when_shut r d c s a = silent_step r d (asked_tests rules rule old e c s a)
 
-module _ {C O K A E : Type 0} (rules : Rules K A) (rule : Rule) (old new : State K A) (e : Event C K A) (r : Reply C O K A E) where
+module _ {K A E : Type 0} (rules : Rules K A) (rule : Rule) (old new : State K A) (e : Event K A) (r : Reply K E) where
   -- nothing is committed, taken, opened or closed
   record IsQuiet : Type 0 where
     pub uncommitted : written (e, r) ≡ None
@@ -96,13 +96,13 @@ module _ {C O K A E : Type 0} (rules : Rules K A) (rule : Rule) (old new : State
     pub finding : Finding rules rule old new e r
     pub writing : Writing rules rule old e r
 
-module _ {C O K A E : Type 0} (rules : Rules K A) (rule : Rule) where
-  quiet_refused : (old new : State K A) (e : Event C K A) (why : Refusal) → IsQuiet {O = O} {E = E} rules rule old new e (reply.Refused why)
+module _ {K A E : Type 0} (rules : Rules K A) (rule : Rule) where
+  quiet_refused : (old new : State K A) (e : Event K A) (why : Refusal) → IsQuiet {E = E} rules rule old new e (reply.Refused why)
   quiet_refused old new (event.Turn d) why = record { uncommitted = refl; untaken = λ c. refl; opening = tt; closing = tt; numbering = tt; finding = tt; writing = tt }
   quiet_refused old new e why = record { uncommitted = refl; untaken = λ c. refl; opening = tt; closing = tt; numbering = tt; finding = tt; writing = tt }
 
 -- the finders are those that were there
-finders_stay : {C O K A E : Type 0} (rules : Rules K A) (rule : Rule) (old : State K A) (e : Event C K A) (r : Reply C O K A E) (new : State K A) → new.finders ≡ old.finders → new.last_finder ≡ old.last_finder → Finding rules rule old new e r → Writing rules rule old e r
+finders_stay : {K A E : Type 0} (rules : Rules K A) (rule : Rule) (old : State K A) (e : Event K A) (r : Reply K E) (new : State K A) → new.finders ≡ old.finders → new.last_finder ≡ old.last_finder → Finding rules rule old new e r → Writing rules rule old e r
     → FinderEffect rules rule old e r new
 finders_stay rules rule old e r new same last finding writing = record {
   last = omega (arith, last);
@@ -111,7 +111,7 @@ finders_stay rules rule old e r new same last finding writing = record {
   writing = writing;
 }
 
-module _ {C O K A E : Type 0} (rules : Rules K A) (rule : Rule) {same_key : K → K → Bool} {same_atom : A → A → Bool} (lawful : IsLawful rules same_key same_atom) (seat : ℕ) (old : State K A) (inv : IsSoundWorld rules.is_cover old) (e : Event C K A) (r : Reply C O K A E) where
+module _ {K A E : Type 0} (rules : Rules K A) (rule : Rule) {same_key : K → K → Bool} {same_atom : A → A → Bool} (lawful : IsLawful rules same_key same_atom) (seat : ℕ) (old : State K A) (inv : IsSoundWorld rules.is_cover old) (e : Event K A) (r : Reply K E) where
   -- a sound world and what a trace needs to know of the step to it
   pub record Leads (new : State K A) : Type 0 where
     pub sound : IsSoundWorld rules.is_cover new
@@ -242,7 +242,7 @@ module _ {K A : Type 0} (rules : Rules K A) (rule : Rule) {same_key : K → K �
 same_keeps : {K : Type 0} (t t' : Tree K) → t' ≡ t → KeepsRows t t'
 same_keeps t t' e = subst (λ x. KeepsRows t x) (sym e) (record { pages = omega arith; counter = omega arith; under = λ q m l h f. refl; whole = λ f. refl })
 
-refused_keeps : {C K A : Type 0} (rules : Rules K A) (rule : Rule) (old : State K A) (e : Event C K A) (why : Refusal) (new : State K A) → IsRefused rules rule old e why new → KeepsRows old.search.tree new.search.tree
+refused_keeps : {K A : Type 0} (rules : Rules K A) (rule : Rule) (old : State K A) (e : Event K A) (why : Refusal) (new : State K A) → IsRefused rules rule old e why new → KeepsRows old.search.tree new.search.tree
 refused_keeps rules rule old e why new d = same_keeps old.search.tree new.search.tree (ap (λ s. s.search.tree) d.unchanged)
 
 moved_keeps : {K A : Type 0} (is_cover : K → K → Bool) (old : State K A) (tree : Tree K) (new : State K A) → new ≡ with_pages old tree → IsMoved is_cover old.search.tree tree old.search.fan old.search.least old.search.limit → KeepsRows old.search.tree new.search.tree
@@ -272,16 +272,16 @@ module _ {K A : Type 0} (old : State K A) where
     | inr n ↦ sym (ap (λ ks. member (λ k. k.serial) x ks) made ∙ without_other (λ k. k.serial) f x old.finders n) ∙ h
   ]
 
-module _ {C O K A E : Type 0} (rules : Rules K A) (rule : Rule) {same_key : K → K → Bool} {same_atom : A → A → Bool} (lawful : IsLawful rules same_key same_atom) (seat : ℕ) (old : State K A) (inv : IsSoundWorld rules.is_cover old) where
+module _ {K A E : Type 0} (rules : Rules K A) (rule : Rule) {same_key : K → K → Bool} {same_atom : A → A → Bool} (lawful : IsLawful rules same_key same_atom) (seat : ℕ) (old : State K A) (inv : IsSoundWorld rules.is_cover old) where
   -- a cursor as it was in a tree as it was
-  kept_by : (e : Event C K A) (r : Reply C O K A E) (new : State K A) → new.search.tree ≡ old.search.tree → new.commits ≡ old.commits → (c : ℕ) (k : OpenCursor K A) → taken_by c (e, r) ≡ None → Serves rules rule old e r new c k k
+  kept_by : (e : Event K A) (r : Reply K E) (new : State K A) → new.search.tree ≡ old.search.tree → new.commits ≡ old.commits → (c : ℕ) (k : OpenCursor K A) → taken_by c (e, r) ≡ None → Serves rules rule old e r new c k k
   kept_by e r new tree commits c k none = untouched rules rule lawful old inv e r new c k none (λ items h. rw (tree, commits) h)
 
   -- nothing is committed, taken, opened or closed, and the cursors are those that were there
-  leads_alike : (e : Event C K A) (r : Reply C O K A E) (new : State K A) → written (e, r) ≡ None → ((c : ℕ) → taken_by c (e, r) ≡ None) → Opening rules rule old new e r → Closing rules rule new e r → Numbering rules rule old r
+  leads_alike : (e : Event K A) (r : Reply K E) (new : State K A) → written (e, r) ≡ None → ((c : ℕ) → taken_by c (e, r) ≡ None) → Opening rules rule old new e r → Closing rules rule new e r → Numbering rules rule old r
       → IsSoundWorld rules.is_cover new → new.commits ≡ old.commits → new.cursors ≡ old.cursors → new.last ≡ old.last
       → ((c : ℕ) (k : OpenCursor K A) → cursor_at old c ≡ Some k → cursor_at new c ≡ Some k → Serves rules rule old e r new c k k) → FinderEffect rules rule old e r new
-      → ((c : ℕ) → IsShut old c → asks e c → r ≡ reply.Refused refusal.CursorClosed) → Leads {C = C} {O = O} {E = E} rules rule lawful seat old inv e r new
+      → ((c : ℕ) → IsShut old c → asks e c → r ≡ reply.Refused refusal.CursorClosed) → Leads {E = E} rules rule lawful seat old inv e r new
   leads_alike e r new uncommitted untaken opening closing numbering sound commits cursors last serves finders silent =
       let alike : (c : ℕ) → cursor_at new c ≡ cursor_at old c = λ c. ap (λ ks. member (λ k. k.serial) c ks) cursors in
       record {
@@ -306,8 +306,8 @@ module _ {C O K A E : Type 0} (rules : Rules K A) (rule : Rule) {same_key : K �
         };
       }
 
-  leads_by_place : (page : ℕ) (key : K) (tag : ℕ) (stamp : Stamp K) (new : State K A) → IsCarriedOut {C = C} {O = O} {E = E} rules rule seat old (event.Place page key tag) (reply.Committed stamp) new
-      → Leads {C = C} {O = O} {E = E} rules rule lawful seat old inv (event.Place page key tag) (reply.Committed stamp) new
+  leads_by_place : (page : ℕ) (key : K) (tag : ℕ) (stamp : Stamp K) (new : State K A) → IsCarriedOut {E = E} rules rule seat old (event.Place page key tag) (reply.Committed stamp) new
+      → Leads {E = E} rules rule lawful seat old inv (event.Place page key tag) (reply.Committed stamp) new
   leads_by_place page key tag stamp new d =
       let passed : first_failing (place_tests rules.is_cover old.search page key) ≡ None = passed_first (place_tests rules.is_cover old.search page key) _ d.passed in
       let room : length old.commits < old.limit = place_room rules rule old page key tag d.passed in
@@ -335,11 +335,11 @@ module _ {C O K A E : Type 0} (rules : Rules K A) (rule : Rule) {same_key : K �
       }
 
   -- a cursor is opened
-  leads_by_begun : (e : Event C K A) (c : ℕ) (end : E) (k : OpenCursor K A) (new : State K A) → Opens old k c new → k.serial ≡ old.last + 1 → k.unread ≡ [] → k.asked ≡ false → IsAtWork old.search.tree old.commits k
-      → (length old.cursors < 256) × (old.last < 4294967295) → Opening {C = C} {O = O} {E = E} rules rule old new e (reply.Opened c end)
-      → Fits rules.is_match new.commits (shown rules rule new.search.tree k) [] → Finding {C = C} {O = O} {E = E} rules rule old new e (reply.Opened c end)
-      → ((x : ℕ) → taken_by {C = C} {O = O} {E = E} x (e, reply.Opened c end) ≡ None) → Closing {C = C} {O = O} {E = E} rules rule new e (reply.Opened c end) → ((x : ℕ) → asks e x → ⊥)
-      → Leads {C = C} {O = O} {E = E} rules rule lawful seat old inv e (reply.Opened c end) new
+  leads_by_begun : (e : Event K A) (c : ℕ) (end : E) (k : OpenCursor K A) (new : State K A) → Opens old k c new → k.serial ≡ old.last + 1 → k.unread ≡ [] → k.asked ≡ false → IsAtWork old.search.tree old.commits k
+      → (length old.cursors < 256) × (old.last < 4294967295) → Opening {E = E} rules rule old new e (reply.Opened c end)
+      → Fits rules.is_match new.commits (shown rules rule new.search.tree k) [] → Finding {E = E} rules rule old new e (reply.Opened c end)
+      → ((x : ℕ) → taken_by {E = E} x (e, reply.Opened c end) ≡ None) → Closing {E = E} rules rule new e (reply.Opened c end) → ((x : ℕ) → asks e x → ⊥)
+      → Leads {E = E} rules rule lawful seat old inv e (reply.Opened c end) new
   leads_by_begun e c end k new d number empty unasked work left opening fits finding untaken closing asks_none =
       let sound : IsSoundWorld rules.is_cover new = subst (λ s. IsSoundWorld rules.is_cover s) (sym d.after) (opened_sound rules.is_cover old inv k number work left.0 left.1) in
       let apart : (x : ℕ) → x ≢ old.last + 1 → cursor_at new x ≡ cursor_at old x = λ x n. ap (λ s. cursor_at s x) d.after ∙ push_other (λ k. k.serial) x k old.cursors (λ eq. n (eq ∙ number)) in
@@ -353,7 +353,7 @@ module _ {C O K A E : Type 0} (rules : Rules K A) (rule : Rule) {same_key : K �
           serves = λ x before after a b.
               let s : Some before ≡ Some after = sym a ∙ sym (apart x (beyond x before a)) ∙ b in
               let f : before ≡ after = cc in
-              subst (λ k. Serves {C = C} {O = O} {E = E} rules rule old e (reply.Opened c end) new x before k) f (untouched rules rule lawful old inv e (reply.Opened c end) new x before (untaken x) (λ items h. rw d.after h));
+              subst (λ k. Serves {E = E} rules rule old e (reply.Opened c end) new x before k) f (untouched rules rule lawful old inv e (reply.Opened c end) new x before (untaken x) (λ items h. rw d.after h));
           last = omega (arith, ap (λ (s : State K A). s.last) d.after);
           within = λ x k h. (member_within (λ k. k.serial) x 0 new.last new.cursors k sound.serials h).1;
           shut = λ x l h. apart x (λ eq. omega (arith, l, eq)) ∙ h;
@@ -378,16 +378,16 @@ module _ {C O K A E : Type 0} (rules : Rules K A) (rule : Rule) {same_key : K �
         };
       }
 
-  leads_by_open : (query : Pred A) (room c : ℕ) (end : E) (new : State K A) → IsCarriedOut {C = C} {O = O} {E = E} rules rule seat old (event.Open query room) (reply.Opened c end) new
-      → Leads {C = C} {O = O} {E = E} rules rule lawful seat old inv (event.Open query room) (reply.Opened c end) new
+  leads_by_open : (query : Pred A) (room c : ℕ) (end : E) (new : State K A) → IsCarriedOut {E = E} rules rule seat old (event.Open query room) (reply.Opened c end) new
+      → Leads {E = E} rules rule lawful seat old inv (event.Open query room) (reply.Opened c end) new
   leads_by_open query room c end new d =
       let fresh = opened_fits rules rule lawful old inv query room new d.change.after in
       leads_by_begun (event.Open query room) c end (opened_cursor old query room) new d.change refl refl refl
       (fresh_at_work rules.is_cover old inv (opened_cursor old query room) (length old.commits) old.search.tree.counter refl refl refl refl refl) (open_leaves_room old query room d.passed)
       (subst (λ n. IsFresh rules rule old new false (length old.commits) query n) (sym d.change.serial) fresh) (rw d.change.after (open_fits_none rules rule lawful old inv query room)) tt (λ x. refl) tt (λ x a. a)
 
-  leads_by_follow : (query : Pred A) (room n c : ℕ) (end : E) (new : State K A) → IsCarriedOut {C = C} {O = O} {E = E} rules rule seat old (event.Follow query room n) (reply.Opened c end) new
-      → Leads {C = C} {O = O} {E = E} rules rule lawful seat old inv (event.Follow query room n) (reply.Opened c end) new
+  leads_by_follow : (query : Pred A) (room n c : ℕ) (end : E) (new : State K A) → IsCarriedOut {E = E} rules rule seat old (event.Follow query room n) (reply.Opened c end) new
+      → Leads {E = E} rules rule lawful seat old inv (event.Follow query room n) (reply.Opened c end) new
   leads_by_follow query room n c end new d =
       let left = follow_leaves_room old query room n d.passed in
       let fresh = following_fits rules rule lawful old inv query room n new left.0 d.change.after in
@@ -395,7 +395,7 @@ module _ {C O K A E : Type 0} (rules : Rules K A) (rule : Rule) {same_key : K �
       (record { stack = All-nil (λ i. (i.page < length old.search.tree.pages) × (i.memo ≤ old.search.tree.counter)); from_opening = omega arith; within = left.0 }) (left.1, left.2)
       (subst (λ x. IsFresh rules rule old new true n query x) (sym d.change.serial) fresh) (rw d.change.after (follow_fits_none rules rule lawful old inv query room n left.0)) tt (λ x. refl) tt (λ x a. a)
 
-  leads_by_close : (d : ℕ) (new : State K A) → IsCarriedOut {C = C} {O = O} {E = E} rules rule seat old (event.Close d) reply.Closed new → Leads {C = C} {O = O} {E = E} rules rule lawful seat old inv (event.Close d) reply.Closed new
+  leads_by_close : (d : ℕ) (new : State K A) → IsCarriedOut {E = E} rules rule seat old (event.Close d) reply.Closed new → Leads {E = E} rules rule lawful seat old inv (event.Close d) reply.Closed new
   leads_by_close d new h =
       let sound : IsSoundWorld rules.is_cover new = subst (λ s. IsSoundWorld rules.is_cover s) (sym h.change) (closed_sound rules.is_cover old inv d) in
       let gone : cursor_at new d ≡ None = ap (λ s. cursor_at s d) h.change ∙ without_same (λ k. k.serial) d old.cursors in
@@ -411,7 +411,7 @@ module _ {C O K A E : Type 0} (rules : Rules K A) (rule : Rule) {same_key : K �
             | inr n ↦
                 let s : Some before ≡ Some after = sym a ∙ sym (apart c n) ∙ b in
                 let f : before ≡ after = cc in
-                subst (λ k. Serves {C = C} {O = O} {E = E} rules rule old (event.Close d) reply.Closed new c before k) f (untouched rules rule lawful old inv (event.Close d) reply.Closed new c before refl (λ items g. rw h.change g))
+                subst (λ k. Serves {E = E} rules rule old (event.Close d) reply.Closed new c before k) f (untouched rules rule lawful old inv (event.Close d) reply.Closed new c before refl (λ items g. rw h.change g))
           ];
           last = omega (arith, ap (λ (s : State K A). s.last) h.change);
           within = λ c k g. (member_within (λ k. k.serial) c 0 new.last new.cursors k sound.serials g).1;
@@ -429,16 +429,16 @@ module _ {C O K A E : Type 0} (rules : Rules K A) (rule : Rule) {same_key : K �
         };
       }
 
-  leads_by_turn : (d : ℕ) (how : Turned) (r : Reply C O K A E) (new : State K A) → TurnsAt rules rule old d (Ok how) new → IsQuiet rules rule old new (event.Turn d) r
-      → ((c : ℕ) → IsShut old c → d ≡ c → r ≡ reply.Refused refusal.CursorClosed) → Leads {C = C} {O = O} {E = E} rules rule lawful seat old inv (event.Turn d) r new
+  leads_by_turn : (d : ℕ) (how : Turned) (r : Reply K E) (new : State K A) → TurnsAt rules rule old d (Ok how) new → IsQuiet rules rule old new (event.Turn d) r
+      → ((c : ℕ) → IsShut old c → d ≡ c → r ≡ reply.Refused refusal.CursorClosed) → Leads {E = E} rules rule lawful seat old inv (event.Turn d) r new
   leads_by_turn d how r new t q silent =
       let h = at_work_of rules.is_cover old inv d t.before t.is_open in
       leads_by_put rules rule lawful seat old inv (event.Turn d) r d t.before t.later new t.after t.is_open (turn_serial rules rule old.search.tree old.commits t.before t.later (Ok how) t.turn)
       (turn_work rules rule lawful old.search.tree old.commits old.search.fan inv.tree.sound t.before t.later (Ok how) h t.turn)
-      q.uncommitted (λ c n. q.untaken c) (λ item k. absurd (none_is_some item (taken_by d (event.Turn d, r)) (q.untaken d) k)) q.opening q.closing q.numbering q.finding q.writing
+      q.uncommitted (λ c n. q.untaken c) (λ item k. absurd (none_is_some item (taken_by {A = A} d (event.Turn d, r)) (q.untaken d) k)) q.opening q.closing q.numbering q.finding q.writing
       (turn_serves rules rule lawful old inv (event.Turn d) r d t.before t.later (Ok how) new (q.untaken d) t.after t.is_open t.turn) silent
 
-  leads_by_ask : (d : ℕ) (new : State K A) → IsCarriedOut {C = C} {O = O} {E = E} rules rule seat old (event.AskMark d) reply.Asked new → Leads {C = C} {O = O} {E = E} rules rule lawful seat old inv (event.AskMark d) reply.Asked new
+  leads_by_ask : (d : ℕ) (new : State K A) → IsCarriedOut {E = E} rules rule seat old (event.AskMark d) reply.Asked new → Leads {E = E} rules rule lawful seat old inv (event.AskMark d) reply.Asked new
   leads_by_ask d new h =
       let t = h.change in
       let k = at_work_of rules.is_cover old inv d t.before t.is_open in
@@ -455,11 +455,11 @@ module _ {C O K A E : Type 0} (rules : Rules K A) (rule : Rule) {same_key : K �
       })
       (λ c s a. silent_when_shut rules rule seat old (event.AskMark d) new reply.Asked h c s a)
 
-  leads_by_take : (d : ℕ) (item : Item K) (new : State K A) → IsCarriedOut {C = C} {O = O} {E = E} rules rule seat old (event.Take d) (reply.Taken item) new → Leads {C = C} {O = O} {E = E} rules rule lawful seat old inv (event.Take d) (reply.Taken item) new
+  leads_by_take : (d : ℕ) (item : Item K) (new : State K A) → IsCarriedOut {E = E} rules rule seat old (event.Take d) (reply.Taken item) new → Leads {E = E} rules rule lawful seat old inv (event.Take d) (reply.Taken item) new
   leads_by_take d item new h =
       let t = h.change in
       let k = at_work_of rules.is_cover old inv d t.before t.is_open in
-      let here : taken_by {C = C} {O = O} {A = A} {E = E} d (event.Take d, reply.Taken item) ≡ Some item = taken_same C O A E d item in
+      let here : taken_by {A = A} {E = E} d (event.Take d, reply.Taken item) ≡ Some item = taken_same A E d item in
       leads_by_put rules rule lawful seat old inv (event.Take d) (reply.Taken item) d t.before (record t.before { unread = t.rest }) new t.after t.is_open refl (record { stack = k.stack; from_opening = k.from_opening; within = k.within })
       refl (λ c n. rw (nat_eq_other c d n) refl)
       (λ x e. let s : Some item ≡ Some x = sym here ∙ e in let f : item ≡ x = cc in (t.rest, t.front ∙ ap (λ y. y ∷ t.rest) f)) tt tt tt tt tt
@@ -474,7 +474,7 @@ module _ {C O K A E : Type 0} (rules : Rules K A) (rule : Rule) {same_key : K �
       })
       (λ c s a. silent_when_shut rules rule seat old (event.Take d) new (reply.Taken item) h c s a)
 
-  leads_by_find : (row f : ℕ) (new : State K A) → IsCarriedOut {C = C} {O = O} {E = E} rules rule seat old (event.Find row) (reply.Finder f) new → Leads {C = C} {O = O} {E = E} rules rule lawful seat old inv (event.Find row) (reply.Finder f) new
+  leads_by_find : (row f : ℕ) (new : State K A) → IsCarriedOut {E = E} rules rule seat old (event.Find row) (reply.Finder f) new → Leads {E = E} rules rule lawful seat old inv (event.Find row) (reply.Finder f) new
   leads_by_find row f new d = leads_alike (event.Find row) (reply.Finder f) new refl (λ c. refl) tt tt tt (finds_sound rules.is_cover old inv row f new d.passed d.change)
       (ap (λ s. s.commits) d.change.after) (ap (λ s. s.cursors) d.change.after) (ap (λ s. s.last) d.change.after)
       (λ c k a b. kept_by (event.Find row) (reply.Finder f) new (ap (λ s. s.search.tree) d.change.after) (ap (λ s. s.commits) d.change.after) c k refl)
@@ -494,8 +494,8 @@ module _ {C O K A E : Type 0} (rules : Rules K A) (rule : Rule) {same_key : K �
       (λ c s a. absurd a)
 
   -- a visit of a finder that goes on, by an event that commits, takes, opens and closes nothing
-  leads_further : (e : Event C K A) (f : ℕ) (new : State K A) → IsQuiet {O = O} {E = E} rules rule old new e reply.Seeking → SeeksOn rules rule old f new → ((c : ℕ) → asks e c → ⊥)
-      → Leads {C = C} {O = O} {E = E} rules rule lawful seat old inv e reply.Seeking new
+  leads_further : (e : Event K A) (f : ℕ) (new : State K A) → IsQuiet {E = E} rules rule old new e reply.Seeking → SeeksOn rules rule old f new → ((c : ℕ) → asks e c → ⊥)
+      → Leads {E = E} rules rule lawful seat old inv e reply.Seeking new
   leads_further e f new q t unasked =
       let row : t.later.row ≡ t.before.row = ap (λ k. k.row) t.further.after in
       let number : t.later.serial ≡ f = ap (λ k. k.serial) t.further.after ∙ member_serial (λ k. k.serial) f old.finders t.before t.is_open in
@@ -517,7 +517,7 @@ module _ {C O K A E : Type 0} (rules : Rules K A) (rule : Rule) {same_key : K �
       })
       (λ c s a. absurd (unasked c a))
 
-  leads_by_unfind : (f : ℕ) (new : State K A) → IsCarriedOut {C = C} {O = O} {E = E} rules rule seat old (event.Unfind f) reply.Unfound new → Leads {C = C} {O = O} {E = E} rules rule lawful seat old inv (event.Unfind f) reply.Unfound new
+  leads_by_unfind : (f : ℕ) (new : State K A) → IsCarriedOut {E = E} rules rule seat old (event.Unfind f) reply.Unfound new → Leads {E = E} rules rule lawful seat old inv (event.Unfind f) reply.Unfound new
   leads_by_unfind f new d = leads_alike (event.Unfind f) reply.Unfound new refl (λ c. refl) tt tt tt (unfound_sound rules.is_cover old inv f new d.change)
       (ap (λ s. s.commits) d.change) (ap (λ s. s.cursors) d.change) (ap (λ s. s.last) d.change)
       (λ c k a b. kept_by (event.Unfind f) reply.Unfound new (ap (λ s. s.search.tree) d.change) (ap (λ s. s.commits) d.change) c k refl)
@@ -530,14 +530,14 @@ module _ {C O K A E : Type 0} (rules : Rules K A) (rule : Rule) {same_key : K �
       (λ c s a. absurd a)
 
   -- a visit of a finder that ends it with a commit, by an event that takes, opens and closes nothing
-  leads_by_end : (e : Event C K A) (f : ℕ) (stamp : Stamp K) (write : Write K) (new : State K A) → IsSoundWorld rules.is_cover new
-      → ((c : ℕ) → taken_by {C = C} {O = O} {A = A} {E = E} c (e, reply.Committed stamp) ≡ None) → ((c : ℕ) → asks e c → ⊥)
-      → Opening {C = C} {O = O} {E = E} rules rule old new e (reply.Committed stamp) → Closing {C = C} {O = O} {E = E} rules rule new e (reply.Committed stamp) → Finding {C = C} {O = O} {E = E} rules rule old new e (reply.Committed stamp)
-      → Writing {C = C} {O = O} {E = E} rules rule old e (reply.Committed stamp)
+  leads_by_end : (e : Event K A) (f : ℕ) (stamp : Stamp K) (write : Write K) (new : State K A) → IsSoundWorld rules.is_cover new
+      → ((c : ℕ) → taken_by {A = A} {E = E} c (e, reply.Committed stamp) ≡ None) → ((c : ℕ) → asks e c → ⊥)
+      → Opening {E = E} rules rule old new e (reply.Committed stamp) → Closing {E = E} rules rule new e (reply.Committed stamp) → Finding {E = E} rules rule old new e (reply.Committed stamp)
+      → Writing {E = E} rules rule old e (reply.Committed stamp)
       → stamp.number ≡ length old.commits + 1 → stamp.write ≡ write → new.commits ≡ old.commits ++ write ∷ [] → new.cursors ≡ old.cursors → new.last ≡ old.last
       → new.finders ≡ without (λ k. k.serial) f old.finders → new.last_finder ≡ old.last_finder
-      → ((c : ℕ) (before after : OpenCursor K A) → cursor_at old c ≡ Some before → cursor_at new c ≡ Some after → Serves {C = C} {O = O} {E = E} rules rule old e (reply.Committed stamp) new c before after)
-      → Leads {C = C} {O = O} {E = E} rules rule lawful seat old inv e (reply.Committed stamp) new
+      → ((c : ℕ) (before after : OpenCursor K A) → cursor_at old c ≡ Some before → cursor_at new c ≡ Some after → Serves {E = E} rules rule old e (reply.Committed stamp) new c before after)
+      → Leads {E = E} rules rule lawful seat old inv e (reply.Committed stamp) new
   leads_by_end e f stamp write new sound untaken unasked opening closing finding writing number is commits cursors last finders last_finder serves =
       let alike : (c : ℕ) → cursor_at new c ≡ cursor_at old c = λ c. ap (λ ks. member (λ k. k.serial) c ks) cursors in
       record {
@@ -550,7 +550,7 @@ module _ {C O K A E : Type 0} (rules : Rules K A) (rule : Rule) {same_key : K �
           within = λ c k h. (member_within (λ k. k.serial) c 0 new.last new.cursors k sound.serials h).1;
           shut = λ c l h. alike c ∙ h;
           appears = λ c k h g. absurd (none_is_some k (cursor_at new c) (alike c ∙ h) g);
-          takes = λ c item g. absurd (none_is_some item (taken_by {C = C} {O = O} {A = A} {E = E} c (e, reply.Committed stamp)) (untaken c) g);
+          takes = λ c item g. absurd (none_is_some item (taken_by {A = A} {E = E} c (e, reply.Committed stamp)) (untaken c) g);
           opening = opening;
           closing = closing;
           silent = λ c s a. absurd (unasked c a);
@@ -564,7 +564,7 @@ module _ {C O K A E : Type 0} (rules : Rules K A) (rule : Rule) {same_key : K �
         };
       }
 
-  leads_by_bury : (f : ℕ) (stamp : Stamp K) (new : State K A) → IsCarriedOut {C = C} {O = O} {E = E} rules rule seat old (event.Seek f) (reply.Committed stamp) new → Leads {C = C} {O = O} {E = E} rules rule lawful seat old inv (event.Seek f) (reply.Committed stamp) new
+  leads_by_bury : (f : ℕ) (stamp : Stamp K) (new : State K A) → IsCarriedOut {E = E} rules rule seat old (event.Seek f) (reply.Committed stamp) new → Leads {E = E} rules rule lawful seat old inv (event.Seek f) (reply.Committed stamp) new
   leads_by_bury f stamp new d =
       let t = d.change in
       let may = may_visit rules.is_cover old inv f t.finder (commit_tests old) t.is_open d.passed in
@@ -575,8 +575,8 @@ module _ {C O K A E : Type 0} (rules : Rules K A) (rule : Rule) {same_key : K �
       (ap (λ s. s.number) t.stamped) write (ap (λ s. s.commits) t.after) (ap (λ s. s.cursors) t.after) (ap (λ s. s.last) t.after) (ap (λ s. s.finders) t.after) (ap (λ s. s.last_finder) t.after)
       (λ c before after a b. served_by_bury rules rule lawful old inv (event.Seek f) (reply.Committed stamp) t.page on.exists t.finder.row live new (ap (λ s. s.search.tree) t.after) (ap (λ s. s.commits) t.after) (ap (λ s. s.cursors) t.after) c before after refl a b)
 
-  leads_by_move : (f leaf : ℕ) (key : K) (stamp : Stamp K) (new : State K A) → IsCarriedOut {C = C} {O = O} {E = E} rules rule seat old (event.Move f leaf key) (reply.Committed stamp) new
-      → Leads {C = C} {O = O} {E = E} rules rule lawful seat old inv (event.Move f leaf key) (reply.Committed stamp) new
+  leads_by_move : (f leaf : ℕ) (key : K) (stamp : Stamp K) (new : State K A) → IsCarriedOut {E = E} rules rule seat old (event.Move f leaf key) (reply.Committed stamp) new
+      → Leads {E = E} rules rule lawful seat old inv (event.Move f leaf key) (reply.Committed stamp) new
   leads_by_move f leaf key stamp new d =
       let t = d.change in
       let may = may_move rules.is_cover old inv f t.finder t.page leaf key t.is_open t.finds d.passed in
@@ -589,7 +589,7 @@ module _ {C O K A E : Type 0} (rules : Rules K A) (rule : Rule) {same_key : K �
       (λ c before after a b. served_by_move rules rule lawful old inv (event.Move f leaf key) (reply.Committed stamp) t.page on.exists t.finder.row leaf key live (leaf_within rules.is_cover old.search leaf key may.takes) dead.sound
       (record { key = key; row = length old.commits + 1; tag = t.row.tag; died = None }) refl new (ap (λ s. s.search.tree) t.after) (ap (λ s. s.commits) t.after) (ap (λ s. s.cursors) t.after) c before after refl a b)
 
-  leads_by_sweep : (page count : ℕ) (new : State K A) → IsCarriedOut {C = C} {O = O} {E = E} rules rule seat old (event.Sweep page) (reply.Swept count) new → Leads {C = C} {O = O} {E = E} rules rule lawful seat old inv (event.Sweep page) (reply.Swept count) new
+  leads_by_sweep : (page count : ℕ) (new : State K A) → IsCarriedOut {E = E} rules rule seat old (event.Sweep page) (reply.Swept count) new → Leads {E = E} rules rule lawful seat old inv (event.Sweep page) (reply.Swept count) new
   leads_by_sweep page count new d =
       let t = d.change in
       leads_alike (event.Sweep page) (reply.Swept count) new refl (λ c. refl) tt tt tt (sweeps_sound rules.is_cover old inv page count new d.passed t)
@@ -599,23 +599,23 @@ module _ {C O K A E : Type 0} (rules : Rules K A) (rule : Rule) {same_key : K �
       (λ c s a. absurd a)
 
   -- every step leads to a sound world, with the effect that a trace needs
-  pub step_leads : (e : Event C K A) (r : Reply C O K A E) (new : State K A) → Step rules rule seat old e r new → Leads {C = C} {O = O} {E = E} rules rule lawful seat old inv e r new
+  pub step_leads : (e : Event K A) (r : Reply K E) (new : State K A) → Step rules rule seat old e r new → Leads {E = E} rules rule lawful seat old inv e r new
   step_leads e (reply.Refused why) new d = leads_nowhere rules rule lawful seat old inv e (reply.Refused why) new d.unchanged (quiet_refused rules rule old new e why) (λ c s a. silent_when_shut rules rule seat old e new (reply.Refused why) d c s a)
   step_leads (event.Enlarge page child key) reply.Enlarged new d =
-      subst (λ s. Leads {C = C} {O = O} {E = E} rules rule lawful seat old inv (event.Enlarge page child key) reply.Enlarged s) (sym d.change)
+      subst (λ s. Leads {E = E} rules rule lawful seat old inv (event.Enlarge page child key) reply.Enlarged s) (sym d.change)
       (leads_by_moves rules rule lawful seat old inv (event.Enlarge page child key) reply.Enlarged _ (enlarge_done rules.is_cover old.search inv.tree page child key d.passed rules.union_of lawful.bounds)
       (record { uncommitted = refl; untaken = λ c. refl; opening = tt; closing = tt; numbering = tt; finding = tt; writing = tt }) (λ c s a. absurd a))
   step_leads (event.Place page key tag) (reply.Committed stamp) new d = leads_by_place page key tag stamp new d
   step_leads (event.Split page sides) (reply.Split sibling) new d =
-      subst (λ s. Leads {C = C} {O = O} {E = E} rules rule lawful seat old inv (event.Split page sides) (reply.Split sibling) s) (sym d.change.1)
+      subst (λ s. Leads {E = E} rules rule lawful seat old inv (event.Split page sides) (reply.Split sibling) s) (sym d.change.1)
       (leads_by_moves rules rule lawful seat old inv (event.Split page sides) (reply.Split sibling) _ (split_done rules.is_cover old.search inv.tree page sides d.passed rules.union_of lawful.bounds)
       (record { uncommitted = refl; untaken = λ c. refl; opening = tt; closing = tt; numbering = tt; finding = tt; writing = tt }) (λ c s a. absurd a))
   step_leads (event.Post page child) reply.Posted new d =
-      subst (λ s. Leads {C = C} {O = O} {E = E} rules rule lawful seat old inv (event.Post page child) reply.Posted s) (sym d.change.after)
+      subst (λ s. Leads {E = E} rules rule lawful seat old inv (event.Post page child) reply.Posted s) (sym d.change.after)
       (leads_by_moves rules rule lawful seat old inv (event.Post page child) reply.Posted _ (post_done rules.is_cover old.search inv.tree page child d.passed d.change.sibling d.change.is_right rules.union_of lawful.bounds)
       (record { uncommitted = refl; untaken = λ c. refl; opening = tt; closing = tt; numbering = tt; finding = tt; writing = tt }) (λ c s a. absurd a))
   step_leads (event.Grow sides) (reply.Grown first second) new d =
-      subst (λ s. Leads {C = C} {O = O} {E = E} rules rule lawful seat old inv (event.Grow sides) (reply.Grown first second) s) (sym d.change.2)
+      subst (λ s. Leads {E = E} rules rule lawful seat old inv (event.Grow sides) (reply.Grown first second) s) (sym d.change.2)
       (leads_by_moves rules rule lawful seat old inv (event.Grow sides) (reply.Grown first second) _ (grow_done rules.is_cover old.search inv.tree sides d.passed rules.union_of lawful.bounds)
       (record { uncommitted = refl; untaken = λ c. refl; opening = tt; closing = tt; numbering = tt; finding = tt; writing = tt }) (λ c s a. absurd a))
   step_leads (event.Find row) (reply.Finder f) new d = leads_by_find row f new d
@@ -636,23 +636,23 @@ module _ {C O K A E : Type 0} (rules : Rules K A) (rule : Rule) {same_key : K �
   step_leads (event.Close x) reply.Closed new d = leads_by_close x new d
   step_leads e r new d = absurd d.change
 
-  pub step_sound : (e : Event C K A) (r : Reply C O K A E) (new : State K A) → Step rules rule seat old e r new → IsSoundWorld rules.is_cover new
+  pub step_sound : (e : Event K A) (r : Reply K E) (new : State K A) → Step rules rule seat old e r new → IsSoundWorld rules.is_cover new
   step_sound e r new d = (step_leads e r new d).sound
 
-  pub step_serves : (e : Event C K A) (r : Reply C O K A E) (new : State K A) → Step rules rule seat old e r new → ServesAll rules rule old e r new
+  pub step_serves : (e : Event K A) (r : Reply K E) (new : State K A) → Step rules rule seat old e r new → ServesAll rules rule old e r new
   step_serves e r new d = (step_leads e r new d).effect.serves
 
   -- the commits are those that were there and the one that the reply tells
-  pub step_commits : (e : Event C K A) (r : Reply C O K A E) (new : State K A) → Step rules rule seat old e r new → new.commits ≡ old.commits ++ option_to_list (written (e, r))
+  pub step_commits : (e : Event K A) (r : Reply K E) (new : State K A) → Step rules rule seat old e r new → new.commits ≡ old.commits ++ option_to_list (written (e, r))
   step_commits e r new d = (step_leads e r new d).effect.commits
 
   -- a turn makes no commit
-  pub turn_commits : (c : ℕ) (r : Reply C O K A E) (new : State K A) → Step rules rule seat old (event.Turn c) r new → new.commits ≡ old.commits
+  pub turn_commits : (c : ℕ) (r : Reply K E) (new : State K A) → Step rules rule seat old (event.Turn c) r new → new.commits ≡ old.commits
   turn_commits c (reply.Committed stamp) new d = absurd d.change
   turn_commits c r new d = step_commits (event.Turn c) r new d ∙ append-nil old.commits
 
   -- a turn that isn't refused lowers the work of its cursor
-  pub step_lowers : (e : Event C K A) (r : Reply C O K A E) (new : State K A) → Step rules rule seat old e r new → LowersCursorWork rules rule old e r new
+  pub step_lowers : (e : Event K A) (r : Reply K E) (new : State K A) → Step rules rule seat old e r new → LowersCursorWork rules rule old e r new
   step_lowers (event.Turn c) reply.Offered new d = lowered rules rule lawful old inv c turned.Offered new d.change
   step_lowers (event.Turn c) (reply.Visited page) new d = lowered rules rule lawful old inv c (turned.Visited page) new d.change
   step_lowers (event.Turn c) (reply.Passed n) new d = lowered rules rule lawful old inv c (turned.Passed n) new d.change
@@ -661,7 +661,7 @@ module _ {C O K A E : Type 0} (rules : Rules K A) (rule : Rule) {same_key : K �
   step_lowers e r new d = tt
 
   -- nothing given fits a cursor at its opening
-  pub step_opens : (e : Event C K A) (r : Reply C O K A E) (new : State K A) → Step rules rule seat old e r new → FitsAtOpening rules rule r new
+  pub step_opens : (e : Event K A) (r : Reply K E) (new : State K A) → Step rules rule seat old e r new → FitsAtOpening rules rule r new
   step_opens (event.Open query room) (reply.Opened c end) new d = λ k h.
       let o = opened_fits rules rule lawful old inv query room new d.change.after in
       let s : Some o.cursor ≡ Some k = sym o.is_open ∙ ap (λ n. cursor_at new n) (sym d.change.serial) ∙ h in
@@ -675,7 +675,7 @@ module _ {C O K A E : Type 0} (rules : Rules K A) (rule : Rule) {same_key : K �
   step_opens e (reply.Opened c end) new d = absurd d.change
   step_opens e r new d = tt
 
-  pub step_keeps_rows : (e : Event C K A) (r : Reply C O K A E) (new : State K A) → Step rules rule seat old e r new → KeepsRowsUnder old e new
+  pub step_keeps_rows : (e : Event K A) (r : Reply K E) (new : State K A) → Step rules rule seat old e r new → KeepsRowsUnder old e new
   step_keeps_rows (event.Enlarge page child key) (reply.Refused why) new d = refused_keeps rules rule old (event.Enlarge page child key) why new d
   step_keeps_rows (event.Enlarge page child key) reply.Enlarged new d = moved_keeps rules.is_cover old _ new d.change (enlarge_done rules.is_cover old.search inv.tree page child key d.passed rules.union_of lawful.bounds)
   step_keeps_rows (event.Enlarge page child key) r new d = absurd d.change

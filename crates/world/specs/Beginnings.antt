@@ -38,8 +38,8 @@ module _ {K A : Type 0} where
     pub may : MayBegin old row page
     pub begins : Begins old row key page f new
 
-module _ (C : Type 0) {K A : Type 0} (rules : Rules K A) (rule : Rule) where
+module _ {K A : Type 0} (rules : Rules K A) (rule : Rule) where
   -- a finder of the row begins where it may; or it is refused like the event Find
   abbrev pub OpensNear : State K A → ℕ → Result ℕ Refusal → State K A → Type 0
   OpensNear old row (Ok f) new = FindsNear old row f new
-  OpensNear old row (Err why) new = IsRefused {C = C} rules rule old (event.Find row) why new
+  OpensNear old row (Err why) new = IsRefused rules rule old (event.Find row) why new

@@ -254,16 +254,16 @@ module _ {K A : Type 0} (rules : Rules K A) (rule : Rule) where
     pub is_open : cursor_at old c ≡ Some cursor
     pub turn : Turns rules rule old.search.tree old.commits cursor (Err why) cursor
 
-module _ {C K A : Type 0} where
+module _ {K A : Type 0} where
   -- an equal event; the copy of a query has other addresses
-  abbrev pub IsCopy : Event C K A → Event C K A → Type 0
+  abbrev pub IsCopy : Event K A → Event K A → Type 0
   IsCopy (event.Open query room) copy = (other : Pred A) × (query_of other ≡ query_of query) × (copy ≡ event.Open other room)
   IsCopy (event.Follow query room n) copy = (other : Pred A) × (query_of other ≡ query_of query) × (copy ≡ event.Follow other room n)
   IsCopy event copy = copy ≡ event
 
-module _ {C K A : Type 0} (rules : Rules K A) (rule : Rule) where
+module _ {K A : Type 0} (rules : Rules K A) (rule : Rule) where
   -- the tests of an event in order, each true if it fails
-  abbrev pub tests : State K A → Event C K A → List (Bool × Refusal)
+  abbrev pub tests : State K A → Event K A → List (Bool × Refusal)
   tests old (event.Enlarge page child key) = enlarge_tests rules.is_cover old.search page child key
   tests old (event.Place page key tag) = place_tests rules.is_cover old.search page key ++ commit_tests old
   tests old (event.Split page sides) = split_tests old.search page sides
@@ -284,7 +284,7 @@ module _ {C K A : Type 0} (rules : Rules K A) (rule : Rule) where
   -- If all tests pass, an event that opens something or changes a page is refused only for lack of memory; so is a
   -- seek or a move, if it ends its row or pushes a page, and a sweep, if it removes something. A turn is refused by
   -- its own rule. Ending a finder, asking for a mark, taking and closing are never refused then.
-  abbrev pub RefusesLater : State K A → Event C K A → Refusal → Type 0
+  abbrev pub RefusesLater : State K A → Event K A → Refusal → Type 0
   RefusesLater old (event.Seek f) why = RefusesVisit rules rule old f why
   RefusesLater old (event.Move f leaf key) why = RefusesVisit rules rule old f why
   RefusesLater old (event.Unfind f) why = ⊥
@@ -296,13 +296,13 @@ module _ {C K A : Type 0} (rules : Rules K A) (rule : Rule) where
   RefusesLater old event why = why ≡ refusal.OutOfMemory
 
   -- why an event is refused: by the first test that fails; and nothing changes then
-  pub record IsRefused (old : State K A) (event : Event C K A) (why : Refusal) (new : State K A) : Type 0 where
+  pub record IsRefused (old : State K A) (event : Event K A) (why : Refusal) (new : State K A) : Type 0 where
     pub cause : (first_failing (tests old event) ≡ Some why) ⊎ ((first_failing (tests old event) ≡ None) × RefusesLater old event why)
     pub unchanged : new ≡ old
 
-module _ {C O K A E : Type 0} (rules : Rules K A) (rule : Rule) where
+module _ {K A E : Type 0} (rules : Rules K A) (rule : Rule) where
   -- how an event changes a world, with its reply
-  abbrev pub Changes : ℕ → State K A → Event C K A → Reply C O K A E → State K A → Type 0
+  abbrev pub Changes : ℕ → State K A → Event K A → Reply K E → State K A → Type 0
   Changes seat old (event.Enlarge page child key) reply.Enlarged new = new ≡ with_pages old (after_enlarge rules.union_of old.search.tree page child key)
   Changes seat old (event.Place page key tag) (reply.Committed stamp) new = Places seat old page key tag stamp new
   Changes seat old (event.Split page sides) (reply.Split sibling) new =
@@ -328,25 +328,25 @@ module _ {C O K A E : Type 0} (rules : Rules K A) (rule : Rule) where
   Changes seat old (event.Close c) reply.Closed new = new ≡ record old { cursors = without (λ k. k.serial) c old.cursors }
   Changes seat old event reply new = ⊥
 
-  pub record IsCarriedOut (seat : ℕ) (old : State K A) (event : Event C K A) (reply : Reply C O K A E) (new : State K A) : Type 0 where
+  pub record IsCarriedOut (seat : ℕ) (old : State K A) (event : Event K A) (reply : Reply K E) (new : State K A) : Type 0 where
     pub passed : first_failing (tests rules rule old event) ≡ None
     pub change : Changes seat old event reply new
 
   -- from old, an event for a seat may have this reply, and leads to new
-  abbrev pub Step : ℕ → State K A → Event C K A → Reply C O K A E → State K A → Type 0
+  abbrev pub Step : ℕ → State K A → Event K A → Reply K E → State K A → Type 0
   Step seat old event (reply.Refused why) new = IsRefused rules rule old event why new
   Step seat old event reply new = IsCarriedOut seat old event reply new
 
   -- whatever the seat, the event has this reply and leads to new: a step that makes no commit
-  abbrev pub Acts : State K A → Event C K A → Reply C O K A E → State K A → Type 0
+  abbrev pub Acts : State K A → Event K A → Reply K E → State K A → Type 0
   Acts old event reply new = (seat : ℕ) → Step seat old event reply new
 
   -- from old, the events of a trace have these replies, one step after another, and lead to new
-  abbrev pub Runs : State K A → Trace C O K A E → State K A → Type 0
+  abbrev pub Runs : State K A → Trace K A E → State K A → Type 0
   Runs old [] new = new ≡ old
   Runs old (moment ∷ trace) new = (mid : State K A) × Step 0 old moment.0 moment.1 mid × Runs mid trace new
 
-module _ {C O K A E : Type 0} (rules : Rules K A) where
+module _ {K A E : Type 0} (rules : Rules K A) where
   -- from a new world with trays, the events have these replies
-  abbrev pub IsRun : Config → List (Event C K A) → List (Reply C O K A E) → Type 0
+  abbrev pub IsRun : Config → List (Event K A) → List (Reply K E) → Type 0
   IsRun config events replies = (last : State K A) × Runs rules tray_rule (new_state config) (zip events replies) last

@@ -95,29 +95,29 @@ module _ {K A : Type 0} where
   abbrev pub RefusesPreparing : State K A → ℕ → Refusal → Type 0
   RefusesPreparing s c why = (first_failing (cursor_tests s c) ≡ Some why) ⊎ ((k : OpenCursor K A) × (cursor_at s c ≡ Some k) × RefusesVisit k why)
 
-module _ {C K A : Type 0} where
+module _ {K A : Type 0} where
   -- the event splits the page of the task by the task's sides, and the page hasn't changed
-  pub record IsSplitOf (s : State K A) (task : SplitTask K) (split : Event C K A) : Type 0 where
+  pub record IsSplitOf (s : State K A) (task : SplitTask K) (split : Event K A) : Type 0 where
     pub sides : List Side
     pub worked : task.sides ≡ Some sides
     pub has_page : HasPage s task.number task.page
     pub is : split ≡ event.Split task.number sides
 
-module _ {C O K A E : Type 0} where
+module _ {K A E : Type 0} where
   -- a publication that comes too late is refused, and changes nothing
-  abbrev pub IsLate : State K A → Reply C O K A E → State K A → Type 0
+  abbrev pub IsLate : State K A → Reply K E → State K A → Type 0
   IsLate old r new = (r ≡ reply.Refused refusal.NotHere) × (new ≡ old)
 
-module _ {C O K A E : Type 0} (rules : Rules K A) (rule : Rule) where
+module _ {K A E : Type 0} (rules : Rules K A) (rule : Rule) where
   -- if the page hasn't changed, the publication is the split by the task's sides
-  abbrev pub PublishesSplit : ℕ → State K A → SplitTask K → Reply C O K A E → State K A → Type 0
+  abbrev pub PublishesSplit : ℕ → State K A → SplitTask K → Reply K E → State K A → Type 0
   PublishesSplit seat old task r new =
       (sides : List Side) → task.sides ≡ Some sides → HasPage old task.number task.page → Step rules rule seat old (event.Split task.number sides) r new
 
   -- if the visit was worked on and is the cursor's next, the publication is the cursor's turn
-  abbrev pub PublishesVisit : ℕ → State K A → VisitTask K A → Reply C O K A E → State K A → Type 0
+  abbrev pub PublishesVisit : ℕ → State K A → VisitTask K A → Reply K E → State K A → Type 0
   PublishesVisit seat old task r new = HasVisit old task.cursor task.visit → task.visit.worked ≡ true → Step rules rule seat old (event.Turn task.cursor) r new
 
   -- a publication is the cursor's turn, or it comes too late and changes nothing
-  abbrev pub TurnsOrIsLate : ℕ → State K A → ℕ → Reply C O K A E → State K A → Type 0
+  abbrev pub TurnsOrIsLate : ℕ → State K A → ℕ → Reply K E → State K A → Type 0
   TurnsOrIsLate seat old c r new = Step rules rule seat old (event.Turn c) r new ⊎ IsLate old r new

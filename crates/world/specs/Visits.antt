@@ -7,16 +7,16 @@ use Rattle.world.specs.declared.reply.Reply.{Reply}
 use Rattle.world.specs.States.{State}
 use Rattle.world.specs.Steps.{Step}
 
-module _ (C O E : Type 0) {K A : Type 0} (rules : Rules K A) (rule : Rule) where
+module _ (E : Type 0) {K A : Type 0} (rules : Rules K A) (rule : Rule) where
   -- this event for the seat leads from one world to the other
-  pub record Makes (seat : ℕ) (old : State K A) (event : Event C K A) (new : State K A) : Type 0 where
-    pub reply : Reply C O K A E
+  pub record Makes (seat : ℕ) (old : State K A) (event : Event K A) (new : State K A) : Type 0 where
+    pub reply : Reply K E
     pub step : Step rules rule seat old event reply new
 
   -- some event for the seat leads from one world to the other
   pub record MakesEvent (seat : ℕ) (old new : State K A) : Type 0 where
-    pub event : Event C K A
-    pub reply : Reply C O K A E
+    pub event : Event K A
+    pub reply : Reply K E
     pub step : Step rules rule seat old event reply new
 
   -- at most one event for the seat

@@ -23,7 +23,7 @@ impl<C: KeyClass, O: Outlet<C::Key>> World<C, O> {
         key: C::Key,
         tag: u64,
     ) -> Result<Stamped<C::Key>, Refusal>
-        ensures { PlacesRow C O O.Consumer C.rules O.rule
+        ensures { PlacesRow O.Consumer C.rules O.rule
             seat self.old leaf key tag result self.new }
     {
         self.recall_soundness();
@@ -35,7 +35,7 @@ impl<C: KeyClass, O: Outlet<C::Key>> World<C, O> {
     /// # Errors
     /// Those of the event `Find`; nothing is changed then.
     pub fn open_finder(&mut self, row: u64) -> Result<u64, Refusal>
-        ensures { OpensFinder C O O.Consumer C.rules O.rule self.old row result self.new }
+        ensures { OpensFinder O.Consumer C.rules O.rule self.old row result self.new }
     {
         self.recall_soundness();
         self.find(row)
@@ -47,7 +47,7 @@ impl<C: KeyClass, O: Outlet<C::Key>> World<C, O> {
     /// # Errors
     /// Those of the event `Find`; nothing is changed then.
     pub fn open_finder_near(&mut self, row: u64) -> Result<u64, Refusal>
-        ensures opens { OpensNear C C.rules O.rule self.old row result self.new }
+        ensures opens { OpensNear C.rules O.rule self.old row result self.new }
         ensures sound { IsSoundWorld C.rules.is_cover self.new }
     {
         let opened = self.find_near(row);
@@ -65,7 +65,7 @@ impl<C: KeyClass, O: Outlet<C::Key>> World<C, O> {
         seat: u32,
         finder: u64,
     ) -> Result<Option<Stamped<C::Key>>, Refusal>
-        ensures { DeletesMet C O O.Consumer C.rules O.rule seat self.old finder result self.new }
+        ensures { DeletesMet O.Consumer C.rules O.rule seat self.old finder result self.new }
     {
         self.recall_soundness();
         self.seek(seat, finder)
@@ -83,7 +83,7 @@ impl<C: KeyClass, O: Outlet<C::Key>> World<C, O> {
         leaf: u64,
         key: C::Key,
     ) -> Result<Option<Stamped<C::Key>>, Refusal>
-        ensures { MovesMet C O O.Consumer C.rules O.rule
+        ensures { MovesMet O.Consumer C.rules O.rule
             seat self.old finder leaf key result self.new }
     {
         self.recall_soundness();
@@ -95,7 +95,7 @@ impl<C: KeyClass, O: Outlet<C::Key>> World<C, O> {
     /// # Errors
     /// Those of the event `Sweep`; nothing is changed then.
     pub fn sweep_page(&mut self, page: u64) -> Result<u64, Refusal>
-        ensures { SweepsPage C O O.Consumer C.rules O.rule self.old page result self.new }
+        ensures { SweepsPage O.Consumer C.rules O.rule self.old page result self.new }
     {
         self.recall_soundness();
         self.sweep(page)
@@ -110,7 +110,7 @@ impl<C: KeyClass, O: Outlet<C::Key>> World<C, O> {
         query: Pred<C::Atom>,
         room: u64,
     ) -> Result<(u64, O::Consumer), Refusal>
-        ensures opens { OpensCursor C O O.Consumer C.rules O.rule
+        ensures opens { OpensCursor O.Consumer C.rules O.rule
             self.old query room result self.new }
         ensures fresh { IfOk result (λ made. O.fresh made.1) }
     {
@@ -129,7 +129,7 @@ impl<C: KeyClass, O: Outlet<C::Key>> World<C, O> {
         room: u64,
         commit: u64,
     ) -> Result<(u64, O::Consumer), Refusal>
-        ensures opens { OpensFollower C O O.Consumer C.rules O.rule
+        ensures opens { OpensFollower O.Consumer C.rules O.rule
             self.old query room commit result self.new }
         ensures fresh { IfOk result (λ made. O.fresh made.1) }
     {
@@ -142,7 +142,7 @@ impl<C: KeyClass, O: Outlet<C::Key>> World<C, O> {
     /// # Errors
     /// Those of the event `Turn`; nothing is changed then.
     pub fn turn_cursor(&mut self, c: u64) -> Result<Turned, Refusal>
-        ensures { TurnsCursor C O O.Consumer C.rules O.rule self.old c result self.new }
+        ensures { TurnsCursor O.Consumer C.rules O.rule self.old c result self.new }
     {
         self.recall_soundness();
         self.turn(c)
@@ -153,7 +153,7 @@ impl<C: KeyClass, O: Outlet<C::Key>> World<C, O> {
     /// # Errors
     /// Those of the event `AskMark`; nothing is changed then.
     pub fn ask_cursor(&mut self, c: u64) -> Result<(), Refusal>
-        ensures { AsksCursor C O O.Consumer C.rules O.rule self.old c result self.new }
+        ensures { AsksCursor O.Consumer C.rules O.rule self.old c result self.new }
     {
         self.recall_soundness();
         self.ask_mark(c)
@@ -164,7 +164,7 @@ impl<C: KeyClass, O: Outlet<C::Key>> World<C, O> {
     /// # Errors
     /// Those of the event `Take`; nothing is changed then.
     pub fn take_front(&mut self, c: u64) -> Result<Option<Item<C::Key>>, Refusal>
-        ensures { TakesFront C O O.Consumer C.rules O.rule self.old c result self.new }
+        ensures { TakesFront O.Consumer C.rules O.rule self.old c result self.new }
     {
         self.recall_soundness();
         self.take(c)
@@ -175,7 +175,7 @@ impl<C: KeyClass, O: Outlet<C::Key>> World<C, O> {
     /// # Errors
     /// Those of the event `Close`; nothing is changed then.
     pub fn close_cursor(&mut self, c: u64) -> Result<(), Refusal>
-        ensures { ClosesCursor C O O.Consumer C.rules O.rule self.old c result self.new }
+        ensures { ClosesCursor O.Consumer C.rules O.rule self.old c result self.new }
     {
         self.recall_soundness();
         self.close(c)

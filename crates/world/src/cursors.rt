@@ -112,7 +112,7 @@ impl<C: KeyClass, O: Outlet<C::Key>> World<C, O> {
         room: u64,
     ) -> Result<(u64, O::Consumer), Refusal>
         ensures step { Acts C.rules O.rule self.old (event.Open query room)
-            (reply_of_opening C O O.Consumer result) self.new }
+            (reply_of_opening O.Consumer result) self.new }
         ensures fresh { IfOk result (λ made. O.fresh made.1) }
     {
         if let Some(refusal) = self.open_refusal(&query, room) {
@@ -139,7 +139,7 @@ impl<C: KeyClass, O: Outlet<C::Key>> World<C, O> {
         commit: u64,
     ) -> Result<(u64, O::Consumer), Refusal>
         ensures step { Acts C.rules O.rule self.old (event.Follow query room commit)
-            (reply_of_opening C O O.Consumer result) self.new }
+            (reply_of_opening O.Consumer result) self.new }
         ensures fresh { IfOk result (λ made. O.fresh made.1) }
     {
         if let Some(refusal) = self.follow_refusal(&query, room, commit) {
@@ -159,7 +159,7 @@ impl<C: KeyClass, O: Outlet<C::Key>> World<C, O> {
 
     pub(crate) fn turn(&mut self, c: u64) -> Result<Turned, Refusal>
         ensures { Acts C.rules O.rule self.old (event.Turn c)
-            (reply_of_turn C O O.Consumer result) self.new }
+            (reply_of_turn O.Consumer result) self.new }
     {
         let at = self.place_of(c)?;
         let alloc = self.allocator();
@@ -168,7 +168,7 @@ impl<C: KeyClass, O: Outlet<C::Key>> World<C, O> {
 
     pub(crate) fn ask_mark(&mut self, c: u64) -> Result<(), Refusal>
         ensures { Acts C.rules O.rule self.old (event.AskMark c)
-            (reply_of_asking C O O.Consumer result) self.new }
+            (reply_of_asking O.Consumer result) self.new }
     {
         let at = self.place_of(c)?;
         self.cursors[at].ask_mark();
@@ -177,7 +177,7 @@ impl<C: KeyClass, O: Outlet<C::Key>> World<C, O> {
 
     pub(crate) fn take(&mut self, c: u64) -> Result<Option<Item<C::Key>>, Refusal>
         ensures { Acts C.rules O.rule self.old (event.Take c)
-            (reply_of_taking C O O.Consumer result) self.new }
+            (reply_of_taking O.Consumer result) self.new }
     {
         let at = self.place_of(c)?;
         match self.cursors[at].take() {
@@ -189,7 +189,7 @@ impl<C: KeyClass, O: Outlet<C::Key>> World<C, O> {
 
     pub(crate) fn close(&mut self, c: u64) -> Result<(), Refusal>
         ensures { Acts C.rules O.rule self.old (event.Close c)
-            (reply_of_closing C O O.Consumer result) self.new }
+            (reply_of_closing O.Consumer result) self.new }
     {
         let at = self.place_of(c)?;
         let_go(&mut self.cursors, at);

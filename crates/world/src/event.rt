@@ -2,17 +2,17 @@
 ghost use Rattle.std.specs.Prelude.{IfOk};
 ghost use Rattle.world.specs.Steps.{IsCopy};
 
-use key_class::{KeyClass, Pred, Sides};
+use key_class::{Pred, Sides};
 use std::alloc::{AllocError, Global};
 
 /// What a world can be asked to do in one step. Pages, rows and cursors are given by their numbers; a number that
 /// doesn't fit is refused.
 #[derive(Drop)]
-pub enum Event<C: KeyClass> {
+pub enum Event<K, A> {
     /// Widens the branch of an inner page to a child, and the child's cover, by a key: parent, child, key.
-    Enlarge(u64, u64, C::Key),
+    Enlarge(u64, u64, K),
     /// Adds a row to a leaf: page, key, tag.
-    Place(u64, C::Key, u64),
+    Place(u64, K, u64),
     /// Splits a full page by sides: page, sides.
     Split(u64, Sides),
     /// Gives the right sibling of a page that was split a branch in the parent: parent, page that was split.
@@ -25,15 +25,15 @@ pub enum Event<C: KeyClass> {
     Seek(u64),
     /// Lets a finder visit one page. If that page holds its row, the row is moved to a leaf, and the finder ends:
     /// finder, leaf, key.
-    Move(u64, u64, C::Key),
+    Move(u64, u64, K),
     /// Ends a finder.
     Unfind(u64),
     /// Removes from a leaf the dead rows that no scan needs.
     Sweep(u64),
     /// Opens a cursor at the present commits: query, room of its mailbox in items (1 to 4,096).
-    Open(Pred<C::Atom>, u64),
+    Open(Pred<A>, u64),
     /// Opens a cursor that follows a commit, without a snapshot: query, room of its mailbox, number of the commit.
-    Follow(Pred<C::Atom>, u64, u64),
+    Follow(Pred<A>, u64, u64),
     /// Lets a cursor do one piece of its work.
     Turn(u64),
     /// Asks a cursor for a mark.
@@ -44,9 +44,9 @@ pub enum Event<C: KeyClass> {
     Close(u64),
 }
 
-impl<C: KeyClass> Event<C> {
+impl<K: Copy, A: Copy> Event<K, A> {
     /// An equal event, with a copy of its query.
-    pub fn copy(&self, alloc: Global) -> Result<Event<C>, AllocError>
+    pub fn copy(&self, alloc: Global) -> Result<Event<K, A>, AllocError>
         ensures { IfOk result (λ copy. IsCopy self.now copy) }
     {
         Ok(match self {

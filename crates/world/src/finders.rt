@@ -70,14 +70,14 @@ impl<C: KeyClass, O: Outlet<C::Key>> World<C, O> {
 
     pub(crate) fn find(&mut self, row: u64) -> Result<u64, Refusal>
         ensures { Acts C.rules O.rule self.old (event.Find row)
-            (reply_of_finder C O O.Consumer result) self.new }
+            (reply_of_finder O.Consumer result) self.new }
     {
         let key = self.key_to_find(row)?;
         self.begin(row, key, 0)
     }
 
     pub(crate) fn find_near(&mut self, row: u64) -> Result<u64, Refusal>
-        ensures { OpensNear C C.rules O.rule self.old row result self.new }
+        ensures { OpensNear C.rules O.rule self.old row result self.new }
     {
         let key = self.key_to_find(row)?;
         let page = self.last_page(row);
@@ -120,7 +120,7 @@ impl<C: KeyClass, O: Outlet<C::Key>> World<C, O> {
 
     pub(crate) fn seek(&mut self, seat: u32, f: u64) -> Result<Option<Stamped<C::Key>>, Refusal>
         ensures { Step C.rules O.rule seat self.old (event.Seek f)
-            (reply_of_visit C O O.Consumer result) self.new }
+            (reply_of_visit O.Consumer result) self.new }
     {
         match self.visit_for(f)? {
             Some((at, page)) => Ok(Some(self.bury(seat, f, at, page)?)),
@@ -132,7 +132,7 @@ impl<C: KeyClass, O: Outlet<C::Key>> World<C, O> {
     fn bury(&mut self, seat: u32, f: u64, at: usize, page: u32) -> Result<Stamped<C::Key>, Refusal>
         requires { Meets self.old f at page }
         ensures { Step C.rules O.rule seat self.old (event.Seek f)
-            (reply_of_commit C O O.Consumer result) self.new }
+            (reply_of_commit O.Consumer result) self.new }
     {
         if self.changes.len() as u64 >= self.limit {
             return Err(Refusal::CommitsFull);
@@ -151,7 +151,7 @@ impl<C: KeyClass, O: Outlet<C::Key>> World<C, O> {
         key: C::Key,
     ) -> Result<Option<Stamped<C::Key>>, Refusal>
         ensures { Step C.rules O.rule seat self.old (event.Move f leaf key)
-            (reply_of_visit C O O.Consumer result) self.new }
+            (reply_of_visit O.Consumer result) self.new }
     {
         match self.visit_for(f)? {
             Some((at, page)) => Ok(Some(self.relocate(seat, f, at, page, leaf, key)?)),
@@ -171,7 +171,7 @@ impl<C: KeyClass, O: Outlet<C::Key>> World<C, O> {
     ) -> Result<Stamped<C::Key>, Refusal>
         requires { Meets self.old f at page }
         ensures { Step C.rules O.rule seat self.old (event.Move f leaf key)
-            (reply_of_commit C O O.Consumer result) self.new }
+            (reply_of_commit O.Consumer result) self.new }
     {
         if let Some(refusal) = self.search.place_refusal(leaf, key) {
             return Err(refusal);
@@ -189,7 +189,7 @@ impl<C: KeyClass, O: Outlet<C::Key>> World<C, O> {
         Ok(Stamped::new(number, seat, change.write()))
     }
 
-    pub(crate) fn unfind(&mut self, f: u64) -> Reply<C, O>
+    pub(crate) fn unfind(&mut self, f: u64) -> Reply<C::Key, O::Consumer>
         ensures { Acts C.rules O.rule self.old (event.Unfind f) result self.new }
     {
         match place_of(self.finders.as_slice(), f) {

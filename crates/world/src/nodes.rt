@@ -13,7 +13,12 @@ use key_class::{KeyClass, Refusal, Sides};
 use mailbox::Outlet;
 
 impl<C: KeyClass, O: Outlet<C::Key>> World<C, O> {
-    pub(crate) fn enlarge(&mut self, page: u64, child: u64, key: C::Key) -> Reply<C, O>
+    pub(crate) fn enlarge(
+        &mut self,
+        page: u64,
+        child: u64,
+        key: C::Key,
+    ) -> Reply<C::Key, O::Consumer>
         ensures { Acts C.rules O.rule self.old (event.Enlarge page child key) result self.new }
     {
         match self.search.enlarge(page, child, key) {
@@ -22,7 +27,7 @@ impl<C: KeyClass, O: Outlet<C::Key>> World<C, O> {
         }
     }
 
-    pub(crate) fn split(&mut self, page: u64, sides: &Sides) -> Reply<C, O>
+    pub(crate) fn split(&mut self, page: u64, sides: &Sides) -> Reply<C::Key, O::Consumer>
         ensures { Acts C.rules O.rule self.old (event.Split page sides.now) result self.new }
     {
         match self.search.split(page, sides) {
@@ -45,7 +50,7 @@ impl<C: KeyClass, O: Outlet<C::Key>> World<C, O> {
         }
     }
 
-    pub(crate) fn post(&mut self, parent: u64, child: u64) -> Reply<C, O>
+    pub(crate) fn post(&mut self, parent: u64, child: u64) -> Reply<C::Key, O::Consumer>
         ensures { Acts C.rules O.rule self.old (event.Post parent child) result self.new }
     {
         match self.search.post(parent, child) {
@@ -54,7 +59,7 @@ impl<C: KeyClass, O: Outlet<C::Key>> World<C, O> {
         }
     }
 
-    pub(crate) fn grow(&mut self, sides: &Sides) -> Reply<C, O>
+    pub(crate) fn grow(&mut self, sides: &Sides) -> Reply<C::Key, O::Consumer>
         ensures { Acts C.rules O.rule self.old (event.Grow sides.now) result self.new }
     {
         match self.search.grow(sides) {
@@ -71,7 +76,7 @@ impl<C: KeyClass, O: Outlet<C::Key>> World<C, O> {
         tag: u64,
     ) -> Result<Stamped<C::Key>, Refusal>
         ensures { Step C.rules O.rule seat self.old (event.Place page key tag)
-            (reply_of_commit C O O.Consumer result) self.new }
+            (reply_of_commit O.Consumer result) self.new }
     {
         if let Some(refusal) = self.search.place_refusal(page, key) {
             return Err(refusal);
@@ -86,7 +91,7 @@ impl<C: KeyClass, O: Outlet<C::Key>> World<C, O> {
 
     pub(crate) fn sweep(&mut self, page: u64) -> Result<u64, Refusal>
         ensures { Acts C.rules O.rule self.old (event.Sweep page)
-            (reply_of_sweep C O O.Consumer result) self.new }
+            (reply_of_sweep O.Consumer result) self.new }
     {
         let horizon = horizon(self.cursors.as_slice(), self.changes.len() as u32);
         let count = self.search.sweep(page, horizon)?;

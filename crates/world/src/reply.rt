@@ -4,8 +4,7 @@ ghost use Rattle.world.specs.Calls as call;
 
 use change_list::{Item, Write};
 use cursor::Turned;
-use key_class::{KeyClass, Refusal};
-use mailbox::Outlet;
+use key_class::Refusal;
 use std::marker::Model;
 
 /// A commit, as a reply tells it. Only a world can make one.
@@ -61,10 +60,10 @@ impl<K: Copy> Stamped<K> {
 
 /// The world's reply to an event.
 #[derive(Drop)]
-pub enum Reply<C: KeyClass, O: Outlet<C::Key>> {
+pub enum Reply<K, E> {
     Enlarged,
     /// A commit was made.
-    Committed(Stamped<C::Key>),
+    Committed(Stamped<K>),
     /// The number of the page that took the right side.
     Split(u32),
     Posted,
@@ -78,7 +77,7 @@ pub enum Reply<C: KeyClass, O: Outlet<C::Key>> {
     /// How many dead rows were removed.
     Swept(u64),
     /// The cursor's serial, and the other end of its mailbox.
-    Opened(u64, O::Consumer),
+    Opened(u64, E),
     /// An item went to the mailbox.
     Offered,
     /// The page that was read.
@@ -86,7 +85,7 @@ pub enum Reply<C: KeyClass, O: Outlet<C::Key>> {
     /// The commit with this number doesn't match the query.
     Passed(u64),
     Asked,
-    Taken(Item<C::Key>),
+    Taken(Item<K>),
     /// The mailbox is empty.
     Nothing,
     Closed,
@@ -94,10 +93,10 @@ pub enum Reply<C: KeyClass, O: Outlet<C::Key>> {
     Refused(Refusal),
 }
 
-impl<C: KeyClass, O: Outlet<C::Key>> Reply<C, O> {
+impl<K: Copy, E> Reply<K, E> {
     /// The reply to an event that commits.
-    pub(crate) fn of_commit(answer: Result<Stamped<C::Key>, Refusal>) -> Reply<C, O>
-        ensures { result ≡ call.reply_of_commit C O O.Consumer answer }
+    pub(crate) fn of_commit(answer: Result<Stamped<K>, Refusal>) -> Reply<K, E>
+        ensures { result ≡ call.reply_of_commit E answer }
     {
         match answer {
             Ok(stamp) => Reply::Committed(stamp),
@@ -106,8 +105,8 @@ impl<C: KeyClass, O: Outlet<C::Key>> Reply<C, O> {
     }
 
     /// The reply to a visit of a finder, which commits if it meets its row.
-    pub(crate) fn of_visit(answer: Result<Option<Stamped<C::Key>>, Refusal>) -> Reply<C, O>
-        ensures { result ≡ call.reply_of_visit C O O.Consumer answer }
+    pub(crate) fn of_visit(answer: Result<Option<Stamped<K>>, Refusal>) -> Reply<K, E>
+        ensures { result ≡ call.reply_of_visit E answer }
     {
         match answer {
             Ok(Some(stamp)) => Reply::Committed(stamp),
@@ -117,8 +116,8 @@ impl<C: KeyClass, O: Outlet<C::Key>> Reply<C, O> {
     }
 
     /// The reply to an event that opens a finder.
-    pub(crate) fn of_finder(answer: Result<u64, Refusal>) -> Reply<C, O>
-        ensures { result ≡ call.reply_of_finder C O O.Consumer answer }
+    pub(crate) fn of_finder(answer: Result<u64, Refusal>) -> Reply<K, E>
+        ensures { result ≡ call.reply_of_finder E answer }
     {
         match answer {
             Ok(serial) => Reply::Finder(serial),
@@ -127,8 +126,8 @@ impl<C: KeyClass, O: Outlet<C::Key>> Reply<C, O> {
     }
 
     /// The reply to a sweep.
-    pub(crate) fn of_sweep(answer: Result<u64, Refusal>) -> Reply<C, O>
-        ensures { result ≡ call.reply_of_sweep C O O.Consumer answer }
+    pub(crate) fn of_sweep(answer: Result<u64, Refusal>) -> Reply<K, E>
+        ensures { result ≡ call.reply_of_sweep E answer }
     {
         match answer {
             Ok(count) => Reply::Swept(count),
@@ -137,8 +136,8 @@ impl<C: KeyClass, O: Outlet<C::Key>> Reply<C, O> {
     }
 
     /// The reply to an event that opens a cursor.
-    pub(crate) fn of_opening(answer: Result<(u64, O::Consumer), Refusal>) -> Reply<C, O>
-        ensures { result ≡ call.reply_of_opening C O O.Consumer answer }
+    pub(crate) fn of_opening(answer: Result<(u64, E), Refusal>) -> Reply<K, E>
+        ensures { result ≡ call.reply_of_opening E answer }
     {
         match answer {
             Ok((serial, end)) => Reply::Opened(serial, end),
@@ -147,8 +146,8 @@ impl<C: KeyClass, O: Outlet<C::Key>> Reply<C, O> {
     }
 
     /// The reply to a turn.
-    pub(crate) fn of_turn(answer: Result<Turned, Refusal>) -> Reply<C, O>
-        ensures { result ≡ call.reply_of_turn C O O.Consumer answer }
+    pub(crate) fn of_turn(answer: Result<Turned, Refusal>) -> Reply<K, E>
+        ensures { result ≡ call.reply_of_turn E answer }
     {
         match answer {
             Ok(Turned::Offered) => Reply::Offered,
@@ -159,8 +158,8 @@ impl<C: KeyClass, O: Outlet<C::Key>> Reply<C, O> {
     }
 
     /// The reply to an event that asks for a mark.
-    pub(crate) fn of_asking(answer: Result<(), Refusal>) -> Reply<C, O>
-        ensures { result ≡ call.reply_of_asking C O O.Consumer answer }
+    pub(crate) fn of_asking(answer: Result<(), Refusal>) -> Reply<K, E>
+        ensures { result ≡ call.reply_of_asking E answer }
     {
         match answer {
             Ok(()) => Reply::Asked,
@@ -169,8 +168,8 @@ impl<C: KeyClass, O: Outlet<C::Key>> Reply<C, O> {
     }
 
     /// The reply to an event that takes an item.
-    pub(crate) fn of_taking(answer: Result<Option<Item<C::Key>>, Refusal>) -> Reply<C, O>
-        ensures { result ≡ call.reply_of_taking C O O.Consumer answer }
+    pub(crate) fn of_taking(answer: Result<Option<Item<K>>, Refusal>) -> Reply<K, E>
+        ensures { result ≡ call.reply_of_taking E answer }
     {
         match answer {
             Ok(Some(item)) => Reply::Taken(item),
@@ -180,8 +179,8 @@ impl<C: KeyClass, O: Outlet<C::Key>> Reply<C, O> {
     }
 
     /// The reply to an event that closes a cursor.
-    pub(crate) fn of_closing(answer: Result<(), Refusal>) -> Reply<C, O>
-        ensures { result ≡ call.reply_of_closing C O O.Consumer answer }
+    pub(crate) fn of_closing(answer: Result<(), Refusal>) -> Reply<K, E>
+        ensures { result ≡ call.reply_of_closing E answer }
     {
         match answer {
             Ok(()) => Reply::Closed,

@@ -154,7 +154,7 @@ impl<C: KeyClass, O: Outlet<C::Key>> World<C, O> {
     /// The event of a split task: `Split` by its sides, if the page hasn't changed.
     ///
     /// Drops the task's share of the page, so that the world can then change its own in place.
-    pub fn split_of(&self, task: SplitTask<C>) -> Option<Event<C>>
+    pub fn split_of(&self, task: SplitTask<C>) -> Option<Event<C::Key, C::Atom>>
         ensures split { IfSome result (IsSplitOf self.now task) }
         ensures stale { IfNone result (IsStaleSplit self.now task) }
     {
@@ -177,7 +177,7 @@ impl<C: KeyClass, O: Outlet<C::Key>> World<C, O> {
     /// prepared.
     ///
     /// Otherwise, or if `work` was never called, it is refused NotHere, and nothing changes.
-    pub fn publish_split(&mut self, seat: u32, task: SplitTask<C>) -> Reply<C, O>
+    pub fn publish_split(&mut self, seat: u32, task: SplitTask<C>) -> Reply<C::Key, O::Consumer>
         ensures step { PublishesSplit C.rules O.rule seat self.old task result self.new }
         ensures stale { IsStaleSplit self.old task → IsLate self.old result self.new }
     {
@@ -190,7 +190,7 @@ impl<C: KeyClass, O: Outlet<C::Key>> World<C, O> {
     /// Makes the visit of a task: the event `Turn`, if the visit is still the cursor's next.
     ///
     /// Otherwise, or if `work` was never called, it is refused NotHere, and nothing changes.
-    pub fn publish_visit(&mut self, seat: u32, task: VisitTask<C>) -> Reply<C, O>
+    pub fn publish_visit(&mut self, seat: u32, task: VisitTask<C>) -> Reply<C::Key, O::Consumer>
         ensures step { PublishesVisit C.rules O.rule seat self.old task result self.new }
         ensures stale { IsStaleVisit self.old task → IsLate self.old result self.new }
         ensures turned { TurnsOrIsLate C.rules O.rule seat self.old task.cursor result self.new }
@@ -213,7 +213,12 @@ impl<C: KeyClass, O: Outlet<C::Key>> World<C, O> {
     }
 
     /// Makes a visit that is the cursor's next turn.
-    fn publish_due(&mut self, c: u64, at: usize, visit: PreparedVisit<C>) -> Reply<C, O>
+    fn publish_due(
+        &mut self,
+        c: u64,
+        at: usize,
+        visit: PreparedVisit<C>,
+    ) -> Reply<C::Key, O::Consumer>
         requires found { IsAt self.old c at }
         requires due { HasVisit self.old c visit }
         requires worked { visit.worked ≡ true }

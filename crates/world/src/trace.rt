@@ -25,8 +25,8 @@ use std::alloc::Global;
 pub fn run<C: KeyClass>(
     alloc: Global,
     config: Config,
-    events: &[Event<C>],
-) -> Result<Vec<Reply<C, Tray<C::Key>>>, Refusal>
+    events: &[Event<C::Key, C::Atom>],
+) -> Result<Vec<Reply<C::Key, ()>>, Refusal>
     ensures one_each { IfOk result (λ replies. length replies.items ≡ length events.now) }
     ensures steps { IfOk result (λ replies. IsRun C.rules config events.now replies.items) }
     ensures faithful { IfOk result (λ replies. AreFaithful C.rules events.now replies.items) }

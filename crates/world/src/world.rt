@@ -229,7 +229,7 @@ impl<C: KeyClass, O: Outlet<C::Key>> World<C, O> {
     }
 
     /// Makes one event, as one atomic step.
-    pub fn step(&mut self, event: Event<C>) -> Reply<C, O>
+    pub fn step(&mut self, event: Event<C::Key, C::Atom>) -> Reply<C::Key, O::Consumer>
         ensures step { Step C.rules O.rule 0 self.old event result self.new }
         ensures sound { IsSoundWorld C.rules.is_cover self.new }
         ensures serves { ServesAll C.rules O.rule self.old event result self.new }
@@ -244,7 +244,11 @@ impl<C: KeyClass, O: Outlet<C::Key>> World<C, O> {
     }
 
     /// Makes one event, as one atomic step, for a seat. A commit's reply has the seat's number.
-    pub fn step_as(&mut self, seat: u32, event: Event<C>) -> Reply<C, O>
+    pub fn step_as(
+        &mut self,
+        seat: u32,
+        event: Event<C::Key, C::Atom>,
+    ) -> Reply<C::Key, O::Consumer>
         ensures step { Step C.rules O.rule seat self.old event result self.new }
         ensures sound { IsSoundWorld C.rules.is_cover self.new }
         ensures serves { ServesAll C.rules O.rule self.old event result self.new }
@@ -266,7 +270,7 @@ impl<C: KeyClass, O: Outlet<C::Key>> World<C, O> {
         let _limit = self.limit;
     }
 
-    fn answer(&mut self, seat: u32, event: Event<C>) -> Reply<C, O>
+    fn answer(&mut self, seat: u32, event: Event<C::Key, C::Atom>) -> Reply<C::Key, O::Consumer>
         ensures step { Step C.rules O.rule seat self.old event result self.new }
         ensures fresh { HandsOut O.fresh result }
     {

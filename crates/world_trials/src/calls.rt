@@ -17,7 +17,7 @@ const CONFIG: Config = Config {
 
 /// Whether a reply is that of a commit with this number, seat and write.
 fn commits(
-    reply: Reply<Intervals, Tray<Interval>>,
+    reply: Reply<Interval, ()>,
     number: u64,
     seat: u32,
     write: Write<Interval>,

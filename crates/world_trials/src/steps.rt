@@ -64,7 +64,7 @@ pub enum Ask {
 }
 
 impl Ask {
-    pub fn event(self, alloc: Global) -> Result<Event<Intervals>, Fail> {
+    pub fn event(self, alloc: Global) -> Result<Event<Interval, Atom>, Fail> {
         match self {
             Ask::Enlarge(parent, child, (lo, hi)) => {
                 Ok(Event::Enlarge(parent, child, Interval::new(lo, hi)?))
@@ -129,7 +129,7 @@ pub enum Answer {
 }
 
 impl Answer {
-    pub fn of(reply: Reply<Intervals, Tray<Interval>>) -> Answer {
+    pub fn of(reply: Reply<Interval, ()>) -> Answer {
         match reply {
             Reply::Enlarged => Answer::Enlarged,
             Reply::Committed(stamp) => Answer::Committed(stamp.number(), stamp.write()),
@@ -161,7 +161,7 @@ pub fn answer_of(alloc: Global, world: &mut Trial, ask: Ask) -> Result<Answer, F
     Ok(Answer::of(world.step(ask.event(alloc)?)))
 }
 
-fn events_of(alloc: Global, asks: &[Ask]) -> Result<Vec<Event<Intervals>>, Fail> {
+fn events_of(alloc: Global, asks: &[Ask]) -> Result<Vec<Event<Interval, Atom>>, Fail> {
     let mut events = Vec::new(alloc);
     for ask in asks {
         events.push(ask.event(alloc)?)?;
@@ -173,15 +173,15 @@ fn events_of(alloc: Global, asks: &[Ask]) -> Result<Vec<Event<Intervals>>, Fail>
 fn replies_to(
     alloc: Global,
     config: Config,
-    events: &[Event<Intervals>],
-) -> Result<Vec<Reply<Intervals, Tray<Interval>>>, Refusal> {
+    events: &[Event<Interval, Atom>],
+) -> Result<Vec<Reply<Interval, ()>>, Refusal> {
     run::<Intervals>(alloc, config, events)
 }
 
 fn steps_of(
     alloc: Global,
     asks: &[Ask],
-    replies: Vec<Reply<Intervals, Tray<Interval>>>,
+    replies: Vec<Reply<Interval, ()>>,
 ) -> Result<Vec<Step>, Fail> {
     let mut steps = Vec::new(alloc);
     for (ask, reply) in asks.iter().zip(replies) {

@@ -1,6 +1,6 @@
 use super::steps::{Answer, Ask, Query, Trial, new_world, sides};
 use change_list::Config;
-use interval_class::{Interval, Intervals};
+use interval_class::{Atom, Interval, Intervals};
 use key_class::Refusal;
 use std::alloc::Global;
 use std::test::Fail;
@@ -15,12 +15,12 @@ const EIGHT: Config = Config {
 
 const NOT_HERE: Answer = Answer::Refused(Refusal::NotHere);
 
-fn answer(world: &mut Trial, event: Event<Intervals>) -> Answer {
+fn answer(world: &mut Trial, event: Event<Interval, Atom>) -> Answer {
     Answer::of(world.step(event))
 }
 
 /// The answer, unless memory ran out.
-fn given(world: &mut Trial, event: Event<Intervals>) -> Result<Answer, Refusal> {
+fn given(world: &mut Trial, event: Event<Interval, Atom>) -> Result<Answer, Refusal> {
     match answer(world, event) {
         Answer::Refused(Refusal::OutOfMemory) => Err(Refusal::OutOfMemory),
         answer => Ok(answer),

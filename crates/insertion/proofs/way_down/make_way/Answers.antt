@@ -22,7 +22,7 @@ descending-smaller-in-Grow g c =
 pub descending-preserved-in-Grow : goal.descending-preserved-in-Grow
 descending-preserved-in-Grow g c = record {
   on = on_root_again g.C.KeyClass.rules g.O.Outlet.rule c.args.key c.args.world.now c.descending.world c.move_pages.new.world c.descending.page c.descending.invariant.on c.move_pages.ensures.sound c.move_pages.ensures.kept;
-  come = come_by g.row.C.Denot g.C.KeyClass.rules c.args.key c.args.world.now c.descending.world c.move_pages.new.world c.descending.page 0 (step.Grow c.in-Grow.sides) c.descending.invariant.come c.search.result.now c.search.ensures (rw c.in-Grow.is at c.in_ok-sides.ensures.step)
+  come = come_by g.C.KeyClass.rules c.args.key c.args.world.now c.descending.world c.move_pages.new.world c.descending.page 0 (step.Grow c.in-Grow.sides) c.descending.invariant.come c.search.result.now c.search.ensures (rw c.in-Grow.is at c.in_ok-sides.ensures.step)
       (refl, c.in_ok-move_pages-in-Grow.ensures.moved);
 }
 
@@ -37,7 +37,7 @@ pub descending-preserved-in-Post : goal.descending-preserved-in-Post
 descending-preserved-in-Post g c = record {
   on = on_resumed g.C.KeyClass.rules g.O.Outlet.rule c.args.key c.args.world.now c.descending.world c.move_pages-in-Post.new.world c.descending.page c.resumed-page.result c.descending.invariant.on c.move_pages-in-Post.ensures.kept
       c.resumed-page.ensures.exists c.resumed-page.ensures.covers c.resumed-page.ensures.room;
-  come = come_by g.row.C.Denot g.C.KeyClass.rules c.args.key c.args.world.now c.descending.world c.move_pages-in-Post.new.world c.descending.page c.resumed-page.result (step.Post c.in-Post.parent c.in-Post.child) c.descending.invariant.come c.search.result.now c.search.ensures (rw c.in-Post.is at c.in_ok-sides.ensures.step) (
+  come = come_by g.C.KeyClass.rules c.args.key c.args.world.now c.descending.world c.move_pages-in-Post.new.world c.descending.page c.resumed-page.result (step.Post c.in-Post.parent c.in-Post.child) c.descending.invariant.come c.search.result.now c.search.ensures (rw c.in-Post.is at c.in_ok-sides.ensures.step) (
     c.resumed-page.ensures.resumes,
     subst (λ child. Posts c.descending.world c.in-Post.parent child c.move_pages-in-Post.new.world) c.from-in-Post.ensures
         (subst (λ parent. Posts c.descending.world parent c.from-in-Post.result c.move_pages-in-Post.new.world) c.from.ensures c.in_ok-move_pages-in-Post.ensures.moved),
@@ -55,8 +55,8 @@ pub descending-preserved-in-Split : goal.descending-preserved-in-Split
 descending-preserved-in-Split g c = record {
   on = on_resumed g.C.KeyClass.rules g.O.Outlet.rule c.args.key c.args.world.now c.descending.world c.move_pages-in-Split.new.world c.descending.page c.resumed-page-in-Split.result c.descending.invariant.on c.move_pages-in-Split.ensures.kept
       c.resumed-page-in-Split.ensures.exists c.resumed-page-in-Split.ensures.covers c.resumed-page-in-Split.ensures.room;
-  come = come_by g.row.C.Denot g.C.KeyClass.rules c.args.key c.args.world.now c.descending.world c.move_pages-in-Split.new.world c.descending.page c.resumed-page-in-Split.result (step.Split c.in-Split.child c.in-Split.sides) c.descending.invariant.come c.search.result.now c.search.ensures (rw c.in-Split.is at c.in_ok-sides.ensures.step)
-      (c.resumed-page-in-Split.ensures.resumes, subst (λ child. Moves {C = g.row.C.Denot} g.C.KeyClass.rules.union_of c.descending.world (event.Split child c.in-Split.sides) c.move_pages-in-Split.new.world) c.from-in-Split.ensures c.in_ok-move_pages-in-Split.ensures.moved);
+  come = come_by g.C.KeyClass.rules c.args.key c.args.world.now c.descending.world c.move_pages-in-Split.new.world c.descending.page c.resumed-page-in-Split.result (step.Split c.in-Split.child c.in-Split.sides) c.descending.invariant.come c.search.result.now c.search.ensures (rw c.in-Split.is at c.in_ok-sides.ensures.step)
+      (c.resumed-page-in-Split.ensures.resumes, subst (λ child. Moves g.C.KeyClass.rules.union_of c.descending.world (event.Split child c.in-Split.sides) c.move_pages-in-Split.new.world) c.from-in-Split.ensures c.in_ok-move_pages-in-Split.ensures.moved);
 }
 
 pub returns-in_err-move_pages-in-Enlarge-clause-moved : goal.returns-in_err-move_pages-in-Enlarge-clause-moved
@@ -65,11 +65,11 @@ returns-in_err-move_pages-in-Enlarge-clause-moved g c = moves_more g.C.KeyClass.
 open_child : (g : given.Over) (c : goal.In_ok-move_pages-in-Enlarge g) → IsOpenBelow c.descending.world.search c.descending.page c.in-Enlarge.child
 open_child g c = subst (λ s. IsOpenBelow s c.descending.page c.in-Enlarge.child) c.search.ensures (rw c.in-Enlarge.is at c.in_ok-sides.ensures.step).2
 
-enlarged_to : (g : given.Over) (c : goal.In_ok-move_pages-in-Enlarge g) → Moves {C = g.row.C.Denot} g.C.KeyClass.rules.union_of c.descending.world (event.Enlarge c.descending.page c.in-Enlarge.child c.args.key) c.move_pages-in-Enlarge.new.world
+enlarged_to : (g : given.Over) (c : goal.In_ok-move_pages-in-Enlarge g) → Moves g.C.KeyClass.rules.union_of c.descending.world (event.Enlarge c.descending.page c.in-Enlarge.child c.args.key) c.move_pages-in-Enlarge.new.world
 enlarged_to g c =
     let next = rw c.in-Enlarge.is at c.in_ok-sides.ensures.step in
-    subst (λ child. Moves {C = g.row.C.Denot} g.C.KeyClass.rules.union_of c.descending.world (event.Enlarge c.descending.page child c.args.key) c.move_pages-in-Enlarge.new.world) c.from-in-Enlarge-2.ensures
-    (subst (λ parent. Moves {C = g.row.C.Denot} g.C.KeyClass.rules.union_of c.descending.world (event.Enlarge parent c.from-in-Enlarge-2.result c.args.key) c.move_pages-in-Enlarge.new.world) (c.from-in-Enlarge.ensures ∙ next.0) c.in_ok-move_pages-in-Enlarge.ensures.moved)
+    subst (λ child. Moves g.C.KeyClass.rules.union_of c.descending.world (event.Enlarge c.descending.page child c.args.key) c.move_pages-in-Enlarge.new.world) c.from-in-Enlarge-2.ensures
+    (subst (λ parent. Moves g.C.KeyClass.rules.union_of c.descending.world (event.Enlarge parent c.from-in-Enlarge-2.result c.args.key) c.move_pages-in-Enlarge.new.world) (c.from-in-Enlarge.ensures ∙ next.0) c.in_ok-move_pages-in-Enlarge.ensures.moved)
 
 pub descending-smaller-in-Enlarge : goal.descending-smaller-in-Enlarge
 descending-smaller-in-Enlarge g c =
@@ -79,10 +79,10 @@ pub descending-preserved-in-Enlarge : goal.descending-preserved-in-Enlarge
 descending-preserved-in-Enlarge g c = record {
   on = on_enlarged g.C.KeyClass.rules g.O.Outlet.rule c.args.key g.met.C.KeyClass.lawful.bounds.right c.args.world.now c.descending.world c.move_pages-in-Enlarge.new.world c.descending.page c.in-Enlarge.child
       c.descending.invariant.on (open_child g c) c.move_pages-in-Enlarge.ensures.kept (enlarged_to g c);
-  come = come_by g.row.C.Denot g.C.KeyClass.rules c.args.key c.args.world.now c.descending.world c.move_pages-in-Enlarge.new.world c.descending.page c.in-Enlarge.child (step.Enlarge c.in-Enlarge.parent c.in-Enlarge.child) c.descending.invariant.come c.search.result.now c.search.ensures (rw c.in-Enlarge.is at c.in_ok-sides.ensures.step) (
+  come = come_by g.C.KeyClass.rules c.args.key c.args.world.now c.descending.world c.move_pages-in-Enlarge.new.world c.descending.page c.in-Enlarge.child (step.Enlarge c.in-Enlarge.parent c.in-Enlarge.child) c.descending.invariant.come c.search.result.now c.search.ensures (rw c.in-Enlarge.is at c.in_ok-sides.ensures.step) (
     refl,
-    subst (λ child. Moves {C = g.row.C.Denot} g.C.KeyClass.rules.union_of c.descending.world (event.Enlarge c.in-Enlarge.parent child c.args.key) c.move_pages-in-Enlarge.new.world) c.from-in-Enlarge-2.ensures
-        (subst (λ parent. Moves {C = g.row.C.Denot} g.C.KeyClass.rules.union_of c.descending.world (event.Enlarge parent c.from-in-Enlarge-2.result c.args.key) c.move_pages-in-Enlarge.new.world) c.from-in-Enlarge.ensures c.in_ok-move_pages-in-Enlarge.ensures.moved),
+    subst (λ child. Moves g.C.KeyClass.rules.union_of c.descending.world (event.Enlarge c.in-Enlarge.parent child c.args.key) c.move_pages-in-Enlarge.new.world) c.from-in-Enlarge-2.ensures
+        (subst (λ parent. Moves g.C.KeyClass.rules.union_of c.descending.world (event.Enlarge parent c.from-in-Enlarge-2.result c.args.key) c.move_pages-in-Enlarge.new.world) c.from-in-Enlarge.ensures c.in_ok-move_pages-in-Enlarge.ensures.moved),
   );
 }
 
@@ -97,5 +97,5 @@ descending-preserved g c =
     let next : IsNextStep g.C.KeyClass.rules c.descending.world.search c.descending.page c.args.key (step.Down c.in-Down.child)
     = subst (λ s. IsNextStep g.C.KeyClass.rules s c.descending.page c.args.key (step.Down c.in-Down.child)) c.search.ensures (rw c.in-Down.is at c.in_ok-sides.ensures.step) in record {
       on = on_child g.C.KeyClass.rules g.O.Outlet.rule c.args.key c.args.world.now c.descending.world c.descending.page c.in-Down.child c.descending.invariant.on next.1 next.2;
-      come = come_by g.row.C.Denot g.C.KeyClass.rules c.args.key c.args.world.now c.descending.world c.descending.world c.descending.page c.in-Down.child (step.Down c.in-Down.child) c.descending.invariant.come c.descending.world.search refl next (refl, refl);
+      come = come_by g.C.KeyClass.rules c.args.key c.args.world.now c.descending.world c.descending.world c.descending.page c.in-Down.child (step.Down c.in-Down.child) c.descending.invariant.come c.descending.world.search refl next (refl, refl);
     }

@@ -13,3 +13,6 @@ returns-clause-stack g c fan sound = sought_stack g.C.KeyClass.rules.is_cover fa
 
 pub returns-in_err-sought-clause-refused_further : goal.returns-in_err-sought-clause-refused_further
 returns-in_err-sought-clause-refused_further g c = on_err c.from_residual.result (rw (← c.self.view_is) (lacks_next c.args.table.now (record { serial = c.self.inside.serial; row = c.self.inside.row; key = c.self.inside.key; stack = c.self.inside.stack }) c.in_err-sought.ensures.refused_further))
+
+pub returns-in_err-sought-clause-memory : goal.returns-in_err-sought-clause-memory
+returns-in_err-sought-clause-memory g c = on_err c.from_residual.result (rw (← c.self.view_is) c.in_err-sought.ensures.memory)

@@ -3,15 +3,15 @@ use Rattle.std.proofs.lemmas.Result.{err_from_is_err_and}
 use Rattle.key_class.specs.declared.refusal.Refusal.TheVariants as refusal
 use Rattle.change_list.specs.Changes.{rows}
 use Rattle.store.specs.Renewing.{numbered}
-use Rattle.store.proofs.Filling.{not_bad, renewing_live, renewing_more, renewing_refused}
+use Rattle.store.proofs.Filling.{no_error, not_bad, same_reason, renewing_live, renewing_more, renewing_refused}
 use Rattle.store.proofs.store.Store.renewed.Goals as goal
 
 pub returns-in_err-insert-clause-bad : goal.returns-in_err-insert-clause-bad
 returns-in_err-insert-clause-bad g c =
     let p = err_from_is_err_and c.from_residual-in_err-insert.result c.from_residual-in_err-insert.ensures.1 in
     rw (p.1, p.2) (
-      λ e within. let bad : c.in_err-insert.field-0.0 ≡ refusal.BadConfig = cc in not_bad c.insert.new.self c.in_err-insert.field-0.0 c.in_err-insert.ensures.refusals bad,
-      λ none. let e = c.in_ok-store.ensures.bad.1 none in absurd (cc),
+      λ e within. not_bad c.insert.new.self c.in_err-insert.field-0.0 c.in_err-insert.ensures.refusals (same_reason c.in_err-insert.field-0.0 refusal.BadConfig e),
+      λ none. absurd (no_error c.in_ok-store.store refusal.BadConfig (c.in_ok-store.ensures.bad.1 none)),
     )
 
 pub returns-in_err-insert-clause-refusals : goal.returns-in_err-insert-clause-refusals

@@ -5,4 +5,4 @@ use Rattle.world.proofs.world.World.ask_cursor.Goals as goal
 
 pub returns : goal.returns
 returns g c =
-    one_step _ _ _ g.C.KeyClass.rules g.O.Outlet.rule g.met.C.KeyClass.lawful 0 c.args.self.now c.recall_soundness.ensures (event.AskMark c.args.c) (reply_of_asking _ _ _ c.ask_mark.result) c.ask_mark.new.self (c.ask_mark.ensures 0)
+    one_step _ g.C.KeyClass.rules g.O.Outlet.rule g.met.C.KeyClass.lawful 0 c.args.self.now c.recall_soundness.ensures (event.AskMark c.args.c) (reply_of_asking _ c.ask_mark.result) c.ask_mark.new.self (c.ask_mark.ensures 0)

@@ -18,4 +18,4 @@ invariant_of-self g c =
 pub returns : goal.returns
 returns g c = λ seat.
     let a = subst (λ s. IsAt s c.args.c c.in_ok-at.at) (sym c.self.view_is) c.in_ok-at.ensures.found in
-    rw (← c.self.view_is) (ask_done _ _ _ c.self.invariant c.args.c c.in_ok-at.at a c.index_mut.result.now c.index_mut.ensures.value c.ask_mark.new.self _ _ _ seat c.ask_mark.ensures.asked)
+    rw (← c.self.view_is) (ask_done _ _ _ c.self.invariant c.args.c c.in_ok-at.at a c.index_mut.result.now c.index_mut.ensures.value c.ask_mark.new.self _ seat c.ask_mark.ensures.asked)

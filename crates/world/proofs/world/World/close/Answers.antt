@@ -18,4 +18,4 @@ invariant_of-self g c =
 pub returns : goal.returns
 returns g c = λ seat.
     let a = subst (λ s. IsAt s c.args.c c.in_ok-at.at) (sym c.self.view_is) c.in_ok-at.ensures.found in
-    rw (← c.self.view_is) (close_done _ _ _ c.self.invariant c.args.c c.in_ok-at.at a c.let_go.new.members.items c.let_go.ensures _ _ _ seat)
+    rw (← c.self.view_is) (close_done _ _ _ c.self.invariant c.args.c c.in_ok-at.at a c.let_go.new.members.items c.let_go.ensures _ seat)

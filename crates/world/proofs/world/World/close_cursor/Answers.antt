@@ -5,4 +5,4 @@ use Rattle.world.proofs.world.World.close_cursor.Goals as goal
 
 pub returns : goal.returns
 returns g c =
-    one_step _ _ _ g.C.KeyClass.rules g.O.Outlet.rule g.met.C.KeyClass.lawful 0 c.args.self.now c.recall_soundness.ensures (event.Close c.args.c) (reply_of_closing _ _ _ c.close.result) c.close.new.self (c.close.ensures 0)
+    one_step _ g.C.KeyClass.rules g.O.Outlet.rule g.met.C.KeyClass.lawful 0 c.args.self.now c.recall_soundness.ensures (event.Close c.args.c) (reply_of_closing _ c.close.result) c.close.new.self (c.close.ensures 0)

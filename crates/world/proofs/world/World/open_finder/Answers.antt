@@ -5,4 +5,4 @@ use Rattle.world.proofs.world.World.open_finder.Goals as goal
 
 pub returns : goal.returns
 returns g c =
-    one_step _ _ _ g.C.KeyClass.rules g.O.Outlet.rule g.met.C.KeyClass.lawful 0 c.args.self.now c.recall_soundness.ensures (event.Find c.args.row) (reply_of_finder _ _ _ c.find.result) c.find.new.self (c.find.ensures 0)
+    one_step _ g.C.KeyClass.rules g.O.Outlet.rule g.met.C.KeyClass.lawful 0 c.args.self.now c.recall_soundness.ensures (event.Find c.args.row) (reply_of_finder _ c.find.result) c.find.new.self (c.find.ensures 0)

@@ -5,4 +5,4 @@ use Rattle.world.proofs.world.World.place_row.Goals as goal
 
 pub returns : goal.returns
 returns g c =
-    one_step _ _ _ g.C.KeyClass.rules g.O.Outlet.rule g.met.C.KeyClass.lawful c.args.seat c.args.self.now c.recall_soundness.ensures (event.Place c.args.leaf c.args.key c.args.tag) (reply_of_commit _ _ _ c.place.result) c.place.new.self c.place.ensures
+    one_step _ g.C.KeyClass.rules g.O.Outlet.rule g.met.C.KeyClass.lawful c.args.seat c.args.self.now c.recall_soundness.ensures (event.Place c.args.leaf c.args.key c.args.tag) (reply_of_commit _ c.place.result) c.place.new.self c.place.ensures

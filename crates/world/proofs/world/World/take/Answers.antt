@@ -41,18 +41,18 @@ pub returns-in-Item : goal.returns-in-Item
 returns-in-Item g c = λ seat.
     let a = subst (λ s. IsAt s c.args.c c.in_ok-at.at) (sym c.self.view_is) c.in_ok-at.ensures.found in
     let t = c.in-Item.ensures.takes in
-    rw (← c.self.view_is) (take_done _ _ _ c.self.invariant c.args.c c.in_ok-at.at a c.index_mut.result.now c.index_mut.ensures.value c.take.new.self _ _ _ seat c.in-Item.item c.take.new.self.unread c.take.ensures.others t.0 t.1)
+    rw (← c.self.view_is) (take_done _ _ _ c.self.invariant c.args.c c.in_ok-at.at a c.index_mut.result.now c.index_mut.ensures.value c.take.new.self _ seat c.in-Item.item c.take.new.self.unread c.take.ensures.others t.0 t.1)
 
 pub returns-in-Nothing : goal.returns-in-Nothing
 returns-in-Nothing g c = λ seat.
     let a = subst (λ s. IsAt s c.args.c c.in_ok-at.at) (sym c.self.view_is) c.in_ok-at.ensures.found in
     let t = c.in-Nothing.ensures.takes in
     let same : c.take.new.self ≡ c.index_mut.result.now = c.take.ensures.others ∙ ap (λ u. record c.index_mut.result.now { unread = u }) (t.2 ∙ sym t.1) in
-    rw (← c.self.view_is) (empty_done _ _ _ c.self.invariant c.args.c c.in_ok-at.at a c.index_mut.result.now c.index_mut.ensures.value c.take.new.self _ _ _ seat same t.0 t.1)
+    rw (← c.self.view_is) (empty_done _ _ _ c.self.invariant c.args.c c.in_ok-at.at a c.index_mut.result.now c.index_mut.ensures.value c.take.new.self _ seat same t.0 t.1)
 
 pub returns-in-Elsewhere : goal.returns-in-Elsewhere
 returns-in-Elsewhere g c = λ seat.
     let a = subst (λ s. IsAt s c.args.c c.in_ok-at.at) (sym c.self.view_is) c.in_ok-at.ensures.found in
     let t = c.in-Elsewhere.ensures.takes in
     let same : c.take.new.self ≡ c.index_mut.result.now = c.take.ensures.others ∙ ap (λ u. record c.index_mut.result.now { unread = u }) t.1 in
-    rw (← c.self.view_is) (elsewhere_refused _ _ _ c.self.invariant c.args.c c.in_ok-at.at a c.index_mut.result.now c.index_mut.ensures.value c.take.new.self _ same t.0)
+    rw (← c.self.view_is) (elsewhere_refused _ _ _ c.self.invariant c.args.c c.in_ok-at.at a c.index_mut.result.now c.index_mut.ensures.value c.take.new.self same t.0)

@@ -5,4 +5,4 @@ use Rattle.world.proofs.world.World.take_front.Goals as goal
 
 pub returns : goal.returns
 returns g c =
-    one_step _ _ _ g.C.KeyClass.rules g.O.Outlet.rule g.met.C.KeyClass.lawful 0 c.args.self.now c.recall_soundness.ensures (event.Take c.args.c) (reply_of_taking _ _ _ c.take.result) c.take.new.self (c.take.ensures 0)
+    one_step _ g.C.KeyClass.rules g.O.Outlet.rule g.met.C.KeyClass.lawful 0 c.args.self.now c.recall_soundness.ensures (event.Take c.args.c) (reply_of_taking _ c.take.result) c.take.new.self (c.take.ensures 0)

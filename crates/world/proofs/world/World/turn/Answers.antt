@@ -27,4 +27,4 @@ pub returns : goal.returns
 returns g c = λ seat.
     let a = subst (λ s. IsAt s c.args.c c.in_ok-at.at) (sym c.self.view_is) c.in_ok-at.ensures.found in
     let turns : Turns g.C.KeyClass.rules g.O.Outlet.rule c.self.inside.search.tree c.self.inside.changes c.index_mut.result.now c.turn.result c.turn.new.self = rw c.pages.ensures.table at c.turn.ensures.turns in
-    rw (← c.self.view_is) (turn_steps g.C.KeyClass.rules g.O.Outlet.rule _ c.self.invariant c.args.c c.in_ok-at.at a c.index_mut.result.now c.index_mut.ensures.value c.turn.new.self _ _ _ seat c.turn.result turns)
+    rw (← c.self.view_is) (turn_steps g.C.KeyClass.rules g.O.Outlet.rule _ c.self.invariant c.args.c c.in_ok-at.at a c.index_mut.result.now c.index_mut.ensures.value c.turn.new.self _ seat c.turn.result turns)

@@ -5,4 +5,4 @@ use Rattle.world.proofs.world.World.turn_cursor.Goals as goal
 
 pub returns : goal.returns
 returns g c =
-    one_step _ _ _ g.C.KeyClass.rules g.O.Outlet.rule g.met.C.KeyClass.lawful 0 c.args.self.now c.recall_soundness.ensures (event.Turn c.args.c) (reply_of_turn _ _ _ c.turn.result) c.turn.new.self (c.turn.ensures 0)
+    one_step _ g.C.KeyClass.rules g.O.Outlet.rule g.met.C.KeyClass.lawful 0 c.args.self.now c.recall_soundness.ensures (event.Turn c.args.c) (reply_of_turn _ c.turn.result) c.turn.new.self (c.turn.ensures 0)
