@@ -5,7 +5,7 @@ use Rattle.std.proofs.lemmas.Bool.{eqb-true}
 use Rattle.std.proofs.lemmas.List.{append-nil}
 use Rattle.std.proofs.lemmas.List.Elements.{All-filter, All-weaker, All-push}
 use Rattle.std.proofs.Math.Seq.{take-length}
-use Rattle.key_class.specs.Queries.{query_of}
+use Rattle.key_class.specs.Queries.{Query, query_of}
 use Rattle.key_class.specs.Rules.{Rules, satisfies}
 use Rattle.key_class.specs.declared.pred.Pred.{Pred}
 use Rattle.change_list.specs.declared.item.Row.{Row}
@@ -18,8 +18,10 @@ use Rattle.scan.proofs.Commits.{ended_push}
 use Rattle.snapshot.specs.Snapshots.{found_in}
 use Rattle.store.specs.States.{Commits, Keeps, StoreState, SweepsStore, SweepsStorePart}
 use Rattle.key_class.specs.declared.refusal.Refusal.{Refusal}
-use Rattle.std.specs.Prelude.{IfOk, OnErr, OnOk, Result, Ok, Err}
-use Rattle.feed.specs.Planting.{AreTagged, HasRow, HasRows, IsPlanted, IsTagged, LivesAs, Tends}
+use Rattle.std.specs.Prelude.{IfOk, None, OnErr, OnOk, Option, Result, Ok, Err}
+use Rattle.feed.specs.Planting.{AreTagged, HasRow, HasRows, IsPlanted, IsTagged, LivesAs, MayBePlanted, Tends}
+use Rattle.feed.specs.Holding.{MayBeRooted}
+use Rattle.reach.specs.Reaches.{reaches_of}
 use Rattle.feed.proofs.Members.{contains_filter, contains_found, contains_map}
 
 or_false : (b : Bool) → (b || false) ≡ b
@@ -32,6 +34,13 @@ or_both a b p q = rw (p, q) refl
 module _ {K : Type 0} where
   pub tends_none : (tag : ℕ) (commits : List (Write K)) → IsLegal commits → Tends tag commits commits
   tends_none tag commits legal = record { more = []; is = sym (append-nil commits); legal = legal; others = λ number row lives other. lives }
+
+  -- no keys are planted, with no rows
+  pub planted_none : (commits : List (Write K)) (tag : ℕ) (numbers : List ℕ) → numbers ≡ [] → IsPlanted commits tag [] numbers
+  planted_none commits tag numbers none = subst (λ l. IsPlanted commits tag [] l) (sym none) (record {
+    rows = λ k d l. absurd (omega (arith, l));
+    tagged = λ k d l. absurd (omega (arith, l));
+  })
 
   pub tends_join : (tag : ℕ) (a b c : List (Write K)) → Tends tag a b → Tends tag b c → Tends tag a c
   tends_join tag a b c first second = record {
@@ -178,3 +187,13 @@ module _ {K A : Type 0} (matching : A → K → Bool) (old new : StoreState K A)
   pub tree_swept : (result : Result ℕ Refusal) → IfOk result (λ n. SweepsStore matching old n new) → OnErr result (SweepsStorePart matching old new) → new.commits ≡ old.commits
   tree_swept (Ok n) ok err = ok.rest.commits
   tree_swept (Err why) ok err = err.rest.commits
+
+module _ {K A : Type 0} (reach_of : A → Option K) (size_of : K → ℕ) where
+  -- what was planted under the keys that a query reaches is rooted for the query
+  pub may_be_rooted : (commits : List (Write K)) (query : Query A) (number : ℕ) (keys : List K) → reaches_of reach_of size_of query ≡ Some keys
+      → (rows : Option (List ℕ)) → MayBePlanted commits number keys rows → MayBeRooted reach_of size_of commits query number rows
+  may_be_rooted commits query number keys reached None p = tt
+  may_be_rooted commits query number keys reached (Some rows) p = record {
+    planted = record { keys = keys; reaches = reached; rows = p.rows };
+    tagged = p.tagged;
+  }

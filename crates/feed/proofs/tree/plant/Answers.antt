@@ -1,8 +1,19 @@
 use Rattle.std.proofs.Common.{◌≡◌, ◌+◌, ◌++◌, [], ◌∷◌, sym, ap, ◌∙◌, subst, take}
 use Rattle.std.proofs.lemmas.List.{take_more}
 use Rattle.feed.specs.Planting.{AreTagged, IsPlanted}
-use Rattle.feed.proofs.Tending.{planted_more, tends_insert, tends_join, tends_same}
+use Rattle.feed.proofs.Tending.{planted_more, planted_none, tends_insert, tends_join, tends_none, tends_same}
 use Rattle.feed.proofs.tree.plant.Goals as goal
+
+pub loop-key-init : goal.loop-key-init
+loop-key-init g c = record {
+  tends = tends_none c.args.tag c.args.tree.now.commits c.requires.legal;
+  planted = planted_none c.args.tree.now.commits c.args.tag c.new-rows.result.items c.new-rows.ensures.items;
+}
+
+pub uproot-requires-clause-tagged : goal.uproot-requires-clause-tagged
+uproot-requires-clause-tagged g c =
+    let rows : c.deref.result.now ≡ c.loop-key.rows.items = cc (c.deref.ensures.value, c.try_reserve.ensures.items) in
+    subst (λ l. AreTagged c.loop-key.tree.commits c.args.tag l) (sym rows) c.loop-key.invariant.planted.tagged
 
 pub returns-in_default-clause-tends : goal.returns-in_default-clause-tends
 returns-in_default-clause-tends g c = tends_join c.args.tag c.args.tree.now.commits c.loop-key.tree.commits c.uproot.new.tree.commits c.loop-key.invariant.tends c.uproot.ensures
