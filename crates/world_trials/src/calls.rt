@@ -16,12 +16,7 @@ const CONFIG: Config = Config {
 };
 
 /// Whether a reply is that of a commit with this number, seat and write.
-fn commits(
-    reply: Reply<Interval, ()>,
-    number: u64,
-    seat: u32,
-    write: Write<Interval>,
-) -> bool {
+fn commits(reply: Reply<Interval, ()>, number: u64, seat: u32, write: Write<Interval>) -> bool {
     match reply {
         Reply::Committed(stamp) => {
             stamp.number() == number && stamp.seat() == seat && stamp.write() == write
