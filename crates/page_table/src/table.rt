@@ -174,7 +174,8 @@ impl<K: Columned> PageTable<K> {
     /// Removes the last page.
     fn forget_last(&mut self)
         requires { 0 < length self.old.pages }
-        ensures { (t : Tree K) (page : model.Page K) → self.old ≡ added t page → self.new ≡ t }
+        ensures { (t : Tree K) (page : model.Page K)
+            → self.old ≡ added t page → self.new ≡ t }
     {
         self.count -= 1;
     }

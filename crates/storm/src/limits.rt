@@ -28,7 +28,7 @@ pub struct StormSize {
     pub pumps: u32,
     /// How many leaves are swept meanwhile: 0 to 1,000.
     pub sweeps: u32,
-    /// The seed of the generator from which keys are drawn.
+    /// What the random keys begin with: storms of one seed draw the same ones.
     pub seed: u32,
 }
 
