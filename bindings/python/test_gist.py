@@ -412,7 +412,7 @@ class Numbers(Case):
             for it in names:
                 words = "".join(f"_{letter}" if letter.isupper() and names is Refusal else letter for letter in it.name).upper().strip("_")
                 self.assertIn(f"    GIST_{prefix}{words} = {it.value}", text)
-        self.assertEqual(gist.version(), (0, 3, 0))
+        self.assertEqual(gist.version(), (0, 3, 1))
 
     def test_many_boxes_in_half_a_second(self) -> None:
         dice = random.Random(1)
