@@ -8,6 +8,9 @@ import sys
 
 from sources import PARTS, files_below
 
+# The levels of processors that code may be made for, the default first
+LEVELS = ["x86-64-v2", "x86-64-v3"]
+
 
 def toolchain():
     """The toolchain's own library of commands, which knows how a crate is checked and built."""

@@ -49,7 +49,7 @@ bits_append p (x ∷ xs) ys =
     double : (n : ℕ) → 2 * 2 ^ n ≡ 2 ^ suc n
     double n = grind arith
 
-bits_below : {X : Type 0} (p : X → Bool) (xs : List X) (n : ℕ) → length xs ≡ n → bits_of p xs < 2 ^ n
+pub bits_below : {X : Type 0} (p : X → Bool) (xs : List X) (n : ℕ) → length xs ≡ n → bits_of p xs < 2 ^ n
 bits_below p xs n e = let b = mask_l-lt (map p xs) in let l : length (map p xs) ≡ n = length-map xs p ∙ e in lt_of_lt_of_le b (pow-le-pow_right (omega arith) (omega (arith, l)))
 
 rest_of : (a b n : ℕ) → a < n → (a + n * b) % n ≡ a
@@ -71,7 +71,7 @@ module _ {B X : Type 0} (items : B → List X) (eight : (b : B) → length (item
   pub first_length : (n : ℕ) (bs : List B) → AreBlocksFor n (length bs) → length (take n (values_of items bs)) ≡ n
   first_length n bs are = length-take-le n (values_of items bs) (omega (arith, all_length bs, are.enough))
 
-  value_at : (bs : List B) (q r : ℕ) (b : B) → q < length bs → r < 8 → b ≡ get_or bs q b → (d : X) → get_or (values_of items bs) (q * 8 + r) d ≡ get_or (items b) r d
+  pub value_at : (bs : List B) (q r : ℕ) (b : B) → q < length bs → r < 8 → b ≡ get_or bs q b → (d : X) → get_or (values_of items bs) (q * 8 + r) d ≡ get_or (items b) r d
   value_at [] q r b l h e d = absurd (omega (arith, l))
   value_at (c ∷ bs) zero r b l h e d =
       ap (λ n. get_or (items c ++ values_of items bs) n d) (let z : 0 * 8 + r ≡ r = omega arith in z)

@@ -1,1 +1,2 @@
 mod Eights
+mod Passing

@@ -1,1 +1,3 @@
+pub mod Firsts
+pub mod Rewriting
 pub mod Values

@@ -1,5 +1,7 @@
-ghost use Rattle.std.specs.Prelude.{◌≡◌, ◌<◌, ◌≤◌, ◌↔◌, ◌++◌, ◌∷◌, [], ◌%◌, ◌^◌, length, take, slice_index_or, slice_set, IfOk, OnOk, OnErr, IsTrue, vec_len, vec_capacity};
+ghost use Rattle.std.specs.Prelude.{◌≡◌, ◌<◌, ◌≤◌, ◌↔◌, ◌++◌, ◌∷◌, [], ◌%◌, ◌^◌, length, take, slice_index_or, slice_set, IfOk, OnOk, OnErr, IsTrue, MatchOption, vec_len, vec_capacity};
+ghost use Rattle.std.specs.List.{list_any};
 ghost use Rattle.key_class.specs.Bits.{bits_of};
+ghost use Rattle.blocks.specs.Firsts.{IsFirstFrom, NonePassFrom};
 ghost use Rattle.blocks.specs.Values.{values_of};
 
 use crate::test::BlockTest;
@@ -139,6 +141,26 @@ impl<T: Copy, B: Block<T>> Blocks<T, B> {
         let bits = all_bits::<T, B, S>(&self.blocks, test);
         first_bits(bits, self.count)
     }
+
+    /// The first place from `from` on whose value passes a test. Eight values are tested at once.
+    pub fn first_from<S: BlockTest<T, B>>(&self, from: usize, test: &S) -> Option<usize>
+        ensures { MatchOption result
+            (NonePassFrom (S.passes test.now) self.now from)
+            (IsFirstFrom (S.passes test.now) self.now from) }
+    {
+        let count = self.len();
+        match first_in_blocks::<T, B, S>(&self.blocks, from, test) {
+            Some(place) if place < count => Some(place),
+            _ => None,
+        }
+    }
+
+    /// Whether a value passes a test.
+    pub fn any<S: BlockTest<T, B>>(&self, test: &S) -> bool
+        ensures { result ≡ list_any (S.passes test.now) self.now }
+    {
+        self.first_from(0, test).is_some()
+    }
 }
 
 /// Makes room for one more block.
@@ -179,4 +201,29 @@ fn first_bits(bits: u64, count: usize) -> u64
     } else {
         bits
     }
+}
+
+/// The first place from `from` on whose value passes a test, where what the last block has after the last value
+/// counts, too.
+fn first_in_blocks<T: Copy, B: Block<T>, S: BlockTest<T, B>>(
+    blocks: &[B],
+    from: usize,
+    test: &S,
+) -> Option<usize>
+    requires { length blocks.now ≤ 2 ^ 61 }
+    ensures { MatchOption result
+        (NonePassFrom (S.passes test.now) (values_of B.items blocks.now) from)
+        (IsFirstFrom (S.passes test.now) (values_of B.items blocks.now) from) }
+{
+    let mut number = from / SIZE;
+    let mut skipped = from % SIZE;
+    while number < blocks.len() {
+        let passing = test.tested(&blocks[number]) >> skipped;
+        if passing != 0 {
+            return Some(SIZE * number + skipped + passing.trailing_zeros() as usize);
+        }
+        number += 1;
+        skipped = 0;
+    }
+    None
 }

@@ -1,6 +1,6 @@
 -- How the bits of answers are made.
 use Rattle.std.specs.Prelude.{◌≡◌, ◌+◌, ◌*◌, ◌^◌, ◌<◌, ◌&&◌, refl, ℕ, Bool, true, false, cond, List, [], ◌∷◌, bit_and}
-use Rattle.std.proofs.Common.{ap, ap₂, ◌∙◌, sym, arith}
+use Rattle.std.proofs.Common.{ap₂, ◌∙◌, sym, arith}
 use Rattle.std.proofs.lemmas.Nat.{and_block}
 use Rattle.key_class.specs.Bits.{bits_of}
 

@@ -1,4 +1,4 @@
-use Rattle.std.specs.Prelude.{◌≡◌, ◌↔◌, ℕ, Bool, true, List}
+use Rattle.std.specs.Prelude.{◌≡◌, ◌↔◌, ◌≤◌, ℕ, Bool, true, List}
 use Rattle.key_class.specs.Queries.{Query, matches_query, consistent_with_query}
 use Rattle.key_class.specs.declared.sides.Side.{Side}
 
@@ -38,5 +38,7 @@ pub record IsLawful {K A : Type 0} (rules : Rules K A) (same_key : K → K → B
   pub bounds : KeyLaws rules.is_cover rules.union_of
   -- a bound that covers a matching key is consistent with the atom
   pub consistent_above_match : (atom : A) (bound key : K) → rules.is_cover bound key ≡ true → rules.is_match atom key ≡ true → rules.is_consistent atom bound ≡ true
+  -- a bound grows by a key exactly if it doesn't cover the key
+  pub covered_adds_nothing : (bound key : K) → (rules.is_cover bound key ≡ true) ↔ (rules.size_of (rules.union_of bound key) ≤ rules.size_of bound)
   pub equal_keys_are_same : (a b : K) → (same_key a b ≡ true) ↔ (a ≡ b)
   pub equal_atoms_are_same : (a b : A) → (same_atom a b ≡ true) ↔ (a ≡ b)

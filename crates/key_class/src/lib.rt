@@ -11,7 +11,7 @@ mod pred;
 mod refusal;
 mod sides;
 
-pub use bits::eight_bits;
+pub use bits::{eight_bits, equal_bits};
 pub use block::{Block, Columned};
 pub use class::KeyClass;
 pub use grouping::Grouping;

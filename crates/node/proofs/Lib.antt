@@ -1,2 +1,3 @@
+mod Marking
 pub mod PartEnds
 mod Zipped

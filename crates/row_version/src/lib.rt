@@ -3,6 +3,8 @@
 
 mod entry;
 mod version;
+mod version_block;
 
 pub use entry::Entry;
 pub use version::Version;
+pub use version_block::VersionBlock;

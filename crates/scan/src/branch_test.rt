@@ -40,6 +40,10 @@ impl<C: KeyClass> BranchTest<C> for Covering<C::Key> {
     fn is_wanted(&self, bound: C::Key) -> bool {
         C::covers(bound, self.key)
     }
+
+    fn wanted_block(&self, bounds: &<C::Key as Columned>::Block) -> u64 {
+        C::covering_block(bounds, self.key)
+    }
 }
 
 impl<C: KeyClass> BranchTest<C> for Pred<C::Atom> {

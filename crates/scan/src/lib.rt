@@ -14,6 +14,7 @@ pub use branch_test::{BranchTest, Covering};
 pub use laws::{
     entries_follow_commits, finders_survive_steps, scans_begin_with_snapshots, scans_survive_steps,
 };
+pub use picks::ByBounds;
 pub use prepared::PreparedVisit;
 pub use rows::holds_row;
 pub use stack::{Sought, Stack, StackItem, Visited};

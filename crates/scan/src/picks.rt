@@ -36,11 +36,11 @@ impl<'a, C: KeyClass, T: KeyTest<C>> BlockTest<Entry<C::Key>, RowBlock<<C::Key a
     }
 }
 
-/// A test of bounds, made of eight branches at once.
+/// A test of branches by their bounds, made of eight at once.
 #[derive(Drop)]
-struct ByBounds<'a, C, T> {
-    test: &'a T,
-    of: PhantomData<C>,
+pub struct ByBounds<'a, C, T> {
+    pub test: &'a T,
+    pub of: PhantomData<C>,
 }
 
 impl<'a, C: KeyClass, T: BranchTest<C>> BlockTest<

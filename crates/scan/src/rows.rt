@@ -7,7 +7,7 @@ use crate::key_test::{KeyTest, OneAtom};
 use crate::picks::{BITS, accepted_bits, note_picked};
 use change_list::Row;
 use key_class::{Columned, KeyClass, Pred};
-use node::Rows;
+use node::{OfRow, Rows};
 use row_version::Entry;
 use std::alloc::{AllocError, Global};
 use std::collections::VecDeque;
@@ -122,12 +122,7 @@ fn is_seen<C: KeyClass, T: KeyTest<C>>(entry: &Entry<C::Key>, test: &T, commit: 
 pub fn holds_row<K: Columned>(entries: &Rows<K>, row: u32) -> bool
     ensures { result ≡ holds row entries.now }
 {
-    for place in 0..entries.len() {
-        if entries.get(place).row() == row {
-            return true;
-        }
-    }
-    false
+    entries.any(&OfRow { row })
 }
 
 pub(crate) fn row_of<K: Copy>(entry: &Entry<K>) -> Row<K>

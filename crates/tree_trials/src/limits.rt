@@ -77,6 +77,7 @@ impl KeyClass for Limits {
         least = Prim.search rules;
       };
       consistent_above_match = Prim.search rules;
+      covered_adds_nothing = Prim.search rules;
       equal_keys_are_same = Prim.search rules;
       equal_atoms_are_same = Prim.search rules;
     } };
