@@ -1,2 +1,2 @@
 mod Eights
-mod Passing
+pub mod Passing

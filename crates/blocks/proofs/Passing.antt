@@ -1,5 +1,5 @@
 -- Where values pass a test, by the bits of their blocks.
-use Rattle.std.proofs.Common.{◌≡◌, ◌∙◌, ◌≤◌, ◌<◌, ◌+◌, ◌-◌, ◌*◌, ◌/◌, ◌%◌, ◌^◌, ℕ, suc, Bool, true, false, ◌||◌, List, [], ◌∷◌, ◌++◌, length, take, get_or, map, refl, sym, ap, ap₂, arith, w64, ⊎_elim}
+use Rattle.std.proofs.Common.{◌≡◌, ◌∙◌, ◌≤◌, ◌<◌, ◌+◌, ◌-◌, ◌*◌, ◌/◌, ◌%◌, ◌^◌, ℕ, suc, Bool, true, false, ◌||◌, List, [], ◌∷◌, ◌++◌, length, take, get_or, map, refl, sym, ap, ap₂, arith, w64, ⊎_elim, lt_of_lt_of_le, lt_of_le_of_lt}
 use Rattle.std.specs.Prelude.{cond}
 use Rattle.std.specs.Int.{bit_at, trailing_zeros}
 use Rattle.std.specs.List.{list_any}
@@ -9,6 +9,7 @@ use Rattle.std.proofs.lemmas.List.Folds.{list_any_at}
 use Rattle.std.proofs.lemmas.Nat.{shr-shr, shr_le}
 use Rattle.std.proofs.lemmas.Nat.Bits.{bit_at-trailing_zeros, bit_at-zero}
 use Rattle.std.proofs.lemmas.Simd.{bit_mask_l}
+use Rattle.std.proofs.Math.Nat.{pow-le-pow_right}
 use Rattle.key_class.specs.Bits.{bits_of}
 use Rattle.blocks.specs.Firsts.{passes_at, IsFirstFrom, NonePassFrom}
 use Rattle.blocks.specs.Values.{values_of}
@@ -33,7 +34,7 @@ module _ {X : Type 0} (p : X → Bool) where
   past : (xs : List X) (k : ℕ) → length xs ≤ k → passes_at p xs k ≡ false
   past xs k l = get_or_past (map p xs) k false (omega (arith, l, length-map xs p))
 
-  module _ (xs : List X) (eight : length xs ≡ 8) (r : ℕ) where
+  module _ (xs : List X) (few : length xs ≤ 64) (r : ℕ) where
     abbrev left : ℕ
     left = bits_of p xs / 2 ^ r
 
@@ -48,7 +49,7 @@ module _ {X : Type 0} (p : X → Bool) where
     lowest = trailing_zeros w64 left
 
     lowest_left : 0 < left → (lowest < 64) × (bit_at left lowest ≡ 1) × ((i : ℕ) → i < lowest → bit_at left i ≡ 0)
-    lowest_left some = bit_at-trailing_zeros w64 left some (omega (arith, bits_below p xs 8 eight, shr_le (bits_of p xs) r))
+    lowest_left some = bit_at-trailing_zeros w64 left some (lt_of_le_of_lt (shr_le (bits_of p xs) r) (lt_of_lt_of_le (bits_below p xs (length xs) refl) (pow-le-pow_right (omega arith) few)))
 
     lowest_passes : 0 < left → passes_at p xs (r + lowest) ≡ true
     lowest_passes some = is_yes _ (sym (bit_told lowest) ∙ (lowest_left some).1)
@@ -56,8 +57,24 @@ module _ {X : Type 0} (p : X → Bool) where
     none_below : 0 < left → (i : ℕ) → i < lowest → passes_at p xs (r + i) ≡ false
     none_below some i l = is_no _ (sym (bit_told i) ∙ (lowest_left some).2 i l)
 
-    lowest_within : 0 < left → r + lowest < 8
-    lowest_within some = ⊎_elim (λ (l : r + lowest < 8). l) (λ (l : 8 ≤ r + lowest). absurd (not_both _ (lowest_passes some) (past xs (r + lowest) (omega (arith, l, eight))))) (cases_lt (r + lowest) 8)
+    lowest_within : 0 < left → r + lowest < length xs
+    lowest_within some = ⊎_elim (λ (l : r + lowest < length xs). l) (λ (l : length xs ≤ r + lowest). absurd (not_both _ (lowest_passes some) (past xs (r + lowest) l))) (cases_lt (r + lowest) (length xs))
+
+    -- the lowest of the bits that are left tells of the first that passes
+    pub first_by_bits : 0 < left → IsFirstFrom p xs r (r + lowest)
+    first_by_bits some = record {
+      behind = omega arith;
+      within = lowest_within some;
+      passes = lowest_passes some;
+      none_before = λ k l h.
+          let same : r + (k - r) ≡ k = omega (arith, l) in
+          ap (passes_at p xs) (sym same) ∙ none_below some (k - r) (omega (arith, l, h));
+    }
+
+    pub none_by_bits : left ≡ 0 → NonePassFrom p xs r
+    none_by_bits e k l =
+        let same : r + (k - r) ≡ k = omega (arith, l) in
+        ap (passes_at p xs) (sym same) ∙ none_left e (k - r)
 
   -- some of the first values
   module _ (xs : List X) (n from : ℕ) (within : n ≤ length xs) where
@@ -91,6 +108,9 @@ module _ {X : Type 0} (p : X → Bool) where
   none_passes (x ∷ xs) none = ap₂ (λ a b. a || b) (none 0 (omega arith)) (none_passes xs (λ k l. none (suc k) (omega arith)))
 
 module _ {B X : Type 0} (items : B → List X) (eight : (b : B) → length (items b) ≡ 8) (p : X → Bool) where
+  few : (b : B) → length (items b) ≤ 64
+  few b = omega (arith, eight b)
+
   -- the answers of all values, block by block
   answers : (bs : List B) → map p (values_of items bs) ≡ values_of (λ b. map p (items b)) bs
   answers [] = refl
@@ -123,18 +143,18 @@ module _ {B X : Type 0} (items : B → List X) (eight : (b : B) → length (item
       pub none_in_block : (from : ℕ) → NoneBetween from (q * 8 + r) → told ≡ 0 → NoneBetween from (q * 8 + 8)
       none_in_block from none e k l h =
           ⊎_elim (λ (w : k < q * 8 + r). none k l w)
-          (λ (w : q * 8 + r ≤ k). here k w h ∙ none_left p (items b) (eight b) r e (k - (q * 8 + r)))
+          (λ (w : q * 8 + r ≤ k). here k w h ∙ none_left p (items b) (few b) r e (k - (q * 8 + r)))
           (cases_lt k (q * 8 + r))
 
       pub first_in_block : (from place : ℕ) → from ≤ q * 8 + r → NoneBetween from (q * 8 + r) → 0 < told → place ≡ q * 8 + (r + trailing_zeros w64 told) → IsFirstFrom p values from place
       first_in_block from place low none some e =
           let t = trailing_zeros w64 told in
-          let small : r + t < 8 = lowest_within p (items b) (eight b) r some in record {
+          let small : r + t < 8 = omega (arith, lowest_within p (items b) (few b) r some, eight b) in record {
             behind = omega (arith, low, e);
             within = omega (arith, e, small, all_length items eight bs, there);
-            passes = ap (λ n. passes_at p values n) e ∙ at (r + t) small ∙ lowest_passes p (items b) (eight b) r some;
+            passes = ap (λ n. passes_at p values n) e ∙ at (r + t) small ∙ lowest_passes p (items b) (few b) r some;
             none_before = λ k l h.
                 ⊎_elim (λ (w : k < q * 8 + r). none k l w)
-                (λ (w : q * 8 + r ≤ k). here k w (omega (arith, h, e, small)) ∙ none_below p (items b) (eight b) r some (k - (q * 8 + r)) (omega (arith, h, e, w)))
+                (λ (w : q * 8 + r ≤ k). here k w (omega (arith, h, e, small)) ∙ none_below p (items b) (few b) r some (k - (q * 8 + r)) (omega (arith, h, e, w)))
                 (cases_lt k (q * 8 + r));
           }

@@ -1,4 +1,5 @@
 pub mod Best
+mod Covering
 pub mod Descending
 pub mod Entering
 pub mod Rising

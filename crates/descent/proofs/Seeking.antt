@@ -22,7 +22,7 @@ use Rattle.scan.proofs.Scans.{keeps_stack, rows_stack}
 use Rattle.scan.proofs.Seeking.{holds_weigh, lacks_weigh}
 use Rattle.scan.proofs.Visiting.{next_exists}
 use Rattle.scan.specs.Agreement.{Agrees, is_row}
-use Rattle.scan.specs.Finding.{IsFinder, LacksNext, Seeks, SeeksFurther, holds}
+use Rattle.scan.specs.Finding.{IsFinder, LacksNext, Seeks, holds}
 use Rattle.page_table.specs.LeafChanges.{after_bury, after_place, after_sweep}
 use Rattle.scan.specs.Scanning.{IsNext}
 use Rattle.scan.specs.declared.stack.Sought.{Sought}
