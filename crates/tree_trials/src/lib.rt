@@ -9,6 +9,8 @@ mod commits;
 #[cfg(test)]
 mod copies;
 #[cfg(test)]
+mod eights;
+#[cfg(test)]
 mod laws;
 #[cfg(test)]
 mod limits;

@@ -1,0 +1,69 @@
+//! Values in blocks of eight, of a class that keeps them in no columns.
+ghost use Rattle.std.specs.Prelude.{nat_le};
+
+use crate::limits::{Limit, Limits};
+use blocks::{BlockTest, Blocks};
+use key_class::{Block, KeyClass, Plain, equal_bits};
+use row_version::{Entry, Version, VersionBlock};
+use std::alloc::{AllocError, Global};
+
+/// Passes the bounds that cover a key.
+#[derive(Clone, Copy)]
+struct CoveringBounds {
+    key: Limit,
+}
+
+impl BlockTest<Limit, Plain<Limit>> for CoveringBounds {
+    ghost passes = { λ test bound. nat_le test.key.number bound.number };
+
+    fn tested(&self, block: &Plain<Limit>) -> u64 {
+        Limits::covering_block(block, self.key)
+    }
+}
+
+/// The numbers from 0 up to `count`.
+fn limits(alloc: Global, count: u8) -> Result<Blocks<Limit, Plain<Limit>>, AllocError> {
+    let mut limits = Blocks::new(alloc);
+    for number in 0..count {
+        limits.push(Limit { number })?;
+    }
+    Ok(limits)
+}
+
+fn first_from(limits: &Blocks<Limit, Plain<Limit>>, from: usize, number: u8) -> Option<usize> {
+    let key = Limit { number };
+    limits.first_from(from, &CoveringBounds { key })
+}
+
+fn any(limits: &Blocks<Limit, Plain<Limit>>, number: u8) -> bool {
+    let key = Limit { number };
+    limits.any(&CoveringBounds { key })
+}
+
+#[test]
+fn finds_the_first_that_passes(rt: HostRuntime) -> Result<(), AllocError> {
+    let limits = limits(rt.alloc(), 20)?;
+    assert!(rt; first_from(&limits, 0, 0) == Some(0) && first_from(&limits, 0, 17) == Some(17));
+    assert!(rt; first_from(&limits, 9, 3) == Some(9) && first_from(&limits, 19, 19) == Some(19));
+    assert!(rt; first_from(&limits, 20, 0).is_none() && first_from(&limits, 0, 20).is_none());
+    assert!(rt; any(&limits, 19) && !any(&limits, 20));
+    Ok(())
+}
+
+/// The version of a live row.
+fn version(row: u32) -> Version {
+    Entry::new(Limit { number: 0 }, row, 0).version()
+}
+
+/// The bits of the versions of a row, among eight of row 4, the third of which is replaced by one of row 7.
+fn bits_of_row(row: u32) -> u64 {
+    let mut versions = VersionBlock::filled(version(4));
+    versions.set(2, version(7));
+    versions.of_row(row)
+}
+
+#[test]
+fn tells_rows_of_eight_versions(rt: HostRuntime) {
+    assert!(rt; bits_of_row(4) == 0b1111_1011 && bits_of_row(7) == 0b100 && bits_of_row(0) == 0);
+    assert!(rt; equal_bits(&[1, 2, 3, 1, 2, 3, 1, 2], 2) == 0b1001_0010);
+}
