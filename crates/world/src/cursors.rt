@@ -127,8 +127,8 @@ impl<C: KeyClass, O: Outlet<C::Key>> World<C, O> {
         let serial = self.last + 1;
         let cursor = Cursor::new(alloc, serial, query, opened, counter, outlet);
         match self.add_cursor(cursor) {
-            Ok(()) => return Ok((serial, end)),
-            Err(_) => return Err(Refusal::OutOfMemory),
+            Ok(()) => Ok((serial, end)),
+            Err(_) => Err(Refusal::OutOfMemory),
         }
     }
 
@@ -152,8 +152,8 @@ impl<C: KeyClass, O: Outlet<C::Key>> World<C, O> {
         let serial = self.last + 1;
         let cursor = Cursor::following(alloc, serial, query, commit as u32, outlet);
         match self.add_cursor(cursor) {
-            Ok(()) => return Ok((serial, end)),
-            Err(_) => return Err(Refusal::OutOfMemory),
+            Ok(()) => Ok((serial, end)),
+            Err(_) => Err(Refusal::OutOfMemory),
         }
     }
 
@@ -181,9 +181,9 @@ impl<C: KeyClass, O: Outlet<C::Key>> World<C, O> {
     {
         let at = self.place_of(c)?;
         match self.cursors[at].take() {
-            Taken::Item(item) => return Ok(Some(item)),
-            Taken::Nothing => return Ok(None),
-            Taken::Elsewhere => return Err(Refusal::NotHere),
+            Taken::Item(item) => Ok(Some(item)),
+            Taken::Nothing => Ok(None),
+            Taken::Elsewhere => Err(Refusal::NotHere),
         }
     }
 

@@ -112,9 +112,9 @@ impl<C: KeyClass, O: Outlet<C::Key>> World<C, O> {
             return Err(Refusal::AlreadyDeleted);
         }
         match self.finders[at].seek(self.search.pages()) {
-            Ok(Sought::Here(page)) => return Ok(Some((at, page))),
-            Ok(Sought::Further(_)) => return Ok(None),
-            Err(_) => return Err(Refusal::OutOfMemory),
+            Ok(Sought::Here(page)) => Ok(Some((at, page))),
+            Ok(Sought::Further(_)) => Ok(None),
+            Err(_) => Err(Refusal::OutOfMemory),
         }
     }
 
@@ -195,9 +195,9 @@ impl<C: KeyClass, O: Outlet<C::Key>> World<C, O> {
         match place_of(self.finders.as_slice(), f) {
             Some(place) => {
                 let_go(&mut self.finders, place);
-                return Reply::Unfound;
+                Reply::Unfound
             }
-            None => return Reply::Refused(Refusal::NoSuchFinder),
+            None => Reply::Refused(Refusal::NoSuchFinder),
         }
     }
 }

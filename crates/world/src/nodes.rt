@@ -22,8 +22,8 @@ impl<C: KeyClass, O: Outlet<C::Key>> World<C, O> {
         ensures { Acts C.rules O.rule self.old (event.Enlarge page child key) result self.new }
     {
         match self.search.enlarge(page, child, key) {
-            Ok(()) => return Reply::Enlarged,
-            Err(refusal) => return Reply::Refused(refusal),
+            Ok(()) => Reply::Enlarged,
+            Err(refusal) => Reply::Refused(refusal),
         }
     }
 
@@ -33,9 +33,9 @@ impl<C: KeyClass, O: Outlet<C::Key>> World<C, O> {
         match self.search.split(page, sides) {
             Ok(sibling) => {
                 self.note_rows_of(sibling);
-                return Reply::Split(sibling);
+                Reply::Split(sibling)
             }
-            Err(refusal) => return Reply::Refused(refusal),
+            Err(refusal) => Reply::Refused(refusal),
         }
     }
 
@@ -54,8 +54,8 @@ impl<C: KeyClass, O: Outlet<C::Key>> World<C, O> {
         ensures { Acts C.rules O.rule self.old (event.Post parent child) result self.new }
     {
         match self.search.post(parent, child) {
-            Ok(()) => return Reply::Posted,
-            Err(refusal) => return Reply::Refused(refusal),
+            Ok(()) => Reply::Posted,
+            Err(refusal) => Reply::Refused(refusal),
         }
     }
 
@@ -63,8 +63,8 @@ impl<C: KeyClass, O: Outlet<C::Key>> World<C, O> {
         ensures { Acts C.rules O.rule self.old (event.Grow sides.now) result self.new }
     {
         match self.search.grow(sides) {
-            Ok((first, second)) => return Reply::Grown(first, second),
-            Err(refusal) => return Reply::Refused(refusal),
+            Ok((first, second)) => Reply::Grown(first, second),
+            Err(refusal) => Reply::Refused(refusal),
         }
     }
 

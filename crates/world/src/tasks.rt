@@ -109,8 +109,8 @@ impl<C: KeyClass, O: Outlet<C::Key>> World<C, O> {
     {
         self.recall_soundness();
         match self.place_of(c) {
-            Ok(at) => return self.cursors[at].page_to_visit(),
-            Err(_) => return None,
+            Ok(at) => self.cursors[at].page_to_visit(),
+            Err(_) => None,
         }
     }
 
@@ -182,8 +182,8 @@ impl<C: KeyClass, O: Outlet<C::Key>> World<C, O> {
         ensures stale { IsStaleSplit self.old task → IsLate self.old result self.new }
     {
         match self.split_of(task) {
-            Some(split) => return self.step_as(seat, split),
-            None => return Reply::Refused(Refusal::NotHere),
+            Some(split) => self.step_as(seat, split),
+            None => Reply::Refused(Refusal::NotHere),
         }
     }
 

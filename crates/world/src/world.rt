@@ -275,28 +275,26 @@ impl<C: KeyClass, O: Outlet<C::Key>> World<C, O> {
         ensures fresh { HandsOut O.fresh result }
     {
         match event {
-            Event::Enlarge(parent, child, key) => return self.enlarge(parent, child, key),
-            Event::Place(page, key, tag) => {
-                return Reply::of_commit(self.place(seat, page, key, tag));
-            }
-            Event::Split(page, sides) => return self.split(page, &sides),
-            Event::Post(parent, child) => return self.post(parent, child),
-            Event::Grow(sides) => return self.grow(&sides),
-            Event::Find(row) => return Reply::of_finder(self.find(row)),
-            Event::Seek(finder) => return Reply::of_visit(self.seek(seat, finder)),
+            Event::Enlarge(parent, child, key) => self.enlarge(parent, child, key),
+            Event::Place(page, key, tag) => Reply::of_commit(self.place(seat, page, key, tag)),
+            Event::Split(page, sides) => self.split(page, &sides),
+            Event::Post(parent, child) => self.post(parent, child),
+            Event::Grow(sides) => self.grow(&sides),
+            Event::Find(row) => Reply::of_finder(self.find(row)),
+            Event::Seek(finder) => Reply::of_visit(self.seek(seat, finder)),
             Event::Move(finder, leaf, key) => {
-                return Reply::of_visit(self.move_row(seat, finder, leaf, key));
+                Reply::of_visit(self.move_row(seat, finder, leaf, key))
             }
-            Event::Unfind(finder) => return self.unfind(finder),
-            Event::Sweep(page) => return Reply::of_sweep(self.sweep(page)),
-            Event::Open(query, room) => return Reply::of_opening(self.open(query, room)),
+            Event::Unfind(finder) => self.unfind(finder),
+            Event::Sweep(page) => Reply::of_sweep(self.sweep(page)),
+            Event::Open(query, room) => Reply::of_opening(self.open(query, room)),
             Event::Follow(query, room, commit) => {
-                return Reply::of_opening(self.follow(query, room, commit));
+                Reply::of_opening(self.follow(query, room, commit))
             }
-            Event::Turn(cursor) => return Reply::of_turn(self.turn(cursor)),
-            Event::AskMark(cursor) => return Reply::of_asking(self.ask_mark(cursor)),
-            Event::Take(cursor) => return Reply::of_taking(self.take(cursor)),
-            Event::Close(cursor) => return Reply::of_closing(self.close(cursor)),
+            Event::Turn(cursor) => Reply::of_turn(self.turn(cursor)),
+            Event::AskMark(cursor) => Reply::of_asking(self.ask_mark(cursor)),
+            Event::Take(cursor) => Reply::of_taking(self.take(cursor)),
+            Event::Close(cursor) => Reply::of_closing(self.close(cursor)),
         }
     }
 }

@@ -1,4 +1,3 @@
-use Rattle.std.proofs.Common.{ap}
 use Rattle.world.proofs.PageSteps.{grown_sound}
 use Rattle.world.proofs.world.World.grow.Goals as goal
 
@@ -6,9 +5,3 @@ pub invariant_of-self : goal.invariant_of-self
 invariant_of-self g c =
     let e = c.grow.ensures in
     grown_sound g.C.KeyClass.rules.is_cover g.C.KeyClass.rules.union_of g.met.C.KeyClass.lawful.bounds _ c.self.invariant c.grow.result c.grow.new.self e.unchanged c.args.sides.now e.passed e.grown
-
-pub returns-in-Err : goal.returns-in-Err
-returns-in-Err g c = λ seat. rw (← c.self.view_is) (record {
-  cause = c.in-Err.ensures.refused;
-  unchanged = ap (λ search. record { search = search; limit = c.self.inside.limit; commits = c.self.inside.changes; cursors = c.self.inside.cursors.items; last = c.self.inside.last; finders = c.self.inside.finders.items; last_finder = c.self.inside.last_finder }) c.in-Err.ensures.unchanged;
-})

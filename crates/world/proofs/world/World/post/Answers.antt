@@ -1,4 +1,3 @@
-use Rattle.std.proofs.Common.{ap}
 use Rattle.world.proofs.PageSteps.{posted_sound}
 use Rattle.world.proofs.world.World.post.Goals as goal
 
@@ -6,9 +5,3 @@ pub invariant_of-self : goal.invariant_of-self
 invariant_of-self g c =
     let e = c.post.ensures in
     posted_sound g.C.KeyClass.rules.is_cover g.C.KeyClass.rules.union_of g.met.C.KeyClass.lawful.bounds _ c.self.invariant c.post.result c.post.new.self e.unchanged c.args.parent c.args.child e.passed e.posted
-
-pub returns-in-Err : goal.returns-in-Err
-returns-in-Err g c = λ seat. rw (← c.self.view_is) (record {
-  cause = c.in-Err.ensures.refused;
-  unchanged = ap (λ search. record { search = search; limit = c.self.inside.limit; commits = c.self.inside.changes; cursors = c.self.inside.cursors.items; last = c.self.inside.last; finders = c.self.inside.finders.items; last_finder = c.self.inside.last_finder }) c.in-Err.ensures.unchanged;
-})

@@ -7,6 +7,7 @@ use Rattle.world.specs.Steps.{cursor_tests}
 use Rattle.world.proofs.Refusing.{failing_first}
 use Rattle.world.proofs.Handling.{at_within, take_sound, take_done, empty_done, elsewhere_refused}
 use Rattle.world.proofs.world.World.take.Goals as goal
+use Rattle.world.proofs.world.World.take.Goals.{in-Item, in-Nothing, in-Elsewhere}
 
 pub returns-in_err-at : goal.returns-in_err-at
 returns-in_err-at g c = λ seat.
@@ -27,32 +28,19 @@ invariant_of-self g c =
     let a = subst (λ s. IsAt s c.args.c c.in_ok-at.at) (sym c.self.view_is) c.in_ok-at.ensures.found in
     take_sound g.C.KeyClass.rules g.O.Outlet.rule _ c.self.invariant c.args.c c.in_ok-at.at a c.index_mut.result.now c.index_mut.ensures.value c.take.new.self c.take.new.self.unread c.take.ensures.others
 
-pub invariant_of-self-in-Nothing : goal.invariant_of-self-in-Nothing
-invariant_of-self-in-Nothing g c =
+pub returns : goal.returns
+returns g c = λ seat.
     let a = subst (λ s. IsAt s c.args.c c.in_ok-at.at) (sym c.self.view_is) c.in_ok-at.ensures.found in
-    take_sound g.C.KeyClass.rules g.O.Outlet.rule _ c.self.invariant c.args.c c.in_ok-at.at a c.index_mut.result.now c.index_mut.ensures.value c.take.new.self c.take.new.self.unread c.take.ensures.others
-
-pub invariant_of-self-in-Elsewhere : goal.invariant_of-self-in-Elsewhere
-invariant_of-self-in-Elsewhere g c =
-    let a = subst (λ s. IsAt s c.args.c c.in_ok-at.at) (sym c.self.view_is) c.in_ok-at.ensures.found in
-    take_sound g.C.KeyClass.rules g.O.Outlet.rule _ c.self.invariant c.args.c c.in_ok-at.at a c.index_mut.result.now c.index_mut.ensures.value c.take.new.self c.take.new.self.unread c.take.ensures.others
-
-pub returns-in-Item : goal.returns-in-Item
-returns-in-Item g c = λ seat.
-    let a = subst (λ s. IsAt s c.args.c c.in_ok-at.at) (sym c.self.view_is) c.in_ok-at.ensures.found in
-    let t = c.in-Item.ensures.takes in
-    rw (← c.self.view_is) (take_done _ _ _ c.self.invariant c.args.c c.in_ok-at.at a c.index_mut.result.now c.index_mut.ensures.value c.take.new.self _ seat c.in-Item.item c.take.new.self.unread c.take.ensures.others t.0 t.1)
-
-pub returns-in-Nothing : goal.returns-in-Nothing
-returns-in-Nothing g c = λ seat.
-    let a = subst (λ s. IsAt s c.args.c c.in_ok-at.at) (sym c.self.view_is) c.in_ok-at.ensures.found in
-    let t = c.in-Nothing.ensures.takes in
-    let same : c.take.new.self ≡ c.index_mut.result.now = c.take.ensures.others ∙ ap (λ u. record c.index_mut.result.now { unread = u }) (t.2 ∙ sym t.1) in
-    rw (← c.self.view_is) (empty_done _ _ _ c.self.invariant c.args.c c.in_ok-at.at a c.index_mut.result.now c.index_mut.ensures.value c.take.new.self _ seat same t.0 t.1)
-
-pub returns-in-Elsewhere : goal.returns-in-Elsewhere
-returns-in-Elsewhere g c = λ seat.
-    let a = subst (λ s. IsAt s c.args.c c.in_ok-at.at) (sym c.self.view_is) c.in_ok-at.ensures.found in
-    let t = c.in-Elsewhere.ensures.takes in
-    let same : c.take.new.self ≡ c.index_mut.result.now = c.take.ensures.others ∙ ap (λ u. record c.index_mut.result.now { unread = u }) t.1 in
-    rw (← c.self.view_is) (elsewhere_refused _ _ _ c.self.invariant c.args.c c.in_ok-at.at a c.index_mut.result.now c.index_mut.ensures.value c.take.new.self same t.0)
+    elim c.match-take.branch [
+      | in-Item w ↦
+          let t = w.in-Item.ensures.takes in
+          rw (w.result-is, ← c.self.view_is) (take_done _ _ _ c.self.invariant c.args.c c.in_ok-at.at a c.index_mut.result.now c.index_mut.ensures.value c.take.new.self _ seat w.in-Item.item c.take.new.self.unread c.take.ensures.others t.0 t.1)
+      | in-Nothing w ↦
+          let t = w.in-Nothing.ensures.takes in
+          let same : c.take.new.self ≡ c.index_mut.result.now = c.take.ensures.others ∙ ap (λ u. record c.index_mut.result.now { unread = u }) (t.2 ∙ sym t.1) in
+          rw (w.result-is, ← c.self.view_is) (empty_done _ _ _ c.self.invariant c.args.c c.in_ok-at.at a c.index_mut.result.now c.index_mut.ensures.value c.take.new.self _ seat same t.0 t.1)
+      | in-Elsewhere w ↦
+          let t = w.in-Elsewhere.ensures.takes in
+          let same : c.take.new.self ≡ c.index_mut.result.now = c.take.ensures.others ∙ ap (λ u. record c.index_mut.result.now { unread = u }) t.1 in
+          rw (w.result-is, ← c.self.view_is) (elsewhere_refused _ _ _ c.self.invariant c.args.c c.in_ok-at.at a c.index_mut.result.now c.index_mut.ensures.value c.take.new.self same t.0)
+    ]
