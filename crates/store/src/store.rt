@@ -203,8 +203,8 @@ impl<C: KeyClass> Store<C> {
             return Err(Refusal::BadConfig);
         }
         match self.world.open_cursor(query, 1) {
-            Ok((serial, ())) => return Ok(serial),
-            Err(refusal) => return Err(refusal),
+            Ok((serial, ())) => Ok(serial),
+            Err(refusal) => Err(refusal),
         }
     }
 
@@ -234,8 +234,8 @@ impl<C: KeyClass> Store<C> {
             return Err(Refusal::BadConfig);
         }
         match self.world.follow_commit(query, 1, commit) {
-            Ok((serial, ())) => return Ok(serial),
-            Err(refusal) => return Err(refusal),
+            Ok((serial, ())) => Ok(serial),
+            Err(refusal) => Err(refusal),
         }
     }
 
