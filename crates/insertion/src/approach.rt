@@ -131,11 +131,11 @@ pub fn approach_leaf<C: KeyClass, O: Outlet<C::Key>>(
     world.recall_soundness();
     let here = resumed(world, page, key);
     match next_on_way(alloc, world.search(), here, key)? {
-        NextAction::Split(child) => return Ok(Approach::Split(child)),
-        NextAction::At(leaf) => return Ok(Approach::At(leaf)),
+        NextAction::Split(child) => Ok(Approach::Split(child)),
+        NextAction::At(leaf) => Ok(Approach::At(leaf)),
         NextAction::Make(event, then) => {
             move_pages(world, seat, event)?;
-            return Ok(Approach::On(then));
+            Ok(Approach::On(then))
         }
     }
 }

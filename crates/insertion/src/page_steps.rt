@@ -31,8 +31,8 @@ pub(crate) fn move_pages<C: KeyClass, O: Outlet<C::Key>>(
     ensures refusals { IfErr result (IsWanting world.new.search) }
 {
     match world.step_as(seat, event) {
-        Reply::Refused(why) => return Err(why),
-        _ => return Ok(()),
+        Reply::Refused(why) => Err(why),
+        _ => Ok(()),
     }
 }
 

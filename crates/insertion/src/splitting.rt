@@ -45,8 +45,8 @@ fn make<C: KeyClass, O: Outlet<C::Key>>(
     ensures refusals { IfErr result (IsWanting world.old.search) }
 {
     match world.step_as(seat, event) {
-        Reply::Refused(why) => return tell_want(why),
-        _ => return Ok(()),
+        Reply::Refused(why) => tell_want(why),
+        _ => Ok(()),
     }
 }
 

@@ -50,8 +50,8 @@ pub fn insert_step<C: KeyClass, O: Outlet<C::Key>>(
         return Err(Refusal::CommitsFull);
     }
     match approach_leaf(alloc, world, seat, page, key)? {
-        Approach::On(next) => return Ok(Way::On(next)),
-        Approach::Split(full) => return Ok(Way::Split(full)),
-        Approach::At(leaf) => return Ok(Way::Placed(place(world, seat, leaf, key, tag)?)),
+        Approach::On(next) => Ok(Way::On(next)),
+        Approach::Split(full) => Ok(Way::Split(full)),
+        Approach::At(leaf) => Ok(Way::Placed(place(world, seat, leaf, key, tag)?)),
     }
 }

@@ -60,9 +60,9 @@ pub fn move_step<C: KeyClass, O: Outlet<C::Key>>(
     world.recall_soundness();
     check_ending(world, row)?;
     match approach_leaf(alloc, world, seat, page, key)? {
-        Approach::On(next) => return Ok(Moving::On(next)),
-        Approach::Split(full) => return Ok(Moving::Split(full)),
-        Approach::At(leaf) => return seek_from(world, seat, leaf, finder, row, key),
+        Approach::On(next) => Ok(Moving::On(next)),
+        Approach::Split(full) => Ok(Moving::Split(full)),
+        Approach::At(leaf) => seek_from(world, seat, leaf, finder, row, key),
     }
 }
 
@@ -87,8 +87,8 @@ fn seek_from<C: KeyClass, O: Outlet<C::Key>>(
     ensures refusals { IfErr result (λ why. why ≡ Refusal.OutOfMemory) }
 {
     match end_step(world, seat, finder, row, Ending::Move(u64::from(leaf), key))? {
-        Search::On => return Ok(Moving::On(leaf)),
-        Search::Lost => return Ok(Moving::Lost),
-        Search::Ended(stamp) => return Ok(Moving::Moved(stamp)),
+        Search::On => Ok(Moving::On(leaf)),
+        Search::Lost => Ok(Moving::Lost),
+        Search::Ended(stamp) => Ok(Moving::Moved(stamp)),
     }
 }

@@ -34,8 +34,8 @@ pub(crate) fn visit<C: KeyClass, O: Outlet<C::Key>>(
         seat world.old finder ending result world.new }
 {
     match ending {
-        Ending::Delete => return world.seek_to_delete(seat, finder),
-        Ending::Move(leaf, key) => return world.seek_to_move(seat, finder, leaf, key),
+        Ending::Delete => world.seek_to_delete(seat, finder),
+        Ending::Move(leaf, key) => world.seek_to_move(seat, finder, leaf, key),
     }
 }
 

@@ -48,9 +48,9 @@ pub fn find_row<C: KeyClass, O: Outlet<C::Key>>(
 {
     world.recall_soundness();
     match world.status(row) {
-        Status::NeverIssued => return Err(Refusal::NoSuchRow),
-        Status::Dead => return Err(Refusal::AlreadyDeleted),
-        Status::Live => return find_live_row(world, row),
+        Status::NeverIssued => Err(Refusal::NoSuchRow),
+        Status::Dead => Err(Refusal::AlreadyDeleted),
+        Status::Live => find_live_row(world, row),
     }
 }
 
@@ -96,9 +96,9 @@ pub fn seek_row<C: KeyClass, O: Outlet<C::Key>>(
 {
     world.recall_soundness();
     match world.status(row) {
-        Status::NeverIssued => return Err(Refusal::NoSuchRow),
-        Status::Dead => return Err(Refusal::AlreadyDeleted),
-        Status::Live => return end_step(world, seat, finder, row, Ending::Delete),
+        Status::NeverIssued => Err(Refusal::NoSuchRow),
+        Status::Dead => Err(Refusal::AlreadyDeleted),
+        Status::Live => end_step(world, seat, finder, row, Ending::Delete),
     }
 }
 
@@ -135,7 +135,7 @@ pub fn end_step<C: KeyClass, O: Outlet<C::Key>>(
         }
     }
     match visit(world, seat, finder, ending)? {
-        Some(stamp) => return Ok(Search::Ended(stamp)),
-        None => return Ok(Search::On),
+        Some(stamp) => Ok(Search::Ended(stamp)),
+        None => Ok(Search::On),
     }
 }
