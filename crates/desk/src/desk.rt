@@ -529,9 +529,9 @@ impl<C: KeyClass, L: Ledger + Naming> DeskOver<World<C, Ring<C::Key>>, L> {
             .open(rt, &mut seat.share, &mut seat.told, copy, room)
         {
             Ok((cursor, opened, items)) => {
-                return Ok(Taker::new(self, cursor, query, false, opened, items));
+                Ok(Taker::new(self, cursor, query, false, opened, items))
             }
-            Err(why) => return Err(why),
+            Err(why) => Err(why),
         }
     }
 
@@ -570,10 +570,8 @@ impl<C: KeyClass, L: Ledger + Naming> DeskOver<World<C, Ring<C::Key>>, L> {
             .lock(rt)
             .follow(rt, &mut seat.share, &mut seat.told, copy, room, commit)
         {
-            Ok((cursor, items)) => {
-                return Ok(Taker::new(self, cursor, query, true, commit, items));
-            }
-            Err(why) => return Err(why),
+            Ok((cursor, items)) => Ok(Taker::new(self, cursor, query, true, commit, items)),
+            Err(why) => Err(why),
         }
     }
 

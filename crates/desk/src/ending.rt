@@ -37,7 +37,7 @@ pub(crate) fn checked<C: KeyClass>(
 {
     let _count = commits.len();
     match is_delivered::<C>(alloc, &commits, query, follows, opened, taken) {
-        Ok(true) => return Ended::Receipt(Receipt::new(follows, opened, commits)),
-        _ => return Ended::NoReceipt,
+        Ok(true) => Ended::Receipt(Receipt::new(follows, opened, commits)),
+        _ => Ended::NoReceipt,
     }
 }

@@ -153,13 +153,13 @@ impl<C: KeyClass, L: Ledger + Naming> Locked<World<C, Ring<C::Key>>, L> {
             }
         };
         match way {
-            Way::On(next) => return Ok(Way::On(next)),
-            Way::Split(full) => return Ok(Way::Split(full)),
+            Way::On(next) => Ok(Way::On(next)),
+            Way::Split(full) => Ok(Way::Split(full)),
             Way::Placed(stamp) => {
                 history.tell(rt, told, &Write::Insert(key, tag));
                 book.add(share, 1);
                 book.audit(share);
-                return Ok(Way::Placed(stamp));
+                Ok(Way::Placed(stamp))
             }
         }
     }
@@ -280,13 +280,13 @@ impl<C: KeyClass, L: Ledger + Naming> Locked<World<C, Ring<C::Key>>, L> {
             }
         };
         match search {
-            Search::On => return Ok(Search::On),
-            Search::Lost => return Ok(Search::Lost),
+            Search::On => Ok(Search::On),
+            Search::Lost => Ok(Search::Lost),
             Search::Ended(stamp) => {
                 history.tell(rt, told, &Write::Delete(row));
                 book.add(share, 1);
                 book.audit(share);
-                return Ok(Search::Ended(stamp));
+                Ok(Search::Ended(stamp))
             }
         }
     }
@@ -330,14 +330,14 @@ impl<C: KeyClass, L: Ledger + Naming> Locked<World<C, Ring<C::Key>>, L> {
             }
         };
         match moving {
-            Moving::On(next) => return Ok(Moving::On(next)),
-            Moving::Split(full) => return Ok(Moving::Split(full)),
-            Moving::Lost => return Ok(Moving::Lost),
+            Moving::On(next) => Ok(Moving::On(next)),
+            Moving::Split(full) => Ok(Moving::Split(full)),
+            Moving::Lost => Ok(Moving::Lost),
             Moving::Moved(stamp) => {
                 history.tell(rt, told, &Write::Move(row, key));
                 book.add(share, 1);
                 book.audit(share);
-                return Ok(Moving::Moved(stamp));
+                Ok(Moving::Moved(stamp))
             }
         }
     }

@@ -1,32 +1,77 @@
-use Rattle.std.proofs.Common.{refl, sym, ap, subst, [], ◌∷◌, ◌++◌, ◌∙◌}
+use Rattle.std.proofs.Common.{◌≡◌, refl, sym, ap, subst, [], ◌∷◌, ◌++◌, ◌∙◌, rules}
 use mathlib.Core.List.{IsPrefix}
 use Rattle.change_list.specs.declared.write.Write.TheVariants.{Move}
+use Rattle.history.proofs.Pasts.{prefix_self, prefix_trans}
+use Rattle.desk.specs.Visits.{IsHeld}
 use Rattle.desk.proofs.Committing.{committed, counted}
 use Rattle.desk.proofs.locked.Locked+World+C+Ring+C+Key+L.move_step.Goals as goal
+use Rattle.desk.proofs.locked.Locked+World+C+Ring+C+Key+L.move_step.Goals.{in-On, in-Split, in-Lost, in-Moved}
 
-pub returns-in-On-clause-moves : goal.returns-in-On-clause-moves
-returns-in-On-clause-moves g c = rw (← c.self.view_is) (rw c.in-On.is at c.in-Ok.ensures.goes)
+pub invariant_of-self-2 : goal.invariant_of-self-2
+invariant_of-self-2 g c =
+    let held : IsHeld g.C.KeyClass.rules c.move_step.new.world = record { sound = c.move_step.ensures.sound; mailboxes = c.move_step.ensures.mailboxes refl c.self.invariant.2.mailboxes } in
+    elim c.match-moving.branch [
+      | in-On w ↦
+          let did = rw w.in-On.is at c.in-Ok.ensures.goes in rw w.self-inside-is (search rules, c.self.invariant.1, held)
+      | in-Split w ↦
+          let did = rw w.in-Split.is at c.in-Ok.ensures.goes in rw w.self-inside-is (search rules, c.self.invariant.1, held)
+      | in-Lost w ↦
+          let did = rw w.in-Lost.is at c.in-Ok.ensures.goes in rw w.self-inside-is (search rules, c.self.invariant.1, held)
+      | in-Moved w ↦
+          let did = rw w.in-Moved.is at c.in-Ok.ensures.goes in
+          let write = Move c.args.row c.args.key in
+          let grown : c.move_step.new.world.commits ≡ c.self.inside.world.commits ++ write ∷ [] = did.2.1.commits in
+          rw w.self-inside-is (
+            grown ∙ (ap (λ l. l ++ write ∷ []) c.self.invariant.0 ∙ sym w.tell.ensures.added),
+            counted write _ _ _ _ _ w.tell.ensures.added c.self.invariant.1 w.add.ensures.total w.audit.ensures.total,
+            held,
+          )
+    ]
 
-pub returns-in-Lost-clause-moves : goal.returns-in-Lost-clause-moves
-returns-in-Lost-clause-moves g c = rw (← c.self.view_is) (rw c.in-Lost.is at c.in-Ok.ensures.goes)
+pub returns-clause-moves : goal.returns-clause-moves
+returns-clause-moves g c =
+    elim c.match-moving.branch [
+      | in-On w ↦ rw (w.result-is, w.self-inside-is, ← c.self.view_is) (rw w.in-On.is at c.in-Ok.ensures.goes)
+      | in-Split w ↦ rw (w.result-is, w.self-inside-is, ← c.self.view_is) (rw w.in-Split.is at c.in-Ok.ensures.goes)
+      | in-Lost w ↦ rw (w.result-is, w.self-inside-is, ← c.self.view_is) (rw w.in-Lost.is at c.in-Ok.ensures.goes)
+      | in-Moved w ↦ rw (w.result-is, w.self-inside-is, ← c.self.view_is) (rw w.in-Moved.is at c.in-Ok.ensures.goes)
+    ]
 
-pub returns-in-Moved-clause-moves : goal.returns-in-Moved-clause-moves
-returns-in-Moved-clause-moves g c = rw (← c.self.view_is) (rw c.in-Moved.is at c.in-Ok.ensures.goes)
-
-pub invariant_of-self-in-Moved : goal.invariant_of-self-in-Moved
-invariant_of-self-in-Moved g c =
-    let did = (rw c.in-Moved.is at c.in-Ok.ensures.goes).2.1 in
-    let write = Move c.args.row c.args.key in (
-      did.commits ∙ (ap (λ l. l ++ write ∷ []) c.self.invariant.0 ∙ sym c.tell.ensures.added),
-      counted write _ _ _ _ _ c.tell.ensures.added c.self.invariant.1 c.add.ensures.total c.audit.ensures.total,
-      record { sound = c.move_step.ensures.sound; mailboxes = c.move_step.ensures.mailboxes refl c.self.invariant.2.mailboxes },
+pub returns-clause-held : goal.returns-clause-held
+returns-clause-held g c =
+    let held : IsHeld g.C.KeyClass.rules c.move_step.new.world = record { sound = c.move_step.ensures.sound; mailboxes = c.move_step.ensures.mailboxes refl c.self.invariant.2.mailboxes } in (
+      rw (← c.self.view_is) c.self.invariant.2,
+      elim c.match-moving.branch [
+        | in-On w ↦ rw w.self-inside-is held
+        | in-Split w ↦ rw w.self-inside-is held
+        | in-Lost w ↦ rw w.self-inside-is held
+        | in-Moved w ↦ rw w.self-inside-is held
+      ],
     )
 
-pub returns-in-Moved-clause-committed : goal.returns-in-Moved-clause-committed
-returns-in-Moved-clause-committed g c =
-    let did = (rw c.in-Moved.is at c.in-Ok.ensures.goes).2.1 in
-    let write = Move c.args.row c.args.key in
-    let begins : IsPrefix c.args.told.now c.self.inside.world.commits = subst (λ l. IsPrefix c.args.told.now l) (sym c.self.invariant.0) c.tell.ensures.seen in
-    committed g.C.KeyClass.rules _ _ c.args.seat write c.in-Moved.stamp _ _
-    c.self.invariant.2 (record { sound = c.move_step.ensures.sound; mailboxes = c.move_step.ensures.mailboxes refl c.self.invariant.2.mailboxes }) did.commits did.stamped
-    begins (did.commits ∙ (ap (λ l. l ++ write ∷ []) c.self.invariant.0 ∙ sym (c.tell.ensures.whole ∙ c.tell.ensures.added)))
+pub returns-clause-seen : goal.returns-clause-seen
+returns-clause-seen g c =
+    elim c.match-moving.branch [
+      | in-On w ↦ rw w.told-is (prefix_self c.args.told.now)
+      | in-Split w ↦ rw w.told-is (prefix_self c.args.told.now)
+      | in-Lost w ↦ rw w.told-is (prefix_self c.args.told.now)
+      | in-Moved w ↦ rw w.told-is (prefix_trans c.args.told.now c.self.inside.history w.tell.new.past w.tell.ensures.seen ((Move c.args.row c.args.key) ∷ [], sym (w.tell.ensures.whole ∙ w.tell.ensures.added)))
+    ]
+
+pub returns-clause-committed : goal.returns-clause-committed
+returns-clause-committed g c =
+    let held : IsHeld g.C.KeyClass.rules c.move_step.new.world = record { sound = c.move_step.ensures.sound; mailboxes = c.move_step.ensures.mailboxes refl c.self.invariant.2.mailboxes } in
+    elim c.match-moving.branch [
+      | in-On w ↦ rw (w.result-is, w.told-is) refl
+      | in-Split w ↦ rw (w.result-is, w.told-is) refl
+      | in-Lost w ↦ rw (w.result-is, w.told-is) refl
+      | in-Moved w ↦
+          let did = rw w.in-Moved.is at c.in-Ok.ensures.goes in
+          let write = Move c.args.row c.args.key in
+          let grown : c.move_step.new.world.commits ≡ c.self.inside.world.commits ++ write ∷ [] = did.2.1.commits in
+          let begins : IsPrefix c.args.told.now c.self.inside.world.commits = subst (λ l. IsPrefix c.args.told.now l) (sym c.self.invariant.0) w.tell.ensures.seen in
+          rw (w.result-is, w.told-is)
+          (committed g.C.KeyClass.rules _ _ c.args.seat write w.in-Moved.stamp _ _
+          c.self.invariant.2 held grown did.2.1.stamped
+          begins (grown ∙ (ap (λ l. l ++ write ∷ []) c.self.invariant.0 ∙ sym (w.tell.ensures.whole ∙ w.tell.ensures.added))))
+    ]
