@@ -1,9 +1,9 @@
-use Rattle.std.proofs.Common.{◌≡◌, refl, sym, ap, subst, [], ◌∷◌, ◌++◌, ◌∙◌, rules}
+use Rattle.std.proofs.Common.{◌≡◌, refl, sym, ap, subst, [], ◌∷◌, ◌++◌, ◌∙◌, length, length-append, arith, rules}
 use mathlib.Core.List.{IsPrefix}
 use Rattle.change_list.specs.declared.write.Write.TheVariants.{Insert}
 use Rattle.history.proofs.Pasts.{prefix_self, prefix_trans}
 use Rattle.desk.specs.Visits.{IsHeld}
-use Rattle.desk.proofs.Committing.{committed, counted}
+use Rattle.desk.proofs.Committing.{committed}
 use Rattle.desk.proofs.locked.Locked+World+C+Ring+C+Key+L.insert_on.Goals as goal
 use Rattle.desk.proofs.locked.Locked+World+C+Ring+C+Key+L.insert_on.Goals.{in-On, in-Split, in-Placed}
 
@@ -21,7 +21,7 @@ invariant_of-self-2 g c =
           let grown : c.insert_step.new.world.commits ≡ c.self.inside.world.commits ++ write ∷ [] = did.0 in
           rw w.self-inside-is (
             grown ∙ (ap (λ l. l ++ write ∷ []) c.self.invariant.0 ∙ sym w.tell.ensures.added),
-            counted write _ _ _ _ _ w.tell.ensures.added c.self.invariant.1 w.add.ensures.total w.audit.ensures.total,
+            omega (arith, ap length w.tell.ensures.added, length-append c.self.inside.history (write ∷ []), c.self.invariant.1),
             held,
           )
     ]
