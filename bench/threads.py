@@ -18,7 +18,7 @@ PEER = os.path.join(OUT, "peer_threads")
 PEER_FLAGS = ["-O2", "-march=x86-64-v2", "-std=c++17", "-DNDEBUG", "-pthread"]
 
 # The aims: instructions of an insert compared with a store's, and instructions of a take.
-INSERT_AIM = 1.5
+INSERT_AIM = 1.1
 TAKE_AIM = 60
 
 # Nanoseconds a commit and follower, of a thousand that poll.
@@ -37,9 +37,13 @@ def build_peer():
         raise SystemExit("bench: the peer can't be built; it needs c++ and Boost's headers")
 
 
-def parts(words):
+# What is measured of each class, by its name
+CLASSES = {"intervals": ("threads", "visits"), "boxes": ("threads_of_boxes", "visits_of_boxes")}
+
+
+def parts(words, program=PROGRAM):
     """The program's figures for each part of a measurement."""
-    told = subprocess.run([PROGRAM, *map(str, words)], stdout=subprocess.PIPE, check=True, text=True).stdout
+    told = subprocess.run([program, *map(str, words)], stdout=subprocess.PIPE, check=True, text=True).stdout
     return [dict(zip(FIELDS, map(int, line.split()))) for line in told.splitlines()]
 
 
@@ -65,9 +69,9 @@ def least(runs, words):
     return min((parts(words) for _ in range(runs)), key=lambda told: told[0]["wall"])
 
 
-def waiting(part):
-    """The share of their time in which the threads of a part had no processor."""
-    return 100 * (1 - part["threads_cpu"] / part["threads_wall"])
+def a_second(part):
+    """How many calls a second a part made."""
+    return part["calls"] / part["wall"] * 1e9
 
 
 def evenness(part):
@@ -76,23 +80,30 @@ def evenness(part):
 
 
 def print_threads(options):
-    """Inserts and finds a second, by number of threads."""
-    print(f"{options.rows:,} rows and {options.finds:,} finds in all")
-    print("  threads  inserts a second  waiting  evenness    finds a second  waiting  evenness  items a find  visits a find      finish")
-    for count in options.threads:
-        runs = [parts(["threads", count, options.rows, options.finds]) for _ in range(options.turns)]
-        inserts = min((run[0] for run in runs), key=lambda part: part["wall"])
-        finds = min((run[1] for run in runs), key=lambda part: part["wall"])
-        finish = min((run[2] for run in runs), key=lambda part: part["wall"])
-        if inserts["calls"] != options.rows // count * count or finish["calls"] != inserts["calls"]:
-            raise SystemExit("bench: an insert was refused, or the seats don't fit the commits")
-        print(
-            f"  {count:>7}  {inserts['calls'] / inserts['wall'] * 1e9:>16,.0f}  {waiting(inserts):>5.1f} %  {evenness(inserts):>8.2f}"
-            f"  {finds['calls'] / finds['wall'] * 1e9:>16,.0f}  {waiting(finds):>5.1f} %  {evenness(finds):>8.2f}"
-            f"  {finds['items'] / finds['calls']:>12.1f}  {finds['visits'] / finds['calls']:>13.1f}"
-            f"  {finish['wall'] / 1e9:>8.3f} s",
-            flush=True,
-        )
+    """Inserts, finds, moves and deletes a second, by class and number of threads: of this program, and of an earlier one beside it."""
+    programs = {"": PROGRAM} if options.before is None else {"before": options.before, "now": PROGRAM}
+    for class_name, (threads, _) in CLASSES.items():
+        print(f"{class_name}: {options.rows:,} rows, each moved and deleted, and {options.finds:,} finds in all; calls a second, and evenness")
+        print(f"  {'threads':>7} {'':>6}  {'inserts':>16}  {'finds':>16}  {'moves':>16}  {'deletes':>16}  {'items a find':>12}  {'finish':>9}")
+        for count in options.threads:
+            # in turn, so that what else the machine does meets all programs alike
+            runs = {name: [] for name in programs}
+            for _ in range(options.turns):
+                for name, program in programs.items():
+                    runs[name].append(parts([threads, count, options.rows, options.finds], program))
+            for name, told in runs.items():
+                inserts, finds, moves, deletes, finish = (min((run[at] for run in told), key=lambda part: part["wall"]) for at in range(5))
+                each = options.rows // count * count
+                if not each == inserts["calls"] == moves["calls"] == deletes["calls"] or finish["calls"] != 3 * each:
+                    raise SystemExit("bench: a call was refused, or the seats don't fit the commits")
+                rates = "".join(f"  {a_second(part):>10,.0f} {evenness(part):>5.2f}" for part in (inserts, finds, moves, deletes))
+                print(f"  {count:>7} {name:>6}{rates}  {finds['items'] / finds['calls']:>12.1f}  {finish['wall'] / 1e9:>7.3f} s", flush=True)
+    for class_name, (_, visits) in CLASSES.items():
+        for name, program in programs.items():
+            told = parts([visits, options.rows], program)[:3]
+            calls = ", ".join(f"{what} {part['visits'] / part['calls']:.2f}" for what, part in zip(("an insert", "a move", "a delete"), told))
+            turns = parts([CLASSES[class_name][0], 1, options.rows, options.finds], program)[1]
+            print(f"visits, {class_name}{' ' + name if name else ''}: {calls}, a find {turns['visits'] / turns['calls']:.2f}", flush=True)
 
 
 def print_visits(options):
@@ -136,10 +147,6 @@ def print_readers(options):
             runs = [parts(["readers", count + 1, options.rows, inserts, options.pages])[1] for _ in range(options.turns)]
             rates.append(max(run["calls"] * count / run["threads_wall"] for run in runs) * 1e9)
         print(f"  {count:>7}  {rates[0]:>20,.0f}  {rates[1]:>17,.0f}", flush=True)
-
-
-def a_second(part):
-    return part["calls"] / part["wall"] * 1e9
 
 
 def best(runs):
@@ -199,7 +206,7 @@ def print_snapshots(options):
 def print_followers(options):
     """What a commit costs each of many followers that take a snapshot after each hundred commits, and the changes that match."""
     for count in (1, 1_000):
-        inserts, polls, views = min(
+        inserts, polls, views, *_ = min(
             (parts(["followers", options.rows, 10_000, count]) for _ in range(options.turns)),
             key=lambda run: run[1]["wall"],
         )
@@ -221,10 +228,9 @@ def print_instructions(rows):
     print(f"Instructions, {rows:,} rows")
     keys = instructions(["keys", rows]) - instructions(["keys", 0])
     costs = {}
-    for name in ("store", "visits", "desk"):
+    for name in ("store", "desk"):
         costs[name] = (instructions([name, rows]) - instructions([name, 0]) - keys) / rows
     print(f"  an insert into a store                {costs['store']:>10,.0f}")
-    print(f"  the visits of one, without a lock     {costs['visits']:>10,.0f}")
     print(f"  an insert into a desk                 {costs['desk']:>10,.0f}")
     print("  desk over store:", told(costs["desk"] / costs["store"], INSERT_AIM))
     before = instructions(["takes", 0, 0])
@@ -243,6 +249,8 @@ def main():
     parser.add_argument("--turns", type=int, default=3, help="runs, the least of which counts")
     parser.add_argument("--snapshots", action="store_true", help="what snapshots cost and give, and nothing else")
     parser.add_argument("--peer", action="store_true", help="beside finds in snapshots those in Boost's tree under a lock")
+    parser.add_argument("--rates", action="store_true", help="calls a second of threads and visits a call, and nothing else")
+    parser.add_argument("--before", help="with --rates, an earlier desk_bench to be measured beside this one")
     parser.add_argument("--callgrind", action="store_true", help="instructions in place of time, by valgrind")
     parser.add_argument("--build", action="store_true", help="build the program and measure nothing")
     options = parser.parse_args()
@@ -261,6 +269,8 @@ def main():
         build_peer()
     if options.callgrind:
         print_instructions(options.rows)
+    elif options.rates:
+        print_threads(options)
     elif options.snapshots:
         print_looks(options)
         print_followers(options)

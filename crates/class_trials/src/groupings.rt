@@ -22,13 +22,6 @@ fn put(groups: &mut Grouping, place: usize, side: Side) -> bool {
     true
 }
 
-fn first_open(groups: &Grouping) -> Option<usize> {
-    if groups.opens() == 0 {
-        return None;
-    }
-    Some(groups.first_open())
-}
-
 /// Whether a place is open, if there is such a place.
 fn is_open(groups: &Grouping, place: usize) -> Option<bool> {
     if place >= groups.len() {
@@ -53,7 +46,6 @@ fn parts_places(rt: HostRuntime) -> Result<(), Fail> {
     for (place, wanted) in [(0, false), (1, true), (3, false), (4, true)] {
         assert!(rt; is_open(&groups, place) == Some(wanted), "{place}");
     }
-    assert!(rt; first_open(&groups) == Some(1));
     assert!(rt; put(&mut groups, 1, Side::Left));
     assert!(rt; ends_as(groups, rt.alloc(), Side::Right, "rlrlr")?);
     Ok(())

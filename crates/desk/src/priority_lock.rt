@@ -8,9 +8,9 @@ use std::sync::{Mutex, MutexGuard, Wait};
 /// seldom sleeps, which is what we want: waking it takes longer than a visit.
 const ROUNDS: u32 = 64;
 
-/// How often in a row the lock may be taken past the threads that sleep in front of it. Waking one takes as long as
-/// tens of visits, so a lock that was handed to each in turn would be that much slower.
-const OVERTAKINGS: u32 = 256;
+/// How often in a row the lock may be taken past the threads that sleep in front of it: for about a millisecond. Each
+/// time that others wait for a sleeper the lock is free until it is awake, which takes as long as hundreds of visits.
+const OVERTAKINGS: u32 = 4_096;
 
 /// A lock for two kinds of visits. Callers of `lock_first` go before callers of `lock`, which let them pass for at
 /// most `ROUNDS` rounds. Without this a thread that writes in a loop would take the lock again before a sleeping

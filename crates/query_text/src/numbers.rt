@@ -88,16 +88,6 @@ fn integer(bytes: &[u8]) -> Option<i64>
 }
 
 impl Lexeme {
-    /// Whether it is this word.
-    pub fn is_word(self, text: &[u8], expected: &[u8]) -> bool
-        ensures { IsTrue result ↔ (token_in text.now self ≡ word expected.now) }
-    {
-        match self.kind {
-            Kind::Word => self.bytes(text) == expected,
-            _ => false,
-        }
-    }
-
     /// Its number, if it is an unsigned one of 64 bits. Leading zeros are ignored, and `-0` is 0.
     pub fn unsigned(self, text: &[u8]) -> Option<u64>
         ensures { option_map pos result ≡ u64_number (token_in text.now self) }

@@ -23,7 +23,7 @@ pub enum Kind {
 
 /// How a run ended, and how many commits there were then.
 #[derive(Drop)]
-pub struct Ending {
+pub struct RunEnd {
     pub result: Result<(), Fault>,
     pub commits: u64,
 }
@@ -33,10 +33,10 @@ fn serve<R: Read, W: Write>(
     rt: HostRuntime,
     reader: &mut R,
     writer: &mut W,
-) -> Result<Ending, Refusal> {
+) -> Result<RunEnd, Refusal> {
     let mut store = Store::<Intervals>::new(rt.alloc(), CONFIG)?;
     let result = session(rt.alloc(), reader, writer, &mut store);
-    Ok(Ending {
+    Ok(RunEnd {
         result,
         commits: store.commits(),
     })
@@ -47,10 +47,10 @@ fn carry_out<R: Read, W: Write>(
     rt: HostRuntime,
     reader: &mut R,
     writer: &mut W,
-) -> Result<Ending, Refusal> {
+) -> Result<RunEnd, Refusal> {
     let mut world = World::<Intervals, Tray<Interval>>::new(rt.alloc(), CONFIG)?;
     let result = replay(rt.alloc(), reader, writer, &mut world);
-    Ok(Ending {
+    Ok(RunEnd {
         result,
         commits: world.commits(),
     })
@@ -62,7 +62,7 @@ pub fn run<R: Read, W: Write>(
     kind: Kind,
     reader: &mut R,
     writer: &mut W,
-) -> Result<Ending, Refusal> {
+) -> Result<RunEnd, Refusal> {
     match kind {
         Kind::Session => serve(rt, reader, writer),
         Kind::Replay => carry_out(rt, reader, writer),
