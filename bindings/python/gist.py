@@ -455,14 +455,18 @@ def _words(count: int) -> Any:
 
 
 class _Readers:
-    """Lets any number of threads read an object, and closes it when none reads any more."""
+    """Lets any number of threads read an object until one closes it, which waits for those that read."""
 
     def __init__(self) -> None:
         self._changed = threading.Condition(threading.Lock())
         self._count = 0
+        self._is_closing = False
 
     def __enter__(self) -> None:
         with self._changed:
+            # who comes later is refused at once: threads that read in turn would otherwise keep the closing one waiting
+            if self._is_closing:
+                raise Error(Refusal.NoHandle)
             self._count += 1
 
     def __exit__(self, *_: Any) -> None:
@@ -472,8 +476,9 @@ class _Readers:
                 self._changed.notify_all()
 
     def close(self, finalizer: Callable[[], Any]) -> None:
-        """Waits until no thread reads, and closes."""
+        """Lets no more threads read, waits until none does any more, and closes."""
         with self._changed:
+            self._is_closing = True
             self._changed.wait_for(lambda: not self._count)
             finalizer()
 
@@ -770,6 +775,12 @@ class Store(_Owner, Generic[K]):
         """Closes the cursors that nothing refers to any more. A collector mustn't wait for the lock, so it only lists them."""
         while self._left:
             _call["close"](self._at, self._left.pop())
+
+    def close(self) -> None:
+        """Frees what the handle holds. Later calls are refused as NoHandle, and so are those that wait in `wait_past`."""
+        with self._turn:
+            super().close()
+            self._grown.notify_all()
 
     def figures(self) -> Figures:
         """The store's figures."""

@@ -386,6 +386,8 @@ class Threads(Case):
         threading.Timer(0.05, store.insert, ((1, 2), 3)).start()
         self.assertEqual(store.wait_past(0, 30).commits(), 1)
         self.assertEqual(store.wait_past(0).commits(), 1)
+        threading.Timer(0.05, store.close).start()
+        self.refused(Refusal.NoHandle, store.wait_past, 1, 30)
 
 
 class Numbers(Case):
