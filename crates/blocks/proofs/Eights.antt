@@ -2,13 +2,13 @@
 use Rattle.std.proofs.Common.{◌≡◌, ◌∙◌, ◌≤◌, ◌<◌, ◌+◌, ◌-◌, ◌*◌, ◌/◌, ◌%◌, ◌^◌, ℕ, zero, suc, Bool, List, [], ◌∷◌, ◌++◌, length, take, drop, set, get_or, map, refl, sym, ap, ap₂, arith, lt_of_lt_of_le}
 use Rattle.std.specs.Prelude.{cond, replicate, slice_get, Some}
 use Rattle.std.proofs.lemmas.List.{append-nil, drop_more, get_or-take, get_or-append-add, get_or_append_left, length-append, length-drop, length-map, length-take-le, take-append-drop, take_more_set}
-use Rattle.std.proofs.lemmas.Option.{get_or_from_slice_get, slice_get-get_or}
+use Rattle.std.proofs.lemmas.Option.{get_or_from_slice_get, slice_get_within, slice_get-get_or}
 use Rattle.std.proofs.lemmas.Grind.{flat_map-append}
 use Rattle.std.proofs.lemmas.Simd.{mask_l-lt}
 use Rattle.std.proofs.Math.Nat.{pow-le-pow_right}
 use Rattle.std.proofs.Math.Seq.{take-append-add, take-length, take-set-lt}
 use Rattle.key_class.specs.Bits.{bits_of}
-use Rattle.blocks.specs.Values.{AreBlocksFor, values_of}
+use Rattle.blocks.specs.Values.{AreBlocksFor, IsBlockOf, values_of}
 
 -- the place of a value, by its block
 parts : (i : ℕ) → i / 8 * 8 + i % 8 ≡ i
@@ -113,6 +113,19 @@ module _ {B X : Type 0} (items : B → List X) (eight : (b : B) → length (item
         ∙ ap (λ m. get_or values m x) (sym (parts i))
         ∙ value_at bs (i / 8) (i % 8) b (omega (arith, are.enough, l)) (omega arith) e x
         ∙ get_or_from_slice_get (items b) (i % 8) x x s)
+
+    -- a whole block
+    pub block_of : (q : ℕ) (b : B) → b ≡ get_or bs q b → IsBlockOf (take n values) q (items b)
+    block_of q b e i x in_block is =
+        let within : i < n = omega (arith, slice_get_within (take n values) i x is, first_length n bs are) in
+        let split_place : i ≡ q * 8 + i % 8 = omega (arith, in_block) in
+        let room : q < length bs = omega (arith, are.enough, within, in_block) in
+        let found : get_or (items b) (i % 8) x ≡ x =
+            sym (value_at bs q (i % 8) b room (omega arith) e x)
+            ∙ ap (λ m. get_or values m x) (sym split_place)
+            ∙ sym (get_or-take n values i x within)
+            ∙ get_or_from_slice_get (take n values) i x x is in
+        slice_get-get_or (items b) (i % 8) x (omega (arith, eight b)) ∙ ap Some found
 
     -- one that is written
     pub put : (i : ℕ) (b new : B) (x : X) → i < n → b ≡ get_or bs (i / 8) b → items new ≡ set (items b) (i % 8) x → take n (values_of items (set bs (i / 8) new)) ≡ set (take n values) i x

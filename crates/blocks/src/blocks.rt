@@ -1,8 +1,8 @@
-ghost use Rattle.std.specs.Prelude.{◌≡◌, ◌<◌, ◌≤◌, ◌↔◌, ◌++◌, ◌∷◌, [], ◌%◌, ◌^◌, length, take, slice_index_or, slice_set, IfOk, OnOk, OnErr, IsTrue, MatchOption, vec_len, vec_capacity};
+ghost use Rattle.std.specs.Prelude.{◌≡◌, ◌<◌, ◌≤◌, ◌↔◌, ◌++◌, ◌∷◌, [], ◌*◌, ◌%◌, ◌^◌, length, take, slice_index_or, slice_set, IfOk, OnOk, OnErr, IsTrue, MatchOption, vec_len, vec_capacity};
 ghost use Rattle.std.specs.List.{list_any};
 ghost use Rattle.key_class.specs.Bits.{bits_of};
 ghost use Rattle.blocks.specs.Firsts.{IsFirstFrom, NonePassFrom};
-ghost use Rattle.blocks.specs.Values.{values_of};
+ghost use Rattle.blocks.specs.Values.{IsBlockOf, values_of};
 
 use crate::test::BlockTest;
 use key_class::Block;
@@ -75,6 +75,14 @@ impl<T: Copy, B: Block<T>> Blocks<T, B> {
         ensures { result ≡ slice_index_or self.now place result }
     {
         self.blocks[place / SIZE].get(place % SIZE)
+    }
+
+    /// The block in which the values from place `8 * number` on lie.
+    pub fn block(&self, number: usize) -> &B
+        requires { 8 * number < length self.now }
+        ensures { IsBlockOf self.now number (B.items result.now) }
+    {
+        &self.blocks[number]
     }
 
     pub fn set(&mut self, place: usize, value: T)

@@ -65,7 +65,7 @@ module _ {X : Type 0} (xs : List X) (eight : length xs ≡ 8) where
 
 module _ {X : Type 0} (xs : List X) (eight : length xs ≡ 8) {a b c d e f g h : X} (is_a : slice_get xs 0 ≡ Some a) (is_b : slice_get xs 1 ≡ Some b) (is_c : slice_get xs 2 ≡ Some c) (is_d : slice_get xs 3 ≡ Some d) (is_e : slice_get xs 4 ≡ Some e) (is_f : slice_get xs 5 ≡ Some f) (is_g : slice_get xs 6 ≡ Some g) (is_h : slice_get xs 7 ≡ Some h) where
   -- the list of the values that are told place by place
-  eight_listed : xs ≡ a ∷ b ∷ c ∷ d ∷ e ∷ f ∷ g ∷ h ∷ []
+  pub eight_listed : xs ≡ a ∷ b ∷ c ∷ d ∷ e ∷ f ∷ g ∷ h ∷ []
   eight_listed = eight_by_places xs eight a ∙ eight_same (get_or_from_slice_get xs 0 a a is_a) (get_or_from_slice_get xs 1 b a is_b) (get_or_from_slice_get xs 2 c a is_c) (get_or_from_slice_get xs 3 d a is_d) (get_or_from_slice_get xs 4 e a is_e) (get_or_from_slice_get xs 5 f a is_f) (get_or_from_slice_get xs 6 g a is_g) (get_or_from_slice_get xs 7 h a is_h)
 
   -- eight answers, told as bits, are those of a test

@@ -4,6 +4,7 @@
 mod bits;
 mod block;
 mod class;
+mod gains;
 mod grouping;
 pub mod limits;
 mod plain;
@@ -14,6 +15,7 @@ mod sides;
 pub use bits::{eight_bits, equal_bits};
 pub use block::{Block, Columned};
 pub use class::KeyClass;
+pub use gains::in_64_bits;
 pub use grouping::Grouping;
 pub use plain::Plain;
 pub use pred::{Pred, bounds_miss_no_match};

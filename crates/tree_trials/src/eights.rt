@@ -3,7 +3,7 @@ ghost use Rattle.std.specs.Prelude.{nat_le};
 
 use crate::limits::{Limit, Limits};
 use blocks::{BlockTest, Blocks};
-use key_class::{Block, KeyClass, Plain, equal_bits};
+use key_class::{Block, KeyClass, Plain, equal_bits, in_64_bits};
 use row_version::{Entry, Version, VersionBlock};
 use std::alloc::{AllocError, Global};
 
@@ -66,4 +66,20 @@ fn bits_of_row(row: u32) -> u64 {
 fn tells_rows_of_eight_versions(rt: HostRuntime) {
     assert!(rt; bits_of_row(4) == 0b1111_1011 && bits_of_row(7) == 0b100 && bits_of_row(0) == 0);
     assert!(rt; equal_bits(&[1, 2, 3, 1, 2, 3, 1, 2], 2) == 0b1001_0010);
+}
+
+#[test]
+fn reads_a_whole_block(rt: HostRuntime) -> Result<(), AllocError> {
+    let limits = limits(rt.alloc(), 20)?;
+    assert!(rt; limits.block(0).get(7).number == 7 && limits.block(2).get(3).number == 19);
+    Ok(())
+}
+
+#[test]
+fn computes_what_a_key_adds_to_eight_bounds(rt: HostRuntime) {
+    let mut bounds = Plain::filled(Limit { number: 3 });
+    bounds.set(2, Limit { number: 9 });
+    bounds.set(7, Limit { number: 4 });
+    assert!(rt; Limits::gains_block(&bounds, Limit { number: 5 }) == [2, 2, 0, 2, 2, 2, 2, 1]);
+    assert!(rt; in_64_bits(7) == 7 && in_64_bits(1 << 64) == u64::MAX);
 }
