@@ -1,2 +1,3 @@
 mod Eights
 pub mod Passing
+mod Removing

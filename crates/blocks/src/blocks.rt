@@ -1,4 +1,4 @@
-ghost use Rattle.std.specs.Prelude.{◌≡◌, ◌<◌, ◌≤◌, ◌↔◌, ◌++◌, ◌∷◌, [], ◌*◌, ◌%◌, ◌^◌, length, take, slice_index_or, slice_set, IfOk, OnOk, OnErr, IsTrue, MatchOption, vec_len, vec_capacity};
+ghost use Rattle.std.specs.Prelude.{◌≡◌, ◌<◌, ◌≤◌, ◌↔◌, ◌++◌, ◌∷◌, [], ◌*◌, ◌%◌, ◌^◌, length, take, drop, filter, not, slice_index_or, slice_set, IfOk, OnOk, OnErr, IsTrue, MatchOption, vec_len, vec_capacity};
 ghost use Rattle.std.specs.List.{list_any};
 ghost use Rattle.key_class.specs.Bits.{bits_of};
 ghost use Rattle.blocks.specs.Firsts.{IsFirstFrom, NonePassFrom};
@@ -169,6 +169,44 @@ impl<T: Copy, B: Block<T>> Blocks<T, B> {
     {
         self.first_from(0, test).is_some()
     }
+
+    /// Removes the values that pass a test. Eight are tested at once, and nothing is written before the first that passes.
+    pub fn remove_where<S: BlockTest<T, B>>(&mut self, test: &S)
+        ensures { self.new ≡ filter (λ value. not (S.passes test.now value)) self.old }
+    {
+        let Some(first) = self.first_from(0, test) else {
+            return;
+        };
+        let end = self.len().div_ceil(SIZE);
+        let mut kept = first;
+        let mut number = first / SIZE;
+        let mut skipped = first % SIZE;
+        while number < end {
+            let mut left = self.failing(number, test) >> skipped;
+            while left != 0 {
+                let passed = left.trailing_zeros();
+                skipped += passed as usize;
+                self.set(kept, self.get(SIZE * number + skipped));
+                kept += 1;
+                skipped += 1;
+                left = left >> passed >> 1;
+            }
+            number += 1;
+            skipped = 0;
+        }
+        self.truncate(kept);
+    }
+
+    /// Which values of a block don't pass a test, as bits; the lowest bit is the first value's.
+    fn failing<S: BlockTest<T, B>>(&self, number: usize, test: &S) -> u64
+        requires { 8 * number < length self.now }
+        ensures { result ≡ bits_of (λ value. not (S.passes test.now value))
+            (take 8 (drop (8 * number) self.now)) }
+    {
+        // What the last block has after the last value has no bit.
+        let failing = 255 - test.tested(&self.blocks[number]);
+        first_bits(failing, self.len() - SIZE * number)
+    }
 }
 
 /// Makes room for one more block.
@@ -201,7 +239,6 @@ fn all_bits<T: Copy, B: Block<T>, S: BlockTest<T, B>>(blocks: &[B], test: &S) ->
 
 /// The lowest bits of a number.
 fn first_bits(bits: u64, count: usize) -> u64
-    requires { count ≤ 64 }
     ensures { result ≡ bits % 2 ^ count }
 {
     if count < 64 {

@@ -1,11 +1,11 @@
 -- Eight entries, their keys apart from the rest.
-use Rattle.std.specs.Prelude.{◌≡◌, ℕ, suc, Bool, List, [], ◌∷◌, length, nat_eq, slice_index_or}
+use Rattle.std.specs.Prelude.{◌≡◌, ℕ, suc, Bool, List, [], ◌∷◌, length, slice_index_or}
 use Rattle.std.specs.Simd.Lanes.{zip2}
 use Rattle.std.proofs.Common.{◌∙◌, refl, sym, ap, cond, ◌+◌, ◌*◌, arith}
 use Rattle.std.proofs.lemmas.Simd.{length-zip2}
 use Rattle.key_class.specs.Bits.{bits_of}
 use Rattle.key_class.specs.Blocks.{eight_of}
-use Rattle.row_version.specs.Entries.{Entry, Version, entry_of}
+use Rattle.row_version.specs.Entries.{Entry, Version, entry_of, version_of}
 use Rattle.row_version.specs.VersionBlocks.{versions_of}
 use Rattle.row_version.specs.declared.version_block.VersionBlock.{VersionBlock}
 use Rattle.node.specs.declared.branch.Branch.{Branch}
@@ -50,9 +50,9 @@ module _ {A B E : Type 0} (f : A → B → E) where
 pub entries_by_keys : {K : Type 0} (p : K → Bool) (keys : List K) (block : VersionBlock) → length keys ≡ 8 → bits_of (λ e. p e.key) (entries_in keys (versions_of block)) ≡ bits_of p keys
 entries_by_keys p keys block eight = told_by_first entry_of (λ e. e.key) (λ x y. refl) p keys (versions_of block) eight
 
--- and what it tells of the numbers of rows
-pub entries_by_rows : {K : Type 0} (row : ℕ) (keys : List K) (block : VersionBlock) → length keys ≡ 8 → bits_of (λ e. nat_eq e.row row) (entries_in keys (versions_of block)) ≡ bits_of (λ v. nat_eq v.row row) (versions_of block)
-entries_by_rows row keys block eight = told_by_second entry_of (λ e. record { row = e.row; tag = e.tag; died = e.died }) (λ x y. refl) (λ v. nat_eq v.row row) keys (versions_of block) eight
+-- and what it tells of eight versions
+pub entries_by_versions : {K : Type 0} (p : Version → Bool) (keys : List K) (block : VersionBlock) → length keys ≡ 8 → bits_of (λ e. p (version_of e)) (entries_in keys (versions_of block)) ≡ bits_of p (versions_of block)
+entries_by_versions p keys block eight = told_by_second entry_of version_of (λ x y. refl) p keys (versions_of block) eight
 
 -- what it tells of eight keys, it tells of the branches
 pub branches_by_keys : {K : Type 0} (p : K → Bool) (keys : List K) (children : List ℕ) → length keys ≡ 8 → bits_of (λ b. p b.key) (branches_in keys children) ≡ bits_of p keys

@@ -6,6 +6,7 @@ ghost use Rattle.node.specs.Changes.{split_left, split_right, post_child, post_s
 
 use crate::branch::Branch;
 use crate::branch_block::BranchBlock;
+use crate::entry_tests::{ToChild, Unneeded};
 use crate::parts::{
     add_branch, bury, join_branches, join_rows, keep_left, left_entries, rekey, right_entries,
     sweep, widen,
@@ -129,24 +130,14 @@ impl<K: Columned> Page<K> {
     pub fn has_unneeded(&self, horizon: u32) -> bool
         ensures { result ≡ has_unneeded horizon self.now }
     {
-        for place in 0..self.rows.len() {
-            if !self.rows.get(place).is_needed(horizon) {
-                return true;
-            }
-        }
-        false
+        self.rows.any(&Unneeded { horizon })
     }
 
     /// Whether a branch leads to the child.
     pub fn names(&self, child: u64) -> bool
         ensures { result ≡ names child self.now }
     {
-        for place in 0..self.branches.len() {
-            if u64::from(self.branches.get(place).child) == child {
-                return true;
-            }
-        }
-        false
+        self.branches.any(&ToChild { child })
     }
 }
 

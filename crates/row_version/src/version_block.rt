@@ -1,10 +1,12 @@
 //! Versions in columns.
-ghost use Rattle.std.specs.Prelude.{◌≡◌, nat_eq};
+ghost use Rattle.std.specs.Prelude.{◌≡◌, nat_eq, not};
 ghost use Rattle.key_class.specs.Bits.{bits_of};
+ghost use Rattle.row_version.specs.Entries.{lives_at};
 ghost use Rattle.row_version.specs.VersionBlocks.{versions_of};
 
 use crate::version::Version;
 use key_class::{Block, equal_bits};
+use std::simd::prelude::*;
 
 /// Eight versions: their rows, the commits that ended them and their tags have a column each.
 #[derive(Clone, Copy)]
@@ -52,5 +54,17 @@ impl VersionBlock {
         ensures { result ≡ bits_of (λ version. nat_eq version.row row) (versions_of self.now) }
     {
         equal_bits(&self.rows, row)
+    }
+
+    /// Which of the versions no scan opened at commit `horizon` or later needs, as bits; the lowest bit is the first
+    /// version's.
+    pub fn unneeded(&self, horizon: u32) -> u64
+        ensures { result ≡ bits_of (λ version. not (lives_at horizon version.died))
+            (versions_of self.now) }
+    {
+        let died = u32x8::from_array(self.died);
+        let dead = died.simd_ne(u32x8::splat(0)).to_bitmask();
+        let past = died.simd_le(u32x8::splat(horizon)).to_bitmask();
+        dead & past
     }
 }

@@ -180,7 +180,47 @@ fn changes_a_page(rt: HostRuntime) -> Result<(), Fail> {
     settle(&mut page, 7);
     assert!(rt; page.followed(6) == Some(1) && page.followed(7).is_none());
     page.bury(2, 5);
-    assert!(rt; page.sweep(5) == 1);
+    assert!(rt; !page.has_unneeded(4) && page.has_unneeded(5));
+    assert!(rt; page.sweep(5) == 1 && !page.has_unneeded(5));
+    Ok(())
+}
+
+/// Keys at 0, 1 and so on, with the rows of these numbers, each third of which commit `row + 1` ended.
+fn thirds_dead(alloc: Global, count: u8) -> Result<Page<Interval>, Fail> {
+    let mut page = Page::leaf(alloc, 4)?;
+    for row in 0..count {
+        page.place(Entry::new(key(i64::from(row), i64::from(row))?, u32::from(row), 0))?;
+        if row % 3 == 2 {
+            page.bury(u32::from(row), u32::from(row) + 1);
+        }
+    }
+    Ok(page)
+}
+
+/// Whether the rows are, in order, those below `count` that a sweep leaves.
+fn are_left(page: &Page<Interval>, count: u8, horizon: u32) -> bool {
+    let mut place = 0;
+    for row in 0..count {
+        if row % 3 == 2 && u32::from(row) < horizon {
+            continue;
+        }
+        if place >= page.rows().len() || page.rows().get(place).row() != u32::from(row) {
+            return false;
+        }
+        place += 1;
+    }
+    place == page.rows().len()
+}
+
+#[test]
+fn sweeps_a_page_of_several_blocks(rt: HostRuntime) -> Result<(), Fail> {
+    for count in 0..40u8 {
+        for horizon in [0, 1, 3, 9, 20, 40] {
+            let mut page = thirds_dead(rt.alloc(), count)?;
+            let _swept = page.sweep(horizon);
+            assert!(rt; are_left(&page, count, horizon) && !page.has_unneeded(horizon));
+        }
+    }
     Ok(())
 }
 
@@ -221,6 +261,7 @@ fn changes_an_inner_page(rt: HostRuntime) -> Result<(), Fail> {
     let mut root = root(rt.alloc())?;
     rename(&mut root)?;
     assert!(rt; root.names(3) && !root.names(2) && root.is_hung());
+    assert!(rt; !root.names(0x1_0000_0003) && !root.names(u64::MAX));
     assert!(rt; root.branches().len() == 2);
     assert!(rt; is_named(root.branches(), 0, 1, key(2, 9)?));
     assert!(rt; is_named(root.branches(), 1, 3, key(1, 1)?));

@@ -40,6 +40,12 @@ fn any(limits: &Blocks<Limit, Plain<Limit>>, number: u8) -> bool {
     limits.any(&CoveringBounds { key })
 }
 
+/// Removes the numbers from `number` on.
+fn remove_from(limits: &mut Blocks<Limit, Plain<Limit>>, number: u8) {
+    let key = Limit { number };
+    limits.remove_where(&CoveringBounds { key });
+}
+
 #[test]
 fn finds_the_first_that_passes(rt: HostRuntime) -> Result<(), AllocError> {
     let limits = limits(rt.alloc(), 20)?;
@@ -47,6 +53,29 @@ fn finds_the_first_that_passes(rt: HostRuntime) -> Result<(), AllocError> {
     assert!(rt; first_from(&limits, 9, 3) == Some(9) && first_from(&limits, 19, 19) == Some(19));
     assert!(rt; first_from(&limits, 20, 0).is_none() && first_from(&limits, 0, 20).is_none());
     assert!(rt; any(&limits, 19) && !any(&limits, 20));
+    Ok(())
+}
+
+/// Whether the limits are the numbers from 0 up to `count`.
+fn are_first(limits: &Blocks<Limit, Plain<Limit>>, count: u8) -> bool {
+    for number in 0..count {
+        let place = number as usize;
+        if place >= limits.len() || limits.get(place).number != number {
+            return false;
+        }
+    }
+    limits.len() == count as usize
+}
+
+#[test]
+fn removes_those_that_pass(rt: HostRuntime) -> Result<(), AllocError> {
+    let mut limits = limits(rt.alloc(), 21)?;
+    remove_from(&mut limits, 21);
+    assert!(rt; are_first(&limits, 21));
+    remove_from(&mut limits, 13);
+    assert!(rt; are_first(&limits, 13));
+    remove_from(&mut limits, 0);
+    assert!(rt; limits.is_empty());
     Ok(())
 }
 
@@ -82,4 +111,19 @@ fn computes_what_a_key_adds_to_eight_bounds(rt: HostRuntime) {
     bounds.set(7, Limit { number: 4 });
     assert!(rt; Limits::gains_block(&bounds, Limit { number: 5 }) == [2, 2, 0, 2, 2, 2, 2, 1]);
     assert!(rt; in_64_bits(7) == 7 && in_64_bits(1 << 64) == u64::MAX);
+}
+
+#[test]
+fn tells_which_of_eight_versions_no_scan_needs(rt: HostRuntime) {
+    let mut versions = VersionBlock::filled(version(4));
+    for (place, died) in [(1, 5), (3, 6), (7, 7)] {
+        versions.set(
+            place,
+            Entry::new(Limit { number: 0 }, 4, 0)
+                .died_at(died)
+                .version(),
+        );
+    }
+    assert!(rt; versions.unneeded(4) == 0 && versions.unneeded(6) == 0b1010);
+    assert!(rt; versions.unneeded(u32::MAX) == 0b1000_1010);
 }

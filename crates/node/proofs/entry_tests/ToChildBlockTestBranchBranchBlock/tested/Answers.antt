@@ -10,6 +10,6 @@ returns g c =
     let b = c.args.block.now in
     let child = c.args.self.now.child in
     let eight : length b.children ≡ 8 = search rules in
-    c.equal_bits.ensures
+    c.equal_children.ensures
     ∙ ap (bits_of (λ each. nat_eq each child)) (eight_by_places b.children eight 0)
     ∙ sym (branches_by_children (λ each. nat_eq each child) (g.B.Block.items b.keys) b.children (g.met.B.Block.eight b.keys))
