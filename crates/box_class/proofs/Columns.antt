@@ -5,7 +5,7 @@ use mir.Val.{SFits}
 use Rattle.std.proofs.lemmas.List.{get_or-set_other, get_or-set_same}
 use Rattle.std.proofs.lemmas.Simd.{get_or-replicate}
 use Rattle.std.specs.Prelude.{pos, replicate, slice_set}
-use Rattle.key_class.specs.BlockLaws.{eight_filled, eight_set}
+use Rattle.key_class.specs.BlockLaws.{eight_alike, eight_filled, eight_set}
 use Rattle.box_class.specs.Blocks.{box_at, boxes_of}
 use Rattle.box_class.specs.BoxLaws.{same_box}
 use Rattle.box_class.specs.declared.boxes.BoxKey.{BoxKey}
@@ -18,6 +18,14 @@ filled block x lefts lows rights highs =
     (ap (λ xs. get_or xs k (pos 0)) lows ∙ get_or-replicate 8 k x.y1 (pos 0) l)
     (ap (λ xs. get_or xs k (pos 0)) rights ∙ get_or-replicate 8 k x.x2 (pos 0) l)
     (ap (λ xs. get_or xs k (pos 0)) highs ∙ get_or-replicate 8 k x.y2 (pos 0) l))
+
+pub copied : (a b : BoxBlock) → a.lefts ≡ b.lefts → a.lows ≡ b.lows → a.rights ≡ b.rights → a.highs ≡ b.highs → boxes_of a ≡ boxes_of b
+copied a b lefts lows rights highs =
+    eight_alike (box_at a) (box_at b) (λ k. same_box (box_at a k) (box_at b k)
+    (ap (λ xs. get_or xs k (pos 0)) lefts)
+    (ap (λ xs. get_or xs k (pos 0)) lows)
+    (ap (λ xs. get_or xs k (pos 0)) rights)
+    (ap (λ xs. get_or xs k (pos 0)) highs))
 
 pub with_one : (block old : BoxBlock) (place : ℕ) (x : BoxKey) → place < 8 → length old.lefts ≡ 8 → length old.lows ≡ 8 → length old.rights ≡ 8 → length old.highs ≡ 8 → block.lefts ≡ set old.lefts place x.x1 → block.lows ≡ set old.lows place x.y1 → block.rights ≡ set old.rights place x.x2 → block.highs ≡ set old.highs place x.y2
     → boxes_of block ≡ slice_set (boxes_of old) place x

@@ -46,6 +46,13 @@ impl Block<BoxKey> for BoxBlock {
         self.highs[place] = item.y2;
     }
 
+    fn is_copy_of(&self, other: &BoxBlock) -> bool {
+        (self.lefts == other.lefts)
+            & (self.lows == other.lows)
+            & (self.rights == other.rights)
+            & (self.highs == other.highs)
+    }
+
     ghost eight = { λ block. refl };
 }
 

@@ -3,7 +3,7 @@ use Rattle.std.proofs.Common.{◌≡◌, ◌∙◌, ◌<◌, ℕ, arith, get_or,
 use Rattle.std.proofs.lemmas.List.{get_or-set_other, get_or-set_same}
 use Rattle.std.proofs.lemmas.Simd.{get_or-replicate}
 use Rattle.std.specs.Prelude.{pos, replicate, slice_set}
-use Rattle.key_class.specs.BlockLaws.{eight_filled, eight_set}
+use Rattle.key_class.specs.BlockLaws.{eight_alike, eight_filled, eight_set}
 use Rattle.interval_class.specs.Blocks.{interval_at, intervals_of}
 use Rattle.interval_class.specs.Same.{same_interval}
 use Rattle.interval_class.specs.declared.interval.Interval.{Interval}
@@ -14,6 +14,10 @@ filled block x lows highs =
     eight_filled (interval_at block) x (λ k l. same_interval (interval_at block k) x
     (ap (λ xs. get_or xs k (pos 0)) lows ∙ get_or-replicate 8 k x.lo (pos 0) l)
     (ap (λ xs. get_or xs k (pos 0)) highs ∙ get_or-replicate 8 k x.hi (pos 0) l))
+
+pub copied : (a b : IntervalBlock) → a.lows ≡ b.lows → a.highs ≡ b.highs → intervals_of a ≡ intervals_of b
+copied a b lows highs =
+    eight_alike (interval_at a) (interval_at b) (λ k. same_interval (interval_at a k) (interval_at b k) (ap (λ xs. get_or xs k (pos 0)) lows) (ap (λ xs. get_or xs k (pos 0)) highs))
 
 pub with_one : (block old : IntervalBlock) (place : ℕ) (x : Interval) → place < 8 → length old.lows ≡ 8 → length old.highs ≡ 8 → block.lows ≡ set old.lows place x.lo → block.highs ≡ set old.highs place x.hi
     → intervals_of block ≡ slice_set (intervals_of old) place x

@@ -37,6 +37,10 @@ impl Block<Interval> for IntervalBlock {
         self.highs[place] = item.hi;
     }
 
+    fn is_copy_of(&self, other: &IntervalBlock) -> bool {
+        (self.lows == other.lows) & (self.highs == other.highs)
+    }
+
     ghost eight = { λ block. refl };
 }
 

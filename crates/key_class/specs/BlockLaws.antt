@@ -24,6 +24,9 @@ module _ {X : Type 0} (f : ℕ → X) where
   place_of_eight (suc (suc (suc (suc (suc (suc (suc zero))))))) l = refl
   place_of_eight (suc (suc (suc (suc (suc (suc (suc (suc n)))))))) l = absurd (omega (arith, l))
 
+  pub eight_alike : (g : ℕ → X) → ((k : ℕ) → f k ≡ g k) → eight_of f ≡ eight_of g
+  eight_alike g same = eight_same (same 0) (same 1) (same 2) (same 3) (same 4) (same 5) (same 6) (same 7)
+
   pub eight_filled : (x : X) → ((k : ℕ) → k < 8 → f k ≡ x) → eight_of f ≡ replicate 8 x
   eight_filled x same = eight_same (same 0 (omega arith)) (same 1 (omega arith)) (same 2 (omega arith)) (same 3 (omega arith)) (same 4 (omega arith)) (same 5 (omega arith)) (same 6 (omega arith)) (same 7 (omega arith))
 

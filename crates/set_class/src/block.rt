@@ -36,6 +36,10 @@ impl Block<Elements> for SetBlock {
         self.uppers[place] = upper(item);
     }
 
+    fn is_copy_of(&self, other: &SetBlock) -> bool {
+        (self.lowers == other.lowers) & (self.uppers == other.uppers)
+    }
+
     ghost eight = { λ block. refl };
 }
 
