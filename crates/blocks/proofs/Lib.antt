@@ -1,3 +1,4 @@
 mod Eights
 pub mod Passing
 mod Removing
+mod Rewritten

@@ -1,7 +1,8 @@
 ghost use Rattle.std.specs.Prelude.{◌≡◌, ◌<◌, ◌≤◌, ◌↔◌, ◌++◌, ◌∷◌, [], ◌*◌, ◌%◌, ◌^◌, length, take, drop, filter, not, slice_index_or, slice_set, IfOk, OnOk, OnErr, IsTrue, MatchOption, vec_len, vec_capacity};
-ghost use Rattle.std.specs.List.{list_any};
+ghost use Rattle.std.specs.List.{AllZip, list_any};
 ghost use Rattle.key_class.specs.Bits.{bits_of};
 ghost use Rattle.blocks.specs.Firsts.{IsFirstFrom, NonePassFrom};
+ghost use Rattle.blocks.specs.Rewriting.{Becomes};
 ghost use Rattle.blocks.specs.Values.{IsBlockOf, values_of};
 
 use crate::test::BlockTest;
@@ -141,6 +142,21 @@ impl<T: Copy, B: Block<T>> Blocks<T, B> {
         })
     }
 
+    /// Whether all blocks are copies of another list's. Such lists are the same.
+    pub fn is_copy_of(&self, other: &Blocks<T, B>) -> bool
+        ensures { IsTrue result → self.now ≡ other.now }
+    {
+        if self.count != other.count {
+            return false;
+        }
+        for number in 0..self.blocks.len() {
+            if !self.blocks[number].is_copy_of(&other.blocks[number]) {
+                return false;
+            }
+        }
+        true
+    }
+
     /// Which of at most 64 values pass a test, as bits; the lowest bit is the first value's.
     pub fn bits<S: BlockTest<T, B>>(&self, test: &S) -> u64
         requires { length self.now ≤ 64 }
@@ -168,6 +184,20 @@ impl<T: Copy, B: Block<T>> Blocks<T, B> {
         ensures { result ≡ list_any (S.passes test.now) self.now }
     {
         self.first_from(0, test).is_some()
+    }
+
+    /// Changes each value that passes a test. Eight are tested at once.
+    pub fn rewrite_where<S: BlockTest<T, B>, F: Fn(T) -> T>(&mut self, test: &S, change: F)
+        requires { F.IsAlwaysCallable change }
+        ensures { AllZip (Becomes (S.passes test.now) (F.post change)) self.old self.new }
+    {
+        // A number of this type counts the values, so the place behind one has such a number, too.
+        let _count = self.len();
+        let mut from = 0;
+        while let Some(place) = self.first_from(from, test) {
+            self.set(place, change(self.get(place)));
+            from = place + 1;
+        }
     }
 
     /// Removes the values that pass a test. Eight are tested at once, and nothing is written before the first that passes.

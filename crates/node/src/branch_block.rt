@@ -32,6 +32,10 @@ impl<K: Copy, B: Block<K>> Block<Branch<K>> for BranchBlock<B> {
         self.children[place] = branch.child;
     }
 
+    fn is_copy_of(&self, other: &BranchBlock<B>) -> bool {
+        self.keys.is_copy_of(&other.keys) && self.children == other.children
+    }
+
     ghost use Rattle.node.specs.EntryBlocks.{eight_branches};
 
     ghost eight = { λ b. eight_branches (B.items b.keys) b.children (B.eight b.keys) };

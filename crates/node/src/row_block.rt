@@ -30,6 +30,10 @@ impl<K: Copy, B: Block<K>> Block<Entry<K>> for RowBlock<B> {
         self.versions.set(place, entry.version());
     }
 
+    fn is_copy_of(&self, other: &RowBlock<B>) -> bool {
+        self.keys.is_copy_of(&other.keys) && self.versions.is_copy_of(&other.versions)
+    }
+
     ghost use Rattle.node.specs.EntryBlocks.{eight_entries};
 
     ghost eight = { λ b. eight_entries (B.items b.keys) b.versions (B.eight b.keys) };

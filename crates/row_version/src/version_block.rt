@@ -45,6 +45,10 @@ impl Block<Version> for VersionBlock {
         self.tags[place] = version.tag;
     }
 
+    fn is_copy_of(&self, other: &VersionBlock) -> bool {
+        (self.rows == other.rows) & (self.died == other.died) & (self.tags == other.tags)
+    }
+
     ghost eight = { λ block. refl };
 }
 

@@ -79,6 +79,28 @@ fn removes_those_that_pass(rt: HostRuntime) -> Result<(), AllocError> {
     Ok(())
 }
 
+/// Halves the numbers from `number` on.
+fn halve_from(limits: &mut Blocks<Limit, Plain<Limit>>, number: u8) {
+    let key = Limit { number };
+    limits.rewrite_where(
+        &CoveringBounds { key },
+        |limit| Limit {
+            number: limit.number / 2,
+        },
+    );
+}
+
+#[test]
+fn changes_those_that_pass(rt: HostRuntime) -> Result<(), AllocError> {
+    let mut limits = limits(rt.alloc(), 20)?;
+    halve_from(&mut limits, 15);
+    assert!(rt; limits.len() == 20);
+    for (place, number) in [(0, 0), (14, 14), (15, 7), (16, 8), (19, 9)] {
+        assert!(rt; place < limits.len() && limits.get(place).number == number);
+    }
+    Ok(())
+}
+
 /// The version of a live row.
 fn version(row: u32) -> Version {
     Entry::new(Limit { number: 0 }, row, 0).version()
