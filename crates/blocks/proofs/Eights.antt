@@ -121,10 +121,10 @@ module _ {B X : Type 0} (items : B → List X) (eight : (b : B) → length (item
         let split_place : i ≡ q * 8 + i % 8 = omega (arith, in_block) in
         let room : q < length bs = omega (arith, are.enough, within, in_block) in
         let found : get_or (items b) (i % 8) x ≡ x =
-            sym (value_at bs q (i % 8) b room (omega arith) e x)
-            ∙ ap (λ m. get_or values m x) (sym split_place)
-            ∙ sym (get_or-take n values i x within)
-            ∙ get_or_from_slice_get (take n values) i x x is in
+        sym (value_at bs q (i % 8) b room (omega arith) e x)
+        ∙ ap (λ m. get_or values m x) (sym split_place)
+        ∙ sym (get_or-take n values i x within)
+        ∙ get_or_from_slice_get (take n values) i x x is in
         slice_get-get_or (items b) (i % 8) x (omega (arith, eight b)) ∙ ap Some found
 
     -- one that is written

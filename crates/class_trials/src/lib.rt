@@ -5,6 +5,8 @@
 #[cfg(test)]
 mod boxes;
 #[cfg(test)]
+mod columns;
+#[cfg(test)]
 mod groupings;
 #[cfg(test)]
 mod intervals;

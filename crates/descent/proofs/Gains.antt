@@ -1,5 +1,5 @@
 -- What a key adds to the bounds of the branches in a block.
-use Rattle.std.proofs.Common.{◌≡◌, ◌∙◌, ◌-◌, ◌/◌, ◌%◌, ◌<◌, ◌≤◌, ◌≢◌, get_or, ℕ, suc, List, [], ◌∷◌, length, Some, ap, sym, refl, arith}
+use Rattle.std.proofs.Common.{◌≡◌, ◌∙◌, ◌-◌, ◌/◌, ◌%◌, ◌<◌, ◌≤◌, ◌≢◌, get_or, ℕ, suc, List, [], ◌∷◌, length, ap, sym, refl, arith}
 use Rattle.std.specs.Prelude.{map, slice_get, option_map}
 use Rattle.std.specs.Simd.Lanes.{zip2}
 use Rattle.std.proofs.lemmas.Option.{get_or_from_slice_get, slice_get-map, slice_get_read}

@@ -149,3 +149,15 @@ fn tells_which_of_eight_versions_no_scan_needs(rt: HostRuntime) {
     assert!(rt; versions.unneeded(4) == 0 && versions.unneeded(6) == 0b1010);
     assert!(rt; versions.unneeded(u32::MAX) == 0b1000_1010);
 }
+
+#[test]
+fn tells_copies_of_versions_alone(rt: HostRuntime) -> Result<(), AllocError> {
+    let versions = VersionBlock::filled(version(4));
+    let mut changed = versions;
+    changed.set(7, version(5));
+    assert!(rt; versions.is_copy_of(&versions) && !versions.is_copy_of(&changed));
+    // Blocks without columns tell nothing.
+    let limits = limits(rt.alloc(), 20)?;
+    assert!(rt; !limits.is_copy_of(&limits));
+    Ok(())
+}

@@ -1,7 +1,7 @@
 use Rattle.std.proofs.Common.{◌≡◌, ◌+◌, ◌-◌, ◌*◌, ◌/◌, ◌%◌, ◌<◌, ◌≤◌, ℕ, get_or, length, min, ap, subst, arith, ◌∙◌, sym}
 use Rattle.std.proofs.lemmas.Bool.{true≢false}
 use Rattle.std.proofs.lemmas.List.{get_or_default}
-use Rattle.descent.specs.Choosing.{AreGainsIn, IsBestCandidate}
+use Rattle.descent.specs.Choosing.{IsBestCandidate}
 use Rattle.descent.proofs.Best.{candidate_kept, candidate_passed, candidate_replaced}
 use Rattle.descent.proofs.Gains.{gain_at}
 use Rattle.descent.proofs.choosing.best_through_block.Goals as goal

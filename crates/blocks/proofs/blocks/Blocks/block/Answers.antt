@@ -1,4 +1,4 @@
-use Rattle.std.proofs.Common.{sym, subst, arith}
+use Rattle.std.proofs.Common.{subst}
 use Rattle.blocks.specs.Values.{IsBlockOf}
 use Rattle.blocks.proofs.Eights.{block_of}
 use Rattle.blocks.proofs.blocks.Blocks.block.Goals as goal
