@@ -27,7 +27,7 @@ is_yes : (b : Bool) → bit b ≡ 1 → b ≡ true
 is_yes true e = refl
 is_yes false e = absurd (omega (arith, e))
 
-not_both : (b : Bool) → b ≡ true → b ≡ false → ⊥
+pub not_both : (b : Bool) → b ≡ true → b ≡ false → ⊥
 not_both b e f = cc
 
 module _ {X : Type 0} (p : X → Bool) where

@@ -5,9 +5,7 @@ use Rattle.std.proofs.lemmas.Bool.{cases_eq, cases_lt}
 use Rattle.std.proofs.lemmas.List.{get_or-map, get_or-set_other, get_or-set_same, get_or_default, length-set}
 use Rattle.blocks.specs.Firsts.{passes_at, IsFirstFrom, NonePassFrom}
 use Rattle.blocks.specs.Rewriting.{Becomes}
-
-not_both : (b : Bool) → b ≡ true → b ≡ false → ⊥
-not_both b e f = cc
+use Rattle.blocks.proofs.Passing.{not_both}
 
 zip_by_places : {X : Type 0} (R : X → X → Type 0) (xs ys : List X) → length ys ≡ length xs → ((k : ℕ) (d : X) → k < length xs → R (get_or xs k d) (get_or ys k d)) → AllZip R xs ys
 zip_by_places R [] [] e each = tt
