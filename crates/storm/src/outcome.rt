@@ -256,7 +256,7 @@ fn stamps_of<L: Ledger + Naming>(
 
 /// What the readers of a storm took, what its lookers found, and what its subscribers were given.
 #[derive(Drop)]
-struct Gathered {
+struct Findings {
     readings: Vec<Option<Reading<Interval>>>,
     looks: Vec<Vec<Look<Interval>>>,
     hearings: Vec<Hearing<Interval>>,
@@ -268,18 +268,18 @@ fn outcome_by<L: Ledger + Naming>(
     commits: ChangeList<Interval>,
     seats: Vec<Seat<Intervals, L>>,
     is_woven: bool,
-    gathered: Gathered,
+    findings: Findings,
 ) -> Result<Outcome, Refusal>
     requires { IsTrue is_woven ↔ Woven commits seats.items }
     ensures told { IfOk result IsTrueOutcome }
     ensures seats { IfOk result (λ o. length o.stamps.items ≡ length seats.items) }
     ensures refusals { IfErr result (λ why. why ≡ Refusal.OutOfMemory) }
 {
-    let Gathered {
+    let Findings {
         readings,
         looks,
         hearings,
-    } = gathered;
+    } = findings;
     let query = asked();
     let readers = verdicts_of(alloc, &commits, &query, readings.as_slice())?;
     let lookers = sights_of(alloc, &commits, &query, looks.as_slice())?;
@@ -306,7 +306,7 @@ fn outcome_of<L: Ledger + Naming, R: Wait>(
     alloc: Global,
     desk: Desk<Intervals, L>,
     seats: Vec<Seat<Intervals, L>>,
-    gathered: Gathered,
+    findings: Findings,
 ) -> Result<Outcome, Refusal>
     requires { length seats.items ≡ desk }
     ensures told { IfOk result IsTrueOutcome }
@@ -316,11 +316,11 @@ fn outcome_of<L: Ledger + Naming, R: Wait>(
     match desk.finish(rt, seats) {
         Finished::Closing(closing) => {
             let (commits, seats) = closing.into_parts();
-            return outcome_by(alloc, commits, seats, true, gathered);
+            return outcome_by(alloc, commits, seats, true, findings);
         }
         Finished::Torn(torn) => {
             let Torn { commits, seats } = torn;
-            return outcome_by(alloc, commits, seats, false, gathered);
+            return outcome_by(alloc, commits, seats, false, findings);
         }
         Finished::SeatsOut(_, _) => unreachable!(),
     }
@@ -426,10 +426,10 @@ where
         lookers.as_mut_slice(),
         hosts.as_mut_slice(),
     )?;
-    let Ok(gathered) = take_back(alloc, &mut writers, readers, lookers, hosts) else {
+    let Ok(findings) = take_back(alloc, &mut writers, readers, lookers, hosts) else {
         return Err(Refusal::OutOfMemory);
     };
-    outcome_of(rt, alloc, desk, writers, gathered)
+    outcome_of(rt, alloc, desk, writers, findings)
 }
 
 /// Puts the seats of readers, lookers and hosts behind those of writers, and gives what these took and found, and what subscribers
@@ -440,14 +440,14 @@ fn take_back<L: Ledger + Naming>(
     readers: Vec<Reader<L>>,
     lookers: Vec<Looker<L>>,
     hosts: Vec<Host<L>>,
-) -> Result<Gathered, AllocError>
+) -> Result<Findings, AllocError>
     ensures { OnOk result (length seats.new.items ≡ length seats.old.items
         + length readers.items + length lookers.items + length hosts.items) }
 {
     let readings = take_readings(alloc, seats, readers)?;
     let looks = take_looks(alloc, seats, lookers)?;
     let hearings = take_hearings(alloc, seats, hosts)?;
-    Ok(Gathered {
+    Ok(Findings {
         readings,
         looks,
         hearings,

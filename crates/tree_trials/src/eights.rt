@@ -1,7 +1,7 @@
 //! Values in blocks of eight, of a class that keeps them in no columns.
 ghost use Rattle.std.specs.Prelude.{nat_le};
 
-use crate::limits::{Limit, Limits};
+use crate::ceilings::{Ceiling, Ceilings};
 use blocks::{BlockTest, Blocks};
 use key_class::{Block, KeyClass, Plain, equal_bits, in_64_bits};
 use row_version::{Entry, Version, VersionBlock};
@@ -10,100 +10,106 @@ use std::alloc::{AllocError, Global};
 /// Passes the bounds that cover a key.
 #[derive(Clone, Copy)]
 struct CoveringBounds {
-    key: Limit,
+    key: Ceiling,
 }
 
-impl BlockTest<Limit, Plain<Limit>> for CoveringBounds {
+impl BlockTest<Ceiling, Plain<Ceiling>> for CoveringBounds {
     ghost passes = { λ test bound. nat_le test.key.number bound.number };
 
-    fn tested(&self, block: &Plain<Limit>) -> u64 {
-        Limits::covering_block(block, self.key)
+    fn tested(&self, block: &Plain<Ceiling>) -> u64 {
+        Ceilings::covering_block(block, self.key)
     }
 }
 
 /// The numbers from 0 up to `count`.
-fn limits(alloc: Global, count: u8) -> Result<Blocks<Limit, Plain<Limit>>, AllocError> {
-    let mut limits = Blocks::new(alloc);
+fn ceilings(alloc: Global, count: u8) -> Result<Blocks<Ceiling, Plain<Ceiling>>, AllocError> {
+    let mut ceilings = Blocks::new(alloc);
     for number in 0..count {
-        limits.push(Limit { number })?;
+        ceilings.push(Ceiling { number })?;
     }
-    Ok(limits)
+    Ok(ceilings)
 }
 
-fn first_from(limits: &Blocks<Limit, Plain<Limit>>, from: usize, number: u8) -> Option<usize> {
-    let key = Limit { number };
-    limits.first_from(from, &CoveringBounds { key })
+fn first_from(
+    ceilings: &Blocks<Ceiling, Plain<Ceiling>>,
+    from: usize,
+    number: u8,
+) -> Option<usize> {
+    let key = Ceiling { number };
+    ceilings.first_from(from, &CoveringBounds { key })
 }
 
-fn any(limits: &Blocks<Limit, Plain<Limit>>, number: u8) -> bool {
-    let key = Limit { number };
-    limits.any(&CoveringBounds { key })
+fn any(ceilings: &Blocks<Ceiling, Plain<Ceiling>>, number: u8) -> bool {
+    let key = Ceiling { number };
+    ceilings.any(&CoveringBounds { key })
 }
 
 /// Removes the numbers from `number` on.
-fn remove_from(limits: &mut Blocks<Limit, Plain<Limit>>, number: u8) {
-    let key = Limit { number };
-    limits.remove_where(&CoveringBounds { key });
+fn remove_from(ceilings: &mut Blocks<Ceiling, Plain<Ceiling>>, number: u8) {
+    let key = Ceiling { number };
+    ceilings.remove_where(&CoveringBounds { key });
 }
 
 #[test]
 fn finds_the_first_that_passes(rt: HostRuntime) -> Result<(), AllocError> {
-    let limits = limits(rt.alloc(), 20)?;
-    assert!(rt; first_from(&limits, 0, 0) == Some(0) && first_from(&limits, 0, 17) == Some(17));
-    assert!(rt; first_from(&limits, 9, 3) == Some(9) && first_from(&limits, 19, 19) == Some(19));
-    assert!(rt; first_from(&limits, 20, 0).is_none() && first_from(&limits, 0, 20).is_none());
-    assert!(rt; any(&limits, 19) && !any(&limits, 20));
+    let ceilings = ceilings(rt.alloc(), 20)?;
+    assert!(rt; first_from(&ceilings, 0, 0) == Some(0) && first_from(&ceilings, 0, 17) == Some(17));
+    assert!(rt;
+        first_from(&ceilings, 9, 3) == Some(9) && first_from(&ceilings, 19, 19) == Some(19)
+    );
+    assert!(rt; first_from(&ceilings, 20, 0).is_none() && first_from(&ceilings, 0, 20).is_none());
+    assert!(rt; any(&ceilings, 19) && !any(&ceilings, 20));
     Ok(())
 }
 
-/// Whether the limits are the numbers from 0 up to `count`.
-fn are_first(limits: &Blocks<Limit, Plain<Limit>>, count: u8) -> bool {
+/// Whether the ceilings are the numbers from 0 up to `count`.
+fn are_first(ceilings: &Blocks<Ceiling, Plain<Ceiling>>, count: u8) -> bool {
     for number in 0..count {
         let place = number as usize;
-        if place >= limits.len() || limits.get(place).number != number {
+        if place >= ceilings.len() || ceilings.get(place).number != number {
             return false;
         }
     }
-    limits.len() == count as usize
+    ceilings.len() == count as usize
 }
 
 #[test]
 fn removes_those_that_pass(rt: HostRuntime) -> Result<(), AllocError> {
-    let mut limits = limits(rt.alloc(), 21)?;
-    remove_from(&mut limits, 21);
-    assert!(rt; are_first(&limits, 21));
-    remove_from(&mut limits, 13);
-    assert!(rt; are_first(&limits, 13));
-    remove_from(&mut limits, 0);
-    assert!(rt; limits.is_empty());
+    let mut ceilings = ceilings(rt.alloc(), 21)?;
+    remove_from(&mut ceilings, 21);
+    assert!(rt; are_first(&ceilings, 21));
+    remove_from(&mut ceilings, 13);
+    assert!(rt; are_first(&ceilings, 13));
+    remove_from(&mut ceilings, 0);
+    assert!(rt; ceilings.is_empty());
     Ok(())
 }
 
 /// Halves the numbers from `number` on.
-fn halve_from(limits: &mut Blocks<Limit, Plain<Limit>>, number: u8) {
-    let key = Limit { number };
-    limits.rewrite_where(
+fn halve_from(ceilings: &mut Blocks<Ceiling, Plain<Ceiling>>, number: u8) {
+    let key = Ceiling { number };
+    ceilings.rewrite_where(
         &CoveringBounds { key },
-        |limit| Limit {
-            number: limit.number / 2,
+        |ceiling| Ceiling {
+            number: ceiling.number / 2,
         },
     );
 }
 
 #[test]
 fn changes_those_that_pass(rt: HostRuntime) -> Result<(), AllocError> {
-    let mut limits = limits(rt.alloc(), 20)?;
-    halve_from(&mut limits, 15);
-    assert!(rt; limits.len() == 20);
+    let mut ceilings = ceilings(rt.alloc(), 20)?;
+    halve_from(&mut ceilings, 15);
+    assert!(rt; ceilings.len() == 20);
     for (place, number) in [(0, 0), (14, 14), (15, 7), (16, 8), (19, 9)] {
-        assert!(rt; place < limits.len() && limits.get(place).number == number);
+        assert!(rt; place < ceilings.len() && ceilings.get(place).number == number);
     }
     Ok(())
 }
 
 /// The version of a live row.
 fn version(row: u32) -> Version {
-    Entry::new(Limit { number: 0 }, row, 0).version()
+    Entry::new(Ceiling { number: 0 }, row, 0).version()
 }
 
 /// The bits of the versions of a row, among eight of row 4, the third of which is replaced by one of row 7.
@@ -121,17 +127,17 @@ fn tells_rows_of_eight_versions(rt: HostRuntime) {
 
 #[test]
 fn reads_a_whole_block(rt: HostRuntime) -> Result<(), AllocError> {
-    let limits = limits(rt.alloc(), 20)?;
-    assert!(rt; limits.block(0).get(7).number == 7 && limits.block(2).get(3).number == 19);
+    let ceilings = ceilings(rt.alloc(), 20)?;
+    assert!(rt; ceilings.block(0).get(7).number == 7 && ceilings.block(2).get(3).number == 19);
     Ok(())
 }
 
 #[test]
 fn computes_what_a_key_adds_to_eight_bounds(rt: HostRuntime) {
-    let mut bounds = Plain::filled(Limit { number: 3 });
-    bounds.set(2, Limit { number: 9 });
-    bounds.set(7, Limit { number: 4 });
-    assert!(rt; Limits::gains_block(&bounds, Limit { number: 5 }) == [2, 2, 0, 2, 2, 2, 2, 1]);
+    let mut bounds = Plain::filled(Ceiling { number: 3 });
+    bounds.set(2, Ceiling { number: 9 });
+    bounds.set(7, Ceiling { number: 4 });
+    assert!(rt; Ceilings::gains_block(&bounds, Ceiling { number: 5 }) == [2, 2, 0, 2, 2, 2, 2, 1]);
     assert!(rt; in_64_bits(7) == 7 && in_64_bits(1 << 64) == u64::MAX);
 }
 
@@ -141,7 +147,7 @@ fn tells_which_of_eight_versions_no_scan_needs(rt: HostRuntime) {
     for (place, died) in [(1, 5), (3, 6), (7, 7)] {
         versions.set(
             place,
-            Entry::new(Limit { number: 0 }, 4, 0)
+            Entry::new(Ceiling { number: 0 }, 4, 0)
                 .died_at(died)
                 .version(),
         );
@@ -157,7 +163,7 @@ fn tells_copies_of_versions_alone(rt: HostRuntime) -> Result<(), AllocError> {
     changed.set(7, version(5));
     assert!(rt; versions.is_copy_of(&versions) && !versions.is_copy_of(&changed));
     // Blocks without columns tell nothing.
-    let limits = limits(rt.alloc(), 20)?;
-    assert!(rt; !limits.is_copy_of(&limits));
+    let ceilings = ceilings(rt.alloc(), 20)?;
+    assert!(rt; !ceilings.is_copy_of(&ceilings));
     Ok(())
 }

@@ -1,4 +1,4 @@
-use crate::limits::{Limit, Limits};
+use crate::ceilings::{Ceiling, Ceilings};
 use change_list::listings_go_on;
 use cursor::cursors_survive_steps;
 use mailbox::Tray;
@@ -8,14 +8,14 @@ use scan::{
 
 #[test]
 fn keeps_laws_of_scans() {
-    entries_follow_commits::<Limits>();
-    finders_survive_steps::<Limits>();
-    scans_begin_with_snapshots::<Limits>();
-    scans_survive_steps::<Limits>();
+    entries_follow_commits::<Ceilings>();
+    finders_survive_steps::<Ceilings>();
+    scans_begin_with_snapshots::<Ceilings>();
+    scans_survive_steps::<Ceilings>();
 }
 
 #[test]
 fn keeps_laws_of_cursors() {
-    cursors_survive_steps::<Limits, Tray<Limit>>();
+    cursors_survive_steps::<Ceilings, Tray<Ceiling>>();
     listings_go_on::<u8>();
 }

@@ -5,6 +5,8 @@
 #[cfg(test)]
 mod calls;
 #[cfg(test)]
+mod ceilings;
+#[cfg(test)]
 mod commits;
 #[cfg(test)]
 mod copies;
@@ -12,8 +14,6 @@ mod copies;
 mod eights;
 #[cfg(test)]
 mod laws;
-#[cfg(test)]
-mod limits;
 #[cfg(test)]
 mod rings;
 #[cfg(test)]

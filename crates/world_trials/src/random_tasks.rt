@@ -1,7 +1,7 @@
 //! Random events, with splits and visits that are prepared, worked on and published at later times, compared with a
 //! world that is given events only.
 use super::source::{Source, Use};
-use super::steps::{Answer, Ask, Step, Trial, answer_of, new_world};
+use super::steps::{Ask, PlainReply, Step, Trial, answer_of, new_world};
 use change_list::Config;
 use interval_class::{Interval, Intervals};
 use key_class::{KeyClass, Refusal};
@@ -152,9 +152,9 @@ impl Pair {
             task,
             ..
         } = parting;
-        let answer = Answer::of(self.world.publish_split(0, task));
+        let answer = PlainReply::of(self.world.publish_split(0, task));
         if !is_due {
-            assert!(rt; answer == Answer::Refused(Refusal::NotHere));
+            assert!(rt; answer == PlainReply::Refused(Refusal::NotHere));
             self.stale = self.stale.saturating_add(1);
             return self.compare(rt);
         }
@@ -170,9 +170,9 @@ impl Pair {
         alloc: Global,
         number: u64,
         page: &Page<Interval>,
-    ) -> Result<Answer, Fail> {
+    ) -> Result<PlainReply, Fail> {
         let sides = Intervals::pick_split(alloc, &keys_of(alloc, page)?, 2)?;
-        Ok(Answer::of(self.twin.step(Event::Split(number, sides))))
+        Ok(PlainReply::of(self.twin.step(Event::Split(number, sides))))
     }
 
     fn publish_visit(&mut self, rt: &impl Abort) -> Result<(), Fail> {
@@ -186,13 +186,13 @@ impl Pair {
             task,
         } = visiting;
         let is_fresh = prepared_at == self.answered;
-        let answer = Answer::of(self.world.publish_visit(0, task));
-        if let Answer::Refused(Refusal::NotHere) = answer {
+        let answer = PlainReply::of(self.world.publish_visit(0, task));
+        if let PlainReply::Refused(Refusal::NotHere) = answer {
             assert!(rt; !is_worked || !is_fresh);
             self.stale = self.stale.saturating_add(1);
             return self.compare(rt);
         }
-        let other = Answer::of(self.twin.step(Event::Turn(cursor)));
+        let other = PlainReply::of(self.twin.step(Event::Turn(cursor)));
         assert!(rt; is_worked);
         assert!(rt; answer == other, "event {}", self.answered);
         self.published = self.published.saturating_add(1);

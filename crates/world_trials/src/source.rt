@@ -1,5 +1,5 @@
 //! Random events for a world whose pages have at most four entries.
-use super::steps::{Answer, Ask, Ends, Query, Step, Trial};
+use super::steps::{Ask, Ends, PlainReply, Query, Step, Trial};
 use interval_class::Interval;
 use node::{Page, Rows};
 use rand_core::Rng;
@@ -64,13 +64,13 @@ impl Source {
     /// Learns the serials that an answer tells.
     pub fn take_in(&mut self, (ask, answer): Step) -> Result<(), Fail> {
         match (ask, answer) {
-            (_, Answer::Opened(serial)) => self.last_cursor = serial,
-            (_, Answer::Finder(serial)) => {
+            (_, PlainReply::Opened(serial)) => self.last_cursor = serial,
+            (_, PlainReply::Finder(serial)) => {
                 self.last_finder = serial;
                 self.open_finders.push(serial)?;
             }
-            (Ask::Seek(ended) | Ask::Move(ended, _, _), Answer::Committed(_, _))
-            | (Ask::Unfind(ended), Answer::Unfound) => {
+            (Ask::Seek(ended) | Ask::Move(ended, _, _), PlainReply::Committed(_, _))
+            | (Ask::Unfind(ended), PlainReply::Unfound) => {
                 self.open_finders.retain(|serial| *serial != ended);
             }
             _ => {}

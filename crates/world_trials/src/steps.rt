@@ -107,7 +107,7 @@ pub fn sides(alloc: Global, letters: &str) -> Result<Sides, Fail> {
 
 /// A reply in plain values.
 #[derive(Clone, Copy, PartialEq, Eq)]
-pub enum Answer {
+pub enum PlainReply {
     Enlarged,
     Committed(u64, Write<Interval>),
     Split(u32),
@@ -128,37 +128,37 @@ pub enum Answer {
     Refused(Refusal),
 }
 
-impl Answer {
-    pub fn of(reply: Reply<Interval, ()>) -> Answer {
+impl PlainReply {
+    pub fn of(reply: Reply<Interval, ()>) -> PlainReply {
         match reply {
-            Reply::Enlarged => Answer::Enlarged,
-            Reply::Committed(stamp) => Answer::Committed(stamp.number(), stamp.write()),
-            Reply::Split(sibling) => Answer::Split(sibling),
-            Reply::Posted => Answer::Posted,
-            Reply::Grown(first, second) => Answer::Grown(first, second),
-            Reply::Finder(serial) => Answer::Finder(serial),
-            Reply::Seeking => Answer::Seeking,
-            Reply::Unfound => Answer::Unfound,
-            Reply::Swept(count) => Answer::Swept(count),
-            Reply::Opened(serial, ()) => Answer::Opened(serial),
-            Reply::Offered => Answer::Offered,
-            Reply::Visited(page) => Answer::Visited(page),
-            Reply::Passed(commit) => Answer::Passed(commit),
-            Reply::Asked => Answer::Asked,
-            Reply::Taken(item) => Answer::Taken(item),
-            Reply::Nothing => Answer::Nothing,
-            Reply::Closed => Answer::Closed,
-            Reply::Refused(refusal) => Answer::Refused(refusal),
+            Reply::Enlarged => PlainReply::Enlarged,
+            Reply::Committed(stamp) => PlainReply::Committed(stamp.number(), stamp.write()),
+            Reply::Split(sibling) => PlainReply::Split(sibling),
+            Reply::Posted => PlainReply::Posted,
+            Reply::Grown(first, second) => PlainReply::Grown(first, second),
+            Reply::Finder(serial) => PlainReply::Finder(serial),
+            Reply::Seeking => PlainReply::Seeking,
+            Reply::Unfound => PlainReply::Unfound,
+            Reply::Swept(count) => PlainReply::Swept(count),
+            Reply::Opened(serial, ()) => PlainReply::Opened(serial),
+            Reply::Offered => PlainReply::Offered,
+            Reply::Visited(page) => PlainReply::Visited(page),
+            Reply::Passed(commit) => PlainReply::Passed(commit),
+            Reply::Asked => PlainReply::Asked,
+            Reply::Taken(item) => PlainReply::Taken(item),
+            Reply::Nothing => PlainReply::Nothing,
+            Reply::Closed => PlainReply::Closed,
+            Reply::Refused(refusal) => PlainReply::Refused(refusal),
         }
     }
 }
 
 /// What was asked, and what was answered.
-pub type Step = (Ask, Answer);
+pub type Step = (Ask, PlainReply);
 
 /// The answer of a world to what is asked.
-pub fn answer_of(alloc: Global, world: &mut Trial, ask: Ask) -> Result<Answer, Fail> {
-    Ok(Answer::of(world.step(ask.event(alloc)?)))
+pub fn answer_of(alloc: Global, world: &mut Trial, ask: Ask) -> Result<PlainReply, Fail> {
+    Ok(PlainReply::of(world.step(ask.event(alloc)?)))
 }
 
 fn events_of(alloc: Global, asks: &[Ask]) -> Result<Vec<Event<Interval, Atom>>, Fail> {
@@ -185,7 +185,7 @@ fn steps_of(
 ) -> Result<Vec<Step>, Fail> {
     let mut steps = Vec::new(alloc);
     for (ask, reply) in asks.iter().zip(replies) {
-        steps.push((*ask, Answer::of(reply)))?;
+        steps.push((*ask, PlainReply::of(reply)))?;
     }
     Ok(steps)
 }

@@ -1,4 +1,4 @@
-use super::steps::{Answer, Ask, Query, Trial, new_world, sides};
+use super::steps::{Ask, PlainReply, Query, Trial, new_world, sides};
 use change_list::Config;
 use interval_class::{Atom, Interval, Intervals};
 use key_class::Refusal;
@@ -13,16 +13,16 @@ const EIGHT: Config = Config {
     commits: 400,
 };
 
-const NOT_HERE: Answer = Answer::Refused(Refusal::NotHere);
+const NOT_HERE: PlainReply = PlainReply::Refused(Refusal::NotHere);
 
-fn answer(world: &mut Trial, event: Event<Interval, Atom>) -> Answer {
-    Answer::of(world.step(event))
+fn answer(world: &mut Trial, event: Event<Interval, Atom>) -> PlainReply {
+    PlainReply::of(world.step(event))
 }
 
 /// The answer, unless memory ran out.
-fn given(world: &mut Trial, event: Event<Interval, Atom>) -> Result<Answer, Refusal> {
+fn given(world: &mut Trial, event: Event<Interval, Atom>) -> Result<PlainReply, Refusal> {
     match answer(world, event) {
-        Answer::Refused(Refusal::OutOfMemory) => Err(Refusal::OutOfMemory),
+        PlainReply::Refused(Refusal::OutOfMemory) => Err(Refusal::OutOfMemory),
         answer => Ok(answer),
     }
 }
@@ -100,8 +100,8 @@ fn publishes_split(scene: &mut Scene, sibling: Option<u32>) -> bool {
     let Some(task) = scene.splits.pop() else {
         return false;
     };
-    let answer = Answer::of(scene.world.publish_split(0, task));
-    answer == sibling.map_or(NOT_HERE, |page| Answer::Split(page))
+    let answer = PlainReply::of(scene.world.publish_split(0, task));
+    answer == sibling.map_or(NOT_HERE, |page| PlainReply::Split(page))
 }
 
 fn prepare_visit(scene: &mut Scene, cursor: u64, is_worked: bool) -> Result<(), Refusal> {
@@ -116,8 +116,8 @@ fn publishes_visit(scene: &mut Scene, page: Option<u32>) -> bool {
     let Some(task) = scene.visits.pop() else {
         return false;
     };
-    let answer = Answer::of(scene.world.publish_visit(0, task));
-    answer == page.map_or(NOT_HERE, |page| Answer::Visited(page))
+    let answer = PlainReply::of(scene.world.publish_visit(0, task));
+    answer == page.map_or(NOT_HERE, |page| PlainReply::Visited(page))
 }
 
 fn give(alloc: Global, world: &mut Trial, ask: Ask) -> Result<(), Fail> {
@@ -268,11 +268,11 @@ fn with_a_dead_row(alloc: Global) -> Result<Trial, Fail> {
 
 fn is_enlarged(world: &mut Trial) -> Result<bool, Refusal> {
     let key = Interval::new(0, 9)?;
-    Ok(answer(world, Event::Enlarge(0, 1, key)) == Answer::Enlarged)
+    Ok(answer(world, Event::Enlarge(0, 1, key)) == PlainReply::Enlarged)
 }
 
 fn sweeps(world: &mut Trial, page: u64, count: u64) -> bool {
-    answer(world, Event::Sweep(page)) == Answer::Swept(count)
+    answer(world, Event::Sweep(page)) == PlainReply::Swept(count)
 }
 
 fn changes_unshared(world: &mut Trial) -> Result<bool, Refusal> {

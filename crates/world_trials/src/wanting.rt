@@ -1,4 +1,4 @@
-use super::steps::{Answer, Ask, Query, Step, trace_of};
+use super::steps::{Ask, PlainReply, Query, Step, trace_of};
 use change_list::Config;
 use key_class::Refusal;
 use std::alloc::Global;
@@ -59,14 +59,14 @@ static ASKS: [Ask; 44] = [
     Ask::Close(2),
 ];
 
-fn is_refused(answer: Answer) -> bool {
-    matches!(answer, Answer::Refused(_))
+fn is_refused(answer: PlainReply) -> bool {
+    matches!(answer, PlainReply::Refused(_))
 }
 
 /// The place of the first event that ran out of memory.
 fn first_wanting(steps: &[Step]) -> Option<usize> {
     for (place, (_, answer)) in steps.iter().enumerate() {
-        if *answer == Answer::Refused(Refusal::OutOfMemory) {
+        if *answer == PlainReply::Refused(Refusal::OutOfMemory) {
             return Some(place);
         }
     }

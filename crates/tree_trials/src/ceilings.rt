@@ -5,20 +5,20 @@ use std::alloc::Global;
 
 /// A key that is kept in no columns.
 #[derive(Clone, Copy, PartialEq, Eq)]
-pub struct Limit {
+pub struct Ceiling {
     pub number: u8,
 }
 
-impl Columned for Limit {
-    type Block = Plain<Limit>;
+impl Columned for Ceiling {
+    type Block = Plain<Ceiling>;
 }
 
 /// A class of numbers, where each covers itself and every lesser one. An atom matches only its own number.
 #[derive(Clone, Copy)]
-pub struct Limits;
+pub struct Ceilings;
 
-impl KeyClass for Limits {
-    type Key = Limit;
+impl KeyClass for Ceilings {
+    type Key = Ceiling;
 
     type Atom = u8;
 
@@ -31,34 +31,34 @@ impl KeyClass for Limits {
       picks = λ keys least sides. ⊥;
     } };
 
-    fn matches(atom: &u8, key: Limit) -> bool {
+    fn matches(atom: &u8, key: Ceiling) -> bool {
         *atom == key.number
     }
 
-    fn consistent(atom: &u8, bound: Limit) -> bool {
+    fn consistent(atom: &u8, bound: Ceiling) -> bool {
         *atom <= bound.number
     }
 
-    fn union(a: Limit, b: Limit) -> Limit {
-        Limit {
+    fn union(a: Ceiling, b: Ceiling) -> Ceiling {
+        Ceiling {
             number: a.number.max(b.number),
         }
     }
 
-    fn covers(bound: Limit, key: Limit) -> bool {
+    fn covers(bound: Ceiling, key: Ceiling) -> bool {
         key.number <= bound.number
     }
 
-    fn size(key: Limit) -> u128 {
+    fn size(key: Ceiling) -> u128 {
         u128::from(key.number)
     }
 
-    fn penalty(bound: Limit, key: Limit) -> u128 {
+    fn penalty(bound: Ceiling, key: Ceiling) -> u128 {
         u128::from(bound.number.max(key.number) - bound.number)
     }
 
     /// Never called, since no page is split here.
-    fn pick_split(_: Global, keys: &[Limit], least: usize) -> Result<Sides, Refusal> {
+    fn pick_split(_: Global, keys: &[Ceiling], least: usize) -> Result<Sides, Refusal> {
         if keys.len() / 2 < least {
             Err(Refusal::TooFew)
         } else {
