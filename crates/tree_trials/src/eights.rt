@@ -128,6 +128,7 @@ fn tells_rows_of_eight_versions(rt: HostRuntime) {
 #[test]
 fn reads_a_whole_block(rt: HostRuntime) -> Result<(), AllocError> {
     let ceilings = ceilings(rt.alloc(), 20)?;
+    assert!(rt; ceilings.len() == 20);
     assert!(rt; ceilings.block(0).get(7).number == 7 && ceilings.block(2).get(3).number == 19);
     Ok(())
 }
