@@ -1,7 +1,8 @@
 #!/usr/bin/env python3
-"""Measures the library for C in process, beside the R-tree of Boost.Geometry on the same keys if its headers are there.
+"""Measures the library for C in process, beside the R-tree of Boost.Geometry on the same keys if its headers are there, and of sets
+beside a plain loop over all of them.
 
-    bench/library.py [--class interval|box] [--rows N ..] [--finds N] [--turns N] [--callgrind]
+    bench/library.py [--class interval|box|set] [--rows N ..] [--finds N] [--turns N] [--callgrind]
     bench/library.py --threads [--rows N ..] [--finds N] [--turns N]
 
 It builds bench/library/library.cpp over the library that tools/library makes, and runs it. Each find must give the same rows by
@@ -66,9 +67,9 @@ def print_threads(options):
 
 def main():
     parser = argparse.ArgumentParser(description="Measures the library for C in process.")
-    parser.add_argument("--class", dest="kinds", action="append", choices=["interval", "box"], help="by default both")
+    parser.add_argument("--class", dest="kinds", action="append", choices=["interval", "box", "set"], help="by default all three")
     parser.add_argument("--rows", type=int, action="append", help="by default 10000, 100000 and 1000000")
-    parser.add_argument("--finds", type=int, default=20_000, help="finds in a phase")
+    parser.add_argument("--finds", type=int, default=20_000, help="finds in a phase, of sets a twentieth as many")
     parser.add_argument("--turns", type=int, default=3, help="runs, the least of which counts; up to five times as many of short ones")
     parser.add_argument("--callgrind", action="store_true", help="instructions in place of time, by valgrind, of gist alone")
     parser.add_argument("--threads", action="store_true", help="threads that find beside one that inserts")
@@ -76,10 +77,11 @@ def main():
     build()
     if options.threads:
         return print_threads(options)
-    for kind in options.kinds or ["interval", "box"]:
+    for kind in options.kinds or ["interval", "box", "set"]:
         for rows in options.rows or ([20_000] if options.callgrind else [10_000, 100_000, 1_000_000]):
             turns = 1 if options.callgrind else options.turns * min(1 + 100_000 // rows, 5)
-            words = [PROGRAM, kind, str(rows), str(options.finds), str(turns)]
+            finds = max(options.finds // 20, 1) if kind == "set" else options.finds
+            words = [PROGRAM, kind, str(rows), str(finds), str(turns)]
             print(f"{kind}, {rows:,} rows", flush=True)
             if not options.callgrind:
                 if subprocess.run(words).returncode != 0:

@@ -1,5 +1,6 @@
-// Measures a store in process: the calls of include/gist.h, and the R-tree of Boost.Geometry on the same keys if its
-// headers are there. Usage: library interval|box ROWS FINDS TURNS [gist]
+// Measures a store in process: the calls of include/gist.h, and beside them, on the same keys, the R-tree of
+// Boost.Geometry if its headers are there, and of sets a loop over all of them.
+// Usage: library interval|box|set ROWS FINDS TURNS [gist]
 //
 // A line is printed for each phase: its name, the number of calls, and the processor time of a call of each tree in
 // nanoseconds, the least of TURNS runs. With a last word `gist` only gist is measured, as for callgrind. Every find
@@ -72,12 +73,20 @@ struct Found {
     bool operator==(const Found& other) const { return count == other.count && sum == other.sum; }
 };
 
+// Finds of one kind: their names when all rows live and when half of them do, and how large the answer or the key is
+struct Asked {
+    const char *name, *later;
+    std::uint64_t size;
+};
+
 // Short intervals on a line, a hundred points of it for each
 struct Intervals {
     struct Key {
         std::int64_t lo, hi;
     };
-    static constexpr std::uint32_t CLASS = GIST_INTERVALS;
+    static constexpr std::uint32_t CLASS = GIST_INTERVALS, RELATION = GIST_OVERLAPS;
+    static constexpr Asked ASKED[] = {{"find of ten", "find of five", 10}};
+    static constexpr std::uint64_t FOLLOWED = 200;
 
     static Key key(Generator& generator, std::uint64_t rows) {
         std::int64_t lo = generator.below(rows * 100);
@@ -87,7 +96,7 @@ struct Intervals {
         std::int64_t lo = generator.below(rows * 100);
         return {lo, lo + static_cast<std::int64_t>(count * 100 - 10)};
     }
-    static std::string overlaps(const Key& key) {
+    static std::string text(const Key& key) {
         char text[96];
         std::snprintf(text, sizeof text, "overlaps(%" PRId64 " %" PRId64 ")", key.lo, key.hi);
         return text;
@@ -100,7 +109,9 @@ struct Boxes {
     struct Key {
         std::int32_t x1, y1, x2, y2;
     };
-    static constexpr std::uint32_t CLASS = GIST_BOXES;
+    static constexpr std::uint32_t CLASS = GIST_BOXES, RELATION = GIST_OVERLAPS;
+    static constexpr Asked ASKED[] = {{"find of ten", "find of five", 10}};
+    static constexpr std::uint64_t FOLLOWED = 200;
 
     static std::int64_t side(std::uint64_t rows) {
         std::int64_t side = 1;
@@ -120,12 +131,50 @@ struct Boxes {
         std::int64_t wide = side(count) - 10;
         return square(generator, rows, wide, 1);
     }
-    static std::string overlaps(const Key& key) {
+    static std::string text(const Key& key) {
         char text[96];
         std::snprintf(text, sizeof text, "overlaps(%" PRId32 " %" PRId32 " %" PRId32 " %" PRId32 ")", key.x1, key.y1, key.x2, key.y2);
         return text;
     }
     static gist_key key_of(const Key& key) { return gist_box(key.x1, key.y1, key.x2, key.y2); }
+};
+
+// Sets of eight elements, asked for by elements that they hold
+struct Sets {
+    struct Key {
+        std::uint64_t low, high;
+
+        bool has(int element) const { return (element < 64 ? low >> element : high >> (element - 64)) & 1; }
+        void add(int element) { (element < 64 ? low : high) |= std::uint64_t(1) << (element & 63); }
+        bool holds(const Key& other) const { return (other.low & ~low) == 0 && (other.high & ~high) == 0; }
+    };
+    static constexpr std::uint32_t CLASS = GIST_SETS, RELATION = GIST_HOLDS;
+    static constexpr Asked ASKED[] = {{"find by one", "by one, half dead", 1},
+                                      {"find by two", "by two, half dead", 2},
+                                      {"find by three", "by three, half dead", 3},
+                                      {"find by four", "by four, half dead", 4}};
+    static constexpr std::uint64_t FOLLOWED = 2;
+    static constexpr int ELEMENTS = 128, SIZE = 8;
+
+    static Key of_size(Generator& generator, std::uint64_t size) {
+        Key key = {0, 0};
+        for (std::uint64_t count = 0; count < size;) {
+            int element = generator.below(ELEMENTS);
+            if (key.has(element)) continue;
+            key.add(element);
+            count += 1;
+        }
+        return key;
+    }
+    static Key key(Generator& generator, std::uint64_t) { return of_size(generator, SIZE); }
+    static Key wanted(Generator& generator, std::uint64_t, std::uint64_t size) { return of_size(generator, size); }
+    static std::string text(const Key& key) {
+        std::string text;
+        for (int element = 0; element < ELEMENTS; element += 1)
+            if (key.has(element)) text += (text.empty() ? "" : " ") + std::to_string(element);
+        return "holds{" + text + "}";
+    }
+    static gist_key key_of(const Key& key) { return gist_set(key.low, key.high); }
 };
 
 // A store of gist. Its finds are those in a snapshot; a new one is taken after each write
@@ -134,7 +183,7 @@ class Store {
   public:
     static constexpr const char* NAME = "gist";
 
-    Store() : rows(1024) { expect(gist_create(&store, Kind::CLASS, &LIMITS), "gist_create"); }
+    explicit Store(std::uint64_t most) : rows(most) { expect(gist_create(&store, Kind::CLASS, &LIMITS), "gist_create"); }
     ~Store() {
         gist_drop(&snapshot);
         gist_destroy(&store);
@@ -156,7 +205,7 @@ class Store {
         const gist_key key = Kind::key_of(wanted);
         std::uint64_t end = 0, answered = 0;
         take();
-        expect(gist_find_each(&snapshot, GIST_OVERLAPS, &key, 1, rows.data(), rows.size(), &end, 1, &answered), "gist_find_each");
+        expect(gist_find_each(&snapshot, Kind::RELATION, &key, 1, rows.data(), rows.size(), &end, 1, &answered), "gist_find_each");
         if (answered != 1) fail("a find has more rows than the buffer");
         return first(end);
     }
@@ -170,7 +219,7 @@ class Store {
         return first(count);
     }
     std::uint64_t open(const typename Kind::Key& wanted) {
-        gist_query query = prepared(Kind::overlaps(wanted));
+        gist_query query = prepared(Kind::text(wanted));
         std::uint64_t cursor;
         expect(gist_open(&store, &query, &cursor), "gist_open");
         gist_forget(&query);
@@ -210,6 +259,40 @@ class Store {
     std::vector<gist_row> rows;
 };
 
+// No tree at all: the keys, one after the other
+template <class Kind>
+class Loop {
+  public:
+    static constexpr const char* NAME = "a plain loop";
+
+    explicit Loop(std::uint64_t) {}
+
+    void insert(std::uint64_t row, const typename Kind::Key& key) {
+        if (places.size() <= row) places.resize(row + 1);
+        places[row] = keys.size();
+        keys.push_back(key);
+        rows.push_back(row);
+    }
+    void erase(std::uint64_t row, const typename Kind::Key&) {
+        std::uint64_t at = places[row];
+        places[rows.back()] = at;
+        keys[at] = keys.back(), rows[at] = rows.back();
+        keys.pop_back(), rows.pop_back();
+    }
+    Found find(const typename Kind::Key& wanted) {
+        found.clear();
+        for (std::uint64_t at = 0; at < keys.size(); at += 1)
+            if (keys[at].holds(wanted)) found.push_back(rows[at]);
+        Found sum;
+        for (std::uint64_t row : found) sum.add(row);
+        return sum;
+    }
+
+  private:
+    std::vector<typename Kind::Key> keys;
+    std::vector<std::uint64_t> rows, places, found;
+};
+
 #ifdef WITH_BOOST
 
 namespace bg = boost::geometry;
@@ -231,6 +314,8 @@ class Boost {
   public:
     using Value = std::pair<decltype(box_of(typename Kind::Key())), std::uint64_t>;
 
+    explicit Boost(std::uint64_t) {}
+
     void insert(std::uint64_t row, const typename Kind::Key& key) { tree.insert(Value(box_of(key), row)); }
     void erase(std::uint64_t row, const typename Kind::Key& key) {
         if (tree.remove(Value(box_of(key), row)) != 1) fail("boost lacks a row");
@@ -250,11 +335,13 @@ class Boost {
 
 template <class Kind>
 struct Quadratic : Boost<Kind, bgi::quadratic<16>> {
+    using Boost<Kind, bgi::quadratic<16>>::Boost;
     static constexpr const char* NAME = "quadratic<16>";
 };
 
 template <class Kind>
 struct Rstar : Boost<Kind, bgi::rstar<16>> {
+    using Boost<Kind, bgi::rstar<16>>::Boost;
     static constexpr const char* NAME = "rstar<16>";
 };
 
@@ -270,21 +357,25 @@ struct Phase {
 
 template <class Kind>
 struct Work {
-    std::vector<typename Kind::Key> keys, later;
-    std::vector<typename Kind::Key> wanted, followed;
-    // The same as texts: writing them is the caller's work, and isn't measured
+    std::vector<typename Kind::Key> keys, later, followed;
+    // For each kind of finds what is wanted
+    std::vector<std::vector<typename Kind::Key>> wanted;
+    // Those of the last kind as texts: writing them is the caller's work, and isn't measured
     std::vector<std::string> texts;
     std::vector<std::uint64_t> ended;
 
     Work(std::uint64_t rows, std::uint64_t finds) {
         Generator generator;
         for (std::uint64_t row = 0; row < rows; row += 1) keys.push_back(Kind::key(generator, rows));
-        for (std::uint64_t at = 0; at < finds; at += 1) wanted.push_back(Kind::wanted(generator, rows, 10));
-        for (const auto& key : wanted) texts.push_back(Kind::overlaps(key));
+        for (const Asked& asked : Kind::ASKED) {
+            wanted.emplace_back();
+            for (std::uint64_t at = 0; at < finds; at += 1) wanted.back().push_back(Kind::wanted(generator, rows, asked.size));
+        }
+        for (const auto& key : wanted.back()) texts.push_back(Kind::text(key));
         for (std::uint64_t row = 1; row <= rows; row += 1) ended.push_back(row);
         for (std::uint64_t at = rows; at > 1; at -= 1) std::swap(ended[at - 1], ended[generator.below(at)]);
         ended.resize(rows / 2);
-        for (int at = 0; at < 100; at += 1) followed.push_back(Kind::wanted(generator, rows, 200));
+        for (int at = 0; at < 100; at += 1) followed.push_back(Kind::wanted(generator, rows, Kind::FOLLOWED));
         for (std::uint64_t at = 0; at < rows / 10; at += 1) later.push_back(Kind::key(generator, rows));
     }
 };
@@ -299,27 +390,31 @@ Phase timed(const char* name, std::uint64_t calls, Call call) {
 }
 
 template <class Kind, class Tree>
+void finds(Tree& tree, const Work<Kind>& work, const char* Asked::*name, std::vector<Phase>& phases) {
+    for (std::size_t at = 0; at < work.wanted.size(); at += 1)
+        phases.push_back(timed(Kind::ASKED[at].*name, work.wanted[at].size(), [&](Phase& phase) {
+            for (const auto& wanted : work.wanted[at]) phase.found.push_back(tree.find(wanted));
+        }));
+}
+
+template <class Kind, class Tree>
 std::vector<Phase> common_phases(Tree& tree, const Work<Kind>& work) {
     std::vector<Phase> phases;
     phases.push_back(timed("insert", work.keys.size(), [&](Phase&) {
         for (std::uint64_t at = 0; at < work.keys.size(); at += 1) tree.insert(at + 1, work.keys[at]);
     }));
-    phases.push_back(timed("find of ten", work.wanted.size(), [&](Phase& phase) {
-        for (const auto& wanted : work.wanted) phase.found.push_back(tree.find(wanted));
-    }));
+    finds<Kind>(tree, work, &Asked::name, phases);
     phases.push_back(timed("delete", work.ended.size(), [&](Phase&) {
         for (std::uint64_t row : work.ended) tree.erase(row, work.keys[row - 1]);
     }));
-    phases.push_back(timed("find of five", work.wanted.size(), [&](Phase& phase) {
-        for (const auto& wanted : work.wanted) phase.found.push_back(tree.find(wanted));
-    }));
+    finds<Kind>(tree, work, &Asked::later, phases);
     return phases;
 }
 
 // What only gist has: finds by a text, and cursors that first give a snapshot, and then follow
 template <class Kind>
 void own_phases(Store<Kind>& store, const Work<Kind>& work, std::vector<Phase>& phases) {
-    phases.push_back(timed("find of five, text", work.texts.size(), [&](Phase& phase) {
+    phases.push_back(timed("the last, by text", work.texts.size(), [&](Phase& phase) {
         for (const auto& text : work.texts) phase.found.push_back(store.find_text(text));
     }));
     if (!(phases.back().found == phases[phases.size() - 2].found)) fail("a text finds other rows");
@@ -343,7 +438,7 @@ template <class Kind, class Tree>
 std::vector<Phase> best_of(std::uint64_t turns, const Work<Kind>& work) {
     std::vector<Phase> best;
     for (std::uint64_t turn = 0; turn < turns; turn += 1) {
-        auto tree = std::make_unique<Tree>();
+        auto tree = std::make_unique<Tree>(std::max<std::uint64_t>(work.keys.size(), 1024));
         std::vector<Phase> phases = common_phases<Kind>(*tree, work);
         if constexpr (std::is_same_v<Tree, Store<Kind>>) own_phases(*tree, work, phases);
         for (std::size_t at = 0; at < phases.size(); at += 1) {
@@ -359,19 +454,26 @@ void require_same(const std::vector<Phase>& one, const std::vector<Phase>& other
         if (!(one[at].found == other[at].found)) fail(std::string(name) + " finds other rows in: " + one[at].name);
 }
 
+using Measured = std::vector<std::pair<const char*, std::vector<Phase>>>;
+
+template <class Kind>
+void measure_peers(std::uint64_t turns, const Work<Kind>& work, Measured& all) {
+    if constexpr (std::is_same_v<Kind, Sets>) {
+        all.emplace_back(Loop<Kind>::NAME, best_of<Kind, Loop<Kind>>(turns, work));
+    } else {
+#ifdef WITH_BOOST
+        all.emplace_back(Quadratic<Kind>::NAME, best_of<Kind, Quadratic<Kind>>(turns, work));
+        all.emplace_back(Rstar<Kind>::NAME, best_of<Kind, Rstar<Kind>>(turns, work));
+#endif
+    }
+}
+
 template <class Kind>
 void measure(std::uint64_t rows, std::uint64_t finds, std::uint64_t turns, bool alone) {
     Work<Kind> work(rows, finds);
-    std::vector<std::pair<const char*, std::vector<Phase>>> all;
+    Measured all;
     all.emplace_back(Store<Kind>::NAME, best_of<Kind, Store<Kind>>(turns, work));
-#ifdef WITH_BOOST
-    if (!alone) {
-        all.emplace_back(Quadratic<Kind>::NAME, best_of<Kind, Quadratic<Kind>>(turns, work));
-        all.emplace_back(Rstar<Kind>::NAME, best_of<Kind, Rstar<Kind>>(turns, work));
-    }
-#else
-    (void)alone;
-#endif
+    if (!alone) measure_peers(turns, work, all);
     for (const auto& other : all) require_same(all.front().second, other.second, other.first);
     std::printf("  %-20s%12s", "nanoseconds a call", "calls");
     for (const auto& tree : all) std::printf("%16s", tree.first);
@@ -387,7 +489,7 @@ void measure(std::uint64_t rows, std::uint64_t finds, std::uint64_t turns, bool 
 }  // namespace
 
 int main(int count, char** words) {
-    if (count < 5) fail("usage: library interval|box ROWS FINDS TURNS [gist]");
+    if (count < 5) fail("usage: library interval|box|set ROWS FINDS TURNS [gist]");
     std::uint64_t rows = std::strtoull(words[2], nullptr, 10), finds = std::strtoull(words[3], nullptr, 10), turns = std::strtoull(words[4], nullptr, 10);
     bool alone = count > 5 && std::strcmp(words[5], "gist") == 0;
     if (rows < 2 || finds < 1 || turns < 1) fail("ROWS is 2 and more, FINDS and TURNS 1 and more");
@@ -395,8 +497,10 @@ int main(int count, char** words) {
         measure<Intervals>(rows, finds, turns, alone);
     } else if (std::strcmp(words[1], "box") == 0) {
         measure<Boxes>(rows, finds, turns, alone);
+    } else if (std::strcmp(words[1], "set") == 0) {
+        measure<Sets>(rows, finds, turns, alone);
     } else {
-        fail("keys are of the class interval or box");
+        fail("keys are of the class interval, box or set");
     }
     return 0;
 }
