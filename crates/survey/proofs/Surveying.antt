@@ -1,5 +1,5 @@
 -- What a traversal finds, and that a snapshot has rising numbers.
-use Rattle.std.proofs.Common.{◌≡◌, ◌+◌, ◌<◌, ◌≤◌, ℕ, Bool, not, List, [], ◌∷◌, length, take, All, ◌++◌, refl, sym, subst, ap, ◌∙◌, arith}
+use Rattle.std.proofs.Common.{◌≡◌, ◌+◌, ◌<◌, ◌≤◌, ℕ, Bool, not, List, [], ◌∷◌, length, take, ◌++◌, refl, sym, subst, ap, ◌∙◌, arith}
 use Rattle.std.specs.Prelude.{◌↔◌, IsPermutation, IsTrue, MatchOption, Option, None, Some, false}
 use Rattle.std.specs.List.Sorted.{IsNonDecreasingBy}
 use Rattle.std.specs.Prelude.{option_to_list}
@@ -16,7 +16,7 @@ use Rattle.page_table.specs.Stacks.{StackItem}
 use Rattle.page_table.specs.Trees.{Tree}
 use Rattle.page_table.specs.Weights.{Same, weigh}
 use Rattle.scan.specs.Scanning.{LosesNothing, to_find}
-use Rattle.survey.proofs.Rising.{Rises, rises_filtered, rises_push, same_permutation, sorted_is}
+use Rattle.survey.proofs.Rising.{Rises, rises_filtered, rises_push, sorted_is}
 
 module _ {K : Type 0} where
   -- the rows that were made have rising numbers
@@ -61,11 +61,11 @@ found_all wanted s t stack rows all over found f =
 
 -- what a traversal found, sorted by number, is the snapshot
 pub sorted_snapshot : {K : Type 0} (wanted : K → Bool) (s : ℕ) (list : List (Write K)) (t : Tree K) (stack : List StackItem) (found sorted : List (Row K)) → ((xs ys : List (Row K)) → Same xs ys → IsPermutation xs ys)
-    → Same (to_find wanted (length list) t stack) (snapshot wanted (length list) list) → Same found (to_find wanted s t stack) → IsPermutation found sorted → IsNonDecreasingBy (λ (r : Row K). r.row) sorted → length list ≡ s → sorted ≡ snapshot wanted s list
-sorted_snapshot {K} wanted s list t stack found sorted arranged opening whole moved rising e =
+    → Same (to_find wanted (length list) t stack) (snapshot wanted (length list) list) → Same found (to_find wanted s t stack) → Same sorted found → IsNonDecreasingBy (λ (r : Row K). r.row) sorted → length list ≡ s → sorted ≡ snapshot wanted s list
+sorted_snapshot {K} wanted s list t stack found sorted arranged opening whole same rising e =
     let now : Same found (to_find wanted (length list) t stack) = subst (λ n. Same found (to_find wanted n t stack)) (sym e) whole in
     sorted_is (λ (r : Row K). r.row) arranged sorted (snapshot wanted (length list) list)
-    (λ f. same_permutation found sorted moved f ∙ now f ∙ opening f) rising (snapshot_rises wanted (length list) list)
+    (λ f. same f ∙ now f ∙ opening f) rising (snapshot_rises wanted (length list) list)
     ∙ ap (λ n. snapshot wanted n list) e
 
 -- a visit of a stack that isn't empty, by the test that told so, visits something

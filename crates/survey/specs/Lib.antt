@@ -1,1 +1,2 @@
+pub mod Radix
 pub mod Surveys

@@ -2,6 +2,7 @@
 #![tactic(auto)]
 
 mod count;
+mod sorting;
 mod survey;
 
 pub use count::live_count;

@@ -2,6 +2,7 @@ ghost use Rattle.std.specs.Prelude.{ℕ, IfOk};
 ghost use Rattle.page_table.specs.Soundness.{IsSound};
 ghost use Rattle.survey.specs.Surveys.{FindsAll, IsSurvey};
 
+use crate::sorting::sort_by_number;
 use change_list::Row;
 use key_class::{KeyClass, Pred};
 use page_table::PageTable;
@@ -26,9 +27,8 @@ pub fn live_rows<C: KeyClass>(
     requires sound { (fan : ℕ) × IsSound C.rules.is_cover fan table.now }
     ensures rows { IfOk result (λ v. IsSurvey C.rules query.now table.now commits v.items) }
 {
-    let mut rows = found_rows::<C>(alloc, table, commits, query)?;
-    rows.sort_unstable_by_key(|row| row.row);
-    Ok(rows)
+    let rows = found_rows::<C>(alloc, table, commits, query)?;
+    sort_by_number(alloc, rows)
 }
 
 /// The rows that a traversal from the root finds, in the order of its visits.
