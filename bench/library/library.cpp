@@ -85,7 +85,7 @@ struct Intervals {
         std::int64_t lo, hi;
     };
     static constexpr std::uint32_t CLASS = GIST_INTERVALS, RELATION = GIST_OVERLAPS;
-    static constexpr Asked ASKED[] = {{"find of ten", "find of five", 10}};
+    static constexpr Asked ASKED[] = {{"find of 1,000", "find of 500", 1000}, {"find of ten", "find of five", 10}};
     static constexpr std::uint64_t FOLLOWED = 200;
 
     static Key key(Generator& generator, std::uint64_t rows) {
@@ -110,7 +110,7 @@ struct Boxes {
         std::int32_t x1, y1, x2, y2;
     };
     static constexpr std::uint32_t CLASS = GIST_BOXES, RELATION = GIST_OVERLAPS;
-    static constexpr Asked ASKED[] = {{"find of ten", "find of five", 10}};
+    static constexpr Asked ASKED[] = {{"find of 1,000", "find of 500", 1000}, {"find of ten", "find of five", 10}};
     static constexpr std::uint64_t FOLLOWED = 200;
 
     static std::int64_t side(std::uint64_t rows) {

@@ -186,6 +186,22 @@ def each_number_of_rows(path):
         program.end()
 
 
+def answers_of_each_size(path):
+    """The rows below a point are shown by rising number, however many they are: none to 600, and all. The points are those of a
+    prime's multiples, so neighbours have numbers that lie far apart, of one, two and three bytes.
+    """
+    prime, step = 70_001, 27_644
+    points = [number * step % prime for number in range(1, prime)]
+    numbers = {point: number for number, point in enumerate(points, 1)}
+    with Program(path, "serve") as program:
+        program.answer([f"insert ({point} {point}) 0" for point in points], [f"committed {number}" for number in range(1, prime)])
+        for size in (*range(601), prime - 1):
+            shown = sorted(numbers[point] for point in range(1, size + 1))
+            rows = [f"row {number} ({points[number - 1]} {points[number - 1]}) 0" for number in shown]
+            program.answer([f"find overlaps(0 {size})"], [f"found {size}", *rows])
+        program.end()
+
+
 def first_visits(number):
     """A cursor's first turn and a finder's first visit read the root: then each has all its children to visit."""
     return [
