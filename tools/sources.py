@@ -70,6 +70,19 @@ def version():
     return re.search(r'VERSION: &str = "([^"]+)"', text_of(f"{ROOT}/crates/gist/src/help.rt"))[1]
 
 
+def version_of_header(path):
+    """The version that a header of the library names."""
+    text = text_of(path)
+    return ".".join(re.search(rf"define GIST_VERSION_{part} (\d+)", text)[1] for part in ("MAJOR", "MINOR", "PATCH"))
+
+
+def other_versions(folder, version):
+    """What names another version in a folder with the header and the bindings."""
+    crate = re.search(r'(?m)^version = "([^"]+)"', text_of(f"{folder}/bindings/rust/Cargo.toml"))[1]
+    named = {"include/gist.h": version_of_header(f"{folder}/include/gist.h"), "bindings/rust/Cargo.toml": crate}
+    return [f"{path} names {it}" for path, it in named.items() if it != version]
+
+
 def commit():
     """The commit of these sources, and whether there are changes beside it."""
     try:
