@@ -9,6 +9,7 @@ import gc
 import os
 import pickle
 import random
+import re
 import subprocess
 import sys
 import threading
@@ -414,7 +415,8 @@ class Numbers(Case):
             for it in names:
                 words = "".join(f"_{letter}" if letter.isupper() and names is Refusal else letter for letter in it.name).upper().strip("_")
                 self.assertIn(f"    GIST_{prefix}{words} = {it.value}", text)
-        self.assertEqual(gist.version(), (0, 3, 1))
+        version = tuple(int(re.search(rf"define GIST_VERSION_{it} (\d+)", text)[1]) for it in ("MAJOR", "MINOR", "PATCH"))
+        self.assertEqual(gist.version(), version)
 
     def test_many_boxes_in_half_a_second(self) -> None:
         dice = random.Random(1)
