@@ -1,5 +1,5 @@
-pub mod Chaining
 pub mod Counting
+pub mod Placing
 pub mod Ranking
 pub mod Rising
 pub mod Surveying
