@@ -62,7 +62,7 @@ extern "C" {
 
 #define GIST_VERSION_MAJOR 0
 #define GIST_VERSION_MINOR 3
-#define GIST_VERSION_PATCH 3
+#define GIST_VERSION_PATCH 4
 #define GIST_VERSION (GIST_VERSION_MAJOR * 1000000 + GIST_VERSION_MINOR * 1000 + GIST_VERSION_PATCH)
 
 /* The GIST_VERSION of the library that the program runs with. */

@@ -184,7 +184,9 @@ impl Stack {
             let below = self.go_on_by_query::<C>(table, item, query)?;
             let _visits_ask_again = rows.reserve(below.min(AT_ONCE));
         }
-        note_rows::<C>(page.rows(), query, opened, rows);
+        if !page.rows().is_empty() {
+            note_rows::<C>(page.rows(), query, opened, rows);
+        }
         Ok(Some(item.page))
     }
 
@@ -427,10 +429,11 @@ fn up_to_wanted<C: KeyClass, T: BranchTest<C>>(branches: &Branches<C::Key>, test
     0
 }
 
-/// Makes room for `more` further items.
+/// Makes room for `more` further items, which is mostly there.
 ///
 /// # Errors
 /// Memory ran out, and there are further items; the list is unchanged.
+#[inline]
 fn make_room(items: &mut SmallVec<StackItem, 32>, more: usize) -> Result<(), AllocError>
     ensures items { items.new.items ≡ items.old.items }
     ensures room { OnOk result (HasRoomFor items.new more) }
@@ -440,6 +443,20 @@ fn make_room(items: &mut SmallVec<StackItem, 32>, more: usize) -> Result<(), All
     if more <= items.capacity() - items.len() {
         return Ok(());
     }
+    reserve_more(items, more)
+}
+
+/// Makes room for `more` further items. It is apart from `make_room` so that this one is inlined.
+///
+/// # Errors
+/// Memory ran out, and there are further items; the list is unchanged.
+#[cold]
+fn reserve_more(items: &mut SmallVec<StackItem, 32>, more: usize) -> Result<(), AllocError>
+    ensures items { items.new.items ≡ items.old.items }
+    ensures room { OnOk result (HasRoomFor items.new more) }
+    ensures refused { OnErr result (items.new ≡ items.old) }
+    ensures some { OnErr result (0 < more) }
+{
     items.reserve(more)
 }
 

@@ -7,6 +7,8 @@ use Rattle.change_list.specs.declared.item.Item.{Item}
 use Rattle.change_list.specs.declared.write.Write.{Write}
 use Rattle.change_list.specs.Listings.{AreChanges}
 use Rattle.mailbox.specs.RingEnds.{RingEnd}
+use Rattle.shared_feed.specs.Boards.{IsBoardVisit}
+use Rattle.shared_feed.specs.Calls.{Ends, Subscribes}
 use Rattle.shared_feed.specs.Numbers.{commit_of}
 
 -- what a subscriber knows: its query, the commit after which it asked for changes, and its end of the ring
@@ -71,3 +73,15 @@ module _ {K A : Type 0} (rules : Rules K A) (told : List (Write K)) where
   -- the missed changes are appended, or nothing is done
   abbrev pub MayPutMissed : SubscriberState K A → SubscriberState K A → List (Item K) → List (Item K) → Type 0
   MayPutMissed old new before after = PutsMissed old new before after ⊎ ((after ≡ before) × (new.position ≡ old.position))
+
+module _ {K A : Type 0} (rules : Rules K A) (told : List (Write K)) (old new : SubscriberState K A) where
+  -- another subscription to the query was opened, after the commit that the subscriber has come to, and the one that
+  -- it had ended
+  pub record Resubscribes : Type 0 where
+    pub opened : IsBoardVisit rules (Subscribes told old.query new.position old.room new.serial)
+    pub ended : IsBoardVisit rules (Ends old.serial)
+
+  -- a subscriber whose ring was put aside subscribes again, and any other keeps its subscription
+  abbrev pub LeavesSubscription : Bool → Type 0
+  LeavesSubscription true = Resubscribes
+  LeavesSubscription false = new.serial ≡ old.serial

@@ -11,7 +11,7 @@ ghost use Rattle.rtrb.specs.Ring.{received};
 ghost use Rattle.shared_feed.specs.Boards.{IsBoardVisit};
 ghost use Rattle.shared_feed.specs.Calls.{Ends, RefusesCatchingUp, RefusesOnVisit};
 ghost use Rattle.shared_feed.specs.Numbers.{position_after};
-ghost use Rattle.shared_feed.specs.Subscribers.{CatchesUp, Drains, IsSameBut, LeavesEnd, MayPutMissed, PutsMissed};
+ghost use Rattle.shared_feed.specs.Subscribers.{CatchesUp, Drains, IsSameBut, LeavesEnd, LeavesSubscription, MayPutMissed, PutsMissed, Resubscribes};
 
 use crate::commit::commit_of;
 use crate::shared::SharedFeed;
@@ -156,6 +156,7 @@ impl<'f, C: Reach, L: Ledger + Naming> Subscriber<'f, C, L> {
           end = self.new.end;
         } }
         ensures fresh { OnOk result (self.new.end.taken ≡ []) }
+        ensures again { OnOk result (Resubscribes C.rules seat.now.told self.old self.new) }
         ensures err { OnErr result (self.new ≡ self.old) }
         ensures refusals { IfErr result (RefusesOnVisit C.rules self.old.query) }
     {
@@ -186,6 +187,8 @@ impl<'f, C: Reach, L: Ledger + Naming> Subscriber<'f, C, L> {
         ensures ok { OnOk result
             (PutsMissed C.rules seat.new.told self.old self.new into.old.items into.new.items) }
         ensures fresh { OnOk result (self.new.end.taken ≡ []) }
+        ensures again { OnOk result (Resubscribes C.rules seat.new.told self.old self.new) }
+        ensures stays { OnErr result (self.new.serial ≡ self.old.serial) }
         ensures err { OnErr result (MayPutMissed C.rules seat.new.told
             self.old self.new into.old.items into.new.items) }
         ensures refusals { IfErr result (RefusesCatchingUp C.rules self.old.query) }
@@ -202,7 +205,7 @@ impl<'f, C: Reach, L: Ledger + Naming> Subscriber<'f, C, L> {
     ///
     /// # Errors
     /// `FeedFull`, `FromFuture` if the desk isn't the one whose commits the feed goes over, else `OutOfMemory`. What
-    /// was appended stays in the list, and a later call goes on after it.
+    /// was appended stays in the list, and a later call goes on after it. The subscription is the same.
     pub fn catch_up<R: Wait>(
         &mut self,
         rt: &R,
@@ -215,6 +218,9 @@ impl<'f, C: Reach, L: Ledger + Naming> Subscriber<'f, C, L> {
         ensures ok { IfOk result
             (CatchesUp C.rules seat.new.told self.old self.new into.old.items into.new.items) }
         ensures end { IfOk result (λ was_aside. LeavesEnd was_aside self.old.end self.new.end) }
+        ensures subscription { IfOk result (λ was_aside.
+            LeavesSubscription C.rules seat.new.told self.old self.new was_aside) }
+        ensures stays { OnErr result (self.new.serial ≡ self.old.serial) }
         ensures err { OnErr result ((was_aside : Bool) × CatchesUp C.rules seat.new.told
             self.old self.new into.old.items into.new.items was_aside) }
         ensures refusals { IfErr result (RefusesCatchingUp C.rules self.old.query) }
