@@ -449,13 +449,12 @@ fn make_room(items: &mut SmallVec<StackItem, 32>, more: usize) -> Result<(), All
 /// Makes room for `more` further items. It is apart from `make_room` so that this one is inlined.
 ///
 /// # Errors
-/// Memory ran out, and there are further items; the list is unchanged.
+/// Memory ran out; the list is unchanged.
 #[cold]
 fn reserve_more(items: &mut SmallVec<StackItem, 32>, more: usize) -> Result<(), AllocError>
     ensures items { items.new.items ≡ items.old.items }
     ensures room { OnOk result (HasRoomFor items.new more) }
     ensures refused { OnErr result (items.new ≡ items.old) }
-    ensures some { OnErr result (0 < more) }
 {
     items.reserve(more)
 }
