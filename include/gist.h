@@ -62,7 +62,7 @@ extern "C" {
 
 #define GIST_VERSION_MAJOR 0
 #define GIST_VERSION_MINOR 3
-#define GIST_VERSION_PATCH 4
+#define GIST_VERSION_PATCH 5
 #define GIST_VERSION (GIST_VERSION_MAJOR * 1000000 + GIST_VERSION_MINOR * 1000 + GIST_VERSION_PATCH)
 
 /* The GIST_VERSION of the library that the program runs with. */
@@ -415,8 +415,8 @@ uint32_t gist_begin(gist_feed *feed, uint32_t key_class);
 void gist_end(gist_feed *feed);
 
 /*
- * Subscribes to the changes of a query that come after a commit, and gives the subscription's number. If the feed has
- * already gone past that commit, its next advance gives what was missed.
+ * Subscribes to the changes of a query after the commit `from`, and returns the subscription's number. If the feed has
+ * already processed later commits, its next advance delivers what was missed.
  *
  * GIST_FEED_FULL; GIST_OUT_OF_MEMORY.
  */
@@ -426,12 +426,14 @@ uint32_t gist_subscribe(gist_feed *feed, const gist_query *query, uint64_t from,
 uint32_t gist_unsubscribe(gist_feed *feed, uint64_t subscription);
 
 /*
- * Goes over at most `most` further commits of a snapshot, and writes what they give to each subscription into a buffer.
- * What doesn't fit waits, and is given by the next calls before the feed goes on; nothing waits if fewer items are
- * given than there is room for. Gives how many items were written, and up to which commit the feed has gone. All
- * snapshots that a feed goes over must be of one store.
+ * Processes at most `most` further commits of a snapshot, and writes the items of each subscription into a buffer.
+ * Items that don't fit wait. A call that finds items waiting processes no further commit: it writes them first, and
+ * after them what new subscriptions have missed. If fewer items are written than there is room for, none waits. Returns
+ * how many items were written, and the last commit that was processed. All snapshots that a feed processes must be of
+ * one store.
  *
- * GIST_FROM_FUTURE if the snapshot has fewer commits than the feed has gone over; GIST_OUT_OF_MEMORY.
+ * GIST_FROM_FUTURE if the snapshot has fewer commits than the feed has processed, also while items wait;
+ * GIST_OUT_OF_MEMORY.
  */
 uint32_t gist_advance(gist_feed *feed, const gist_snapshot *snapshot, uint64_t most, gist_told *told, size_t room,
                       uint64_t *given, uint64_t *upto);

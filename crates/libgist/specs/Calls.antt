@@ -121,17 +121,17 @@ module _ {K A : Type 0} (rules : Rules K A) where
   pub record IsOpening (query : Pred A) (old : StoreState K A) (answer : Result ℕ Refusal) (new : StoreState K A) : Type 0 where
     pub ok : IfOk answer (λ c. IsOpenedFor rules.is_match old query c new)
     pub err : OnErr answer (new ≡ old)
-    pub bad : answer ≡ Err BadConfig → IsBadOpening (query_of query) 1
-    pub full : answer ≡ Err CursorsFull → HasNoCursorFor old (query_of query) 1
+    pub bad : answer ≢ Err OutOfMemory → (answer ≡ Err BadConfig) ↔ IsBadOpening (query_of query) 1
+    pub full : answer ≢ Err OutOfMemory → (answer ≡ Err CursorsFull) ↔ HasNoCursorFor old (query_of query) 1
     pub refusals : IfErr answer RefusesCursor
 
   -- a cursor is opened on a query, after a commit that it follows
   pub record IsFollowing (query : Pred A) (commit : ℕ) (old : StoreState K A) (answer : Result ℕ Refusal) (new : StoreState K A) : Type 0 where
     pub ok : IfOk answer (λ c. IsFollowerFor rules.is_match old query commit c new)
     pub err : OnErr answer (new ≡ old)
-    pub bad : answer ≡ Err BadConfig → IsBadOpening (query_of query) 1
-    pub future : answer ≡ Err FromFuture → IsFromFuture old (query_of query) 1 commit
-    pub full : answer ≡ Err CursorsFull → HasNoFollowerFor old (query_of query) 1 commit
+    pub bad : answer ≢ Err OutOfMemory → (answer ≡ Err BadConfig) ↔ IsBadOpening (query_of query) 1
+    pub future : answer ≢ Err OutOfMemory → (answer ≡ Err FromFuture) ↔ IsFromFuture old (query_of query) 1 commit
+    pub full : answer ≢ Err OutOfMemory → (answer ≡ Err CursorsFull) ↔ HasNoFollowerFor old (query_of query) 1 commit
     pub refusals : IfErr answer RefusesFollower
 
   module _ (key_of : KeyWords → Option K) where

@@ -1,5 +1,5 @@
--- A feed with the items that it gave but C hasn't taken yet, and what its calls answer and leave.
-use Rattle.std.specs.Prelude.{◌≡◌, ◌↔◌, ℕ, ◌+◌, ◌<◌, min, List, [], length, map, drop, Option, None, Result, Err, IfOk, IfErr, OnOk, OnErr}
+-- A feed with the items that it delivered but C hasn't taken yet, and what its calls answer and leave.
+use Rattle.std.specs.Prelude.{◌≡◌, ◌≢◌, ◌↔◌, ℕ, ◌+◌, ◌<◌, min, List, [], ◌∷◌, length, map, drop, Option, None, Result, Err, IfOk, IfErr, OnOk, OnErr}
 use Rattle.key_class.specs.declared.refusal.Refusal.{Refusal}
 use Rattle.key_class.specs.declared.refusal.Refusal.TheVariants.{BadConfig, FeedFull, FromFuture, NotSubscribed, OutOfMemory}
 use Rattle.key_class.specs.declared.pred.Pred.{Pred}
@@ -8,7 +8,7 @@ use Rattle.key_class.specs.Refusals.{IsEither}
 use Rattle.key_class.specs.Rules.{Rules}
 use Rattle.change_list.specs.declared.item.Item.{Item}
 use Rattle.change_list.specs.declared.write.Write.{Write}
-use Rattle.feed.specs.Feeds.{FeedState, Advances, HasNoPlaceFor, RefusesSubscription, new_feed, subscription_of, with_subscription, without_subscription}
+use Rattle.feed.specs.Feeds.{FeedState, AdvancesInto, HasNoPlaceFor, RefusesSubscription, new_feed, subscription_of, with_subscription, without_subscription}
 use Rattle.libgist.specs.declared.words.KeyWords.{KeyWords}
 use Rattle.libgist.specs.declared.words.ToldItem.{ToldItem}
 use Rattle.libgist.specs.Buffers.{written_over}
@@ -16,7 +16,7 @@ use Rattle.libgist.specs.Shown.{shown_item}
 
 pub record FollowingState (K A : Type 0) : Type 0 where
   pub feed : FeedState A
-  -- the items that it gave but that weren't taken, each under the serial of its subscription
+  -- the items that it delivered but that weren't taken, each under the serial of its subscription
   pub waiting : List (ℕ × Item K)
 
 module _ {K A : Type 0} where
@@ -31,8 +31,8 @@ module _ {K A : Type 0} where
     pub serial : IfOk answer (λ serial. serial ≡ old.feed.last + 1)
     pub ok : OnOk answer (new ≡ with_feed old (with_subscription old.feed (query_of query) from))
     pub err : OnErr answer (new ≡ old)
-    pub depth : answer ≡ Err BadConfig → 32 < depth_of (query_of query)
-    pub full : answer ≡ Err FeedFull → HasNoPlaceFor old.feed (query_of query)
+    pub depth : answer ≢ Err OutOfMemory → (answer ≡ Err BadConfig) ↔ (32 < depth_of (query_of query))
+    pub full : answer ≢ Err OutOfMemory → (answer ≡ Err FeedFull) ↔ HasNoPlaceFor old.feed (query_of query)
     pub refusals : IfErr answer RefusesSubscription
 
   -- a subscription is ended
@@ -56,23 +56,27 @@ module _ {K : Type 0} (words_of : K → KeyWords) (commits : List (Write K)) whe
     pub feed_stays : new.feed ≡ old.feed
     pub upto : told.1 ≡ new.feed.upto
 
-module _ {K A : Type 0} (rules : Rules K A) (most : ℕ) (commits : List (Write K)) where
-  -- a feed goes on only when no item waits
-  pub record GoesOn (old new : FollowingState K A) : Type 0 where
-    pub goes_on : old.waiting ≡ [] → Advances rules old.feed commits most new.waiting new.feed
-    pub stays : (old.waiting ≡ [] → ⊥) → new ≡ old
+-- how many further commits a call may process: `most`, but none while items wait
+abbrev pub commits_allowed : {X : Type 0} → ℕ → List X → ℕ
+commits_allowed most [] = most
+commits_allowed most (it ∷ its) = 0
+
+module _ {K A : Type 0} (rules : Rules K A) (allowed : ℕ) (commits : List (Write K)) where
+  -- the feed processes further commits, and its items wait after those that wait already
+  abbrev pub GoesOn : FollowingState K A → FollowingState K A → Type 0
+  GoesOn old new = AdvancesInto rules old.feed commits allowed old.waiting new.waiting new.feed
 
 module _ {K A : Type 0} (rules : Rules K A) (words_of : K → KeyWords) (most : ℕ) (commits : List (Write K)) where
-  -- the feed goes on if it may, and gives the items that then wait
+  -- the feed goes on as far as it may, and delivers the items that then wait
   pub record Gives (before after : List ToldItem) (old new : FollowingState K A) (told : ℕ × ℕ) : Type 0 where
     pub between : FollowingState K A
-    pub goes_on : GoesOn rules most commits old between
+    pub goes_on : GoesOn rules (commits_allowed most old.waiting) commits old between
     pub gives : GivesWaiting words_of commits before after between new told
 
-  -- the feed is asked to go on over a snapshot and to give items
+  -- the feed is asked to go on over a snapshot and to deliver items
   pub record IsAdvancing (before after : List ToldItem) (old : FollowingState K A) (answer : Result (ℕ × ℕ) Refusal) (new : FollowingState K A) : Type 0 where
     pub ok : IfOk answer (Gives before after old new)
     pub err : OnErr answer (new ≡ old)
     pub unfilled : OnErr answer (after ≡ before)
-    pub future : answer ≡ Err FromFuture → length commits < old.feed.upto
+    pub future : (answer ≡ Err FromFuture) ↔ (length commits < old.feed.upto)
     pub refusals : IfErr answer (IsEither FromFuture OutOfMemory)

@@ -1,6 +1,7 @@
 -- Renewal: a new store made of the rows that are live in a snapshot.
-use Rattle.std.specs.Prelude.{◌≡◌, ◌≢◌, ◌↔◌, ◌⊎◌, ℕ, Bool, true, List, [], length, Option, Some, None, IsSomeAnd, Result, Ok, Err, IfOk, IfErr}
+use Rattle.std.specs.Prelude.{◌≡◌, ◌≢◌, ◌↔◌, ◌⊎◌, ℕ, ◌+◌, ◌<◌, ◌≤◌, Bool, true, List, [], length, Option, Some, None, IsSomeAnd, Result, Ok, Err, IfOk, IfErr}
 use Rattle.key_class.specs.declared.refusal.Refusal.TheVariants.{CommitsFull, PagesFull, OutOfMemory}
+use Rattle.change_list.specs.Changes.{rows}
 use Rattle.change_list.specs.Configs.{IsWithinLimits}
 use Rattle.change_list.specs.declared.config.Config.{Config}
 use Rattle.store.specs.Renewing.{IsRenewed, numbers_of_living}
@@ -33,16 +34,27 @@ numbers_in (held.Snapshot (snapshot.Boxes commits)) = numbers_of_living commits
 numbers_in (held.Snapshot (snapshot.Sets commits)) = numbers_of_living commits
 numbers_in other = []
 
--- why a snapshot can't be renewed
-abbrev pub RefusesRenewing : Denied → Type 0
-RefusesRenewing why = (why ≡ BadLimits) ⊎ (why ≡ By CommitsFull) ⊎ (why ≡ By PagesFull) ⊎ (why ≡ By OutOfMemory)
+-- how many rows are live in a snapshot
+abbrev pub living_in : Held → ℕ
+living_in (held.Snapshot (snapshot.Intervals commits)) = length (rows commits)
+living_in (held.Snapshot (snapshot.Boxes commits)) = length (rows commits)
+living_in (held.Snapshot (snapshot.Sets commits)) = length (rows commits)
+living_in other = 0
+
+-- why so many rows can't be renewed: limits out of range or too small for them, or no memory
+abbrev pub RefusesRenewing : Config → ℕ → Denied → Type 0
+RefusesRenewing config living why =
+    (why ≡ BadLimits)
+    ⊎ ((why ≡ By CommitsFull) × (config.commits < living))
+    ⊎ ((why ≡ By PagesFull) × (config.pages ≤ living + 1))
+    ⊎ (why ≡ By OutOfMemory)
 
 -- a store is made of the rows that are live in a snapshot
 pub record IsRenewal (config : Config) (old : Held) (made : Result Held Denied) : Type 0 where
   pub ok : IfOk made (IsRenewedFrom config old)
   pub no_snapshot : (made ≡ Err NoHandle) ↔ (¬ IsSnapshot old)
   pub bad : (made ≡ Err BadLimits) ↔ (IsSnapshot old × (¬ IsWithinLimits config))
-  pub refusals : IfErr made (λ why. (why ≡ NoHandle) ⊎ RefusesRenewing why)
+  pub refusals : IfErr made (λ why. (why ≡ NoHandle) ⊎ RefusesRenewing config (living_in old) why)
 
 -- what was made, without the numbers
 abbrev pub stored : Result Anew Denied → Result Held Denied

@@ -26,7 +26,7 @@ pub fn unsubscribe(held: &mut Held, serial: u64) -> Result<(), Denied>
     in_feed!(held, feed => passed_on(feed.unsubscribe(serial)))
 }
 
-/// Lets the feed go over more of a snapshot's commits if nothing waits, and gives the items that wait.
+/// Processes more of a snapshot's commits if no item waits, and delivers the items that wait.
 pub fn advance(
     over: &Held,
     held: &mut Held,

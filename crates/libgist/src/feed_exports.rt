@@ -90,8 +90,8 @@ pub extern "C" fn gist_unsubscribe(alloc: Global, feed: &mut Handle, subscriptio
     }
 }
 
-/// Gives the items that wait, until a buffer is full. If none waits, the feed first goes over at most `most` further
-/// commits of a snapshot. Also gives how many items were given, and up to which commit the feed has gone.
+/// Processes at most `most` further commits of a snapshot, or none while items wait, and writes items until a buffer is
+/// full. Returns how many were written, and the last commit that the feed has processed.
 #[unsafe(no_mangle)]
 pub unsafe extern "C" fn gist_advance(
     feed: &mut Handle,

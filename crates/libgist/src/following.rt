@@ -1,9 +1,9 @@
-//! A feed of any class, with the items that it gave but C hasn't taken yet.
-ghost use Rattle.std.specs.Prelude.{◌≡◌, ◌<◌, ◌≤◌, min, length, map, drop, Err, IfOk, IfErr, OnOk, OnErr};
+//! A feed of any class, with the items that it delivered but C hasn't taken yet.
+ghost use Rattle.std.specs.Prelude.{◌≡◌, ◌↔◌, ◌<◌, ◌≤◌, min, length, map, drop, Err, IfOk, IfErr, OnOk, OnErr};
 ghost use Rattle.key_class.specs.declared.refusal.Refusal.TheVariants.{FromFuture, OutOfMemory};
 ghost use Rattle.key_class.specs.Refusals.{IsEither};
 ghost use Rattle.libgist.specs.Buffers.{written_over};
-ghost use Rattle.libgist.specs.Following.{GivesWaiting, GoesOn, IsAdvancing, IsSubscribing, IsUnsubscribing, new_following, told_item};
+ghost use Rattle.libgist.specs.Following.{GivesWaiting, GoesOn, IsAdvancing, IsSubscribing, IsUnsubscribing, commits_allowed, new_following, told_item};
 
 use crate::crossing::Crossing;
 use crate::reading;
@@ -16,12 +16,14 @@ use snapshot::Snapshot;
 use std::alloc::Global;
 use std::marker::Model;
 
-/// A feed, and the items that it gave but C hasn't taken yet.
+/// A feed, and the items that it delivered but C hasn't taken yet.
 #[derive(Drop)]
 pub struct Following<C: Reach> {
     alloc: Global,
     feed: Feed<C>,
-    waiting: Vec<(u64, Item<C::Key>)>,
+    items: Vec<(u64, Item<C::Key>)>,
+    /// How many of the items were taken: the first ones.
+    taken: usize,
 }
 
 impl<C: Reach> Model for Following<C> {
@@ -33,7 +35,9 @@ impl<C: Reach> Model for Following<C> {
 
     ghost coded = { Prim.hlevel (codes, query_code) };
 
-    ghost view = { λ f. record { feed = f.feed; waiting = f.waiting.items } };
+    ghost view = { λ f. record { feed = f.feed; waiting = drop f.taken f.items.items } };
+
+    ghost invariant = { λ f. f.taken ≤ length f.items.items };
 }
 
 /// An item for a subscription, in the layout that C reads.
@@ -44,16 +48,6 @@ fn told<C: Crossing>(snapshot: &Snapshot<C>, given: (u64, Item<C::Key>)) -> Told
         serial: given.0,
         item: reading::item(snapshot, given.1),
     }
-}
-
-/// Takes the first n items out of a list.
-fn take_out<K: Copy>(items: &mut Vec<(u64, Item<K>)>, n: usize)
-    requires { n ≤ length items.old.items }
-    ensures { items.new.items ≡ drop n items.old.items }
-{
-    let left = items.len() - n;
-    items.rotate_left(n);
-    items.truncate(left);
 }
 
 /// Writes as many items as fit into a buffer, in the layout that C reads.
@@ -83,8 +77,34 @@ impl<C: Reach> Following<C> {
         Ok(Following {
             alloc,
             feed,
-            waiting: Vec::new(alloc),
+            items: Vec::new(alloc),
+            taken: 0,
         })
+    }
+
+    /// The items that wait.
+    fn waiting(&self) -> &[(u64, Item<C::Key>)]
+        ensures { result.now ≡ self.now.waiting }
+    {
+        &self.items[self.taken..]
+    }
+
+    /// Takes the first n of the items that wait.
+    ///
+    /// The rest moves only once at least as many items were taken, so that taking all items costs time in proportion
+    /// to their number, however few are taken at a time.
+    fn take(&mut self, n: usize)
+        requires { n ≤ length self.old.waiting }
+        ensures rest { self.new.waiting ≡ drop n self.old.waiting }
+        ensures feed_stays { self.new.feed ≡ self.old.feed }
+    {
+        self.taken += n;
+        let left = self.items.len() - self.taken;
+        if left <= self.taken {
+            self.items.rotate_left(self.taken);
+            self.items.truncate(left);
+            self.taken = 0;
+        }
     }
 
     /// Subscribes to the changes of a query that come after a commit, and gives the subscription's serial.
@@ -95,16 +115,21 @@ impl<C: Reach> Following<C> {
         self.feed.subscribe(copy, from)
     }
 
-    /// Goes over at most `most` further commits of a snapshot, unless items wait to be taken.
+    /// Processes at most `most` further commits of a snapshot, or none while items wait. A new subscription gets the
+    /// changes that it missed in either case.
     fn go_on(&mut self, snapshot: &Snapshot<C>, most: u64) -> Result<(), Refusal>
-        ensures ok { OnOk result (GoesOn C.rules most snapshot.now self.old self.new) }
+        ensures ok { OnOk result (GoesOn C.rules
+            (commits_allowed most self.old.waiting) snapshot.now self.old self.new) }
         ensures err { OnErr result (self.new ≡ self.old) }
-        ensures future { result ≡ Err FromFuture → length snapshot.now < self.old.feed.upto }
+        ensures future { (result ≡ Err FromFuture) ↔ (length snapshot.now < self.old.feed.upto) }
         ensures refusals { IfErr result (IsEither FromFuture OutOfMemory) }
     {
-        if self.waiting.is_empty() {
-            self.feed.advance(snapshot, most, &mut self.waiting)?;
-        }
+        let allowed = if self.waiting().is_empty() {
+            most
+        } else {
+            0
+        };
+        self.feed.advance(snapshot, allowed, &mut self.items)?;
         Ok(())
     }
 
@@ -116,7 +141,8 @@ impl<C: Reach> Following<C> {
     }
 }
 
-/// Gives as many of the items that wait as fit into a buffer, their number, and up to which commit the feed has gone.
+/// Delivers as many of the items that wait as fit into a buffer. Returns their number, and the last commit that the
+/// feed has processed.
 fn give<C: Crossing + Reach>(
     following: &mut Following<C>,
     snapshot: &Snapshot<C>,
@@ -125,16 +151,16 @@ fn give<C: Crossing + Reach>(
     ensures { GivesWaiting C.words_of snapshot.now items.old items.new
         following.old following.new result }
 {
-    let given = write_told(snapshot, items, &following.waiting);
-    take_out(&mut following.waiting, given);
+    let given = write_told(snapshot, items, following.waiting());
+    following.take(given);
     (given as u64, following.feed.upto())
 }
 
-/// Gives as many of the items that wait as fit into a buffer. If none waits, the feed first goes over at most `most`
-/// further commits of a snapshot. Also gives how many items were given, and up to which commit the feed has gone.
+/// Processes at most `most` further commits of a snapshot, or none while items wait, and delivers as many items as fit
+/// into a buffer. Returns their number, and the last commit that the feed has processed.
 ///
 /// # Errors
-/// `FromFuture` if the snapshot has fewer commits than the feed has gone over, or `OutOfMemory`.
+/// `FromFuture` if the snapshot has fewer commits than the feed has processed, or `OutOfMemory`.
 pub fn advance<C: Crossing + Reach>(
     following: &mut Following<C>,
     snapshot: &Snapshot<C>,

@@ -1,6 +1,7 @@
 //! Renewal: a new store made of the rows that are live in a snapshot.
 ghost use Rattle.std.specs.Prelude.{◌≡◌, ◌≢◌, ◌↔◌, length, None, Ok, Err, IfOk, IfErr, IsSomeAnd};
 ghost use Rattle.libgist.specs.Buffers.{written_over};
+ghost use Rattle.change_list.specs.Changes.{rows};
 ghost use Rattle.change_list.specs.Configs.{IsWithinLimits};
 ghost use Rattle.store.specs.Renewing.{IsRenewed, numbers_of_living};
 ghost use Rattle.libgist.specs.declared.denied.Denied.TheVariants.{BadLimits};
@@ -34,7 +35,7 @@ fn renewed_of<C: KeyClass>(
     ensures told { IfOk result (λ made.
         made.old_numbers.items ≡ numbers_of_living snapshot.now) }
     ensures bad { (result ≡ Err BadLimits) ↔ (¬ IsWithinLimits config) }
-    ensures refusals { IfErr result RefusesRenewing }
+    ensures refusals { IfErr result (RefusesRenewing config (length (rows snapshot.now))) }
 {
     match Store::renewed(alloc, config, snapshot) {
         Ok(made) => Ok(made),
