@@ -52,7 +52,8 @@ Queries, joined by and, or, not and round brackets:
   holds KEY        KEY lies inside the row's key
   same KEY         the row's key is KEY
 
-A row costs some 90 bytes. For many rows --fan 32 --least 12 is faster.
+A row takes some 90 bytes, of a million sets 107.
+For many rows --fan 32 --least 12 is faster.
 
 A session:
   insert (5 5) 0         => committed 1
