@@ -4,9 +4,9 @@ A run is one seed. Each comparison and each edit that applies is a test of its o
 what failed, which answers came, and which edits were tried.
 """
 import collections
-import subprocess
 from random import Random
 
+import limited
 import session_edits
 import session_model
 import trace_checker
@@ -16,7 +16,7 @@ from trace_drawing import TraceDrawer
 from wrong_rules import RULES
 from wrong_worlds import WORLDS
 
-# Seconds that a program may take for one list
+# Seconds of processor time that a program may take for one list
 LONGEST = 60
 
 # For each verb the words that begin its answers, and its refusals. Each has to come in some list
@@ -75,9 +75,9 @@ def output_of(program, verb, drawer):
     """What a program writes for the lines of a drawer, and what else it reports that it shouldn't, or none."""
     words = [program, verb, *drawer.options()]
     try:
-        ended = subprocess.run(words, input=text_of(drawer.asked), capture_output=True, timeout=LONGEST, check=False)
-    except subprocess.TimeoutExpired:
-        return "", f"no end within {LONGEST} seconds"
+        ended = limited.run(words, LONGEST, text_of(drawer.asked))
+    except limited.TookTooLong as late:
+        return "", str(late)
     told = None if (ended.returncode, ended.stderr) == (0, b"") else f"status {ended.returncode}, {ended.stderr!r}"
     return ended.stdout.decode("ascii", "replace"), told
 

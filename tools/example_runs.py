@@ -10,9 +10,28 @@ import sys
 
 from sources import ROOT, text_of
 
+sys.path.insert(0, f"{ROOT}/tests")
+
+import limited  # noqa: E402
+from trials import skipped  # noqa: E402
+
 FLAGS = ["-std=c11", "-O2", "-g", "-Wall", "-Wextra", "-Werror", "-pedantic", "-pthread"]
 
-# Seconds that one run may take
+# What isn't tried without a program
+NEEDS = {
+    "cc": "all that calls the library",
+    "g++": "C++ by g++",
+    "clang++": "C++ by clang++, and ThreadSanitizer runs",
+    "clang": "ThreadSanitizer runs",
+    "valgrind": "runs under valgrind",
+    "pkg-config": "a program with libgist.so, by pkg-config",
+    "cargo": "bindings/rust by cargo (by rustc instead)",
+    "rustc": "bindings/rust",
+    "rustdoc": "bindings/rust, the examples in its documentation",
+    "redis-server": "examples/replicas.py",
+}
+
+# Seconds of processor time that one run, or each process of a build, may take
 LONGEST = 300
 
 
@@ -45,18 +64,18 @@ class Tally:
 
 @functools.cache
 def has(program):
-    """Whether a program is installed. If it isn't, that is reported once."""
+    """Whether a program is installed. If it isn't, what isn't tried without it is reported once."""
     if shutil.which(program):
         return True
-    print(f"there is no {program}, so what needs it is not run", flush=True)
+    skipped(NEEDS.get(program, f"what needs {program}"), f"{program} is not installed")
     return False
 
 
 def run(words, **more):
     try:
-        return subprocess.run(words, stdin=subprocess.DEVNULL, capture_output=True, text=True, errors="replace", timeout=LONGEST, **more)
-    except subprocess.TimeoutExpired:
-        return subprocess.CompletedProcess(words, 1, "", f"no end within {LONGEST} seconds")
+        return limited.run(words, LONGEST, stdin=subprocess.DEVNULL, text=True, errors="replace", **more)
+    except limited.TookTooLong as late:
+        return subprocess.CompletedProcess(words, 1, "", str(late))
 
 
 def compile_c(tally, source, folder, compiler=("cc", *FLAGS), linked=("-lgist",)):

@@ -4,8 +4,11 @@ import select
 import subprocess
 import threading
 
-# How long the next byte of an answer is waited for, in seconds
-PATIENCE = 120.0
+import limited
+
+# Seconds of processor time that a program may take, and seconds by the clock that the next byte of an answer is waited for
+LONGEST = 300
+PATIENCE = 1_200.0
 
 # Bytes that are read at once
 BLOCK = 1 << 20
@@ -36,6 +39,7 @@ class Program:
     def __init__(self, path, *words):
         pipes = {"stdin": subprocess.PIPE, "stdout": subprocess.PIPE, "stderr": subprocess.PIPE}
         self.child = subprocess.Popen(["gist", *words], executable=path, **pipes)
+        limited.limit(self.child, LONGEST)
         self.lines = 0
 
     def __enter__(self):

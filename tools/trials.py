@@ -1,0 +1,43 @@
+"""Shared by the tools that test the program: the options that name it, how many processes run at once, and what is skipped."""
+import contextlib
+import os
+
+from released import Refused, unpacked
+from sources import ROOT
+
+BUILT = f"{ROOT}/crates/gist/out/gist"
+
+
+def processors():
+    """How many processors this process may use."""
+    return len(os.sched_getaffinity(0))
+
+
+def add_options(parser):
+    """The options of a tool that runs the program in several processes at once."""
+    program = parser.add_mutually_exclusive_group()
+    program.add_argument("--program", metavar="PATH", help="the program to run (default: the one that ./gist --build builds)")
+    program.add_argument("--release", action="store_true", help="run the released program, which needs no toolchain")
+    add_jobs(parser)
+
+
+def add_jobs(parser):
+    parser.add_argument("--jobs", type=int, default=processors(), metavar="N", help="how many processes run at once (default: one for each processor)")
+
+
+@contextlib.contextmanager
+def chosen_program(parser, options):
+    """The path of the program that the options name, during the block. If there is none, that ends the tool with status 2."""
+    try:
+        with unpacked() if options.release else contextlib.nullcontext() as top:
+            program = os.path.abspath(f"{top}/bin/gist" if top else options.program or BUILT)
+            if not os.access(program, os.X_OK):
+                parser.error(f"there is no program {program}: ./gist --build builds it, --release runs the released one")
+            yield program
+    except Refused as why:
+        parser.error(str(why))
+
+
+def skipped(what, why):
+    """Reports what isn't tried, and why. tools/test repeats such lines at its end."""
+    print(f"skipped: {what}: {why}", flush=True)
