@@ -19,6 +19,11 @@ import sys
 import tempfile
 import time
 
+sys.dont_write_bytecode = True
+sys.path.insert(0, os.path.join(os.path.dirname(os.path.dirname(os.path.abspath(__file__))), "tools"))
+
+from trials import chosen_program  # noqa: E402
+
 HERE = os.path.dirname(os.path.abspath(__file__))
 PEER_SOURCE = os.path.join(HERE, "peer", "peer.cpp")
 PEER = os.path.join(HERE, "out", "peer")
@@ -448,7 +453,9 @@ def programs_of(options, name):
 
 def main():
     parser = argparse.ArgumentParser(description="Measures `gist serve` by lines of a fixed seed.")
-    parser.add_argument("program", help="the built program, as crates/gist/out/gist")
+    which = parser.add_mutually_exclusive_group()
+    which.add_argument("program", nargs="?", metavar="PATH", help="the program to run (default: the one that ./gist --build builds)")
+    which.add_argument("--release", action="store_true", help="run the released program, which needs no toolchain")
     parser.add_argument("--class", dest="kinds", action="append", choices=sorted(CLASSES), help="by default all")
     parser.add_argument("--rows", type=int, action="append", help="by default 10000, 100000 and 1000000")
     parser.add_argument("--fan", type=int, default=32)
@@ -473,6 +480,12 @@ def main():
         parser.error("--rows is 2 to 6,710,886")
     if options.peer:
         build_peer()
+    with chosen_program(parser, options) as options.program:
+        measure_classes(options, rows_of_runs)
+
+
+def measure_classes(options, rows_of_runs):
+    """Measures each class of keys with each number of rows, and prints the figures."""
     for name in options.kinds or CLASSES:
         kind = CLASSES[name]
         if options.peer and not kind.has_peer:

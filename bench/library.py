@@ -3,9 +3,11 @@
 beside a plain loop over all of them.
 
     bench/library.py [--class interval|box|set] [--rows N ..] [--finds N] [--turns N] [--callgrind]
-    bench/library.py --threads [--rows N ..] [--finds N] [--turns N]
+                     [--release]
+    bench/library.py --threads [--release] [--rows N ..] [--finds N] [--turns N]
 
-It builds bench/library/library.cpp over the library that tools/library makes, and runs it. Each find must give the same rows by
+It builds bench/library/library.cpp over the library that tools/library makes, or with --release over the released one, which
+needs no toolchain, and runs it. Each find must give the same rows by
 every tree, or the run ends with status 1. By the second, 1, 2 and 4 threads find in snapshots beside one that inserts
 10,000 times a second, and as often as it can (bench/library/threads.c), and beside that as many find in Boost's tree under a
 std::shared_mutex.
@@ -29,11 +31,13 @@ THREADS_SOURCE = os.path.join(HERE, "library", "threads.c")
 THREADS = os.path.join(HERE, "out", "library_threads")
 
 
-def build():
+def build(is_released):
     compiler = shutil.which("c++")
     if compiler is None:
         raise SystemExit("library: there is no c++")
-    subprocess.run([os.path.join(TOP, "tools", "library"), LIBRARY], check=True)
+    made = subprocess.run([os.path.join(TOP, "tools", "library"), *(["--release"] if is_released else []), LIBRARY], stdout=subprocess.DEVNULL)
+    if made.returncode != 0:
+        raise SystemExit("library: there is no library to measure: --release measures the released one")
     boost = ["-DWITH_BOOST"] if has_header(compiler, PEER_HEADER) else []
     if not boost:
         print("Boost's headers are missing: gist is measured alone")
@@ -73,8 +77,9 @@ def main():
     parser.add_argument("--turns", type=int, default=3, help="runs, the least of which counts; up to five times as many of short ones")
     parser.add_argument("--callgrind", action="store_true", help="instructions in place of time, by valgrind, of gist alone")
     parser.add_argument("--threads", action="store_true", help="threads that find beside one that inserts")
+    parser.add_argument("--release", action="store_true", help="measure the released library, which needs no toolchain")
     options = parser.parse_args()
-    build()
+    build(options.release)
     if options.threads:
         return print_threads(options)
     for kind in options.kinds or ["interval", "box", "set"]:

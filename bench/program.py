@@ -44,6 +44,8 @@ def build(folder_name, name):
         with open(stamp, encoding="ascii") as file:
             if file.read() == now:
                 return program
+    if not shutil.which("rt"):
+        raise SystemExit(f"bench: {name} is built by the toolchain's command rt, which is not in the path; the release doesn't have this program")
     os.makedirs(OUT, exist_ok=True)
     with tempfile.TemporaryDirectory(prefix="building-", dir=OUT) as folder:
         for file_name in files_below(sources):

@@ -18,10 +18,6 @@ def add_options(parser):
     program = parser.add_mutually_exclusive_group()
     program.add_argument("--program", metavar="PATH", help="the program to run (default: the one that ./gist --build builds)")
     program.add_argument("--release", action="store_true", help="run the released program, which needs no toolchain")
-    add_jobs(parser)
-
-
-def add_jobs(parser):
     parser.add_argument("--jobs", type=int, default=processors(), metavar="N", help="how many processes run at once (default: one for each processor)")
 
 
