@@ -1,11 +1,14 @@
+#!/usr/bin/env python3
 """Runs of programs with a limit of processor time, which a busy machine doesn't bring nearer.
 
 Only a run that waits for good, and takes no processor time, is ended by the clock, after BACKSTOP times as many seconds.
+`tests/limited.py` tries this.
 """
 import contextlib
 import resource
 import signal
 import subprocess
+import sys
 
 BACKSTOP = 10
 
@@ -52,3 +55,32 @@ def run(words, seconds, given=None, **how):
             child.kill()
             raise
     return subprocess.CompletedProcess(words, child.returncode, output, errors)
+
+
+# Programs with a limit of processor time and a backstop, and why they are ended, if they are
+TRIED = (
+    ("while :; do :; done", 1, 60, "no end within 1 seconds of processor time"),
+    ("sleep 2; echo whole", 1, 60, None),
+    ("echo part; exec sleep 60", 1, 2, "no end within 2 seconds by the clock"),
+)
+
+
+def check():
+    """Tries the limits: whether each program is ended as it has to be."""
+    global BACKSTOP  # pylint: disable=global-statement
+    failed = 0
+    for script, seconds, BACKSTOP, due in TRIED:
+        try:
+            ended, why = run(["sh", "-c", script], seconds), None
+            output = ended.stdout
+        except TookTooLong as late:
+            why, output = str(late), late.output
+        is_well = why == due and output == {"echo part": b"part\n", "sleep 2": b"whole\n"}.get(script.partition(";")[0], b"")
+        failed += not is_well
+        print(f"{'passed' if is_well else 'FAILED'}: {script}: {why or 'ended by itself'}")
+    print(f"{len(TRIED) - failed} passed, {failed} failed")
+    return 1 if failed else 0
+
+
+if __name__ == "__main__":
+    sys.exit(check())
