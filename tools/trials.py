@@ -18,7 +18,8 @@ def add_options(parser):
     program = parser.add_mutually_exclusive_group()
     program.add_argument("--program", metavar="PATH", help="the program to run (default: the one that ./gist --build builds)")
     program.add_argument("--release", action="store_true", help="run the released program, which needs no toolchain")
-    parser.add_argument("--jobs", type=int, default=processors(), metavar="N", help="how many processes run at once (default: one for each processor)")
+    help_of_jobs = "how many processes run at once (default: one for each processor)"
+    parser.add_argument("--jobs", type=int, default=processors(), metavar="N", help=help_of_jobs)
 
 
 @contextlib.contextmanager
