@@ -5,10 +5,12 @@ Only a run that waits for good, and takes no processor time, is ended by the clo
 `tests/limited.py` tries this.
 """
 import contextlib
+import os
 import resource
 import signal
 import subprocess
 import sys
+import time
 
 BACKSTOP = 10
 
@@ -23,7 +25,7 @@ class TookTooLong(Exception):
 
 def limit(child, seconds):
     """Lets a child that was just started take so many seconds of processor time. Past them a signal ends it."""
-    with contextlib.suppress(ProcessLookupError):
+    with contextlib.suppress(ProcessLookupError, PermissionError):
         resource.prlimit(child.pid, resource.RLIMIT_CPU, (seconds, seconds + 5))
 
 
@@ -32,13 +34,28 @@ def has_overrun(child):
     return child.returncode == -signal.SIGXCPU
 
 
+def end(child):
+    """Kills a child, and those that it started, if it was started as the leader of a group."""
+    with contextlib.suppress(ProcessLookupError):
+        if os.getpgid(child.pid) == child.pid:
+            os.killpg(child.pid, signal.SIGKILL)
+    child.kill()
+
+
+def written(part, child):
+    """What a child had written before it was ended; that is bytes even where it writes text."""
+    part = part or b""
+    return part.decode("utf-8", "replace") if child.text_mode and isinstance(part, bytes) else part
+
+
 def finish(child, seconds, given=None):
     """What a limited child writes up to its end on standard output and standard error."""
     try:
         output, errors = child.communicate(given, timeout=BACKSTOP * seconds)
-    except subprocess.TimeoutExpired:
-        child.kill()
-        raise TookTooLong(f"no end within {BACKSTOP * seconds} seconds by the clock", *child.communicate()) from None
+    except subprocess.TimeoutExpired as late:
+        end(child)
+        parts = written(late.stdout, child), written(late.stderr, child)
+        raise TookTooLong(f"no end within {BACKSTOP * seconds} seconds by the clock", *parts) from None
     if has_overrun(child):
         raise TookTooLong(f"no end within {seconds} seconds of processor time", output, errors)
     return output, errors
@@ -52,7 +69,7 @@ def run(words, seconds, given=None, **how):
             limit(child, seconds)
             output, errors = finish(child, seconds, given)
         except BaseException:
-            child.kill()
+            end(child)
             raise
     return subprocess.CompletedProcess(words, child.returncode, output, errors)
 
@@ -61,7 +78,8 @@ def run(words, seconds, given=None, **how):
 TRIED = (
     ("while :; do :; done", 1, 60, "no end within 1 seconds of processor time"),
     ("sleep 2; echo whole", 1, 60, None),
-    ("echo part; exec sleep 60", 1, 2, "no end within 2 seconds by the clock"),
+    ("echo part; exec sleep 600", 1, 2, "no end within 2 seconds by the clock"),
+    ("echo part; sleep 600; echo whole", 1, 2, "no end within 2 seconds by the clock"),
 )
 
 
@@ -70,12 +88,14 @@ def check():
     global BACKSTOP  # pylint: disable=global-statement
     failed = 0
     for script, seconds, BACKSTOP, due in TRIED:
+        began = time.monotonic()
         try:
-            ended, why = run(["sh", "-c", script], seconds), None
+            ended, why = run(["sh", "-c", script], seconds, text=True, start_new_session=True), None
             output = ended.stdout
         except TookTooLong as late:
             why, output = str(late), late.output
-        is_well = why == due and output == {"echo part": b"part\n", "sleep 2": b"whole\n"}.get(script.partition(";")[0], b"")
+        is_well = why == due and output == {"echo part": "part\n", "sleep 2": "whole\n"}.get(script.partition(";")[0], "")
+        is_well = is_well and time.monotonic() - began < 500
         failed += not is_well
         print(f"{'passed' if is_well else 'FAILED'}: {script}: {why or 'ended by itself'}")
     print(f"{len(TRIED) - failed} passed, {failed} failed")

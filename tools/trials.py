@@ -1,4 +1,5 @@
 """Shared by the tools that test the program: the options that name it, how many processes run at once, and what is skipped."""
+import argparse
 import contextlib
 import os
 
@@ -13,13 +14,20 @@ def processors():
     return len(os.sched_getaffinity(0))
 
 
+def at_least_one(word):
+    """The number that a word of an option stands for."""
+    if not word.isdecimal() or int(word) < 1:
+        raise argparse.ArgumentTypeError(f"{word!r} is no number from 1 on")
+    return int(word)
+
+
 def add_options(parser):
     """The options of a tool that runs the program in several processes at once."""
     program = parser.add_mutually_exclusive_group()
     program.add_argument("--program", metavar="PATH", help="the program to run (default: the one that ./gist --build builds)")
     program.add_argument("--release", action="store_true", help="run the released program, which needs no toolchain")
     help_of_jobs = "how many processes run at once (default: one for each processor)"
-    parser.add_argument("--jobs", type=int, default=processors(), metavar="N", help=help_of_jobs)
+    parser.add_argument("--jobs", type=at_least_one, default=processors(), metavar="N", help=help_of_jobs)
 
 
 @contextlib.contextmanager
