@@ -7,4 +7,5 @@ mod ManyFinds
 mod Pointers
 mod Sharing
 mod Threads
+mod Waiting
 mod Writing

@@ -27,6 +27,7 @@ pub struct Following<C: Reach> {
 }
 
 impl<C: Reach> Model for Following<C> {
+    ghost use Rattle.std.specs.Prelude.{◌≤◌, length, drop};
     ghost use Rattle.key_class.specs.QueryCodes.{query_code};
     ghost use Rattle.std.specs.Coded.{codes};
     ghost use Rattle.libgist.specs.Following.{FollowingState};
@@ -115,6 +116,17 @@ impl<C: Reach> Following<C> {
         self.feed.subscribe(copy, from)
     }
 
+    /// How many further commits a call may process that is asked for `most`: none while items wait.
+    fn allowed(&self, most: u64) -> u64
+        ensures { result ≡ commits_allowed most self.now.waiting }
+    {
+        if self.waiting().is_empty() {
+            most
+        } else {
+            0
+        }
+    }
+
     /// Processes at most `most` further commits of a snapshot, or none while items wait. A new subscription gets the
     /// changes that it missed in either case.
     fn go_on(&mut self, snapshot: &Snapshot<C>, most: u64) -> Result<(), Refusal>
@@ -124,11 +136,7 @@ impl<C: Reach> Following<C> {
         ensures future { (result ≡ Err FromFuture) ↔ (length snapshot.now < self.old.feed.upto) }
         ensures refusals { IfErr result (IsEither FromFuture OutOfMemory) }
     {
-        let allowed = if self.waiting().is_empty() {
-            most
-        } else {
-            0
-        };
+        let allowed = self.allowed(most);
         self.feed.advance(snapshot, allowed, &mut self.items)?;
         Ok(())
     }
