@@ -98,6 +98,8 @@ CALLS: Dict[str, Callable[[World], Call]] = {
     "Feed.subscribe": lambda it: (it.feed().subscribe, {"query": it.query, "since": 0}),
     "Feed.unsubscribe": lambda it: (it.feed().unsubscribe, {"subscription": 1}),
     "Set": lambda it: (Set, {"elements": [1, 2]}),
+    "all_of": lambda it: (gist.all_of, {"queries": [it.query]}),
+    "any_of": lambda it: (gist.any_of, {"queries": [it.query]}),
     "holds": lambda it: (gist.holds, {"key": Interval(1, 2)}),
     "overlaps": lambda it: (gist.overlaps, {"key": Interval(1, 2)}),
     "same": lambda it: (gist.same, {"key": Interval(1, 2)}),

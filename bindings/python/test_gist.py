@@ -5,7 +5,9 @@
 import copy
 import ctypes
 import doctest
+import functools
 import gc
+import operator
 import os
 import pickle
 import random
@@ -18,7 +20,7 @@ import unittest
 from typing import Any, NamedTuple
 
 import gist
-from gist import Box, Error, Feed, Interval, Kind, Limits, Query, Refusal, Relation, Row, Set, Store, holds, overlaps, same, within
+from gist import Box, Error, Feed, Interval, Kind, Limits, Query, Refusal, Relation, Row, Set, Store, all_of, any_of, holds, overlaps, same, within
 
 
 class Keys(NamedTuple):
@@ -268,7 +270,7 @@ class Queries(Case):
     def test_texts_are_refused_at_a_place(self) -> None:
         for key_class, text, at in (
             (Interval, "overlaps ?", 9), (Interval, "same (2 1)", 5), (Interval, "", 0), (Set, "holds {128}", 7), (Box, "within (1 2)", 11),
-            (Interval, "overläps (1 2)", 0),
+            (Interval, "overläps (1 2)", 0), (Interval, "not", 3), (Interval, "same (1 2) or", 13), (Interval, "(same (1 2)", 11), (Interval, "not )", 4),
         ):
             with self.subTest(text):
                 error = self.refused(Refusal.QueryText, Query, key_class, text, at=at)
@@ -276,7 +278,7 @@ class Queries(Case):
 
     def test_queries_have_texts(self) -> None:
         self.assertEqual(repr(holds(Set({5, 1}))), "Query(Set, 'holds {1 5}')")
-        self.assertEqual((overlaps(Box(1, 2, 3, 4)) | same(Box(0, 0, 0, 0))).text, "(overlaps (1 2 3 4)) or (same (0 0 0 0))")
+        self.assertEqual((overlaps(Box(1, 2, 3, 4)) | same(Box(0, 0, 0, 0))).text, "overlaps (1 2 3 4) or same (0 0 0 0)")
         self.assertEqual(Query.by(Relation.WITHIN, (1, 2), Interval).text, "within (1 2)")
         self.assertRaises(TypeError, overlaps, (1, 2))
         self.assertRaises(TypeError, Store, int)
@@ -289,6 +291,135 @@ class Queries(Case):
         long = "within (1 2)".ljust(4096)
         self.assertEqual(Query(Interval, long).text, long)
         self.refused(Refusal.QueryText, Query, Interval, f"{long} ", at=4096)
+
+    def test_too_deep_and_too_long_are_told_apart(self) -> None:
+        atom = "within (1 2)"
+        for text, at, cause in (
+            (f"  ({'not ' * 32}{atom})", 2, "the query is 33 deep; at most 32: combine with any_of and all_of"),
+            (" or ".join([atom] * 40), 0, "the query is 40 deep; at most 32: combine with any_of and all_of"),
+            (f"{atom} and ({' and '.join([atom] * 32)})", 0, "the query is 33 deep; at most 32: "),
+            (" or ".join([atom] * 300), 4096, "the query's text has 4,796 bytes; at most 4,096: split it"),
+            # other causes, whose places are in the text
+            (" or ".join([atom] * 40) + " or", 639, "expected overlaps, within"),
+            ("(" * 40, 40, "expected overlaps, within"),
+            ("not " * 40 + "within (2 1)", 167, "expected overlaps, within"),
+            ("bad " * 40, 0, "expected overlaps, within"),
+            (f"{atom} " * 40, 13, "expected overlaps, within"),
+        ):
+            with self.subTest(text[:30]):
+                error = self.refused(Refusal.QueryText, Query, Interval, text, at=at)
+                self.assertIn(f"QueryText at {at} (21): {cause}", str(error))
+        # nobody wrote the text of a combined query, so it has no place
+        query = Query(Interval, "not " * 31 + atom)
+        error = self.refused(Refusal.QueryText, lambda: ~query)
+        self.assertIn("QueryText (21): the query is 33 deep; at most 32: split it", str(error))
+        many = [same(Set({n % 128})) for n in range(1000)]
+        error = self.refused(Refusal.QueryText, any_of, many)
+        self.assertRegex(str(error), r"^QueryText \(21\): the query's text has 1\d,\d\d\d bytes; at most 4,096: split it")
+
+    def test_queries_have_no_truth_value(self) -> None:
+        one, two = overlaps(Interval(1, 2)), overlaps(Interval(3, 4))
+        for call in (lambda: one and two, lambda: one or two, lambda: not one, lambda: bool(one), lambda: 1 if one else 2):
+            with self.assertRaises(TypeError) as caught:
+                call()
+            for sign in "&|~":
+                self.assertIn(sign, str(caught.exception))
+
+    def test_combined_queries_have_few_brackets(self) -> None:
+        a, b, c, d = (same(Set({n})) for n in range(4))
+        queries: Any
+        for query, text in (
+            (a | b | c | d, "same {0} or same {1} or same {2} or same {3}"),
+            (a | (b | (c | d)), "same {0} or same {1} or same {2} or same {3}"),
+            (any_of([a, b & c, ~d]), "same {0} or same {1} and same {2} or not same {3}"),
+            (all_of([a | b, c, ~(d | a)]), "(same {0} or same {1}) and same {2} and not (same {3} or same {0})"),
+            (~(a & b) & (c & d), "not (same {0} and same {1}) and same {2} and same {3}"),
+            (~~a | Query(Set, "(same{1}or(same { 2  3 }))and((not(same{})))"), "not not same {0} or (same {1} or same {2 3}) and not same {}"),
+            (any_of([a]), "same {0}"), (all_of(iter([a, a])), "same {0} and same {0}"),
+        ):
+            self.assertEqual(query.text, text)
+        for count, brackets in ((32, 0), (33, 1), (62, 1), (63, 2), (91, 2), (92, 3)):
+            queries = [same(Set({n})) for n in range(count)]
+            self.assertEqual(any_of(queries).text.count("("), brackets, count)
+            self.assertEqual(re.findall(r"\d+", all_of(queries).text), [str(n) for n in range(count)])
+        # where the rest of the depth is taken, as few levels as possible
+        deep = any_of([same(Set({n})) for n in range(64)])
+        for _ in range(25):
+            deep = ~deep
+        self.assertEqual((deep.text.count("or"), gist._parsed(deep.text)[1]), (63, 32))
+        self.refused(Refusal.QueryText, lambda: ~deep)
+
+    def test_many_alternatives(self) -> None:
+        store: Any = Store(Interval)
+        store.insert_all([((n, n + n % 9), n) for n in range(0, 2100, 3)])
+        now = store.snapshot()
+        rows = list(now)
+        for count in (2, 32, 40, 100, 200):
+            ends = [(n * 10, n * 10 + n % 5) for n in range(count)]
+            queries: Any = [overlaps(Interval(*it)) for it in ends]
+            with self.subTest(count):
+                if count < 200:
+                    expected = [row for row in rows if any(lo <= row.key.hi and row.key.lo <= hi for lo, hi in ends)]
+                    self.assertEqual(now.find(any_of(queries)), expected)
+                    self.assertEqual(now.find(functools.reduce(operator.or_, queries)), expected)
+                    self.assertEqual(now.find(all_of([~it for it in queries])), [row for row in rows if row not in expected])
+                short = [same(Interval(n, n)) for n in range(count)]
+                self.assertEqual([row.tag for row in now.find(any_of(short))], [n for n in range(0, count, 9)])
+        within_all = all_of([within(Interval(-n, 500 + n)) for n in range(40)])
+        self.assertEqual(now.find(within_all), [row for row in rows if row.key.hi <= 500])
+
+    def test_combined_at_random(self) -> None:
+        dice = random.Random(5)
+        rows = [Set(dice.sample(range(8), dice.randrange(5))) for _ in range(60)]
+        store = Store(Set)
+        store.insert_all([(key, 0) for key in rows])
+        now = store.snapshot()
+
+        def some(depth: int) -> Any:
+            """A query, and which rows it has to match."""
+            what = dice.choice("aonkx") if depth else "k"
+            if what == "k":
+                key = Set(dice.sample(range(8), dice.randrange(4)))
+                return dice.choice([(overlaps(key), {n for n, it in enumerate(rows) if it & key}), (within(key), {n for n, it in enumerate(rows) if it <= key})])
+            parts = [some(depth - 1) for _ in range(1 if what in "nx" else dice.randrange(1, 12 if depth == 1 else 4))]
+            queries, sets = zip(*parts)
+            if what == "n":
+                return ~queries[0], set(range(60)) - sets[0]
+            if what == "x":
+                # through a text
+                return Query(Set, f" ( {queries[0].text.replace(' (', '(')})"), sets[0]
+            return (all_of(queries), set.intersection(*sets)) if what == "a" else (any_of(queries), set.union(*sets))
+
+        deepest = 0
+        for _ in range(300):
+            try:
+                query, numbers = some(4)
+            except Error as error:
+                self.assertIn("bytes; at most", str(error))
+                continue
+            deepest = max(deepest, query._tree().least)
+            self.assertEqual([row.number - 1 for row in now.find(query)], sorted(numbers), query.text)
+            # the text may be as deep as there is room, and no deeper
+            node = query._tree()
+            for room in (node.least, node.least + 1, 32):
+                self.assertLessEqual(gist._parsed(node.written(room))[1], room)
+        self.assertGreater(deepest, 6)
+
+    def test_what_is_not_combined(self) -> None:
+        one, other = overlaps(Interval(1, 2)), overlaps(Box(1, 2, 3, 4))
+        for call, kind, text in (
+            (lambda: any_of([]), ValueError, "queries must have at least one query"),
+            (lambda: all_of(iter(())), ValueError, "queries must have at least one query"),
+            (lambda: any_of([one, other]), TypeError, "queries[1] must be a query of Interval, not of Box"),
+            (lambda: any_of([one, "same (1 2)"]), TypeError, "queries[1] must be a Query, not 'same (1 2)'"),
+            (lambda: any_of(one), TypeError, "queries must be an iterable of queries, not a Query"),
+            (lambda: one & other, TypeError, "the right operand of & must be a query of Interval, not of Box"),
+            (lambda: one | None, TypeError, "the right operand of | must be a Query, not None"),
+        ):
+            with self.subTest(text):
+                with self.assertRaises(kind) as caught:
+                    call()
+                self.assertIn(text, str(caught.exception))
 
     def test_keys_of_another_class(self) -> None:
         for keys in self.each():
