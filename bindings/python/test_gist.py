@@ -522,6 +522,116 @@ class Threads(Case):
         self.refused(Refusal.NoHandle, store.wait_past, 1, 30)
 
 
+# Forks while other threads are inside calls, and hold the locks of all objects. Prints what the child finds.
+FORK = """
+import gc, os, signal, sys, threading, time
+from gist import *
+
+store, busy = Store(Interval), Store(Interval)
+store.insert_all([((n, n), n) for n in range(100)])
+now, query, feed = store.snapshot(), overlaps(Interval(0, 9)), Feed(Interval)
+cursor, unclosed = store.open(query), store.open(query)
+inside, over = threading.Event(), threading.Event()
+
+def hold():
+    with store._turn, feed._turn, now._readers, query._readers, query._readers._lock:
+        inside.set()
+        over.wait()
+
+def work():
+    while not over.is_set():
+        Store(Interval).insert_all([((n, n), n) for n in range(500)])
+        busy.insert((1, 2), 3)
+        busy.snapshot().find(query_of_busy)
+
+query_of_busy = overlaps(Interval(0, 9))
+for call in (hold, work, lambda: store.wait_past(10**6)):
+    threading.Thread(target=call, daemon=True).start()
+inside.wait()
+time.sleep(0.05)
+
+def child():
+    calls = {
+        "Store": [store.commits, store.figures, store.sweep, store.snapshot, lambda: store.insert((1, 2), 3), lambda: store.delete(1),
+            lambda: store.open("same (1 2)"), lambda: store.wait_past(0), cursor.items, cursor.mark, lambda: next(iter(cursor)), busy.commits],
+        "Snapshot": [now.commits, lambda: now.find("same (1 2)"), lambda: list(now), lambda: len(now), lambda: now[1], now.renew,
+            lambda: Feed(Interval).advance(now)],
+        "Query": [lambda: Store(Interval).snapshot().find(query), lambda: Store(Interval).open(query)],
+        "Feed": [lambda: feed.subscribe("same (1 2)", 0), lambda: feed.advance(Store(Interval).snapshot()), lambda: feed.unsubscribe(1)],
+    }
+    for noun, some in calls.items():
+        for call in some:
+            try:
+                call()
+            except RuntimeError as error:
+                assert str(error) == f"gist: this {noun} was made before os.fork(); make a new one in the child process", error
+            else:
+                assert False, noun
+    print(store, now, query)
+    with store, now, query, feed, cursor:
+        pass
+    for it in (store, now, query, feed, cursor):
+        it.close()
+    # what the child makes works, in threads, too
+    mine, its_feed = Store(Interval), Feed(Interval)
+    its_feed.subscribe(query & overlaps(Interval(0, 5)), 0)
+    thread = threading.Thread(target=mine.insert_all, args=([((n, n), n) for n in range(1000)],))
+    thread.start()
+    thread.join()
+    late = mine.open("overlaps (0 9)")
+    print(mine, len(late.items()), len(its_feed.advance(mine.wait_past(0)).told))
+    mine.close()
+
+def forked(call):
+    sys.stdout.flush()
+    number = os.fork()
+    if not number:
+        call()
+        # with what the interpreter does at its end
+        sys.exit(0)
+    end = time.monotonic() + 20
+    while time.monotonic() < end:
+        ended, status = os.waitpid(number, os.WNOHANG)
+        if ended:
+            print("ended", status)
+            return
+        time.sleep(0.01)
+    os.kill(number, signal.SIGKILL)
+    os.waitpid(number, 0)
+    print("the child hangs")
+
+def grandchild():
+    global store, now, query, feed, cursor, busy
+    mine = store = busy = Store(Interval)
+    now, query, feed, cursor = mine.snapshot(), overlaps(Interval(0, 9)), Feed(Interval), mine.open("same (1 2)")
+    forked(child)
+    print("and here", mine.commits(), now.commits())
+
+def leave():
+    global store, now, query, feed, cursor, unclosed, busy, query_of_busy
+    del store, now, query, feed, cursor, unclosed, busy, query_of_busy
+    gc.collect()
+
+forked(child)
+forked(lambda: None)
+forked(leave)
+forked(grandchild)
+over.set()
+time.sleep(0.01)
+print("parent", store.commits(), now.commits(), len(cursor.items()), len(store.standings()))
+"""
+
+
+class Forks(Case):
+    """Processes that a process with threads forks."""
+
+    def test_objects_of_the_parent_are_refused(self) -> None:
+        ended = subprocess.run([sys.executable, "-X", "dev", "-W", "ignore", "-c", FORK], text=True, capture_output=True, check=False, timeout=120)
+        before = "<Store of Interval, made before os.fork()> <Snapshot, made before os.fork()> Query(Interval, 'overlaps (0 9)')"
+        child = f"{before}\n<Store of Interval with 1000 commits> 10 6\nended 0\n"
+        self.assertEqual((ended.stdout, ended.stderr), (f"{child}ended 0\nended 0\n{child}and here 0 0\nended 0\nparent 100 100 10 2\n", ""))
+
+
 class Numbers(Case):
     """Numbers, names and versions."""
 
