@@ -626,7 +626,8 @@ class Forks(Case):
     """Processes that a process with threads forks."""
 
     def test_objects_of_the_parent_are_refused(self) -> None:
-        ended = subprocess.run([sys.executable, "-X", "dev", "-W", "ignore", "-c", FORK], text=True, capture_output=True, check=False, timeout=120)
+        # without -X dev, with which the end of any forked child of Python 3.8 crashes
+        ended = subprocess.run([sys.executable, "-W", "ignore", "-c", FORK], text=True, capture_output=True, check=False, timeout=120)
         before = "<Store of Interval, made before os.fork()> <Snapshot, made before os.fork()> Query(Interval, 'overlaps (0 9)')"
         child = f"{before}\n<Store of Interval with 1000 commits> 10 6\nended 0\n"
         self.assertEqual((ended.stdout, ended.stderr), (f"{child}ended 0\nended 0\n{child}and here 0 0\nended 0\nparent 100 100 10 2\n", ""))
@@ -674,7 +675,14 @@ class Numbers(Case):
         env = {**os.environ, "GIST_LIB_DIR": "/nowhere", "PYTHONPATH": os.path.dirname(os.path.abspath(gist.__file__))}
         ended = subprocess.run([sys.executable, "-c", "import gist"], env=env, text=True, capture_output=True, check=False)
         self.assertNotEqual(ended.returncode, 0)
-        self.assertIn("GIST_LIB_DIR has to name the folder with libgist.so", ended.stderr)
+        self.assertIn("GIST_LIB_DIR has to name the folder with libgist.so: `tools/library --release FOLDER`", ended.stderr)
+
+    def test_the_folder_may_be_relative(self) -> None:
+        folder, name = os.path.split(os.path.dirname(os.path.abspath(gist._library._name)))
+        env = {**os.environ, "GIST_LIB_DIR": name, "PYTHONPATH": os.path.dirname(os.path.abspath(gist.__file__))}
+        words = [sys.executable, "-c", "import os, gist; os.chdir('/'); print(os.path.dirname(gist._library._name))"]
+        ended = subprocess.run(words, env=env, cwd=folder, text=True, capture_output=True, check=False)
+        self.assertEqual((ended.stdout, ended.stderr), (os.path.join(folder, name) + "\n", ""))
 
     def test_documents(self) -> None:
         failed, tried = doctest.testmod(gist)
