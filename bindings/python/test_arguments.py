@@ -271,6 +271,14 @@ class Limited(Case):
                 self.assertEqual((len(some.items), len(world.now.changes(world.query, some.upto).items)), (most, ROWS - most))
                 self.assertEqual(len(world.feed().advance(world.now, most).told), most)
 
+    def test_keys_that_fill_a_buffer(self) -> None:
+        now = World().now
+        # as many rows as the first buffer has places, and as many keys as there are places for their ends
+        self.assertEqual([len(it) for it in now.find_each(Relation.OVERLAPS, [Interval(100, 350)])], [256])
+        for count in (1, 2, 255, 256, 257, 600):
+            found = now.find_each(Relation.SAME, [Interval(n, n + 5) for n in range(count)])
+            self.assertEqual([[row.tag for row in it] for it in found], [[n] for n in range(count)])
+
     def test_a_limit_below_0_is_refused(self) -> None:
         world = World()
         cursor, feed = world.store.open(world.query), world.feed()
