@@ -11,6 +11,7 @@ import decimal
 import enum
 import inspect
 import math
+import pickle
 import resource
 import unittest
 from typing import Any, Callable, Dict, Iterator, List, Tuple
@@ -355,7 +356,8 @@ class Texts(Case):
         for refusal, wrong in ((Refusal.OtherClass, lambda: store.open(other)), (Refusal.BadLimits, lambda: Store(Interval, Limits(fan=65)))):
             with self.assertRaises(Error) as caught:
                 wrong()
-            self.assertEqual(caught.exception.refusal, refusal)
+            again = pickle.loads(pickle.dumps(caught.exception))
+            self.assertEqual((again.refusal, type(again), str(again)), (refusal, type(caught.exception), str(caught.exception)))
 
     def test_refusals(self) -> None:
         store = Store(Interval, Limits(fan=4, least=2, pages=64, commits=3))
