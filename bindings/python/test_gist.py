@@ -524,7 +524,7 @@ class Threads(Case):
 
 # Forks while other threads are inside calls, and hold the locks of all objects. Prints what the child finds.
 FORK = """
-import gc, os, signal, sys, threading, time
+import gc, gist, os, signal, sys, threading, time
 from gist import *
 
 store, busy = Store(Interval), Store(Interval)
@@ -572,6 +572,10 @@ def child():
         pass
     for it in (store, now, query, feed, cursor):
         it.close()
+    # nothing is freed that a thread may have left half changed
+    dropped = []
+    gist._drop_handle(dropped.append, store._handle, store._forks)
+    assert not dropped
     # what the child makes works, in threads, too
     mine, its_feed = Store(Interval), Feed(Interval)
     its_feed.subscribe(query & overlaps(Interval(0, 5)), 0)
