@@ -564,7 +564,7 @@ def child():
             try:
                 call()
             except RuntimeError as error:
-                assert str(error) == f"gist: this {noun} was made before os.fork(); make a new one in the child process", error
+                assert str(error) == f"gist: this {noun} was made before os.fork() in a process with threads; make a new one in the child process", error
             else:
                 assert False, noun
     print(store, now, query)
@@ -608,6 +608,7 @@ def grandchild():
     global store, now, query, feed, cursor, busy
     mine = store = busy = Store(Interval)
     now, query, feed, cursor = mine.snapshot(), overlaps(Interval(0, 9)), Feed(Interval), mine.open("same (1 2)")
+    threading.Thread(target=time.sleep, args=(60,), daemon=True).start()
     forked(child)
     print("and here", mine.commits(), now.commits())
 
@@ -625,6 +626,21 @@ time.sleep(0.01)
 print("parent", store.commits(), now.commits(), len(cursor.items()), len(store.standings()))
 """
 
+FORK_OF_ONE = """
+import os, sys
+from gist import *
+
+store = Store(Interval)
+store.insert_all([((1, 2), 11), ((3, 4), 12)])
+now, cursor = store.snapshot(), store.open("overlaps (0 9)")
+child = os.fork()
+if child:
+    print("ended", os.waitpid(child, 0)[1])
+else:
+    store.insert((5, 6), 13)
+print("parent" if child else "child", [row.tag for row in now], store.commits(), len(cursor.items(2)))
+"""
+
 
 class Forks(Case):
     """Processes that a process with threads forks."""
@@ -635,6 +651,10 @@ class Forks(Case):
         before = "<Store of Interval, made before os.fork()> <Snapshot, made before os.fork()> Query(Interval, 'overlaps (0 9)')"
         child = f"{before}\n<Store of Interval with 1000 commits> 10 6\nended 0\n"
         self.assertEqual((ended.stdout, ended.stderr), (f"{child}ended 0\nended 0\n{child}and here 0 0\nended 0\nparent 100 100 10 2\n", ""))
+
+    def test_a_child_of_one_thread_has_copies(self) -> None:
+        ended = subprocess.run([sys.executable, "-W", "ignore", "-c", FORK_OF_ONE], text=True, capture_output=True, check=False, timeout=120)
+        self.assertEqual((ended.stdout, ended.stderr), ("child [11, 12] 3 2\nended 0\nparent [11, 12] 2 2\n", ""))
 
 
 class Numbers(Case):
