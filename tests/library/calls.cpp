@@ -70,6 +70,7 @@ template <class Key> void snapshots(const Keys<Key> &keys) {
         HOLDS(now.find(Query<Key>(relation, keys.far)).size() == 1 && now.find_each(relation, {keys.far})[0][0].row == 3);
     const auto each = now.find_each(Relation::Overlaps, {keys.one, keys.far});
     HOLDS(each.size() == 2 && each[0].size() == 2 && each[1].size() == 1 && is(each[1][0], 3, keys.far, 30));
+    HOLDS(now.count(gist::everything<Key>()) == 3);
     HOLDS(now.find_each(Relation::Same, {nullptr, 0}).empty() && now.count(Query<Key>(keys.text)) == 2);
 
     HOLDS(store.move(1, keys.far) == 4 && store.erase(2) == 5);
@@ -201,7 +202,7 @@ void keys_and_texts() {
         Query<Interval>("overlaps ?");
         fail(__LINE__, "not refused");
     } catch (const Error &error) {
-        HOLDS(error.number == GIST_QUERY_TEXT && error.fault == 9 && std::string(error.what()) == "gist: QueryText (21) at byte 9");
+        HOLDS(error.number == GIST_QUERY_TEXT && error.fault == 9 && std::string(error.what()).find("gist: QueryText (21): query text is wrong at byte 9: write") == 0);
     }
     Set set{1, 64};
     set.insert(127);
@@ -213,6 +214,10 @@ void keys_and_texts() {
     }
     Store<Interval> moved = std::move(store);
     HOLDS(moved.stats().commits == 1);
+    constexpr Box corner = Box::point(-5, 7);
+    HOLDS((corner == Box{-5, 7, -5, 7} && Interval::point(9) == Interval{9, 9}));
+    HOLDS(corner.text() == "(-5 7 -5 7)" && Interval::widest().text() == "(-9223372036854775808 9223372036854775807)");
+    HOLDS((Set{127, 5}.text() == "{5 127}" && Set().text() == "{}" && Set::widest().contains(127)));
 
     /* more rows than a find has room for at first */
     std::vector<gist::Entry<Interval>> entries;
@@ -258,10 +263,18 @@ void names() {
                                 GIST_FINDERS_FULL, GIST_NO_SUCH_ROW, GIST_ALREADY_DELETED, GIST_NO_SUCH_CURSOR,
                                 GIST_CURSOR_CLOSED, GIST_QUERY_TEXT, GIST_FROM_FUTURE, GIST_FEED_FULL, GIST_NOT_SUBSCRIBED,
                                 GIST_BAD_ENDS, GIST_OTHER_CLASS, GIST_NO_HANDLE, GIST_BAD_LIMITS};
-    for (size_t i = 0; i < std::size(all); i++)
+    for (size_t i = 0; i < std::size(all); i++) {
         HOLDS(Error::name_of(numbers[i]) == all[i]);
+        /* what is wrong, and then what to do */
+        const std::string what = Error(numbers[i], 9, 0).what(), front = "gist: " + std::string(all[i]) + " (" + std::to_string(numbers[i]) + "): ";
+        HOLDS(what.compare(0, front.size(), front) == 0 && what.find_first_of(":;", front.size()) < what.size() - 8);
+    }
     HOLDS(Error::name_of(0).empty() && Error::name_of(30).empty());
+    HOLDS(std::string(Error(GIST_CURSORS_FULL, 0, 2).what()) ==
+          "gist: CursorsFull (5) after 2 done: too many cursors: 256 are open, or 4,294,967,295 were opened; close one, or renew the store");
     static_assert(!std::is_copy_constructible_v<gist::Snapshot<Set>> && !std::is_copy_constructible_v<Query<Set>>);
+    static_assert(!std::is_default_constructible_v<Interval> && !std::is_default_constructible_v<Box>);
+    static_assert(std::is_trivially_copyable_v<Interval> && std::is_trivially_copyable_v<Box> && sizeof(Box) == 16);
     static_assert(!std::is_copy_constructible_v<gist::Cursor<Set>> && std::is_nothrow_move_constructible_v<gist::Snapshot<Set>>);
 }
 
