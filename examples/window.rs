@@ -9,8 +9,7 @@ fn show(window: &mut Cursor<'_, BoxKey>) -> Result<(), Error> {
     for item in window {
         match item? {
             Item::Change(Change::Deleted { row, .. }) => println!("{} has left", row.tag),
-            Item::Row(row)
-            | Item::Change(Change::Inserted(row) | Change::Moved { row, .. }) => {
+            Item::Row(row) | Item::Change(Change::Inserted(row) | Change::Moved { row, .. }) => {
                 println!("{} is at {} {}", row.tag, row.key.x1, row.key.y1)
             }
             _ => {}

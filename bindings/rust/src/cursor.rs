@@ -51,15 +51,18 @@ impl CursorNumber {
 
 // SAFETY of each call below: as for the calls of a store.
 impl<'a, K: Key> Cursor<'a, K> {
+    /// The most items that one call of the library returns.
+    const MOST_AT_ONCE: usize = 1_024;
+
     pub(crate) fn of(store: &'a Store<K>, number: u64) -> Cursor<'a, K> {
         Cursor { store, number }
     }
 
-    /// The next items by one call, at most `most`. There are none only if nothing is left now.
+    /// The next items, at most `most`; with `usize::MAX` all that are left now. There are none only if nothing is left.
     ///
     /// # Errors
-    /// [`Error::OutOfMemory`], and the next call goes on. If the cursor was attached to a store that isn't its own, it
-    /// is refused as [`Error::NoSuchCursor`] or [`Error::CursorClosed`], or stands for a cursor of that store.
+    /// [`Error::OutOfMemory`]; no item is lost, and the next call goes on. A cursor that was attached to a store that isn't
+    /// its own is refused as [`Error::NoSuchCursor`] or [`Error::CursorClosed`], or is taken for a cursor of that store.
     ///
     /// ```
     /// use gist::{Interval, Query, Store};
@@ -67,12 +70,32 @@ impl<'a, K: Key> Cursor<'a, K> {
     /// let rooms = Store::<Interval>::new()?;
     /// rooms.insert_all((0..10).map(|hour| (hour, 71)))?;
     /// let mut all = rooms.open(&Query::everything()?)?;
-    /// assert_eq!((all.next_items(4)?.len(), all.next_items(9)?.len(), all.next_items(9)?.len()), (4, 6, 0));
+    /// assert_eq!(all.next_items(4)?.len(), 4);
+    /// assert_eq!(all.next_items(usize::MAX)?.len(), 6);
+    /// assert_eq!(all.next_items(usize::MAX)?.len(), 0);
     /// # Ok::<(), gist::Error>(())
     /// ```
     pub fn next_items(&mut self, most: usize) -> Result<Vec<Item<K>>, Error> {
-        let mut items = vec![ffi::Item::default(); most];
-        let mut all = Vec::with_capacity(most);
+        let mut items = vec![ffi::Item::default(); most.min(Self::MOST_AT_ONCE)];
+        let mut all = Vec::new();
+        loop {
+            let room = items.len().min(most - all.len());
+            match self.next_into(&mut items[..room]) {
+                Ok(given) => {
+                    all.extend(items[..given].iter().copied().filter_map(item));
+                    if given < room || all.len() == most {
+                        return Ok(all);
+                    }
+                }
+                // the next call returns the error
+                Err(_) if !all.is_empty() => return Ok(all),
+                Err(error) => return Err(error),
+            }
+        }
+    }
+
+    /// Fills a buffer with the next items, and returns how many there are.
+    fn next_into(&mut self, items: &mut [ffi::Item]) -> Result<usize, Error> {
         let mut given = 0;
         told(unsafe {
             ffi::gist_next(
@@ -83,8 +106,7 @@ impl<'a, K: Key> Cursor<'a, K> {
                 &mut given,
             )
         })?;
-        all.extend(items[..given as usize].iter().copied().filter_map(item));
-        Ok(all)
+        Ok(given as usize)
     }
 
     /// Asks for a mark: an [`Item::Mark`] with the number of a commit, which shows that everything up to that commit
@@ -150,19 +172,10 @@ impl<K: Key> Iterator for Cursor<'_, K> {
     type Item = Result<Item<K>, Error>;
 
     fn next(&mut self) -> Option<Result<Item<K>, Error>> {
-        let (mut told_item, mut given) = (ffi::Item::default(), 0);
-        let answer = unsafe {
-            ffi::gist_next(
-                self.store.handle(),
-                self.number,
-                &mut told_item,
-                1,
-                &mut given,
-            )
-        };
-        match told(answer) {
-            Ok(()) if given == 0 => None,
-            Ok(()) => item(told_item).map(Ok),
+        let mut items = [ffi::Item::default()];
+        match self.next_into(&mut items) {
+            Ok(0) => None,
+            Ok(_) => item(items[0]).map(Ok),
             Err(error) => Some(Err(error)),
         }
     }

@@ -5,7 +5,9 @@ use std::error;
 use std::fmt;
 use std::ops::Range;
 
-/// Why a call was refused. A refused call changes neither the commits nor what a cursor still has to give.
+/// Why a call was refused. A refused call changes neither the commits nor what a cursor still has to deliver.
+///
+/// Its text says what is wrong and then what to do.
 ///
 /// ```
 /// use gist::{Error, Interval, Store};
@@ -15,6 +17,8 @@ use std::ops::Range;
 /// assert_eq!(refused, Error::BadEnds);
 /// assert_eq!(refused.number(), 26);
 /// assert_eq!(refused.name(), "BadEnds");
+/// let text = "key's lower end exceeds its upper end: pass the lower end first; an empty range is no key";
+/// assert_eq!(refused.to_string(), text);
 /// # Ok::<(), Error>(())
 /// ```
 #[derive(Clone, Copy, Debug, PartialEq, Eq, Hash)]
@@ -22,7 +26,7 @@ use std::ops::Range;
 pub enum Error {
     /// Memory ran out. The same call may be made again.
     OutOfMemory,
-    /// No class or no relation has the number, or a handle isn't empty. This crate's calls never give it.
+    /// No class or no relation has the number, or a handle isn't empty. This crate's calls never return it.
     BadConfig,
     /// Fewer than two pages are left of [`Limits::pages`](crate::Limits::pages).
     PagesFull,
@@ -36,16 +40,30 @@ pub enum Error {
     NoSuchRow,
     /// The row was deleted or moved.
     AlreadyDeleted,
-    /// The number was never given to a cursor of the store.
+    /// No cursor of the store has the number.
     NoSuchCursor,
     /// The cursor is closed.
     CursorClosed,
-    /// The text of a query is refused.
+    /// The text of a query is wrong.
     QueryText {
         /// The place of the first wrong byte, counted from 0.
         at: usize,
     },
-    /// There are fewer commits than the one to follow.
+    /// A query is more than 32 deep: a key is 1 deep, and each `and`, `or` and `not` around it adds 1.
+    /// [`Query::any_of`](crate::Query::any_of) and the operators of [`Condition`](crate::Condition) join n queries so that
+    /// they add only log2 n, rounded up.
+    QueryTooDeep {
+        /// How deep it is.
+        depth: usize,
+    },
+    /// The text of a query, or of the one that a combination makes, has more than 4,096 bytes.
+    QueryTooLong {
+        /// How many it has.
+        length: usize,
+    },
+    /// There are no queries to combine.
+    NoQueries,
+    /// The store or the snapshot has fewer commits than the one to follow, or than the feed has processed.
     FromFuture,
     /// 1,000,000 subscriptions of the feed are open, or 4,294,967,295 were opened.
     FeedFull,
@@ -53,9 +71,9 @@ pub enum Error {
     NotSubscribed,
     /// The ends of a key are out of order.
     BadEnds,
-    /// The keys are of another class. This crate's calls never give it, since its types tell the classes apart.
+    /// The keys are of another class. This crate's calls never return it, since its types tell the classes apart.
     OtherClass,
-    /// A handle is empty. This crate's calls never give it.
+    /// A handle is empty. This crate's calls never return it.
     NoHandle,
     /// A limit is out of range; [`Limits`](crate::Limits) has the ranges.
     BadLimits,
@@ -67,7 +85,7 @@ pub enum Error {
 }
 
 impl Error {
-    /// The refusal with a number. `at` is the wrong byte of a query's text.
+    /// The refusal with a number. `fault` is the wrong byte of a query's text.
     pub(crate) fn of(number: u32, fault: u64) -> Error {
         match number {
             1 => Error::OutOfMemory,
@@ -92,7 +110,7 @@ impl Error {
         }
     }
 
-    /// The number of the refusal in the header for C.
+    /// The number of the refusal in the header for C; 0 for [`Error::NoQueries`], which isn't one of the library's.
     pub fn number(self) -> u32 {
         match self {
             Error::OutOfMemory => 1,
@@ -105,7 +123,8 @@ impl Error {
             Error::AlreadyDeleted => 15,
             Error::NoSuchCursor => 16,
             Error::CursorClosed => 17,
-            Error::QueryText { .. } => 21,
+            Error::QueryText { .. } | Error::QueryTooDeep { .. } | Error::QueryTooLong { .. } => 21,
+            Error::NoQueries => 0,
             Error::FromFuture => 23,
             Error::FeedFull => 24,
             Error::NotSubscribed => 25,
@@ -117,7 +136,7 @@ impl Error {
         }
     }
 
-    /// The library's name of the refusal, empty for [`Error::Unknown`].
+    /// The library's name of the refusal, empty for [`Error::NoQueries`] and [`Error::Unknown`].
     pub fn name(self) -> String {
         let mut name = [0; 16];
         // SAFETY: the buffer has that many bytes.
@@ -127,38 +146,83 @@ impl Error {
     }
 }
 
+/// What is wrong, then what to do. `include/gist_values.hpp` has the same words.
 impl fmt::Display for Error {
     fn fmt(&self, f: &mut fmt::Formatter<'_>) -> fmt::Result {
-        let told = match self {
-            Error::OutOfMemory => "memory is wanting",
-            Error::BadConfig => "no class or relation has the number, or a handle is used twice",
-            Error::PagesFull => "fewer than two pages are left: renew the store",
-            Error::CommitsFull => "there are as many commits as the limit: renew the store",
-            Error::CursorsFull => "256 cursors are open: close one",
-            Error::FindersFull => "4,294,967,295 deletes and moves were begun: renew the store",
-            Error::NoSuchRow => "expected the number of an insert or a move",
-            Error::AlreadyDeleted => "expected a row that lives; this one was deleted or moved",
-            Error::NoSuchCursor => "expected a number that was given to a cursor of this store",
-            Error::CursorClosed => "expected an open cursor; this one is closed",
+        let text = match self {
+            Error::OutOfMemory => "out of memory: free some and try again",
+            Error::BadConfig => {
+                "no such class or relation, or the handle is in use: pass a named constant, and an empty handle"
+            }
+            Error::PagesFull => {
+                "store is full: fewer than two of its pages are left; sweep it, or renew it with a higher page limit"
+            }
+            Error::CommitsFull => {
+                "store is full: it has as many commits as its limit; renew it with a limit above its number of live rows"
+            }
+            Error::CursorsFull => {
+                "too many cursors: 256 are open, or 4,294,967,295 were opened; close one, or renew the store"
+            }
+            Error::FindersFull => "store has used up its 4,294,967,295 deletes and moves: renew it",
+            Error::NoSuchRow => {
+                "no such row: pass the number of an insert or a move that the store or the snapshot has"
+            }
+            Error::AlreadyDeleted => {
+                "row was deleted or moved: pass the number of a live row; a move returns the row's new number"
+            }
+            Error::NoSuchCursor => "no such cursor: use one that this store opened",
+            Error::CursorClosed => "cursor is closed: open another, or follow the last mark",
             Error::QueryText { at } => {
                 return write!(
                     f,
-                    "the query is refused at byte {at}: expected `overlaps`, `within`, `holds` or `same` with a key, \
+                    "query text is wrong at byte {at}: write `overlaps`, `within`, `holds` or `same` with a key, \
                      joined by `and`, `or`, `not` and round brackets, at most 32 deep and 4,096 bytes long"
                 );
             }
-            Error::FromFuture => "expected a commit that there is, or 0",
-            Error::FeedFull => "1,000,000 subscriptions are open: end one",
-            Error::NotSubscribed => "expected the number of an open subscription",
-            Error::BadEnds => "expected a key whose lower ends aren't above its upper ones",
-            Error::OtherClass => "expected keys of the same class",
-            Error::NoHandle => "a handle has nothing",
-            Error::BadLimits => {
-                "expected a fan of 4 to 64, a least of 2 to half of it, 1 to 65,536 pages and 1 to 16,777,216 commits"
+            Error::QueryTooDeep { depth } => {
+                return write!(
+                    f,
+                    "query is {depth} deep; at most 32: combine alternatives with any_of or all_of, or split it into \
+                     several queries"
+                );
             }
-            Error::Unknown { number } => return write!(f, "refusal {number} of the library"),
+            Error::QueryTooLong { length } => {
+                return write!(
+                    f,
+                    "query text has {length} bytes; at most 4,096: split it into several queries"
+                );
+            }
+            Error::NoQueries => "queries is empty: pass at least one query",
+            Error::FromFuture => {
+                "no such commit yet: the store or the snapshot has fewer; pass one that it has, or a later snapshot"
+            }
+            Error::FeedFull => {
+                "too many subscriptions: 1,000,000 are open, or 4,294,967,295 were opened; end one, or begin another feed"
+            }
+            Error::NotSubscribed => {
+                "no such subscription: pass the number of one that is open"
+            }
+            Error::BadEnds => {
+                "key's lower end exceeds its upper end: pass the lower end first; an empty range is no key"
+            }
+            Error::OtherClass => {
+                "different classes of keys: use a query, a feed and a snapshot of the same class"
+            }
+            Error::NoHandle => {
+                "object is empty: it was moved from, closed or never made; make another"
+            }
+            Error::BadLimits => {
+                "limit is out of range: use a fan of 4 to 64, a least of 2 to half of it, 1 to 65,536 pages and 1 to \
+                 16,777,216 commits"
+            }
+            Error::Unknown { number } => {
+                return write!(
+                    f,
+                    "refusal {number} of another version of the library: see the gist.h of that version"
+                );
+            }
         };
-        f.write_str(told)
+        f.write_str(text)
     }
 }
 
@@ -186,11 +250,7 @@ pub struct Stopped {
 impl fmt::Display for Stopped {
     fn fmt(&self, f: &mut fmt::Formatter<'_>) -> fmt::Result {
         let done = self.done.end - self.done.start;
-        write!(
-            f,
-            "{done} were done, and the next was refused: {}",
-            self.error
-        )
+        write!(f, "{done} done, then the next was refused: {}", self.error)
     }
 }
 
@@ -208,13 +268,8 @@ impl From<Stopped> for Error {
 
 /// Turns a code that isn't 0 into an error.
 pub(crate) fn told(answer: u32) -> Result<(), Error> {
-    told_at(answer, 0)
-}
-
-/// Turns a code that isn't 0 into an error, with the wrong byte of a query's text.
-pub(crate) fn told_at(answer: u32, fault: u64) -> Result<(), Error> {
     match answer {
         0 => Ok(()),
-        number => Err(Error::of(number, fault)),
+        number => Err(Error::of(number, 0)),
     }
 }

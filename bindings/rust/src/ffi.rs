@@ -2,6 +2,10 @@
 
 use std::ffi::{c_char, c_void};
 
+// so a count of the library is a `usize`, too
+#[cfg(not(target_pointer_width = "64"))]
+compile_error!("the library is only built for processors of 64 bits");
+
 /// Every handle has the same two fields, which belong to the library.
 macro_rules! handles {
     ($($name:ident dropped by $drop:ident;)*) => {

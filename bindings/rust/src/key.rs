@@ -37,6 +37,19 @@ pub(crate) mod class {
         fn to_words(self) -> ffi::Key;
 
         fn from_words(key: ffi::Key) -> Self;
+
+        /// The key as the text of a query has it.
+        fn text(self) -> String;
+    }
+}
+
+/// A relation's word in the text of a query.
+pub(crate) fn word(relation: Relation) -> &'static str {
+    match relation {
+        Relation::Overlaps => "overlaps",
+        Relation::Within => "within",
+        Relation::Holds => "holds",
+        Relation::Same => "same",
     }
 }
 
@@ -147,6 +160,10 @@ impl class::Class for Interval {
             hi: key.words[1] as i64,
         }
     }
+
+    fn text(self) -> String {
+        format!("{self:?}")
+    }
 }
 
 impl Key for Interval {
@@ -239,6 +256,10 @@ impl class::Class for BoxKey {
             x2: high as i32,
             y2: (high >> 32) as i32,
         }
+    }
+
+    fn text(self) -> String {
+        format!("{self:?}")
     }
 }
 
@@ -345,6 +366,11 @@ impl class::Class for Set {
 
     fn from_words(key: ffi::Key) -> Set {
         Set(u128::from(key.words[0]) | u128::from(key.words[1]) << 64)
+    }
+
+    fn text(self) -> String {
+        let numbers: Vec<_> = self.iter().map(|number| number.to_string()).collect();
+        format!("{{{}}}", numbers.join(" "))
     }
 }
 

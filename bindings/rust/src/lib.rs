@@ -20,10 +20,11 @@
 //! ```
 //!
 //! The crate calls the library for C, whose functions are proved correct; the crate itself is only tested.
-//! `GIST_LIB_DIR` names the folder with `libgist.a` when it is built: `GIST_LIB_DIR=/usr/local/lib cargo build`.
+//! `GIST_LIB_DIR` names the folder with `libgist.a` when it is built: `GIST_LIB_DIR=lib cargo build`.
 
 #![deny(missing_docs, unsafe_op_in_unsafe_fn)]
 
+mod condition;
 mod cursor;
 mod error;
 mod feed;
@@ -37,6 +38,7 @@ mod shared;
 mod snapshot;
 mod store;
 
+pub use condition::Condition;
 pub use cursor::{Cursor, CursorNumber};
 pub use error::{Error, Stopped};
 pub use feed::{Advance, Feed};

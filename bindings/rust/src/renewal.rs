@@ -60,15 +60,13 @@ impl<K: Key> Renewal<K> {
         })
     }
 
-    /// Repeats the later commits of a later snapshot of the same store, and tells how many they are. An older snapshot has
-    /// none.
+    /// Repeats the later commits of a later snapshot of the same store, and returns how many they are. An older snapshot
+    /// has none.
     ///
     /// # Errors
-    /// [`Error::CommitsFull`] and [`Error::PagesFull`] where the limits are too small; [`Error::OutOfMemory`]. The commits
-    /// before the one that is refused were repeated, and the next call goes on with that one.
-    ///
-    /// # Panics
-    /// If the snapshot is of another store and ends a row that this one never had.
+    /// [`Error::CommitsFull`] and [`Error::PagesFull`] if the limits are too small; [`Error::OutOfMemory`];
+    /// [`Error::NoSuchRow`] if the snapshot is of another store and ends a row that this one never had. The commits before
+    /// the refused one were repeated, and the next call goes on with that one.
     pub fn catch_up(&mut self, now: &Snapshot<K>) -> Result<u64, Error> {
         let from = self.upto;
         for change in (from + 1..=now.commits()).filter_map(|number| now.commit(number)) {
@@ -78,16 +76,21 @@ impl<K: Key> Renewal<K> {
         Ok(self.upto - from)
     }
 
+    /// The number that a row has in the new store.
+    fn number_of(&self, before: u64) -> Result<u64, Error> {
+        self.numbers.get(&before).copied().ok_or(Error::NoSuchRow)
+    }
+
     fn repeat(&mut self, change: Change<K>) -> Result<(), Error> {
         let (before, now) = match change {
             Change::Inserted(row) => (row.number, self.store.insert(row.key, row.tag)?),
             Change::Moved { row, ended } => {
-                let now = self.store.move_to(self.numbers[&ended], row.key)?;
+                let now = self.store.move_to(self.number_of(ended)?, row.key)?;
                 self.numbers.remove(&ended);
                 (row.number, now)
             }
             Change::Deleted { row, .. } => {
-                self.store.delete(self.numbers[&row.number])?;
+                self.store.delete(self.number_of(row.number)?)?;
                 self.numbers.remove(&row.number);
                 return Ok(());
             }
@@ -100,9 +103,6 @@ impl<K: Key> Renewal<K> {
     ///
     /// # Errors
     /// As [`Renewal::catch_up`]; the store is as before then.
-    ///
-    /// # Panics
-    /// As [`Renewal::catch_up`].
     pub fn finish(mut self, store: &mut Store<K>) -> Result<Replaced<K>, Error> {
         self.catch_up(&store.snapshot()?)?;
         Ok(Replaced {

@@ -268,13 +268,13 @@ impl<K: Key> Snapshot<K> {
     /// # Ok::<(), gist::Error>(())
     /// ```
     pub fn find_each(&self, relation: Relation, keys: &[K]) -> Result<Vec<Vec<Row<K>>>, Error> {
-        let keys: Vec<_> = keys.iter().map(|key| key.to_words()).collect();
+        let words: Vec<_> = keys.iter().map(|key| key.to_words()).collect();
         let mut rows = vec![ffi::Row::default(); Self::ROOM];
         let mut ends = vec![0; keys.len()];
         let mut all = Vec::with_capacity(keys.len());
         while all.len() < keys.len() {
             let answered =
-                self.find_each_into(relation, &keys[all.len()..], &mut rows, &mut ends)?;
+                self.find_each_into(relation, &words[all.len()..], &mut rows, &mut ends)?;
             let mut first = 0;
             for &end in &ends[..answered] {
                 let found = &rows[first..end as usize];
@@ -282,7 +282,9 @@ impl<K: Key> Snapshot<K> {
                 first = end as usize;
             }
             if answered == 0 {
-                rows.resize(2 * rows.len(), ffi::Row::default());
+                // the rows of the next key don't fit
+                let found = self.count(&Query::by(relation, keys[all.len()])?)?;
+                rows.resize(found as usize, ffi::Row::default());
             }
         }
         Ok(all)
@@ -314,8 +316,8 @@ impl<K: Key> Snapshot<K> {
         Ok(answered as usize)
     }
 
-    /// The first changes of a query after a commit, at most `most`. After the rows found in a snapshot of `from`
-    /// commits they are what a cursor would give next.
+    /// The first changes of a query after the commit `from`, at most `most`; with `usize::MAX` all of them. After the rows
+    /// of a snapshot of `from` commits they are what a cursor would deliver next.
     ///
     /// # Errors
     /// [`Error::FromFuture`] if there were fewer commits, [`Error::OutOfMemory`].

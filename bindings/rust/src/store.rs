@@ -267,7 +267,8 @@ impl<K: Key> Store<K> {
         Ok(self.add(&[entry])?.start)
     }
 
-    /// Adds rows one after the other until one is refused, and gives their numbers.
+    /// Adds rows one after the other until one is refused, and returns their numbers. It takes no more rows from the
+    /// iterator than the store has commits left, and one.
     ///
     /// # Errors
     /// As [`Store::insert`]; the rows before the refused one were added, and [`Stopped::done`] has their numbers.
@@ -289,7 +290,9 @@ impl<K: Key> Store<K> {
             key: key.into().to_words(),
             tag,
         };
-        self.add(&rows.into_iter().map(entry).collect::<Vec<_>>())
+        let figures = self.figures();
+        let most = (figures.commit_limit - figures.commits) as usize + 1;
+        self.add(&rows.into_iter().take(most).map(entry).collect::<Vec<_>>())
     }
 
     /// Adds rows in the library's layout.

@@ -558,6 +558,9 @@ fn a_refusal_has_the_name_of_the_library() {
         (Error::NoSuchCursor, 16, "NoSuchCursor"),
         (Error::CursorClosed, 17, "CursorClosed"),
         (Error::QueryText { at: 9 }, 21, "QueryText"),
+        (Error::QueryTooDeep { depth: 33 }, 21, "QueryText"),
+        (Error::QueryTooLong { length: 4_097 }, 21, "QueryText"),
+        (Error::NoQueries, 0, ""),
         (Error::FromFuture, 23, "FromFuture"),
         (Error::FeedFull, 24, "FeedFull"),
         (Error::NotSubscribed, 25, "NotSubscribed"),
@@ -569,19 +572,22 @@ fn a_refusal_has_the_name_of_the_library() {
     ];
     for (error, number, name) in all {
         assert_eq!((error.number(), error.name().as_str()), (number, name));
-        assert!(error.to_string().len() > 15, "{error}");
+        // what is wrong, and then what to do
+        let text = error.to_string();
+        let advice = text.split_once([':', ';']).expect("there is advice").1;
+        assert!(advice.len() > 8, "{error}");
     }
     let told = Query::<Interval>::new("same (2 1)")
         .expect_err("the ends are out of order")
         .to_string();
     assert!(
-        told.starts_with("the query is refused at byte 5: expected `overlaps`"),
+        told.starts_with("query text is wrong at byte 5: write `overlaps`"),
         "{told}"
     );
 }
 
 #[test]
-#[should_panic(expected = "a store can't be extended: 0 were done, and the next was refused")]
+#[should_panic(expected = "a store can't be extended: 0 done, then the next was refused")]
 fn a_store_that_cannot_be_extended_panics() {
     let mut store = Store::<Interval>::new().expect("there is memory");
     store.extend([(Interval { lo: 2, hi: 1 }, 0)]);
