@@ -16,6 +16,7 @@
 #include <fstream>
 #include <iostream>
 #include <mutex>
+#include <numeric>
 #include <random>
 #include <sstream>
 #include <thread>
@@ -31,7 +32,7 @@ constexpr int most_x = 180'000'000, most_y = 90'000'000;
 using Place = gist::Row<gist::Box>;
 struct Point { int32_t x, y; };
 
-gist::Box at(Point point) { return {point.x, point.y, point.x, point.y}; }
+gist::Box at(Point point) { return gist::Box::point(point.x, point.y); }
 
 Point some_point(std::mt19937 &random) {
     const auto below = [&](int most) { return int32_t(random() % (2u * unsigned(most) + 1)) - most; };
@@ -113,8 +114,7 @@ struct Map {
 void move_places(Map &map) {
     std::mt19937 random(2);
     std::vector<uint64_t> rows(places);
-    for (int i = 0; i < places; i++)
-        rows[i] = i + 1;
+    std::iota(rows.begin(), rows.end(), uint64_t{1});
     for (int i = 0; i < moves; i++) {
         uint64_t &row = rows[random() % places];
         const std::lock_guard<std::mutex> held(map.lock);

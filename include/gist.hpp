@@ -217,6 +217,9 @@ template <class Key> Query<Key> same(const Key &key) { return {Relation::Same, k
 template <class Key> Query<Key> everything() { return {Relation::Within, Key::widest()}; }
 
 namespace detail {
+/* The query that others make, if they are all for keys of one class. */
+template <class Key, class... More>
+using QueryOf = std::enable_if_t<(std::is_same_v<More, Query<Key>> && ...), Query<Key>>;
 /* The key of the queries in a range. There is none if the range has no queries. */
 template <class Range>
 using KeyOf = typename std::decay_t<decltype(*std::begin(std::declval<const Range &>()))>::query_key;
@@ -229,38 +232,34 @@ template <class Range> Query<KeyOf<Range>> joined(Spelling::Form form, const Ran
         throw std::invalid_argument("gist: queries is empty: pass at least one query");
     return Query<KeyOf<Range>>(std::move(all));
 }
-template <class Key> Query<Key> joined(Spelling::Form form, const Query<Key> &left, const Query<Key> &right) {
+template <class Key, class... More> Query<Key> joined(Spelling::Form form, const Query<Key> &first, const More &...more) {
     Spelling all{form, {}};
-    all.add(left.spelling());
-    all.add(right.spelling());
+    all.add(first.spelling());
+    (all.add(more.spelling()), ...);
     return Query<Key>(std::move(all));
 }
 } // namespace detail
 
 /*
- * Matches what any of some queries matches; they are those of a vector or another range, or in braces: any_of({a, b}).
- * Alternatives are joined as a balanced tree, as by |, so n of them make the query only log2 n deeper: a query is at
- * most 32 deep, and its text has at most 4,096 bytes, which an Error reports. std::invalid_argument if there is no query.
+ * Matches what any of some queries matches: any_of(a, b, c), or those of a vector or another range. Alternatives are joined
+ * as a balanced tree, as by |, so n of them make the query only log2 n deeper: a query is at most 32 deep, and its text
+ * has at most 4,096 bytes; an Error with GIST_QUERY_TEXT says which it exceeds. std::invalid_argument if a range is empty.
  */
 template <class Range> Query<detail::KeyOf<Range>> any_of(const Range &queries) {
     return detail::joined(detail::Spelling::any, queries);
 }
-template <class Key> Query<Key> any_of(std::initializer_list<Query<Key>> queries) {
-    return detail::joined(detail::Spelling::any, queries);
+template <class Key, class... More> detail::QueryOf<Key, More...> any_of(const Query<Key> &first, const More &...more) {
+    return detail::joined(detail::Spelling::any, first, more...);
 }
 /* Matches what all of some queries match; otherwise as any_of. */
 template <class Range> Query<detail::KeyOf<Range>> all_of(const Range &queries) {
     return detail::joined(detail::Spelling::all, queries);
 }
-template <class Key> Query<Key> all_of(std::initializer_list<Query<Key>> queries) {
-    return detail::joined(detail::Spelling::all, queries);
+template <class Key, class... More> detail::QueryOf<Key, More...> all_of(const Query<Key> &first, const More &...more) {
+    return detail::joined(detail::Spelling::all, first, more...);
 }
-template <class Key> Query<Key> operator|(const Query<Key> &left, const Query<Key> &right) {
-    return detail::joined(detail::Spelling::any, left, right);
-}
-template <class Key> Query<Key> operator&(const Query<Key> &left, const Query<Key> &right) {
-    return detail::joined(detail::Spelling::all, left, right);
-}
+template <class Key> Query<Key> operator|(const Query<Key> &left, const Query<Key> &right) { return any_of(left, right); }
+template <class Key> Query<Key> operator&(const Query<Key> &left, const Query<Key> &right) { return all_of(left, right); }
 template <class Key> Query<Key> operator!(const Query<Key> &query) { return Query<Key>(query.spelling().negated()); }
 
 /* A store's commits at the moment when Store::snapshot took it. */

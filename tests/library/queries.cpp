@@ -84,8 +84,9 @@ template <class Key> void combined(Key (*key_of)(int)) {
     HOLDS(matches(now, gist::all_of(nots)) == 1 && matches(now, chain) == 1);
     const std::array<Query<Key>, 1> one{gist::same(key_of(3))};
     HOLDS(matches(now, gist::any_of(one)) == 8 && matches(now, gist::all_of(one)) == 8);
-    HOLDS(matches(now, gist::any_of({gist::same(key_of(0)), gist::same(key_of(1))})) == 3);
-    HOLDS(matches(now, gist::all_of({gist::same(key_of(0)), gist::same(key_of(1))})) == 0);
+    HOLDS(matches(now, gist::any_of(each[4], each[0], each[2])) == 21 && matches(now, gist::all_of(each[5])) == 32);
+    HOLDS(matches(now, gist::any_of(gist::same(key_of(0)), each[1])) == 3);
+    HOLDS(matches(now, gist::all_of(gist::same(key_of(0)), each[1])) == 0);
 
     /* a text is an operand, too, whatever it joins */
     const Query<Key> text("same " + key_of(0).text() + " or same " + key_of(1).text());
@@ -103,7 +104,7 @@ template <class Key> void combined(Key (*key_of)(int)) {
         }
     for (int i = 0; i < 600; i++) {
         const auto &left = known[random() % known.size()], &right = known[random() % known.size()];
-        const unsigned kind = random() % 4;
+        const auto kind = random() % 4;
         try {
             if (kind == 0)
                 known.push_back({left.query | right.query, left.mask | right.mask});
@@ -112,7 +113,7 @@ template <class Key> void combined(Key (*key_of)(int)) {
             else if (kind == 2)
                 known.push_back({!left.query, all_rows & ~left.mask});
             else
-                known.push_back({gist::any_of({!left.query, left.query & right.query, !(!right.query)}),
+                known.push_back({gist::any_of(!left.query, left.query & right.query, !(!right.query)),
                                  (all_rows & ~left.mask) | right.mask});
         } catch (const Error &error) { /* the text may become too long */
             HOLDS(error.number == GIST_QUERY_TEXT && std::string(error.what()).find("query text has ") != std::string::npos);
@@ -137,7 +138,7 @@ Text random_text(std::mt19937 &random, unsigned most) {
         const auto part = random_text(random, most - 1);
         return {"not " + bracketed(part), part.depth + 1};
     }
-    const auto deep = random_text(random, most - 1), other = random_text(random, 1 + random() % 3);
+    const auto deep = random_text(random, most - 1), other = random_text(random, 1 + unsigned(random() % 3));
     const bool is_left = random() % 2;
     return {(is_left ? bracketed(deep) : bracketed(other)) + (random() % 2 ? " and " : " or ") + (is_left ? bracketed(other) : bracketed(deep)),
             1 + std::max(deep.depth, other.depth)};
@@ -155,7 +156,7 @@ void depths() {
     std::mt19937 random(2);
     unsigned deep = 0, good = 0;
     for (int i = 0; i < 3000; i++) {
-        const auto it = random_text(random, 20 + random() % 30);
+        const auto it = random_text(random, 20 + unsigned(random() % 30));
         if (it.text.size() > 4096)
             continue;
         HOLDS(gist::detail::depth_of(it.text) == it.depth);
@@ -200,7 +201,7 @@ void depths() {
     many.clear();
     SAYS("queries is empty", gist::any_of(many));
     SAYS("queries is empty", gist::all_of(std::list<Query<Set>>{}));
-    SAYS("queries is empty", gist::any_of(std::initializer_list<Query<Box>>{}));
+    SAYS("queries is empty", gist::any_of(std::array<Query<Box>, 0>{}));
 }
 
 void moved_from() {

@@ -58,5 +58,7 @@ void uses(gist::Store<Box> &boxes, gist::Store<Interval> &intervals, gist::Store
 #elif CASE == 20 /* a copy of a query */
     const auto query = gist::overlaps(Set{1});
     const auto copy = query;
+#elif CASE == 21 /* alternatives of two classes */
+    gist::any_of(gist::overlaps(Interval{1, 2}), gist::overlaps(Set{1}));
 #endif
 }
