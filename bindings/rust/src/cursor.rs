@@ -8,7 +8,7 @@ use crate::store::Store;
 use std::fmt;
 use std::mem;
 
-/// Gives the rows that match, and then goes on: each later change that its query asks for, in the order of the commits,
+/// Delivers the rows that match its query, and then each later change that matters to it, in the order of the commits,
 /// without a gap and without a repetition. [`Store::open`] and [`Store::follow`] make one.
 ///
 /// As an iterator it ends when nothing is left, and goes on when there is more. It borrows its store, which can be

@@ -1,9 +1,9 @@
 //! An in-memory index of rows by intervals, boxes or sets, whose readers can follow every change.
 //!
 //! A [`Store`] has rows, each with a key, a number and a tag, a number that the caller chooses. A [`Snapshot`] is what
-//! it had at one moment, and can be searched with a [`Query`] while writers go on. A [`Cursor`] gives the rows that
-//! match and then each later change, without a gap and without a repetition; a [`Feed`] does that for up to a million
-//! queries at once. Threads share a store as a [`SharedStore`].
+//! it had at one moment, and can be searched with a [`Query`] while writers go on; queries combine with `&`, `|` and `!`
+//! to a [`Condition`]. A [`Cursor`] delivers the rows that match and then each later change, without a gap and without a
+//! repetition; a [`Feed`] does that for up to a million queries at once. Threads share a store as a [`SharedStore`].
 //!
 //! ```
 //! use gist::{Interval, Query, Store};

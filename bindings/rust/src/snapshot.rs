@@ -58,7 +58,7 @@ impl<K: Key> Snapshot<K> {
     /// How many rows a search has room for at first; it is repeated with more room if that isn't enough.
     const ROOM: usize = 64;
 
-    /// The most changes that one call of the library gives.
+    /// The most changes that one call of the library returns.
     const MOST_AT_ONCE: usize = 4_096;
 
     /// Takes over the snapshot of a handle.
@@ -219,7 +219,7 @@ impl<K: Key> Snapshot<K> {
         Ok(rows[..found].iter().copied().map(row).collect())
     }
 
-    /// Fills a buffer with the live rows that match a query, as many as fit, and gives how many there are in all.
+    /// Fills a buffer with the live rows that match a query, as many as fit, and returns how many there are in all.
     fn find_into(&self, query: &Query<K>, rows: &mut [ffi::Row]) -> Result<usize, Error> {
         let mut found = 0;
         told(self.read(|it| {
@@ -290,7 +290,7 @@ impl<K: Key> Snapshot<K> {
         Ok(all)
     }
 
-    /// Fills one buffer with the rows of the first keys and another with where each key's rows end, and gives how many
+    /// Fills one buffer with the rows of the first keys and another with where each key's rows end, and returns how many
     /// keys were answered.
     fn find_each_into(
         &self,
@@ -351,8 +351,8 @@ impl<K: Key> Snapshot<K> {
         }
     }
 
-    /// Fills a buffer with the changes after a commit, and gives how many there are. `upto` becomes the commit up to
-    /// which they are complete.
+    /// Fills a buffer with the changes after a commit, and returns how many there are. `at` becomes the commit up to which
+    /// they are complete.
     fn changes_into(
         &self,
         query: &Query<K>,
