@@ -207,6 +207,10 @@ fn a_query_that_is_too_deep_or_too_long_says_so() -> Tried {
     assert_eq!(why(&format!("{}same (1 2)", "not ".repeat(31))), None);
     let deep = Some(Error::QueryTooDeep { depth: 33 });
     assert_eq!(why(&format!("{}same (1 2)", "not ".repeat(32))), deep);
+    // `and` binds closer than `or`, and `not` closer than both
+    let text = |n| repeated("not same (1 2) and same (1 2)", " or ", n);
+    assert_eq!(why(&text(30)), None);
+    assert_eq!(why(&text(32)), Some(Error::QueryTooDeep { depth: 34 }));
     // another fault of a deep text is reported where it is
     let text = repeated("same (1 2)", " or ", 40) + " or";
     assert_eq!(why(&text), Some(Error::QueryText { at: 559 }));
