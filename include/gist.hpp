@@ -423,15 +423,27 @@ template <class Key> class Store {
     }
 };
 
-template <class Key> struct Feed : detail::Owner<gist_feed, gist_end> {
+template <class Key> class Feed : public detail::Owner<gist_feed, gist_end> {
+  public:
     Feed() { detail::need(gist_begin(this->raw(), Key::key_class)); }
     uint64_t subscribe(const Query<Key> &query, uint64_t from) {
         return detail::given(gist_subscribe, this->held(), query.held(), from);
     }
     void unsubscribe(uint64_t subscription) { detail::need(gist_unsubscribe(this->held(), subscription)); }
-    /* Processes at most `most` commits, appends what they mean to each subscription to `told`, and returns the last commit
-     * that the feed has processed. If it throws, what was delivered before is in `told`. */
+    /* Processes at most `most` commits, appends their items for each subscription to `told`, and returns the last commit
+     * that the feed has processed. If it throws, what was delivered before is in `told`, and the next call delivers the
+     * rest. */
     uint64_t advance(const Snapshot<Key> &snapshot, std::vector<Told<Key>> &told, uint64_t most = no_limit) {
+        if (waits) /* items that an earlier call left: the feed processes no commit before they are taken */
+            take(snapshot, told, 0);
+        return take(snapshot, told, most);
+    }
+
+  private:
+    bool waits = false; /* whether the feed may have items that were not taken */
+
+    /* Processes commits, and takes all items that then wait. */
+    uint64_t take(const Snapshot<Key> &snapshot, std::vector<Told<Key>> &told, uint64_t most) {
         gist_told buffer[detail::room];
         uint64_t upto = 0;
         for (uint64_t count = detail::room; count == detail::room; most = 0) {
@@ -439,6 +451,7 @@ template <class Key> struct Feed : detail::Owner<gist_feed, gist_end> {
             if (told.capacity() - told.size() < detail::room)
                 told.reserve(std::max(told.size() + detail::room, 2 * told.size()));
             detail::need(gist_advance(this->held(), snapshot.held(), most, buffer, detail::room, &count, &upto));
+            waits = count == detail::room;
             std::transform(buffer, buffer + count, std::back_inserter(told), [](const gist_told &it) {
                 return Told<Key>{it.subscription, detail::item_of<Key>(it.item)};
             });

@@ -46,7 +46,7 @@ inline std::string advice(uint32_t refusal, uint64_t at) {
         return "cursor is closed: open another, or follow the last mark";
     case GIST_QUERY_TEXT:
         return "query text is wrong at byte " + std::to_string(at) +
-               ": write `overlaps`, `within`, `holds` or `same` with a key, joined by `and`, `or`, `not` and round brackets, "
+               ": expected overlaps, within, holds or same with a key, joined by and, or, not and round brackets, "
                "at most 32 deep and 4,096 bytes long";
     case GIST_FROM_FUTURE:
         return "no such commit yet: the store or the snapshot has fewer; pass one that it has, or a later snapshot";

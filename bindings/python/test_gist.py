@@ -684,6 +684,15 @@ class Numbers(Case):
         version = tuple(int(re.search(rf"define GIST_VERSION_{it} (\d+)", text)[1]) for it in ("MAJOR", "MINOR", "PATCH"))
         self.assertEqual(gist.version(), version)
 
+    def test_all_bindings_have_the_same_texts(self) -> None:
+        top = os.path.join(os.path.dirname(os.path.abspath(__file__)), "../..")
+        for path, joint in (("include/gist_values.hpp", r'"\s*"'), ("bindings/rust/src/error.rs", r"\\\n\s*")):
+            with open(os.path.join(top, path), encoding="utf-8") as file:
+                text = re.sub(joint, "", file.read())
+            for refusal in Refusal:
+                with self.subTest(path=path, refusal=refusal):
+                    self.assertIn(gist._EXPECTED[refusal], text)
+
     def test_many_boxes_in_half_a_second(self) -> None:
         dice = random.Random(1)
         places = [(dice.randrange(10**6), dice.randrange(10**6)) for _ in range(100_000)]

@@ -202,7 +202,7 @@ void keys_and_texts() {
         Query<Interval>("overlaps ?");
         fail(__LINE__, "not refused");
     } catch (const Error &error) {
-        HOLDS(error.number == GIST_QUERY_TEXT && error.fault == 9 && std::string(error.what()).find("gist: QueryText (21): query text is wrong at byte 9: write") == 0);
+        HOLDS(error.number == GIST_QUERY_TEXT && error.fault == 9 && std::string(error.what()).find("gist: QueryText (21): query text is wrong at byte 9: expected") == 0);
     }
     Set set{1, 64};
     set.insert(127);

@@ -175,8 +175,8 @@ impl fmt::Display for Error {
             Error::QueryText { at } => {
                 return write!(
                     f,
-                    "query text is wrong at byte {at}: write `overlaps`, `within`, `holds` or `same` with a key, \
-                     joined by `and`, `or`, `not` and round brackets, at most 32 deep and 4,096 bytes long"
+                    "query text is wrong at byte {at}: expected overlaps, within, holds or same with a key, \
+                     joined by and, or, not and round brackets, at most 32 deep and 4,096 bytes long"
                 );
             }
             Error::QueryTooDeep { depth } => {

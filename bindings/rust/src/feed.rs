@@ -35,17 +35,19 @@ use std::mem;
 /// ```
 pub struct Feed<K: Key> {
     handle: Owned<ffi::Feed>,
-    /// What was given before an error, and hasn't been returned yet.
+    /// What was delivered before an error, and hasn't been returned yet.
     kept: Vec<Told<K>>,
+    /// Whether the feed may have items that were not taken.
+    waits: bool,
     keys: PhantomData<K>,
 }
 
-/// What an advance gives.
+/// The items of an advance.
 #[derive(Clone, Debug, PartialEq, Eq, Hash)]
 pub struct Advance<K> {
     /// The changes. Those of one subscription are in the order of the commits.
     pub told: Vec<Told<K>>,
-    /// The commit up to which the feed has gone.
+    /// The last commit that the feed has processed.
     pub upto: u64,
 }
 
@@ -65,12 +67,13 @@ impl<K: Key> Feed<K> {
         Ok(Feed {
             handle,
             kept: Vec::new(),
+            waits: false,
             keys: PhantomData,
         })
     }
 
-    /// Subscribes to the changes of a query that come after a commit. If the feed has already gone past that commit,
-    /// its next advance gives what was missed.
+    /// Subscribes to the changes of a query after a commit. If the feed has already processed later commits, its next
+    /// advance delivers what was missed.
     ///
     /// # Errors
     /// [`Error::FeedFull`], [`Error::OutOfMemory`].
@@ -100,11 +103,11 @@ impl<K: Key> Feed<K> {
         told(unsafe { ffi::gist_unsubscribe(self.handle.get(), subscription.0) })
     }
 
-    /// Goes over at most `most` further commits of a snapshot, and gives each subscription its changes.
+    /// Processes at most `most` further commits of a snapshot, and returns the changes for each subscription.
     ///
     /// # Errors
-    /// [`Error::FromFuture`] if the snapshot has fewer commits than the feed has gone over. [`Error::OutOfMemory`];
-    /// nothing is lost then: the next call gives what this one couldn't.
+    /// [`Error::FromFuture`] if the snapshot has fewer commits than the feed has processed. [`Error::OutOfMemory`];
+    /// nothing is lost then: the next call delivers what this one couldn't.
     ///
     /// ```
     /// use gist::{Feed, Interval, Query, Store};
@@ -120,11 +123,23 @@ impl<K: Key> Feed<K> {
     /// # Ok::<(), gist::Error>(())
     /// ```
     pub fn advance(&mut self, snapshot: &Snapshot<K>, most: u64) -> Result<Advance<K>, Error> {
+        if self.waits {
+            // items that an earlier call left: the feed processes no commit before they are taken
+            self.take(snapshot, 0)?;
+        }
+        let upto = self.take(snapshot, most)?;
+        let told = mem::take(&mut self.kept);
+        Ok(Advance { told, upto })
+    }
+
+    /// Processes commits, and keeps all items that then wait.
+    fn take(&mut self, snapshot: &Snapshot<K>, mut most: u64) -> Result<u64, Error> {
         let mut buffer = vec![ffi::Told::default(); Self::ROOM];
-        let (mut upto, mut most) = (0, most);
+        let mut upto = 0;
         loop {
             self.kept.reserve(Self::ROOM);
             let given = self.advance_into(snapshot, most, &mut buffer, &mut upto)?;
+            self.waits = given == Self::ROOM;
             self.kept.extend(buffer[..given].iter().filter_map(|it| {
                 let change = change(it.item)?;
                 Some(Told {
@@ -132,16 +147,14 @@ impl<K: Key> Feed<K> {
                     change,
                 })
             }));
-            if given < Self::ROOM {
-                let told = mem::take(&mut self.kept);
-                return Ok(Advance { told, upto });
+            if !self.waits {
+                return Ok(upto);
             }
-            // first what waits, without going over further commits
             most = 0;
         }
     }
 
-    /// Fills a buffer with what there is to give.
+    /// Fills a buffer with the items that wait.
     fn advance_into(
         &mut self,
         snapshot: &Snapshot<K>,

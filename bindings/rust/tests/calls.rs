@@ -581,7 +581,7 @@ fn a_refusal_has_the_name_of_the_library() {
         .expect_err("the ends are out of order")
         .to_string();
     assert!(
-        told.starts_with("query text is wrong at byte 5: write `overlaps`"),
+        told.starts_with("query text is wrong at byte 5: expected overlaps"),
         "{told}"
     );
 }
