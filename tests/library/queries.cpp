@@ -182,10 +182,10 @@ void depths() {
     SAYS("query is 34 deep", Query<Set>(repeated("not same {} and same {}", " or ", 32)));
     HOLDS(said([&] { Query<Set> query(repeated("not same {} and same {}", " or ", 30)); }).empty());
     /* another fault of a deep text is reported where it is */
-    SAYS("wrong at byte 559: write", Query<Interval>(repeated("same (1 2)", " or ", 40) + " or"));
-    SAYS("wrong at byte 0: write", Query<Interval>("nothing"));
-    SAYS("wrong at byte 0: write", Query<Interval>(""));
-    SAYS("wrong at byte 2: write", Query<Interval>("  "));
+    SAYS("wrong at byte 559: expected", Query<Interval>(repeated("same (1 2)", " or ", 40) + " or"));
+    SAYS("wrong at byte 0: expected", Query<Interval>("nothing"));
+    SAYS("wrong at byte 0: expected", Query<Interval>(""));
+    SAYS("wrong at byte 2: expected", Query<Interval>("  "));
     SAYS("query text has 4201 bytes; at most 4,096", Query<Interval>("same (1 2)" + std::string(4191, ' ')));
 
     auto query = gist::same(Interval{1, 2}) | gist::same(Interval{5, 6});
