@@ -8,11 +8,11 @@ use mathlib.Core.List.{List, [], ◌∷◌}
 use Prim.Native.Nat.{ℕ}
 use mir.Raw.{raw as bare}
 use mir.Val.{Val}
-use types.Logic.{Logic, sem, lfts}
+use types.Logic.{Logic, sem}
 use types.Mut.{open_ref}
 use types.SemTy.{Body}
 use types.Tokens.{obor_alter}
-use types.Kit.{‵, raw, later, ◌⊛◌, ◌$◌, ◌∵◌, !, qed, by, move, keep, drop, assume, await, updating, now, use1, use2, split, fsplit, fjoin, fpick, fpack, done}
+use types.Kit.{‵, later, ◌⊛◌, ◌$◌, ◌∵◌, !, qed, by, move, keep, drop, assume, await, updating, now, use1, use2, split, fsplit, fjoin, fpick, fpack, done}
 use denote.Memory.{lone, part_of, part_at, cell_raw, raw_all, mem, shared_of, hidden_shr}
 use contract.BorrowLft.{⊑_static}
 use denote.Opens.{hide}

@@ -32,7 +32,7 @@ pub use Rattle.libgist.specs.Loans.{is_lent, are_lent, lasts, both_last}
 use seplogic.Ra.Ura.{Ura}
 use mir.Syntax.{Fn, Callee}
 use base.Logic.{ent, sep, wand, ex, via, comm∗, assoc∗, mono_l, mono_r, apply∗, wand_i, ex_i, ex∗, never, fst∗}
-use base.Fml.{Lft, Share, feq}
+use base.Fml.{feq}
 use mathlib.Core.Path.{◌≡◌}
 use prog.Wp.{Closed}
 use prog.Model.{Model}

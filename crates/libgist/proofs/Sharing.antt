@@ -5,7 +5,6 @@ use denote.RattleType.{RattleType}
 use denote.Builtin.{u64}
 use denote.RawPtr.{Ptr, block_ptr, null_ptr, in_block, block_of, count_of}
 use denote.Struct.Declared as declared
-use denote.Struct.Lending.{lent_at}
 use denote.Struct.Owning.{shape, fields, to}
 use denote.Param.Send.{IsSend, IsSync, AllSync, sendable, struct_sync, view_sync, recorded_sync}
 use Rattle.std.specs.Prelude.{Option, Some, None}
@@ -231,7 +230,10 @@ module _ (C K A B : RattleType) (r : reach.Ghosts C.Denot K.Denot A.Denot B.Deno
           search (feed, crosses, sendable) depth 20,
           (
             search (item.the_sync, crosses, sendable) depth 30,
-            tt,
+            (
+              search sendable depth 20,
+              tt,
+            ),
           ),
         ),
       )))

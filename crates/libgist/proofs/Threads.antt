@@ -162,7 +162,10 @@ module _ (C K A B : RattleType) (r : reach.Ghosts C.Denot K.Denot A.Denot B.Deno
           search (feed, crosses, sendable) depth 20,
           (
             search (item.the_send, crosses, sendable) depth 30,
-            tt,
+            (
+              search sendable depth 20,
+              tt,
+            ),
           ),
         ),
       )))

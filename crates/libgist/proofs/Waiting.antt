@@ -1,5 +1,5 @@
 -- Items that a feed appends to a list wait after those that wait already, once the first ones were taken.
-use Rattle.std.proofs.Common.{ℕ, ◌≡◌, ◌∙◌, ◌≤◌, ap, List, length, drop}
+use Rattle.std.proofs.Common.{ℕ, ◌∙◌, ◌≤◌, ap, List, length, drop}
 use Rattle.std.proofs.lemmas.List.{drop-append-le}
 use Rattle.key_class.specs.Rules.{Rules}
 use Rattle.change_list.specs.declared.item.Item.{Item}

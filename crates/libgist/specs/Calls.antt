@@ -12,7 +12,7 @@ use Rattle.relocation.specs.Moves.{IsToldFirst}
 use Rattle.store.specs.declared.stats.Stats.{Stats}
 use Rattle.store.specs.declared.stats.Standing.{Standing}
 use Rattle.store.specs.Stats.{TellsOf, standing_of}
-use Rattle.store.specs.States.{StoreState, Commits, Keeps, IsBadOpening, IsFromFuture, IsOpenedFor, IsFollowerFor, IsFullOf, HasFewPages, HasNoCommitLeft, HasNoCommitFor, HasNoFinderFor, HasNoCursorFor, HasNoFollowerFor, RefusesRow, RefusesCursor, RefusesFollower, RefusesNext, Gave, AddsDead, MayRefuseDelete, MayRefuseMove, LacksCursor, Closes, SweepsStore, SweepsStorePart, Nexts, ChangesCursor, with_asking}
+use Rattle.store.specs.States.{StoreState, Commits, Keeps, IsBadOpening, IsFromFuture, IsOpenedFor, IsFollowerFor, HasFewPages, HasNoCommitLeft, HasNoCommitFor, HasNoFinderFor, HasNoCursorFor, HasNoFollowerFor, RefusesRow, RefusesCursor, RefusesFollower, RefusesNext, Gave, AddsDead, MayRefuseDelete, MayRefuseMove, LacksCursor, Closes, SweepsStore, SweepsStorePart, Nexts, ChangesCursor, with_asking}
 use Rattle.libgist.specs.declared.words.KeyWords.{KeyWords}
 use Rattle.libgist.specs.declared.words.NewRow.{NewRow}
 use Rattle.libgist.specs.declared.figures.Figures.{Figures}

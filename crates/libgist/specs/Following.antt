@@ -1,5 +1,5 @@
 -- A feed with the items that it delivered but C hasn't taken yet, and what its calls answer and leave.
-use Rattle.std.specs.Prelude.{◌≡◌, ◌≢◌, ◌↔◌, ℕ, ◌+◌, ◌<◌, min, List, [], ◌∷◌, length, map, drop, Option, None, Result, Err, IfOk, IfErr, OnOk, OnErr}
+use Rattle.std.specs.Prelude.{◌≡◌, ◌≢◌, ◌↔◌, ℕ, ◌+◌, ◌<◌, min, List, [], ◌∷◌, length, map, drop, None, Result, Err, IfOk, IfErr, OnOk, OnErr}
 use Rattle.key_class.specs.declared.refusal.Refusal.{Refusal}
 use Rattle.key_class.specs.declared.refusal.Refusal.TheVariants.{BadConfig, FeedFull, FromFuture, NotSubscribed, OutOfMemory}
 use Rattle.key_class.specs.declared.pred.Pred.{Pred}

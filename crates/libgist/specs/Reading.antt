@@ -1,5 +1,5 @@
 -- What calls of a snapshot answer.
-use Rattle.std.specs.Prelude.{◌≡◌, ◌↔◌, ℕ, ◌<◌, ◌≤◌, ◌⊎◌, Bool, true, false, List, length, map, Option, Some, None, Result, Err, IfOk, IfErr, OnErr}
+use Rattle.std.specs.Prelude.{◌≡◌, ◌↔◌, ℕ, ◌<◌, ◌≤◌, ◌⊎◌, Bool, true, List, length, map, Some, None, Result, Err, IfOk, IfErr, OnErr}
 use Rattle.key_class.specs.declared.refusal.Refusal.{Refusal}
 use Rattle.key_class.specs.declared.refusal.Refusal.TheVariants.{BadConfig, OutOfMemory, FromFuture, NoSuchRow}
 use Rattle.key_class.specs.declared.pred.Pred.{Pred}
@@ -9,7 +9,7 @@ use Rattle.key_class.specs.Rules.{Rules, satisfies}
 use Rattle.change_list.specs.declared.item.Item.{Item}
 use Rattle.change_list.specs.declared.item.Row.{Row}
 use Rattle.change_list.specs.declared.write.Write.{Write}
-use Rattle.change_list.specs.Changes.{NamesLive, NamesNoRow, row_at}
+use Rattle.change_list.specs.Changes.{NamesLive, row_at}
 use Rattle.change_list.specs.Listings.{AreChanges}
 use Rattle.snapshot.specs.Snapshots.{IsAfterAll, RefusesChanges, found_in}
 use Rattle.libgist.specs.declared.words.KeyWords.{KeyWords}

@@ -1,5 +1,5 @@
 -- Renewal: a new store made of the rows that are live in a snapshot.
-use Rattle.std.specs.Prelude.{◌≡◌, ◌≢◌, ◌↔◌, ◌⊎◌, ℕ, ◌+◌, ◌<◌, ◌≤◌, Bool, true, List, [], length, Option, Some, None, IsSomeAnd, Result, Ok, Err, IfOk, IfErr}
+use Rattle.std.specs.Prelude.{◌≡◌, ◌↔◌, ◌⊎◌, ℕ, ◌+◌, ◌<◌, ◌≤◌, List, [], length, Option, Some, None, Result, Ok, Err, IfOk, IfErr}
 use Rattle.key_class.specs.declared.refusal.Refusal.TheVariants.{CommitsFull, PagesFull, OutOfMemory}
 use Rattle.change_list.specs.Changes.{rows}
 use Rattle.change_list.specs.Configs.{IsWithinLimits}
@@ -13,7 +13,6 @@ use Rattle.libgist.specs.declared.held.Held.{Held}
 use Rattle.libgist.specs.declared.held.Held.TheVariants as held
 use Rattle.libgist.specs.declared.renewal.Anew.{Anew}
 use Rattle.libgist.specs.Buffers.{written_over}
-use Rattle.libgist.specs.Owning.{is_held}
 
 -- whether it is a snapshot
 abbrev pub IsSnapshot : Held → Type 0

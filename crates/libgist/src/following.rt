@@ -120,11 +120,7 @@ impl<C: Reach> Following<C> {
     fn allowed(&self, most: u64) -> u64
         ensures { result ≡ commits_allowed most self.now.waiting }
     {
-        if self.waiting().is_empty() {
-            most
-        } else {
-            0
-        }
+        if self.waiting().is_empty() { most } else { 0 }
     }
 
     /// Processes at most `most` further commits of a snapshot, or none while items wait. A new subscription gets the

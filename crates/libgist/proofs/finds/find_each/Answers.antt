@@ -1,4 +1,4 @@
-use Rattle.std.proofs.Common.{rules, ◌≡◌, ◌+◌, ◌≤◌, ◌<◌, ◌++◌, length, take, [], ◌∷◌, inl, inr, refl, sym, ap, ◌∙◌, get_or, slice_get, Some, arith}
+use Rattle.std.proofs.Common.{rules, ◌≡◌, ◌+◌, ◌≤◌, ◌<◌, ◌++◌, length, take, [], ◌∷◌, inl, inr, refl, ap, ◌∙◌, get_or, slice_get, Some, arith}
 use Rattle.std.proofs.lemmas.List.{length-append, take_more}
 use Rattle.std.proofs.lemmas.Option.{slice_get-get_or}
 use Rattle.libgist.proofs.ManyFinds.{ask_push, ends_step, joined_push, rows_step, shows_first}

@@ -1,4 +1,4 @@
-use Rattle.std.proofs.Common.{rules, ◌∙◌, ap, map, length, min}
+use Rattle.std.proofs.Common.{◌∙◌, ap, map, length, min}
 use Rattle.libgist.specs.Buffers.{written_over}
 use Rattle.libgist.specs.Following.{FollowingState, told_item}
 use Rattle.libgist.proofs.following.give.Goals as goal

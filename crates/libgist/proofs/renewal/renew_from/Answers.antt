@@ -1,8 +1,6 @@
-use Rattle.std.proofs.Common.{rules, ◌≡◌, ◌≢◌, Ok, Err, true, false, refl, sym, ap, ◌∙◌}
+use Rattle.std.proofs.Common.{rules, Ok, Err}
 use Rattle.libgist.specs.Configs.{config_of}
-use Rattle.libgist.specs.Denials.{number_told}
-use Rattle.libgist.specs.Making.{Settles}
-use Rattle.libgist.specs.Renewal.{IsRenewal, stored}
+use Rattle.libgist.specs.Renewal.{IsRenewal}
 use Rattle.libgist.proofs.renewal.renew_from.Goals as goal
 
 pub returns-in-Ok-clause-made : goal.returns-in-Ok-clause-made

@@ -1,6 +1,5 @@
-use Rattle.std.proofs.Common.{◌≡◌, ◌+◌, [], ◌∷◌, ◌++◌, length, map, Some, refl, ap, sym, ◌∙◌, subst, length-append, arith}
+use Rattle.std.proofs.Common.{◌≡◌, ◌+◌, [], ◌∷◌, ◌++◌, length, map, Some, refl, ap, ◌∙◌, subst, length-append, arith}
 use Rattle.std.proofs.lemmas.List.{length-map, map-append, nil_from_length}
-use Rattle.change_list.specs.declared.item.Item.{Item}
 use Rattle.store.specs.States.{Gave, Nexts, RefusesNext, StoreState}
 use Rattle.store.proofs.Cursors.{gave_push}
 use Rattle.libgist.specs.Shown.{shown_item}

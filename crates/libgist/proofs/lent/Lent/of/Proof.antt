@@ -1,11 +1,11 @@
 -- A borrow of a handle becomes a borrow of what a loan has, and that becomes a loan.
-use Rattle.std.proofs.Common.{List, [], ◌∷◌, refl, Bor}
+use Rattle.std.proofs.Common.{List, [], ◌∷◌, refl}
 use Rattle.std.proofs.raw_atomic.Walks.{proved}
 use mir.Syntax.{named}
 use mir.Val.{Val, vptr}
 use base.Fml.{ftrue, flft}
 use contract.Running.{tables}
-use types.Kit.{‵, at_ret, ◌⊛◌, later, ◌$◌, ◌∵◌, !, qed, move, keep, drop, use3, split, join, fsplit, fsplit3, fjoin, feq_i, await, suffices, frame, done}
+use types.Kit.{‵, at_ret, ◌⊛◌, later, ◌$◌, ◌∵◌, !, qed, move, keep, drop, use3, split, join, fsplit3, fjoin, feq_i, await, suffices, frame, done}
 use types.Run.{of_opd, addr, stop, first, blocks, exec, returns, enter}
 use types.ByLocal.{alloc_all, pass_all, free_all, look_at, get, through, sets, sets_last, env}
 use denote.Exit.{no}

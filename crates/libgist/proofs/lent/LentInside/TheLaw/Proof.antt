@@ -1,20 +1,15 @@
 -- A reference to what is lent is made from one to its value, or from nothing if there is no value.
 use Rattle.std.specs.Prelude.{Option, Some, None}
-use base.Fraction.{full_share}
-use base.Fml.{Lft, ftrue}
+use base.Fml.{ftrue}
 use seplogic.Ra.Ura.{Ura}
 use types.Logic.{Logic}
-use mir.Raw.{raw}
-use denote.RawPtr.{Ptr, lies_at}
-use denote.Memory.{lone}
-use denote.Sharing.{ShrLaws, nothing}
+use denote.RawPtr.{Ptr}
+use denote.Sharing.{ShrLaws}
 use denote.SharingLaws.{nothing_shr_laws}
 use denote.Param.Shared.{copy_shared}
 use denote.Struct.Field.{RawPtr-field}
 use denote.Struct.Laws.{RawPtr-copy}
-use denote.Struct.Lending.{Lends, lent_at, lent_at_shr_laws, Lends-lies, Lends-first, Lends-nothing, of_Lends}
-use Rattle.std.specs.Global.{Global}
-use Rattle.std.specs.contracts.impls.GlobalAllocator.TheImpl.{ghosts}
+use denote.Struct.Lending.{Lends, lent_at_shr_laws, Lends-lies, Lends-nothing, of_Lends}
 use Rattle.std.specs.contracts.alloc.Global as Heap
 use Rattle.std.proofs.alloc.Global.TheLaws as heap
 use Rattle.libgist.specs.contracts.held.Held.{the_row}

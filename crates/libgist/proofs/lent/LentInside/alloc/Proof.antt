@@ -1,10 +1,9 @@
 -- `alloc` gives the address of a field.
-use Rattle.std.proofs.Common.{◌+◌, List, [], ◌∷◌, refl, Bor}
+use Rattle.std.proofs.Common.{◌+◌, List, [], ◌∷◌, refl}
 use Rattle.std.proofs.raw_atomic.Walks.{proved}
 use mir.Syntax.{named}
 use mir.Val.{Val, vptr}
 use base.Fml.{ftrue, flft, fsep, feq}
-use contract.Running.{tables}
 use types.Kit.{‵, ◌⊛◌, ◌$◌, ◌∵◌, !, qed, move, keep, drop, split, join, fsplit, fjoin, feq_i, suffices, frame, done}
 use types.Run.{fld, addr, stop, returns, enter}
 use types.ByLocal.{alloc_all, pass_all, free_all, look_at, through, sets}

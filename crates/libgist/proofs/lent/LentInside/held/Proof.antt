@@ -1,29 +1,28 @@
 -- `held` follows the pointer to what the handle owns, which the loan allows it to read.
-use Rattle.std.proofs.Common.{ℕ, ◌+◌, List, [], ◌∷◌, ◌++◌, refl, sym, ap, Bor}
+use Rattle.std.proofs.Common.{ℕ, ◌+◌, List, [], ◌∷◌, refl, sym}
 use Rattle.std.specs.Global.{Global}
 use Rattle.std.specs.Prelude.{◌≢◌, Option, Some, None}
-use Rattle.std.proofs.VecSteps.Shapes.{after}
 use seplogic.Ra.Ura.{Ura}
 use mir.Syntax.{named, ty_ptr}
 use mir.Val.{Val, vptr}
-use base.Logic.{SProp, ent, sep, id⊢, fst∗, never}
-use base.Fml.{Lft, Share, Fml, ftrue, fat, flft, fsep, feq, fhide}
+use base.Logic.{ent, fst∗, never}
+use base.Fml.{ftrue, fat, flft, fsep, feq}
 use prog.Wp.{WpFn}
 use types.Logic.{Logic, sem}
 use contract.Monad.{fact}
 use contract.Running.{Running, MachineTables, tables}
 use contract.Lifetimes.{Lfts, Shares}
 use prog.Model.{Model}
-use types.Kit.{‵, raw, prop, at_ret, ◌⊛◌, ◌$◌, ◌∵◌, !, qed, by, move, keep, drop, use1, use2, split, join, fsplit, fjoin, feq_i, feq_l, rewrite, suffices, frame, done}
-use types.Run.{look, hop, fld, load, of_opd, addr, stop, first, blocks, exec, returns, enter}
+use types.Kit.{‵, raw, at_ret, ◌⊛◌, ◌$◌, ◌∵◌, !, qed, move, keep, drop, split, join, fsplit, fjoin, feq_i, rewrite, suffices, frame, done}
+use types.Run.{look, fld, load, of_opd, addr, stop, first, blocks, exec, returns, enter}
 use types.ByLocal.{alloc_all, pass_all, free_all, look_at, get, through, sets, sets_last, env}
 use denote.Memory.{shared_of, hidden_shr}
 use denote.Opens.{hide, unhide}
-use denote.RawPtr.{Ptr, ptr_val, RawPtr, block_ptr, null_ptr, block_of, count_of, in_a_block}
-use denote.Ref.{ShrRef, shr_vals, shr_Tells}
+use denote.RawPtr.{Ptr, ptr_val, in_a_block}
+use denote.Ref.{shr_vals, shr_Tells}
 use denote.Steps.{nothing, heard}
 use denote.Struct.Lending.{lent_at}
-use denote.Triple.Entry.{on_entry, alive}
+use denote.Triple.Entry.{on_entry}
 use denote.Triple.Walked.{says, Stays, stay_dropped, walk_of, ends_at, Goes-dropped}
 use denote.Exit.{yes}
 use denote.Builtin.{RefOf}
