@@ -1,9 +1,12 @@
 """Shared by the tools: the repository's crates, the sums of their sources, and what is released."""
+from __future__ import annotations
+
 import glob
 import hashlib
 import os
 import re
 import subprocess
+from collections.abc import Iterable, Iterator
 
 ROOT = os.path.abspath(os.path.join(os.path.dirname(os.path.abspath(__file__)), ".."))
 RELEASE = f"{ROOT}/release"
@@ -15,24 +18,24 @@ RELEASED = ("gist", "libgist")
 PARTS = ("src", "specs", "proofs")
 
 
-def text_of(path):
+def text_of(path: str) -> str:
     with open(path, encoding="utf-8") as file:
         return file.read()
 
 
-def sum_of(path):
+def sum_of(path: str) -> str:
     with open(path, "rb") as file:
         return hashlib.sha256(file.read()).hexdigest()
 
 
-def files_below(folder):
+def files_below(folder: str) -> Iterator[str]:
     """Each file below a folder, in an order that doesn't depend on the machine."""
     for at, folders, names in os.walk(folder):
         folders.sort()
         yield from (os.path.join(at, name) for name in sorted(names))
 
 
-def lines_of_crates():
+def lines_of_crates() -> dict[str, tuple[str, list[str]]]:
     """The line of crates.txt of each crate, and the names of what it uses."""
     found = {}
     for line in text_of(f"{ROOT}/crates.txt").splitlines():
@@ -42,9 +45,10 @@ def lines_of_crates():
     return found
 
 
-def crates_of(names):
+def crates_of(names: Iterable[str]) -> list[str]:
     """The names of these crates, and of the repository's crates below them."""
-    listed, found = lines_of_crates(), set()
+    listed = lines_of_crates()
+    found: set[str] = set()
     left = list(names)
     while left:
         name = left.pop()
@@ -54,7 +58,7 @@ def crates_of(names):
     return sorted(found)
 
 
-def sum_of_sources():
+def sum_of_sources() -> str:
     """A sum of everything that the program and the library are built from."""
     listed, whole = lines_of_crates(), hashlib.sha256()
     for name in crates_of(RELEASED):
@@ -65,25 +69,33 @@ def sum_of_sources():
     return whole.hexdigest()
 
 
-def version():
+def first_match(pattern: str, text: str) -> str:
+    """The group of a pattern's first match in a text, which has one."""
+    found = re.search(pattern, text)
+    if not found:
+        raise ValueError(f"nothing matches {pattern}")
+    return found[1]
+
+
+def version() -> str:
     """The version that the program's source names."""
-    return re.search(r'VERSION: &str = "([^"]+)"', text_of(f"{ROOT}/crates/gist/src/help.rt"))[1]
+    return first_match(r'VERSION: &str = "([^"]+)"', text_of(f"{ROOT}/crates/gist/src/help.rt"))
 
 
-def version_of_header(path):
+def version_of_header(path: str) -> str:
     """The version that a header of the library names."""
     text = text_of(path)
-    return ".".join(re.search(rf"define GIST_VERSION_{part} (\d+)", text)[1] for part in ("MAJOR", "MINOR", "PATCH"))
+    return ".".join(first_match(rf"define GIST_VERSION_{part} (\d+)", text) for part in ("MAJOR", "MINOR", "PATCH"))
 
 
-def other_versions(folder, version):
+def other_versions(folder: str, version: str) -> list[str]:
     """What names another version in a folder with the header and the bindings."""
-    crate = re.search(r'(?m)^version = "([^"]+)"', text_of(f"{folder}/bindings/rust/Cargo.toml"))[1]
+    crate = first_match(r'(?m)^version = "([^"]+)"', text_of(f"{folder}/bindings/rust/Cargo.toml"))
     named = {"include/gist.h": version_of_header(f"{folder}/include/gist.h"), "bindings/rust/Cargo.toml": crate}
     return [f"{path} names {it}" for path, it in named.items() if it != version]
 
 
-def commit():
+def commit() -> str:
     """The commit of these sources, and whether there are changes beside it."""
     try:
         words = ["git", "-C", ROOT, "describe", "--always", "--abbrev=12", "--exclude=*", "--dirty=, with changes"]
@@ -92,12 +104,12 @@ def commit():
         return "unknown"
 
 
-def told_of_build(toolchain):
+def told_of_build(toolchain: str) -> str:
     """What is kept beside what was built: its version, its commit, the toolchain's line, and the sum of its sources."""
     return f"gist {version()}\ncommit {commit()}\n{toolchain}\nsources {sum_of_sources()}\n"
 
 
-def archive():
+def archive() -> str | None:
     """The path of the released archive; None if there isn't one."""
     found = glob.glob(f"{RELEASE}/gist-*-x86_64-linux.tar.xz")
     return found[0] if len(found) == 1 else None

@@ -1,10 +1,14 @@
 """Shared by the tools: the toolchain's commands, and whether a library that it built is of the present sources."""
+from __future__ import annotations
+
 import functools
 import importlib.machinery
 import importlib.util
 import os
 import subprocess
 import sys
+from collections.abc import Sequence
+from typing import Protocol, cast
 
 from sources import PARTS, files_below
 
@@ -12,29 +16,79 @@ from sources import PARTS, files_below
 LEVELS = ["x86-64-v2", "x86-64-v3"]
 
 
-def toolchain():
+class Crate(Protocol):
+    """What the tools use of a crate, as the toolchain knows it."""
+
+    @property
+    def name(self) -> str: ...
+
+    @property
+    def folder(self) -> str: ...
+
+    @property
+    def rlib(self) -> str: ...
+
+    def below(self) -> Sequence[Crate]:
+        """The repository's crates that it uses, and those that these use."""
+
+    def is_built(self) -> bool: ...
+
+    def build_rlib(self, flags: list[str], anew: bool) -> int:
+        """Builds its library, and returns a status."""
+
+    def words(self, flags: list[str], keeps: bool) -> list[str]:
+        """The arguments of a check."""
+
+
+class Toolchain(Protocol):
+    """What the tools use of the toolchain's library of commands."""
+
+    @property
+    def RATTLE(self) -> str: ...  # pylint: disable=invalid-name
+
+    def guarded(self) -> list[str]:
+        """The words before a command that has to end when this process ends."""
+
+    def crates_below(self, top: str) -> list[Crate]:
+        """The crates of a folder, lowest first."""
+
+
+def page_of_kit() -> str:
+    """The toolchain's first page, which is in its folder."""
+    return subprocess.run(["rt", "doc"], text=True, stdout=subprocess.PIPE, check=True).stdout.strip()
+
+
+def version_of_logic() -> str:
+    """The version of the logic in which contracts are read: another version of the checker may have the same."""
+    words = subprocess.run(["rt", "version"], text=True, stdout=subprocess.PIPE, check=True).stdout.strip()
+    return words.partition(" ")[2]
+
+
+def toolchain() -> Toolchain:
     """The toolchain's own library of commands, which knows how a crate is checked and built."""
-    page = subprocess.run(["rt", "doc"], text=True, stdout=subprocess.PIPE, check=True).stdout.strip()
-    file = os.path.join(os.path.dirname(page), "bin", "rtlib.py")
-    spec = importlib.util.spec_from_loader("rtlib", importlib.machinery.SourceFileLoader("rtlib", file))
+    file = os.path.join(os.path.dirname(page_of_kit()), "bin", "rtlib.py")
+    loader = importlib.machinery.SourceFileLoader("rtlib", file)
+    spec = importlib.util.spec_from_loader("rtlib", loader)
+    assert spec
     made = importlib.util.module_from_spec(spec)
     sys.dont_write_bytecode = True
     sys.modules["rtlib"] = made
-    spec.loader.exec_module(made)
+    loader.exec_module(made)
     # each goes through all crates below, and through those below each of them, every time that it is asked
     for name in ("stamp", "below"):
         setattr(made.Crate, name, functools.cache(getattr(made.Crate, name)))
-    return made
+    return cast(Toolchain, made)
 
 
-def is_newer(built, crate):
+def is_newer(built: str, crate: Crate) -> bool:
     """Whether a file or folder is newer than each source of a crate and of those below it."""
     made = os.path.getmtime(built)
-    return all(os.path.getmtime(path) < made for it in (crate, *crate.below()) for part in PARTS for path in files_below(f"{it.folder}/{part}"))
+    folders = [f"{it.folder}/{part}" for it in (crate, *crate.below()) for part in PARTS]
+    return all(os.path.getmtime(path) < made for folder in folders for path in files_below(folder))
 
 
-def library_is_current(crate):
-    """Whether the built library is that of the present sources: as `rt check` keeps them, or built after them by `rt ci`."""
+def library_is_current(crate: Crate) -> bool:
+    """Whether the built library is that of the present sources: kept by `rt check`, or built after them by `rt ci`."""
     if not os.path.exists(crate.rlib):
         return False
     if os.path.isfile(os.path.join(os.path.dirname(crate.rlib), "stamp")):
