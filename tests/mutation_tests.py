@@ -6,9 +6,13 @@
 tests/mutants has output of the checker, recorded for changed functions of the crate row_version, reduced to the lines
 with errors, notes and verdicts. The last line is `N passed, M failed`; the status is 1 if M isn't 0.
 """
+import contextlib
+import importlib.machinery
+import io
 import os
 import sys
 import tempfile
+import types
 import unittest
 from collections.abc import Sequence
 from typing import Any, cast
@@ -206,21 +210,26 @@ def source_with(owner: str, function: str, first: int, last: int) -> str:
     return "\n".join([*inside, "    }", "}", ""])
 
 
+def recorded(name: str) -> str:
+    """A recorded output of the checker."""
+    return text_of(f"{HERE}/mutants/{name}.txt")
+
+
 def judged(output: str, owner: str, function: str, path: str, first: int, last: int) -> Judgement:
-    """The verdict on a method in these lines, by a recorded output."""
+    """The verdict on a method in these lines, by an output of the checker."""
     changed = Mutant("row_version", f"{function}-x", (Edit(path, "", ""),), symbol=f"{owner}::{function}")
     texts = {path: source_with(owner, function, first, last)}
     (only,) = functions_in(texts[path])
     assert (only.first, only.last) == (first - 1, last - 1)
-    return judge.judge(changed, texts, text_of(f"{HERE}/mutants/{output}.txt"))
+    return judge.judge(changed, texts, output)
 
 
 def judged_entry(output: str, function: str, first: int, last: int) -> Judgement:
-    return judged(output, "Entry", function, "src/entry.rt", first, last)
+    return judged(recorded(output), "Entry", function, "src/entry.rt", first, last)
 
 
 def judged_block(output: str, function: str = "pair", last: int = 75) -> Judgement:
-    return judged(output, "VersionBlock", function, "src/version_block.rt", 61, last)
+    return judged(recorded(output), "VersionBlock", function, "src/version_block.rt", 61, last)
 
 
 class Judging(unittest.TestCase):
@@ -283,6 +292,17 @@ class Judging(unittest.TestCase):
     def test_a_clause_behind_a_loop_without_its_invariant_is_no_evidence(self) -> None:
         # the body with another name for the loop's variable: it means the same
         self.assertEqual(judged_block("invariant_gone", "last_place").verdict, Verdict.NOT_JUDGED)
+
+    def test_a_measure_of_a_recursion_that_is_gone_is_no_evidence(self) -> None:
+        output = recorded("invariant_gone").replace("VersionBlock/last_place", "VersionBlock/+last_place")
+        self.assertIn("/+last_place/", output)
+        found = judged(output, "VersionBlock", "last_place", "src/version_block.rt", 61, 75)
+        self.assertEqual(found.verdict, Verdict.NOT_JUDGED)
+
+    def test_faults_of_other_functions_proofs_do_not_count(self) -> None:
+        output = recorded("killed_at_an_invariant") + recorded("proof_no_longer_fits")
+        found = judged(output, "VersionBlock", "last_place", "src/version_block.rt", 61, 75)
+        self.assertEqual(found.verdict, Verdict.KILLED)
 
     def test_a_mutant_that_is_no_code_is_not_compiled(self) -> None:
         self.assertEqual(judged_entry("not_compiled", "visible_at", 94, 100).verdict, Verdict.NOT_COMPILED)
@@ -451,6 +471,37 @@ class Running(unittest.TestCase):
         built: list[str] = []
         self.tried(self.mutants("top-a", "top-b"), built=lambda it: built.append(it.name))
         self.assertEqual(built, ["one"])
+
+
+class Reporting(unittest.TestCase):
+    """What the command prints."""
+
+    def test_killed_ones_pass_and_survivors_fail(self) -> None:
+        path = os.path.join(HERE, "..", "tools", "mutants")
+        command = types.ModuleType("command")
+        importlib.machinery.SourceFileLoader("command", path).exec_module(command)
+        due = of_names(["a/k-x", "a/s-x", "a/n-x", "b/c-x", "b/k-y", "b/u-x", "b/later-x"])
+        verdicts = [Verdict.KILLED, Verdict.SURVIVED, Verdict.NOT_JUDGED, Verdict.CALLS_UNPROVED]
+        verdicts += [Verdict.KILLED, Verdict.UNCLEAR]
+        found = {it: Judgement(verdict, "words") for it, verdict in zip(due, verdicts)}
+        known, tried = {due[0]: found[due[0]]}, dict(list(found.items())[1:])
+        printed = io.StringIO()
+        with contextlib.redirect_stdout(printed):
+            status = command.report(due, known, tried, mock.Mock(lanes={}, seconds=90), False)
+        self.assertEqual(status, 1)
+        self.assertEqual(
+            printed.getvalue().splitlines(),
+            [
+                "  a/n-x: not judged: words",
+                "  b/c-x: calls an unproved function: words",
+                "  a/s-x: survived: words",
+                "  b/u-x: unclear output: words",
+                "5 tried in 1.5 processor minutes, 1 known from earlier runs",
+                "killed: 2, survived or faulty: 2, left for another time: 1",
+                "not judged: 2: a/n-x, b/c-x",
+                "2 passed, 2 failed",
+            ],
+        )
 
 
 def main() -> int:

@@ -135,7 +135,8 @@ def faults_in(mutant: Mutant, lines: list[str]) -> list[Fault]:
     for line in lines:
         error, unused = ERROR.match(line), UNUSED.match(line)
         path, words = error.groups() if error else (unused.group(1), "") if unused else ("", "")
-        if own in path:
+        # the measure of a function that calls itself is in a folder whose name begins with +
+        if own in path.replace("/+", "/"):
             gone = unused.group(2) if unused else ""
             if error and any(it in words for it in NAMES_GONE):
                 goal = GOAL_GONE.match(words)
