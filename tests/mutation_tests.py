@@ -12,6 +12,7 @@ import io
 import os
 import sys
 import tempfile
+import time
 import types
 import unittest
 from collections.abc import Sequence
@@ -458,6 +459,12 @@ class Running(unittest.TestCase):
     def test_no_check_begins_when_the_budget_is_used(self) -> None:
         found = self.tried(self.mutants("top-a", "top-b", "top-c", "top-d"), budget=150)
         self.assertEqual(list(found), ["one/top-a", "one/top-b", "one/top-c"])
+
+    def test_running_checks_count_for_the_budget(self) -> None:
+        one = run.Run(cast(Toolchain, mock.Mock()), [], self.mutants("top-a"), budget=100)
+        self.assertIsNotNone(one.next())
+        one.began = [time.monotonic() - 60, time.monotonic() - 50]
+        self.assertIsNone(one.next())
 
     def test_no_check_begins_after_the_end(self) -> None:
         self.assertEqual(self.tried(self.mutants("top-a"), end=0.0), {})

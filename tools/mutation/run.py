@@ -152,8 +152,9 @@ class Lane:
 class Run:
     """Tries mutants in their order, several checks at once.
 
-    After `budget` processor seconds, and after the time `end` of time.monotonic(), no further check begins; a check
-    that runs at the end is stopped. The first `share` mutants come before others once half of the budget is used.
+    After `budget` processor seconds, those of the running checks included, and after the time `end` of
+    time.monotonic(), no further check begins; a check that runs at the end is stopped. The first `share` mutants come
+    before others once half of the budget is used.
     """
 
     def __init__(
@@ -166,6 +167,8 @@ class Run:
         self.share = set(mutants[:share])
         self.lanes: dict[str, Lane] = {}
         self.seconds = 0.0
+        # when each of the running checks began
+        self.began: list[float] = []
         self.results: dict[Mutant, Judgement] = {}
         self.guard = threading.Condition()
         self.building = threading.Lock()
@@ -205,10 +208,11 @@ class Run:
         """The next mutant: the first whose crate isn't being checked, or else the first. None if the time is over."""
         if self.end is not None and time.monotonic() > self.end:
             return None
-        if self.budget is not None and self.seconds >= self.budget:
+        used = self.seconds + sum(time.monotonic() - it for it in self.began)
+        if self.budget is not None and used >= self.budget:
             return None
         due = [it for it in self.pending if it in self.share]
-        if not due or self.budget is None or self.seconds < HALF * self.budget:
+        if not due or self.budget is None or used < HALF * self.budget:
             due = self.pending
         busy = {name for name, lane in self.lanes.items() if lane.running}
         return next((it for it in due if it.crate not in busy), due[0] if due else None)
@@ -217,11 +221,15 @@ class Run:
         """Checks a batch. Mutants about which that shows nothing are put back, to be tried alone or with others."""
         seconds = 0.0
         back: list[tuple[Mutant, bool]] = []
+        began: list[float] = []
         try:
             with self.building:
                 if not lane.is_built:
                     self.built(lane.crate)
                     lane.is_built = True
+            with self.guard:
+                began = [time.monotonic()]
+                self.began += began
             output, seconds = check(self.kit, lane.crate, texts, [it.symbol for it in batch], kept, self.end)
             for mutant in batch if output is not None else ():
                 found = judge(mutant, texts, output or "")
@@ -232,6 +240,7 @@ class Run:
                     self.results[mutant] = found
         finally:
             with self.guard:
+                self.began = [it for it in self.began if it not in began]
                 self.seconds += seconds
                 lane.leave(kept, seconds)
                 self.pending += [it for it, _ in back]
