@@ -1,7 +1,8 @@
 """What the checker's output says about a mutant.
 
 A mutant is killed if the checker doesn't prove a clause, an invariant or a step's safety in the changed function. The
-checker reports that by a note in the function, or by the goals in its verdict that its search didn't prove.
+checker reports that by a note in the function, or by the goals in its verdict that its search didn't prove. A goal at
+which the search gave up at a limit counts, too: of the right function it proves all goals without an answer by hand.
 
 A function with a hand-written proof needs more care, since that proof names the steps of the function as it was. If
 the change breaks it, this says nothing about the clause. Notes on other goals still count, with two exceptions:
