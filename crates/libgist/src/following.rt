@@ -129,7 +129,8 @@ impl<C: Reach> Following<C> {
         ensures ok { OnOk result (GoesOn C.rules
             (commits_allowed most self.old.waiting) snapshot.now self.old self.new) }
         ensures err { OnErr result (self.new ≡ self.old) }
-        ensures future { (result ≡ Err FromFuture) ↔ (length snapshot.now < self.old.feed.upto) }
+        ensures future { (result ≡ Err FromFuture)
+            ↔ (length snapshot.now < self.old.feed.upto) }
         ensures refusals { IfErr result (IsEither FromFuture OutOfMemory) }
     {
         let allowed = self.allowed(most);
