@@ -1,7 +1,0 @@
-use Rattle.shared_feed_trials.proofs.shared_feeds.a_shared_feed_loses_nothing.Given as goal
-
-abbrev pub ghosts-two_seats-L-Ledger : goal.ghosts-two_seats-L-Ledger
-ghosts-two_seats-L-Ledger g a = record { name = a.blank.name; parts = a.blank.parts }
-
-abbrev pub ghosts-two_seats-L-Naming : goal.ghosts-two_seats-L-Naming
-ghosts-two_seats-L-Naming g a = record { history = a.history }

@@ -1,5 +1,0 @@
-//! Tests of a feed for a desk.
-#![tactic(auto)]
-
-#[cfg(test)]
-mod shared_feeds;

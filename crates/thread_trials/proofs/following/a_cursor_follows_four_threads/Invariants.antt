@@ -1,7 +1,0 @@
-use Rattle.thread_trials.proofs.following.a_cursor_follows_four_threads.Given as goal
-
-abbrev pub ghosts-five_seats-L-Ledger : goal.ghosts-five_seats-L-Ledger
-ghosts-five_seats-L-Ledger g a = record { name = a.blank.name; parts = a.blank.parts }
-
-abbrev pub ghosts-five_seats-L-Naming : goal.ghosts-five_seats-L-Naming
-ghosts-five_seats-L-Naming g a = record { history = a.history }

@@ -1,7 +1,0 @@
-use Rattle.thread_trials.proofs.two_threads.a_cursor_follows_another_thread.Given as goal
-
-abbrev pub ghosts-two_seats-L-Ledger : goal.ghosts-two_seats-L-Ledger
-ghosts-two_seats-L-Ledger g a = record { name = a.blank.name; parts = a.blank.parts }
-
-abbrev pub ghosts-two_seats-L-Naming : goal.ghosts-two_seats-L-Naming
-ghosts-two_seats-L-Naming g a = record { history = a.history }
