@@ -9,12 +9,10 @@ use interval_queries::{all, overlapping};
 use key_class::Refusal;
 use std::alloc::Global;
 use std::process::Abort;
-use std::rt::Clock;
 use std::sync::Wait;
 use std::sync::atomic::AtomicBool;
 use std::sync::ledger::Ledger;
 use std::test::*;
-use std::thread::Threads;
 use world::Reply;
 
 /// How many items fit into a ring.
@@ -98,17 +96,13 @@ fn one_after_the_other<L: Ledger + Naming, R: Wait + Abort>(
 struct TwoCursors {}
 
 impl Scene for TwoCursors {
-    fn play<L, R>(
+    fn play<L: Ledger + Naming, R: Wait + Abort>(
         &self,
         rt: &R,
         _alloc: Global,
         desk: &Desk<Intervals, L>,
         seats: &mut [Seat<Intervals, L>],
-    ) -> Result<(), Refusal>
-    where
-        L: Ledger + Naming + Send + Sync,
-        R: Threads + Wait + Clock + Abort + Sync,
-    {
+    ) -> Result<(), Refusal> {
         for seat in seats {
             for point in 0..3 {
                 let _number = insert(rt, desk, seat, Interval::new(point, point)?)?;
@@ -198,17 +192,13 @@ fn sights<L: Ledger + Naming, R: Wait + Abort>(
 struct TwoSeats {}
 
 impl Scene for TwoSeats {
-    fn play<L, R>(
+    fn play<L: Ledger + Naming, R: Wait + Abort>(
         &self,
         rt: &R,
         _alloc: Global,
         desk: &Desk<Intervals, L>,
         seats: &mut [Seat<Intervals, L>],
-    ) -> Result<(), Refusal>
-    where
-        L: Ledger + Naming + Send + Sync,
-        R: Threads + Wait + Clock + Abort + Sync,
-    {
+    ) -> Result<(), Refusal> {
         match seats {
             [first, second] => sights(rt, desk, first, second),
             _ => Err(Refusal::BadConfig),

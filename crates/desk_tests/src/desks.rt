@@ -9,24 +9,19 @@ use key_class::Refusal;
 use std::alloc::Global;
 use std::marker::Brand;
 use std::process::Abort;
-use std::rt::Clock;
 use std::sync::Wait;
 use std::sync::ledger::{Blank, Ledger};
-use std::thread::Threads;
 use world::Stamped;
 
 /// What the clients of a desk do in a test.
 pub trait Scene {
-    fn play<L, R>(
+    fn play<L: Ledger + Naming, R: Wait + Abort>(
         &self,
         rt: &R,
         alloc: Global,
         desk: &Desk<Intervals, L>,
         seats: &mut [Seat<Intervals, L>],
-    ) -> Result<(), Refusal>
-    where
-        L: Ledger + Naming + Send + Sync,
-        R: Threads + Wait + Clock + Abort + Sync;
+    ) -> Result<(), Refusal>;
 }
 
 /// The limits of a desk with small pages.
@@ -66,20 +61,20 @@ fn are_the_commits(stamps: &[Stamped<Interval>], commits: &ChangeList<Interval>)
 }
 
 /// The number of commits, if the desk could be finished and the stamps of all seats are exactly these.
-fn commits_of<L: Ledger + Naming>(
+pub fn commits_of<L: Ledger + Naming>(
     alloc: Global,
     closing: Option<Closing<Intervals, L>>,
 ) -> Result<u64, Refusal> {
     let Some(closing) = closing else {
         return Err(Refusal::NotHere);
     };
-    let sum = closing.sum();
+    let (sum, count) = (closing.sum(), closing.commits().len() as u64);
     let (commits, seats) = closing.into_parts();
     let mut stamps = stamps_of(alloc, seats.as_slice())?;
     stamps
         .as_mut_slice()
         .sort_unstable_by_key(|stamp| stamp.number());
-    if are_the_commits(stamps.as_slice(), &commits) {
+    if are_the_commits(stamps.as_slice(), &commits) && sum == count {
         Ok(sum)
     } else {
         Err(Refusal::NotHere)
@@ -87,7 +82,7 @@ fn commits_of<L: Ledger + Naming>(
 }
 
 /// Finishes a desk. While a seat is out, that gives the desk back.
-fn finished<L: Ledger + Naming, R: Wait>(
+pub fn finished<L: Ledger + Naming, R: Wait>(
     rt: &R,
     desk: Desk<Intervals, L>,
     seats: Vec<Seat<Intervals, L>>,
@@ -115,8 +110,8 @@ fn at_a_desk<S, L, R>(
 ) -> Result<u64, Refusal>
 where
     S: Scene,
-    L: Ledger + Naming + Send + Sync,
-    R: Threads + Wait + Clock + Abort + Sync,
+    L: Ledger + Naming,
+    R: Wait + Abort,
     requires name { blank.name ≡ L.name }
     requires parts { blank.parts ≡ L.parts }
     requires one_each { blank.parts ≡ seats }
@@ -133,7 +128,7 @@ where
 ///
 /// # Errors
 /// `NotHere` if the seats' stamps aren't the commits; a refusal of the scene; or one of `Desk::new`.
-pub fn play<S: Scene, R: Threads + Wait + Clock + Abort + Sync>(
+pub fn play<S: Scene, R: Wait + Abort>(
     rt: &R,
     alloc: Global,
     config: Config,

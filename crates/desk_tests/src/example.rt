@@ -6,11 +6,9 @@ use interval_class::{Atom, Interval, Intervals};
 use key_class::{Pred, Refusal, Rel};
 use std::alloc::Global;
 use std::process::Abort;
-use std::rt::Clock;
 use std::sync::Wait;
 use std::sync::ledger::Ledger;
 use std::test::*;
-use std::thread::Threads;
 use world::Reply;
 
 /// Inserts a row and follows what overlaps it, until its cursor is idle. Gives how many items came, if a receipt
@@ -47,17 +45,13 @@ fn insert_and_follow<L: Ledger + Naming, R: Wait>(
 struct OneClient {}
 
 impl Scene for OneClient {
-    fn play<L, R>(
+    fn play<L: Ledger + Naming, R: Wait + Abort>(
         &self,
         rt: &R,
         alloc: Global,
         desk: &Desk<Intervals, L>,
         seats: &mut [Seat<Intervals, L>],
-    ) -> Result<(), Refusal>
-    where
-        L: Ledger + Naming + Send + Sync,
-        R: Threads + Wait + Clock + Abort + Sync,
-    {
+    ) -> Result<(), Refusal> {
         for seat in seats {
             let key = Interval::new(5, 8)?;
             assert!(rt; insert_and_follow(rt, alloc, desk, seat, key)? == Some(1));

@@ -9,11 +9,9 @@ use key_class::Refusal;
 use pumps::{Gate, Pumps};
 use std::alloc::Global;
 use std::process::Abort;
-use std::rt::Clock;
 use std::sync::Wait;
 use std::sync::ledger::Ledger;
 use std::test::*;
-use std::thread::Threads;
 
 /// Opens a cursor on all rows, which stays open, and returns the number of commits at its opening.
 fn open<L: Ledger + Naming, R: Wait>(
@@ -44,17 +42,13 @@ fn open_all<L: Ledger + Naming, R: Wait>(
 struct Many {}
 
 impl Scene for Many {
-    fn play<L, R>(
+    fn play<L: Ledger + Naming, R: Wait + Abort>(
         &self,
         rt: &R,
         _alloc: Global,
         desk: &Desk<Intervals, L>,
         seats: &mut [Seat<Intervals, L>],
-    ) -> Result<(), Refusal>
-    where
-        L: Ledger + Naming + Send + Sync,
-        R: Threads + Wait + Clock + Abort + Sync,
-    {
+    ) -> Result<(), Refusal> {
         for seat in seats.iter_mut() {
             let number = insert(rt, desk, seat, Interval::new(1, 2)?)?;
             let opened = open(rt, desk, seat, 1)?;

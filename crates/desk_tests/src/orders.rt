@@ -1,20 +1,23 @@
 //! Orders to pumps: what is counted of them, and that pumps work at once.
+ghost use Rattle.std.specs.Prelude.{◌≡◌};
+
 use crate::calls::insert;
-use crate::desks::{Scene, limits, play};
-use change_list::Item;
+use crate::desks::limits;
+use change_list::{Item, Write};
 use crossbeam_channel::{Receiver, unbounded};
 use desk::{Desk, Seat, Taker};
-use history::Naming;
+use history::{BlankHistory, Naming};
 use interval_class::{Interval, Intervals};
 use interval_queries::all;
 use key_class::Refusal;
 use pumps::{Gate, Order, Pumped, Pumps};
 use std::alloc::Global;
+use std::marker::Brand;
 use std::process::Abort;
 use std::rt::Clock;
 use std::sync::Wait;
 use std::sync::atomic::{AtomicBool, AtomicU64, Ordering};
-use std::sync::ledger::Ledger;
+use std::sync::ledger::{Blank, Ledger};
 use std::test::*;
 use std::thread::Threads;
 use std::time::Duration;
@@ -152,43 +155,25 @@ fn prepare<L: Ledger + Naming, R: Wait>(
     Ok(())
 }
 
-/// Orders are carried out, one list after the other. An order is skipped after 10,000 questions, and counts once; then comes
-/// the next. A turn that is refused ends its order, and isn't counted. There is a pause between two questions.
-#[derive(Drop)]
-struct Orders {}
-
-impl Scene for Orders {
-    fn play<L, R>(
-        &self,
-        rt: &R,
-        alloc: Global,
-        desk: &Desk<Intervals, L>,
-        seats: &mut [Seat<Intervals, L>],
-    ) -> Result<(), Refusal>
-    where
-        L: Ledger + Naming + Send + Sync,
-        R: Threads + Wait + Clock + Abort + Sync,
-    {
-        for seat in seats {
-            prepare(rt, desk, seat)?;
-        }
-        let done = carried_out(rt, alloc, desk, 1, &TOO_MANY)?;
-        assert!(rt; done == (7, 0, 11, 0, 0));
-        let done = carried_out(rt, alloc, desk, 1, &HELD)?;
-        assert!(rt; done == (2, 1, 10_002, 10_000, 0));
-        let done = carried_out(rt, alloc, desk, 1, &STOPPED)?;
-        assert!(rt; done == (1, 0, 1, 0, 2));
-        let done = carried_out(rt, alloc, desk, 3, &UNSTOPPED)?;
-        assert!(rt; done == (7, 2, 20_007, 20_000, 0));
-        let done = carried_out(rt, alloc, desk, 1, &LET_GO)?;
-        assert!(rt; done == (1, 0, 10_000, 9_999, 0));
-        Ok(())
-    }
-}
-
-#[test]
-fn orders_are_counted(rt: HostRuntime) -> Result<(), Fail> {
-    assert!(rt; play(&rt, rt.alloc(), limits(64, 99), 1, &Orders {})? == 3);
+/// Carries out orders, one list after the other. An order is skipped after 10,000 questions, and counts once; then comes the
+/// next. A turn that is refused ends its order, and isn't counted. There is a pause between two questions.
+fn carry_out_all<L: Ledger + Naming + Send + Sync, R: Threads + Wait + Clock + Abort + Sync>(
+    rt: &R,
+    alloc: Global,
+    desk: &Desk<Intervals, L>,
+    seat: &mut Seat<Intervals, L>,
+) -> Result<(), Refusal> {
+    prepare(rt, desk, seat)?;
+    let done = carried_out(rt, alloc, desk, 1, &TOO_MANY)?;
+    assert!(rt; done == (7, 0, 11, 0, 0));
+    let done = carried_out(rt, alloc, desk, 1, &HELD)?;
+    assert!(rt; done == (2, 1, 10_002, 10_000, 0));
+    let done = carried_out(rt, alloc, desk, 1, &STOPPED)?;
+    assert!(rt; done == (1, 0, 1, 0, 2));
+    let done = carried_out(rt, alloc, desk, 3, &UNSTOPPED)?;
+    assert!(rt; done == (7, 2, 20_007, 20_000, 0));
+    let done = carried_out(rt, alloc, desk, 1, &LET_GO)?;
+    assert!(rt; done == (1, 0, 10_000, 9_999, 0));
     Ok(())
 }
 
@@ -287,38 +272,61 @@ fn pump_two<L: Ledger + Naming + Send + Sync, R: Threads + Wait + Clock + Abort 
     Ok(pump_and_take(rt, alloc, desk, &pumps, &from, first, second))
 }
 
-#[derive(Drop)]
-struct TwoPumps {}
+/// A row, and two cursors with an item's room each.
+fn pump_both<L: Ledger + Naming + Send + Sync, R: Threads + Wait + Clock + Abort + Sync>(
+    rt: &R,
+    alloc: Global,
+    desk: &Desk<Intervals, L>,
+    seat: &mut Seat<Intervals, L>,
+) -> Result<(), Refusal> {
+    let _number = insert(rt, desk, seat, Interval::new(5, 5)?)?;
+    let first = desk.open_cursor(rt, seat, all(), 1)?;
+    let second = desk.open_cursor(rt, seat, all(), 1)?;
+    let (taken, pumped) = pump_two(rt, alloc, desk, first, second)?;
+    let wanted = Pumped {
+        turns: 4,
+        skipped: 0,
+    };
+    assert!(rt; taken == (Some(1), Some(1)) && pumped == Ok(wanted));
+    Ok(())
+}
 
-impl Scene for TwoPumps {
-    fn play<L, R>(
-        &self,
-        rt: &R,
-        alloc: Global,
-        desk: &Desk<Intervals, L>,
-        seats: &mut [Seat<Intervals, L>],
-    ) -> Result<(), Refusal>
-    where
-        L: Ledger + Naming + Send + Sync,
-        R: Threads + Wait + Clock + Abort + Sync,
-    {
-        let wanted = Pumped {
-            turns: 4,
-            skipped: 0,
-        };
-        for seat in seats {
-            let _number = insert(rt, desk, seat, Interval::new(5, 5)?)?;
-            let first = desk.open_cursor(rt, seat, all(), 1)?;
-            let second = desk.open_cursor(rt, seat, all(), 1)?;
-            let (taken, pumped) = pump_two(rt, alloc, desk, first, second)?;
-            assert!(rt; taken == (Some(1), Some(1)) && pumped == Ok(wanted));
-        }
-        Ok(())
+/// What is tested at a desk.
+#[derive(Clone, Copy)]
+enum Subject {
+    Counts,
+    TwoPumps,
+}
+
+fn one_seat<L: Ledger + Naming + Send + Sync, R: Threads + Wait + Clock + Abort + Sync>(
+    rt: &R,
+    alloc: Global,
+    blank: Blank,
+    history: BlankHistory<Write<Interval>>,
+    subject: Subject,
+) -> Result<(), Refusal>
+    requires name { blank.name ≡ L.name }
+    requires parts { blank.parts ≡ L.parts }
+    requires history { history ≡ L.history }
+    requires one { blank.parts ≡ 1 }
+{
+    let (desk, mut seats) = Desk::<Intervals, L>::new(alloc, blank, history, limits(64, 99), 1)?;
+    match subject {
+        Subject::Counts => carry_out_all(rt, alloc, &desk, &mut seats[0]),
+        Subject::TwoPumps => pump_both(rt, alloc, &desk, &mut seats[0]),
     }
 }
 
 #[test]
+fn orders_are_counted(rt: HostRuntime) -> Result<(), Fail> {
+    let (blank, history) = (Blank::new(1), BlankHistory::new());
+    one_seat::<Brand, _>(&rt, rt.alloc(), blank, history, Subject::Counts)?;
+    Ok(())
+}
+
+#[test]
 fn pumps_work_at_once(rt: HostRuntime) -> Result<(), Fail> {
-    assert!(rt; play(&rt, rt.alloc(), limits(64, 99), 1, &TwoPumps {})? == 1);
+    let (blank, history) = (Blank::new(1), BlankHistory::new());
+    one_seat::<Brand, _>(&rt, rt.alloc(), blank, history, Subject::TwoPumps)?;
     Ok(())
 }

@@ -9,11 +9,9 @@ use interval_queries::all;
 use key_class::Refusal;
 use std::alloc::Global;
 use std::process::Abort;
-use std::rt::Clock;
 use std::sync::Wait;
 use std::sync::ledger::Ledger;
 use std::test::*;
-use std::thread::Threads;
 
 /// How the items that a client took are altered before they are handed in.
 #[derive(Clone, Copy)]
@@ -102,17 +100,13 @@ struct Altered {
 }
 
 impl Scene for Altered {
-    fn play<L, R>(
+    fn play<L: Ledger + Naming, R: Wait + Abort>(
         &self,
         rt: &R,
         alloc: Global,
         desk: &Desk<Intervals, L>,
         seats: &mut [Seat<Intervals, L>],
-    ) -> Result<(), Refusal>
-    where
-        L: Ledger + Naming + Send + Sync,
-        R: Threads + Wait + Clock + Abort + Sync,
-    {
+    ) -> Result<(), Refusal> {
         for seat in seats {
             let receipt = closed_with(rt, alloc, desk, seat, self.alteration)?;
             assert!(rt; receipt == self.receipt);

@@ -4,17 +4,15 @@ use crate::desks::{Scene, limits, play};
 use change_list::{Item, Row};
 use desk::{Desk, Seat};
 use history::Naming;
-use interval_class::{Atom, Interval, Intervals};
+use interval_class::{Interval, Intervals};
 use interval_queries::{all, overlapping};
-use key_class::{Pred, Refusal};
+use key_class::Refusal;
 use shared_feed::{SharedFeed, Subscriber};
-use std::alloc::{AllocError, Global};
+use std::alloc::Global;
 use std::process::Abort;
-use std::rt::Clock;
 use std::sync::Wait;
 use std::sync::ledger::Ledger;
 use std::test::*;
-use std::thread::Threads;
 
 const LOW: Interval = Interval { lo: 5, hi: 8 };
 
@@ -23,47 +21,6 @@ const HIGH: Interval = Interval { lo: 105, hi: 108 };
 /// The item of an insert.
 fn inserted(row: u64, key: Interval) -> Item<Interval> {
     Item::Inserted(Row { row, key, tag: 0 })
-}
-
-/// A query of depth 33.
-fn too_deep(alloc: Global) -> Result<Pred<Atom>, AllocError> {
-    let mut query = all();
-    for _ in 0..32 {
-        query = Pred::Not(Box::new(alloc, query)?);
-    }
-    Ok(query)
-}
-
-/// Why a subscription is refused.
-fn refusal<L: Ledger + Naming, R: Wait>(
-    rt: &R,
-    feed: &SharedFeed<Intervals, L>,
-    seat: &Seat<Intervals, L>,
-    query: Pred<Atom>,
-    from: u64,
-    room: u64,
-) -> Option<Refusal> {
-    feed.subscribe(rt, seat, query, from, room).err()
-}
-
-/// A room, a depth or a commit that is out of range is refused.
-fn refusals<L: Ledger + Naming, R: Wait + Abort>(
-    rt: &R,
-    alloc: Global,
-    feed: &SharedFeed<Intervals, L>,
-    seat: &Seat<Intervals, L>,
-) -> Result<(), Refusal> {
-    let told = seat.told();
-    for (from, room, wanted) in [
-        (0, 0, Some(Refusal::BadConfig)),
-        (0, 4_097, Some(Refusal::BadConfig)),
-        (told.saturating_add(1), 1, Some(Refusal::FromFuture)),
-        (told, 4_096, None),
-    ] {
-        assert!(rt; refusal(rt, feed, seat, all(), from, room) == wanted);
-    }
-    assert!(rt; refusal(rt, feed, seat, too_deep(alloc)?, 0, 1) == Some(Refusal::BadConfig));
-    Ok(())
 }
 
 /// Four commits: three rows at one place, and the second at another.
@@ -168,7 +125,6 @@ fn two_subscribers<L: Ledger + Naming, R: Wait + Abort>(
     let mut high = feed.subscribe(rt, seat, overlapping(100, 199)?, 0, 9)?;
     let taken = all_commits(rt, alloc, desk, writer, seat, &feed)?;
     hear(rt, alloc, desk, seat, &mut high)?;
-    refusals(rt, alloc, &feed, seat)?;
     // what somebody else took is nothing that it was given
     assert!(rt; high.close(rt, desk, seat, taken.as_slice()).is_none());
     Ok(())
@@ -205,26 +161,30 @@ fn late_and_early<L: Ledger + Naming, R: Wait + Abort>(
     Ok(())
 }
 
+fn subscribe<L: Ledger + Naming, R: Wait + Abort>(
+    rt: &R,
+    alloc: Global,
+    desk: &Desk<Intervals, L>,
+    writer: &mut Seat<Intervals, L>,
+    seat: &mut Seat<Intervals, L>,
+) -> Result<(), Refusal> {
+    two_subscribers(rt, alloc, desk, writer, seat)?;
+    late_and_early(rt, alloc, desk, seat)
+}
+
 #[derive(Drop)]
 struct TwoSubscribers {}
 
 impl Scene for TwoSubscribers {
-    fn play<L, R>(
+    fn play<L: Ledger + Naming, R: Wait + Abort>(
         &self,
         rt: &R,
         alloc: Global,
         desk: &Desk<Intervals, L>,
         seats: &mut [Seat<Intervals, L>],
-    ) -> Result<(), Refusal>
-    where
-        L: Ledger + Naming + Send + Sync,
-        R: Threads + Wait + Clock + Abort + Sync,
-    {
+    ) -> Result<(), Refusal> {
         match seats {
-            [writer, seat] => {
-                two_subscribers(rt, alloc, desk, writer, seat)?;
-                late_and_early(rt, alloc, desk, seat)
-            }
+            [writer, seat] => subscribe(rt, alloc, desk, writer, seat),
             _ => Err(Refusal::BadConfig),
         }
     }

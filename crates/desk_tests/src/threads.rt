@@ -1,17 +1,19 @@
 //! Threads that work at one desk at once: four write while two cursors are followed.
+ghost use Rattle.std.specs.Prelude.{◌≡◌};
+
 use crate::calls::{delete, insert, move_row};
-use crate::desks::{Scene, play};
-use change_list::{Config, Item};
+use crate::desks::{commits_of, finished};
+use change_list::{Config, Item, Write};
 use desk::{Desk, Seat, Taker};
-use history::Naming;
+use history::{BlankHistory, Naming};
 use interval_class::{Interval, Intervals};
 use interval_queries::all;
 use key_class::Refusal;
 use std::alloc::Global;
+use std::marker::Brand;
 use std::process::Abort;
-use std::rt::Clock;
 use std::sync::Wait;
-use std::sync::ledger::Ledger;
+use std::sync::ledger::{Blank, Ledger};
 use std::test::*;
 use std::thread;
 use std::thread::Threads;
@@ -187,9 +189,11 @@ fn write_and_follow<L: Ledger + Naming + Send + Sync, R: Threads + Wait + Abort 
     rt: &R,
     alloc: Global,
     desk: &Desk<Intervals, L>,
-    writers: &mut [Seat<Intervals, L>],
-    seat: &mut Seat<Intervals, L>,
+    seats: &mut [Seat<Intervals, L>],
 ) -> Result<(), Refusal> {
+    let Some((seat, writers)) = seats.split_first_mut() else {
+        return Err(Refusal::BadConfig);
+    };
     let narrow = desk.open_cursor(rt, seat, all(), 2)?;
     let wide = desk.open_from(rt, seat, all(), 4_096, 0)?;
     let readings = follow_both(rt, alloc, desk, writers, seat, narrow, wide);
@@ -199,31 +203,28 @@ fn write_and_follow<L: Ledger + Naming + Send + Sync, R: Threads + Wait + Abort 
     Ok(())
 }
 
-#[derive(Drop)]
-struct FiveSeats {}
-
-impl Scene for FiveSeats {
-    fn play<L, R>(
-        &self,
-        rt: &R,
-        alloc: Global,
-        desk: &Desk<Intervals, L>,
-        seats: &mut [Seat<Intervals, L>],
-    ) -> Result<(), Refusal>
-    where
-        L: Ledger + Naming + Send + Sync,
-        R: Threads + Wait + Clock + Abort + Sync,
-    {
-        match seats.split_first_mut() {
-            Some((seat, writers)) => write_and_follow(rt, alloc, desk, writers, seat),
-            None => Err(Refusal::BadConfig),
-        }
-    }
+fn five_seats<L: Ledger + Naming + Send + Sync, R: Threads + Wait + Abort + Sync>(
+    rt: &R,
+    alloc: Global,
+    blank: Blank,
+    history: BlankHistory<Write<Interval>>,
+) -> Result<u64, Refusal>
+    requires name { blank.name ≡ L.name }
+    requires parts { blank.parts ≡ L.parts }
+    requires history { history ≡ L.history }
+    requires five { blank.parts ≡ 5 }
+{
+    let (desk, mut seats) = Desk::<Intervals, L>::new(alloc, blank, history, CONFIG, 5)?;
+    let followed = write_and_follow(rt, alloc, &desk, seats.as_mut_slice());
+    let closing = finished(rt, desk, seats);
+    followed?;
+    commits_of(alloc, closing)
 }
 
 /// All stamps of four writers are kept, and compared with the commits once the desk is finished.
 #[test]
 fn stamps_of_four_threads_are_the_commits(rt: HostRuntime) -> Result<(), Fail> {
-    assert!(rt; play(&rt, rt.alloc(), CONFIG, 5, &FiveSeats {})? == 1_600);
+    let commits = five_seats::<Brand, _>(&rt, rt.alloc(), Blank::new(5), BlankHistory::new())?;
+    assert!(rt; commits == 1_600);
     Ok(())
 }
