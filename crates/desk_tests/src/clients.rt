@@ -7,6 +7,7 @@ use history::Naming;
 use interval_class::{Interval, Intervals};
 use interval_queries::{all, overlapping};
 use key_class::Refusal;
+use snapshot::Snapshot;
 use std::alloc::Global;
 use std::process::Abort;
 use std::sync::Wait;
@@ -132,18 +133,32 @@ fn shown<L: Ledger + Naming, R: Wait>(
     Ok((snapshot.commits(), rows.len(), snapshot.status(1)?))
 }
 
-/// How many rows a snapshot has after another row is deleted and one inserted elsewhere, and how many a later one has.
+/// How many rows of a snapshot overlap the low keys.
+fn low_rows(snapshot: &Snapshot<Intervals>) -> Result<u64, Refusal> {
+    snapshot.count(&overlapping(0, 10)?)
+}
+
+/// How many such rows there are once one is deleted, and another inserted elsewhere.
+fn low_rows_after<L: Ledger + Naming, R: Wait>(
+    rt: &R,
+    desk: &Desk<Intervals, L>,
+    seat: &mut Seat<Intervals, L>,
+) -> Result<u64, Refusal> {
+    let _deleted = delete(rt, desk, seat, 1)?;
+    let _inserted = insert(rt, desk, seat, Interval::new(20, 20)?)?;
+    let after = desk.snapshot(rt, seat)?;
+    low_rows(&after)
+}
+
+/// How many such rows an earlier snapshot has after these commits, and how many a later one has.
 fn before_and_after<L: Ledger + Naming, R: Wait>(
     rt: &R,
     desk: &Desk<Intervals, L>,
     seat: &mut Seat<Intervals, L>,
 ) -> Result<(u64, u64), Refusal> {
     let before = desk.snapshot(rt, seat)?;
-    let _deleted = delete(rt, desk, seat, 1)?;
-    let _inserted = insert(rt, desk, seat, Interval::new(20, 20)?)?;
-    let after = desk.snapshot(rt, seat)?;
-    let query = overlapping(0, 10)?;
-    Ok((before.count(&query)?, after.count(&query)?))
+    let after = low_rows_after(rt, desk, seat);
+    Ok((low_rows(&before)?, after?))
 }
 
 /// What waiting threads get at a desk with two commits: past the first; past the first unless a flag is raised, which
