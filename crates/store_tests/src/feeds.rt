@@ -1,7 +1,6 @@
 //! Single calls of a feed.
-use crate::source::CONFIG;
-use change_list::Item;
-use feed::{Feed, changes_go_on};
+use change_list::{Config, Item};
+use feed::Feed;
 use interval_class::{Atom, Interval, Intervals};
 use interval_queries::overlapping;
 use key_class::{Pred, Refusal};
@@ -9,6 +8,13 @@ use snapshot::Snapshot;
 use std::alloc::Global;
 use std::test::Fail;
 use store::Store;
+
+const CONFIG: Config = Config {
+    fan: 4,
+    least: 2,
+    pages: 99,
+    commits: 99,
+};
 
 /// A query of a depth.
 fn deep(alloc: Global, depth: u32) -> Result<Pred<Atom>, Refusal> {
@@ -114,7 +120,7 @@ impl Caller {
     }
 }
 
-/// Whether the calls have these answers, and give inserts of these rows under these serials.
+/// Whether the calls have these answers, and deliver inserts of these rows under these serials.
 fn is_answered(
     alloc: Global,
     calls: &[(Call, Result<u64, Refusal>)],
@@ -124,22 +130,12 @@ fn is_answered(
     Ok(caller.first_wrong(calls) == None && caller.was_given(wanted))
 }
 
-static REFUSED: [(Call, Result<u64, Refusal>); 5] = [
+static REFUSED: [(Call, Result<u64, Refusal>); 9] = [
     (Call::Deep(33), Err(Refusal::BadConfig)),
     (Call::Deep(32), Ok(1)),
     (Call::Unsubscribe(2), Err(Refusal::NotSubscribed)),
     (Call::Unsubscribe(1), Ok(0)),
     (Call::Unsubscribe(1), Err(Refusal::NotSubscribed)),
-];
-
-#[test]
-fn a_feed_refuses_what_it_cannot_do(rt: HostRuntime) -> Result<(), Fail> {
-    changes_go_on::<Interval>();
-    assert!(rt; is_answered(rt.alloc(), &REFUSED, &[])?);
-    Ok(())
-}
-
-static NO_WAY_BACK: [(Call, Result<u64, Refusal>); 4] = [
     (Call::AdvanceInFive(4), Ok(4)),
     (Call::AdvanceInNone(4), Err(Refusal::FromFuture)),
     (Call::AdvanceInFive(0), Ok(4)),
@@ -147,34 +143,18 @@ static NO_WAY_BACK: [(Call, Result<u64, Refusal>); 4] = [
 ];
 
 #[test]
-fn a_feed_goes_no_way_back(rt: HostRuntime) -> Result<(), Fail> {
-    assert!(rt; is_answered(rt.alloc(), &NO_WAY_BACK, &[])?);
+fn a_feed_refuses_what_it_cannot_do(rt: HostRuntime) -> Result<(), Fail> {
+    assert!(rt; is_answered(rt.alloc(), &REFUSED, &[])?);
     Ok(())
 }
 
-static MISSED: [(Call, Result<u64, Refusal>); 6] = [
-    (Call::Overlapping(2, 4, 0), Ok(1)),
-    (Call::AdvanceInFive(3), Ok(3)),
-    (Call::Overlapping(2, 4, 1), Ok(2)),
-    (Call::Overlapping(0, 9, 4), Ok(3)),
-    (Call::Unsubscribe(1), Ok(0)),
-    (Call::AdvanceInFive(9), Ok(5)),
-];
-
-/// The expected inserts: serials, and rows.
-static GIVEN: [(u64, u64); 6] = [(1, 2), (1, 3), (2, 2), (2, 3), (2, 4), (3, 5)];
-
-#[test]
-fn what_was_missed_is_given(rt: HostRuntime) -> Result<(), Fail> {
-    assert!(rt; is_answered(rt.alloc(), &MISSED, &GIVEN)?);
-    Ok(())
-}
-
-static EQUAL: [(Call, Result<u64, Refusal>); 8] = [
+/// Equal queries, after different commits, that end one by one.
+static EQUAL: [(Call, Result<u64, Refusal>); 9] = [
     (Call::Overlapping(2, 4, 0), Ok(1)),
     (Call::Overlapping(2, 4, 2), Ok(2)),
-    (Call::Overlapping(2, 4, 3), Ok(3)),
     (Call::AdvanceInFive(3), Ok(3)),
+    (Call::Overlapping(2, 4, 1), Ok(3)),
+    (Call::Overlapping(0, 9, 4), Ok(4)),
     (Call::Unsubscribe(1), Ok(0)),
     (Call::AdvanceInFive(9), Ok(5)),
     (Call::Unsubscribe(2), Ok(0)),
@@ -182,10 +162,19 @@ static EQUAL: [(Call, Result<u64, Refusal>); 8] = [
 ];
 
 /// The expected inserts: serials, and rows.
-static GIVEN_EACH: [(u64, u64); 5] = [(1, 2), (1, 3), (2, 3), (2, 4), (3, 4)];
+static GIVEN: [(u64, u64); 8] = [
+    (1, 2),
+    (1, 3),
+    (2, 3),
+    (3, 2),
+    (3, 3),
+    (2, 4),
+    (3, 4),
+    (4, 5),
+];
 
 #[test]
 fn equal_queries_end_one_by_one(rt: HostRuntime) -> Result<(), Fail> {
-    assert!(rt; is_answered(rt.alloc(), &EQUAL, &GIVEN_EACH)?);
+    assert!(rt; is_answered(rt.alloc(), &EQUAL, &GIVEN)?);
     Ok(())
 }
