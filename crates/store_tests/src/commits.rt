@@ -20,7 +20,9 @@ fn append(list: &mut ChangeList<Interval>, number: u32) -> Result<(), Refusal> {
     if list.len() >= MOST_COMMITS {
         return Err(Refusal::CommitsFull);
     }
-    Ok(list.push(insert(number)?)?)
+    let at = i64::from(number);
+    let key = Interval::new(at, at)?;
+    Ok(list.push(Write::Insert(key, u64::from(number)))?)
 }
 
 /// A list of inserts whose keys and tags are their numbers.
@@ -79,16 +81,16 @@ fn segments_have_256_commits(rt: HostRuntime) -> Result<(), Fail> {
 }
 
 /// How many commits a view of 256, and the list after one more, have.
-fn viewed(alloc: Global) -> Result<(usize, usize), Refusal> {
-    let mut list = of_inserts(alloc, 256)?;
+fn lengths_of_view_and_list(list: &mut ChangeList<Interval>) -> Result<(usize, usize), Refusal> {
     let view = list.view()?;
-    append(&mut list, 257)?;
+    append(list, 257)?;
     Ok((view.len(), list.len()))
 }
 
 #[test]
 fn a_view_stays_as_it_was(rt: HostRuntime) -> Result<(), Fail> {
-    assert!(rt; viewed(rt.alloc())? == (256, 257));
+    let mut list = of_inserts(rt.alloc(), 256)?;
+    assert!(rt; lengths_of_view_and_list(&mut list)? == (256, 257));
     Ok(())
 }
 

@@ -118,6 +118,14 @@ impl Caller {
         }
         true
     }
+
+    fn is_answered(
+        &mut self,
+        calls: &[(Call, Result<u64, Refusal>)],
+        wanted: &[(u64, u64)],
+    ) -> bool {
+        self.first_wrong(calls).is_none() && self.was_given(wanted)
+    }
 }
 
 /// Whether the calls have these answers, and deliver inserts of these rows under these serials.
@@ -127,7 +135,7 @@ fn is_answered(
     wanted: &[(u64, u64)],
 ) -> Result<bool, Refusal> {
     let mut caller = Caller::new(alloc)?;
-    Ok(caller.first_wrong(calls) == None && caller.was_given(wanted))
+    Ok(caller.is_answered(calls, wanted))
 }
 
 static REFUSED: [(Call, Result<u64, Refusal>); 9] = [

@@ -61,37 +61,48 @@ static VISITS: [(u64, Result<u64, Refusal>); 7] = [
 ];
 
 /// The first of the rows whose finder visits another number of pages.
-fn first_wrong(alloc: Global) -> Result<Option<u64>, Refusal> {
-    let mut world = grown(alloc)?;
+fn first_wrong(world: &mut Trial) -> Option<u64> {
     for (row, wanted) in &VISITS {
-        if visits_near(&mut world, *row) != *wanted {
-            return Ok(Some(*row));
+        if visits_near(world, *row) != *wanted {
+            return Some(*row);
         }
     }
-    Ok(None)
+    None
+}
+
+fn first_wrong_of_new(alloc: Global) -> Result<Option<u64>, Refusal> {
+    let mut world = grown(alloc)?;
+    Ok(first_wrong(&mut world))
 }
 
 #[test]
 fn a_finder_begins_where_its_row_stands(rt: HostRuntime) -> Result<(), Fail> {
-    let wrong = first_wrong(rt.alloc())?;
+    let wrong = first_wrong_of_new(rt.alloc())?;
     assert!(rt; wrong.is_none(), "{wrong:?}");
     Ok(())
 }
 
+/// The results of two deletes.
+type Deletes = (Result<u64, Refusal>, Result<u64, Refusal>);
+
+static FINDERS: [Step; 64] = [Step::Find(1); 64];
+
 /// The results of a delete while 64 finders are open, and while 63 are.
-fn deleted_beside_finders(
-    alloc: Global,
-) -> Result<(Result<u64, Refusal>, Result<u64, Refusal>), Refusal> {
+fn deletes_beside_finders(alloc: Global, world: &mut Trial) -> Result<Deletes, Refusal> {
+    make_all(alloc, world, &FINDERS)?;
+    let refused = delete(world, 2);
+    make_all(alloc, world, &[Step::Unfind(9)])?;
+    Ok((refused, delete(world, 2)))
+}
+
+fn deletes_of_new(alloc: Global) -> Result<Deletes, Refusal> {
     let mut world = grown(alloc)?;
-    make_all(alloc, &mut world, &[Step::Find(1); 64])?;
-    let refused = delete(&mut world, 2);
-    make_all(alloc, &mut world, &[Step::Unfind(9)])?;
-    Ok((refused, delete(&mut world, 2)))
+    deletes_beside_finders(alloc, &mut world)
 }
 
 #[test]
 fn a_delete_needs_a_finder(rt: HostRuntime) -> Result<(), Fail> {
-    let deleted = deleted_beside_finders(rt.alloc())?;
-    assert!(rt; deleted == (Err(Refusal::FindersFull), Ok(7)));
+    let deletes = deletes_of_new(rt.alloc())?;
+    assert!(rt; deletes == (Err(Refusal::FindersFull), Ok(7)));
     Ok(())
 }

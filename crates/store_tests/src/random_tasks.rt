@@ -259,25 +259,26 @@ impl Twins {
             && (0..self.world.pages()).all(|number| self.has_same_page(number))
     }
 
-    /// The place of the first answer that isn't as it is due.
+    /// The place of the first answer that isn't as it is due. The last one if the pages aren't the same in the end.
     fn first_wrong(&mut self) -> Result<Option<usize>, Refusal> {
         for place in 0..STEPS {
             if !self.goes_on()? {
                 return Ok(Some(place));
             }
         }
-        Ok(None)
+        Ok((!self.has_same_pages()).then_some(STEPS))
+    }
+
+    fn outcome(&mut self) -> Result<(Option<usize>, u64, u64), Refusal> {
+        let wrong = self.first_wrong()?;
+        Ok((wrong, self.published, self.stale))
     }
 }
 
 /// The place of the first wrong answer in a random list, and how many publications were fresh and stale.
 fn outcome(alloc: Global, seed: u64) -> Result<(Option<usize>, u64, u64), Refusal> {
     let mut twins = Twins::new(alloc, seed)?;
-    let wrong = twins.first_wrong()?;
-    if !twins.has_same_pages() {
-        return Ok((Some(STEPS), 0, 0));
-    }
-    Ok((wrong, twins.published, twins.stale))
+    twins.outcome()
 }
 
 #[test]

@@ -65,7 +65,7 @@ static STEPS: [Step; 44] = [
 fn events_of(alloc: Global, steps: &[Step]) -> Result<Vec<Event<Interval, Atom>>, Refusal> {
     let mut events = Vec::new(alloc);
     for step in steps {
-        events.push(step.event(alloc)?.copy(alloc)?)?;
+        events.push(step.event(alloc)?)?;
     }
     Ok(events)
 }

@@ -24,21 +24,38 @@ fn insert_all(store: &mut Store<Intervals>, first: i64) -> Result<(), Refusal> {
     Ok(())
 }
 
+fn make_first_part(store: &mut Store<Intervals>) -> Result<(), Refusal> {
+    insert_all(store, 1)?;
+    let _deleted = store.delete(1)?;
+    let _moved = store.move_row(2, Interval::new(50, 50)?)?;
+    Ok(())
+}
+
 /// A store of 42 commits: row n is at point n, row 1 is deleted, and row 2 was moved to point 50.
 fn first_part(alloc: Global) -> Result<Store<Intervals>, Refusal> {
     let mut store = Store::new(alloc, CONFIG)?;
-    insert_all(&mut store, 1)?;
-    let _deleted = store.delete(1)?;
-    let _moved = store.move_row(2, Interval::new(50, 50)?)?;
+    make_first_part(&mut store)?;
     Ok(store)
 }
 
-/// A snapshot of 42 commits, of a store that has gone on since: commit 43 deletes row 3, and forty rows are inserted.
+/// Commit 43 deletes row 3, and forty rows are inserted.
+fn second_part(store: &mut Store<Intervals>) -> Result<(), Refusal> {
+    let _deleted = store.delete(3)?;
+    insert_all(store, 60)
+}
+
+fn snapshot_before_second_part(
+    store: &mut Store<Intervals>,
+) -> Result<Snapshot<Intervals>, Refusal> {
+    let snapshot = store.snapshot()?;
+    second_part(store)?;
+    Ok(snapshot)
+}
+
+/// A snapshot of 42 commits, of a store that has gone on since.
 fn kept(alloc: Global) -> Result<(Snapshot<Intervals>, Store<Intervals>), Refusal> {
     let mut store = first_part(alloc)?;
-    let snapshot = store.snapshot()?;
-    let _deleted = store.delete(3)?;
-    insert_all(&mut store, 60)?;
+    let snapshot = snapshot_before_second_part(&mut store)?;
     Ok((snapshot, store))
 }
 
@@ -77,12 +94,18 @@ fn found(snapshot: &Snapshot<Intervals>, lo: i64, hi: i64) -> Result<(usize, u64
     Ok((snapshot.find(&query)?.len(), snapshot.count(&query)?))
 }
 
+fn is_as_it_was(snapshot: &Snapshot<Intervals>) -> Result<bool, Refusal> {
+    Ok(
+        first_wrong(snapshot)?.is_none()
+            && found(snapshot, 0, 99)? == (39, 39)
+            && found(snapshot, 60, 99)? == (0, 0),
+    )
+}
+
 #[test]
 fn a_snapshot_stays_as_it_was(rt: HostRuntime) -> Result<(), Fail> {
     let (snapshot, _store) = kept(rt.alloc())?;
-    assert!(rt; first_wrong(&snapshot)?.is_none());
-    assert!(rt; found(&snapshot, 0, 99)? == (39, 39));
-    assert!(rt; found(&snapshot, 60, 99)? == (0, 0));
+    assert!(rt; is_as_it_was(&snapshot)?);
     Ok(())
 }
 
@@ -97,8 +120,7 @@ fn change(
 }
 
 /// The commits of two calls' changes, the first of which stops after two items, and how many items they give.
-fn changes(alloc: Global) -> Result<(u64, u64, usize), Refusal> {
-    let (_, store) = kept(alloc)?;
+fn changes(alloc: Global, store: &Store<Intervals>) -> Result<(u64, u64, usize), Refusal> {
     let later = store.snapshot()?;
     let mut items = Vec::new(alloc);
     let upto = change(&later, &mut items, 42, 2)?;
@@ -108,7 +130,8 @@ fn changes(alloc: Global) -> Result<(u64, u64, usize), Refusal> {
 
 #[test]
 fn changes_go_on_where_a_snapshot_ends(rt: HostRuntime) -> Result<(), Fail> {
-    assert!(rt; changes(rt.alloc())? == (44, 83, 3));
+    let (_, store) = kept(rt.alloc())?;
+    assert!(rt; changes(rt.alloc(), &store)? == (44, 83, 3));
     Ok(())
 }
 

@@ -202,16 +202,23 @@ fn items(alloc: Global, store: &mut Store<Intervals>) -> Result<Vec<Item<Interva
     Ok(items)
 }
 
-fn delivers_a_row_and_an_insert(alloc: Global) -> Result<bool, Refusal> {
-    let mut store = Store::new(alloc, CONFIG)?;
-    let wrong = first_wrong(alloc, &mut store, &ONE_INSERT);
+fn delivers_a_row_and_an_insert(
+    alloc: Global,
+    store: &mut Store<Intervals>,
+) -> Result<bool, Refusal> {
+    let wrong = first_wrong(alloc, store, &ONE_INSERT);
     let wanted = [Item::Row(row(5, 1)?), Item::Inserted(row(6, 2)?)];
-    Ok(wrong.is_none() && items(alloc, &mut store)?.as_slice() == wanted.as_slice())
+    Ok(wrong.is_none() && items(alloc, store)?.as_slice() == wanted.as_slice())
+}
+
+fn new_store(alloc: Global) -> Result<Store<Intervals>, Refusal> {
+    Store::new(alloc, CONFIG)
 }
 
 #[test]
 fn a_drain_delivers_rows_and_changes(rt: HostRuntime) -> Result<(), Fail> {
-    assert!(rt; delivers_a_row_and_an_insert(rt.alloc())?);
+    let mut store = new_store(rt.alloc())?;
+    assert!(rt; delivers_a_row_and_an_insert(rt.alloc(), &mut store)?);
     Ok(())
 }
 
@@ -243,14 +250,14 @@ const FOLLOWING: Option<Standing> = Some(Standing {
 });
 
 /// The figures of the store, and the state of its second cursor.
-fn figures(alloc: Global) -> Result<(Stats, Option<Standing>), Refusal> {
-    let mut store = Store::new(alloc, CONFIG)?;
-    let _wrong = first_wrong(alloc, &mut store, &CURSORS);
-    Ok((store.stats(), store.standing(1)))
+fn figures(alloc: Global, store: &mut Store<Intervals>) -> (Stats, Option<Standing>) {
+    let _wrong = first_wrong(alloc, store, &CURSORS);
+    (store.stats(), store.standing(1))
 }
 
 #[test]
 fn a_store_has_figures(rt: HostRuntime) -> Result<(), Fail> {
-    assert!(rt; figures(rt.alloc())? == (STATS, FOLLOWING));
+    let mut store = new_store(rt.alloc())?;
+    assert!(rt; figures(rt.alloc(), &mut store) == (STATS, FOLLOWING));
     Ok(())
 }
