@@ -7,6 +7,8 @@ mod ceilings;
 #[cfg(test)]
 mod commits;
 #[cfg(test)]
+mod event_lists;
+#[cfg(test)]
 mod events;
 #[cfg(test)]
 mod faults;
@@ -23,10 +25,10 @@ mod plain_blocks;
 #[cfg(test)]
 mod random_tasks;
 #[cfg(test)]
-mod refused_memory;
-#[cfg(test)]
 mod snapshots;
 #[cfg(test)]
 mod stores;
+#[cfg(test)]
+mod table_copies;
 #[cfg(test)]
 mod tasks;

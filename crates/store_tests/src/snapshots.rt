@@ -60,7 +60,7 @@ fn kept(alloc: Global) -> Result<(Snapshot<Intervals>, Store<Intervals>), Refusa
 }
 
 /// Whether a number is that of a commit, whether it is that of a row, and the row's status.
-fn told(snapshot: &Snapshot<Intervals>, number: u64) -> Result<(bool, bool, Status), Refusal> {
+fn facts(snapshot: &Snapshot<Intervals>, number: u64) -> Result<(bool, bool, Status), Refusal> {
     let is_commit = snapshot.commit(number).is_some();
     Ok((
         is_commit,
@@ -81,7 +81,7 @@ static NUMBERS: [(u64, (bool, bool, Status)); 6] = [
 /// The first number for which a snapshot gives something else.
 fn first_wrong(snapshot: &Snapshot<Intervals>) -> Result<Option<u64>, Refusal> {
     for (number, wanted) in &NUMBERS {
-        if told(snapshot, *number)? != *wanted {
+        if facts(snapshot, *number)? != *wanted {
             return Ok(Some(*number));
         }
     }
