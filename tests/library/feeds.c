@@ -1,6 +1,6 @@
 /*
  * A feed while items wait: an older snapshot is refused, a new subscription gets what it missed, and taking many items a
- * few at a time costs processor time in proportion to their number.
+ * few at a time costs processor time in proportion to their number. And a feed whose queries come and go.
  *
  *     cc -std=c11 -Wall -Wextra -pedantic tests/library/feeds.c -IFOLDER FOLDER/libgist.a && ./a.out
  *
@@ -161,6 +161,44 @@ static void goes_on_after_what_waits(void) {
     end(&s);
 }
 
+/* While 12,000 other queries come and go, so that the feed rebuilds its tree of queries several times, each row is
+ * delivered to the one subscription that it matches. */
+static void queries_come_and_go(void) {
+    enum { STAYING = 10, ROUNDS = 12, OTHERS = 1000 };
+    setting s = begin();
+    gist_told told[8];
+    uint64_t stays[STAYING], given = 0, upto = 0, added = 0;
+
+    for (int64_t i = 0; i < STAYING; i++) {
+        gist_query query = GIST_NONE;
+        NEED(gist_ask(&query, GIST_INTERVALS, GIST_OVERLAPS, gist_interval(100 * i, 100 * i + 9)));
+        NEED(gist_subscribe(&s.feed, &query, 0, &stays[i]));
+        gist_forget(&query);
+    }
+    for (int64_t round = 0; round < ROUNDS; round++) {
+        const int64_t at = round % STAYING;
+        const gist_entry entry = {gist_interval(100 * at + 5, 100 * at + 6), (uint64_t)round};
+        gist_snapshot now = GIST_NONE;
+        for (int64_t i = 0; i < OTHERS; i++) {
+            const int64_t lo = 100000 + OTHERS * round + i;
+            gist_query query = GIST_NONE;
+            uint64_t passing = 0;
+            NEED(gist_ask(&query, GIST_INTERVALS, GIST_OVERLAPS, gist_interval(lo, lo + 3)));
+            NEED(gist_subscribe(&s.feed, &query, 0, &passing));
+            NEED(gist_unsubscribe(&s.feed, passing));
+            gist_forget(&query);
+        }
+        NEED(gist_insert(&s.store, &entry, 1, &added));
+        NEED(gist_take(&s.store, &now));
+        NEED(gist_advance(&s.feed, &now, UINT64_MAX, told, 8, &given, &upto));
+        IS(given, 1);
+        IS(told[0].subscription, stays[at]);
+        IS(told[0].item.tag, round);
+        gist_drop(&now);
+    }
+    end(&s);
+}
+
 /* Processor seconds to take so many items, ten at a time. */
 static double seconds_to_take(uint64_t items) {
     setting s = begin();
@@ -199,6 +237,7 @@ int main(void) {
     for (uint64_t room = 1; room <= 64; room++)
         delivers_what_was_missed(room);
     goes_on_after_what_waits();
+    queries_come_and_go();
     takes_in_linear_time();
     return failures ? 1 : 0;
 }
