@@ -456,6 +456,16 @@ class Running(unittest.TestCase):
         self.assertEqual(set(found.values()), {Verdict.NOT_COMPILED})
         self.assertEqual(sorted(map(len, self.checked)), [1, 1, 2])
 
+    def test_a_check_that_is_killed_leaves_its_mutants_for_another_time(self) -> None:
+        program = f"{self.folder}/killed"
+        with open(program, "w", encoding="utf-8") as file:
+            file.write("#!/bin/sh\necho 'fn one::top: proved'\nkill -9 $$\n")
+        os.chmod(program, 0o755)
+        kit = mock.Mock(RATTLE=program, guarded=lambda: [])
+        crate = mock.Mock(folder=self.folder, words=lambda *_, **__: [])
+        done = run.check(cast(Toolchain, kit), cast(Crate, crate), {}, ["one::top"], self.folder)
+        self.assertIsNone(done.output)
+
     def test_no_check_begins_when_the_budget_is_used(self) -> None:
         found = self.tried(self.mutants("top-a", "top-b", "top-c", "top-d"), budget=150)
         self.assertEqual(list(found), ["one/top-a", "one/top-b", "one/top-c"])

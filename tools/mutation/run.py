@@ -10,6 +10,7 @@ import collections
 import concurrent.futures
 import os
 import shutil
+import signal
 import subprocess
 import tempfile
 import threading
@@ -34,7 +35,7 @@ PAUSE = 0.1
 
 
 class Checked(NamedTuple):
-    """What a check printed, and its processor seconds; no output if it didn't end in time."""
+    """What a check printed, and its processor seconds; no output if it didn't end in time or was killed."""
 
     output: str | None
     seconds: float
@@ -68,7 +69,9 @@ def check(
             running.returncode = os.waitstatus_to_exitcode(status)
             said.seek(0)
             output = said.read().decode("utf-8", "replace")
-        return Checked(output if ended else None, used.ru_utime + used.ru_stime)
+        # a check that something kills, as when the machine is out of memory, says nothing about its mutants
+        was_killed = not ended or running.returncode < 0 or running.returncode == 128 + signal.SIGKILL
+        return Checked(None if was_killed else output, used.ru_utime + used.ru_stime)
 
 
 def reached_by(crate: Crate) -> dict[str, set[str]]:
