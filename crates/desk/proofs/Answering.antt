@@ -12,7 +12,7 @@ use Rattle.history.specs.Pasts.{IsPastOf}
 use Rattle.history.proofs.Pasts.{prefix_get, prefix_length, prefix_self, prefix_trans}
 use Rattle.key_class.specs.Rules.{Rules}
 use Rattle.key_class.specs.declared.refusal.Refusal.{Refusal}
-use Rattle.relocation.specs.Moves.{RefusesMove}
+use Rattle.writes.specs.Moves.{RefusesMove}
 use Rattle.world.specs.States.{State}
 use Rattle.world.specs.Stamps.{Stamp}
 use Rattle.desk.specs.Seats.{Seated, Stands, IsLastOf, Rises, AreAnswers}

@@ -4,7 +4,7 @@ use Rattle.key_class.specs.Rules.{Rules}
 use Rattle.key_class.specs.declared.refusal.Refusal.{Refusal}
 use Rattle.mailbox.specs.Outlets.{Rule}
 use Rattle.cursor.specs.OpenCursors.{OpenCursor}
-use Rattle.removal.specs.Ending.{Looks}
+use Rattle.writes.specs.Ending.{Looks}
 use Rattle.world.specs.Promises.{MailboxesFit}
 use Rattle.world.specs.Serials.{member}
 use Rattle.world.specs.States.{State}

@@ -3,7 +3,7 @@ use Rattle.std.specs.Prelude.{ℕ, Bool, List}
 use Rattle.key_class.specs.Queries.{Query}
 use Rattle.key_class.specs.Rules.{Rules, satisfies}
 use Rattle.change_list.specs.declared.item.Item.{Item}
-use Rattle.listing.specs.Deliveries.{IsDelivered}
+use Rattle.delivery_check.specs.Deliveries.{IsDelivered}
 use Rattle.desk.specs.Seats.{Received, TakerState}
 use Rattle.desk.specs.declared.ending.Ended.{Ended}
 use Rattle.desk.specs.declared.ending.Ended.TheVariants as ended

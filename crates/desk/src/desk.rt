@@ -19,12 +19,9 @@ use crate::seat::{CommitsTold, Seat};
 use crate::taker::Taker;
 use change_list::{Config, Item, View, Write};
 use history::{BlankHistory, Naming};
-use insertion::Way;
 use key_class::limits::MAX_SEATS;
 use key_class::{KeyClass, Pred, Refusal};
 use mailbox::Ring;
-use relocation::Moving;
-use removal::Search;
 use rtrb::Consumer;
 use snapshot::Snapshot;
 use std::alloc::{AllocError, Global};
@@ -33,6 +30,7 @@ use std::sync::atomic::{AtomicBool, Ordering};
 use std::sync::ledger::{Blank, Ledger, Share};
 use std::sync::{Condvar, Wait};
 use world::{Reply, SplitTask, Stamped, VisitTask, World};
+use writes::{Moving, Search, Way};
 
 /// A world under a lock, shared by as many seats as the ledger has parts.
 #[derive(Drop)]

@@ -6,8 +6,8 @@ ghost use Rattle.desk.specs.Receipts.{IfReceipt, ShowsDelivery};
 
 use crate::receipt::Receipt;
 use change_list::{Item, View};
+use delivery_check::is_delivered;
 use key_class::{KeyClass, Pred};
-use listing::is_delivered;
 use std::alloc::Global;
 
 /// What closing a cursor gives.

@@ -7,21 +7,18 @@ ghost use Rattle.world.specs.declared.event.Event.TheVariants as event;
 ghost use Rattle.world.specs.States.{IsFullOfCommits};
 ghost use Rattle.world.specs.Tasks.{VisitsPageNext};
 ghost use Rattle.world.specs.Steps.{Opens, opened_cursor, following_cursor};
-ghost use Rattle.insertion.specs.Visits.{Goes};
-ghost use Rattle.removal.specs.Ending.{Looks};
-ghost use Rattle.removal.specs.Visits.{Seeks};
-ghost use Rattle.removal.specs.declared.ending.Ending.TheVariants as Ending;
-ghost use Rattle.relocation.specs.Moves.{Relocates};
+ghost use Rattle.writes.specs.InsertVisits.{Goes};
+ghost use Rattle.writes.specs.Ending.{Looks};
+ghost use Rattle.writes.specs.EndVisits.{Seeks};
+ghost use Rattle.writes.specs.declared.ending.Ending.TheVariants as Ending;
+ghost use Rattle.writes.specs.Moves.{Relocates};
 ghost use Rattle.desk.specs.Visits.{MakesClose, Counts, CountsMoving, CountsSearch, IsHeld, IsMovingCommitted, IsSearchCommitted, IsSplitAtMost, IsSplitInTime, IsWayCommitted, MakesOneEvent, IsReplyTo, IsInsertRefused, IsDeleteRefused, IsMoveRefused, IsOpeningRefused, IsFollowingRefused};
 
 use crate::seat::CommitsTold;
 use change_list::{Item, View, Write};
 use history::{History, Naming};
-use insertion::{Way, insert_step, split_at_once, split_prepared};
 use key_class::{KeyClass, Pred, Refusal};
 use mailbox::Ring;
-use relocation::{Moving, move_step};
-use removal::{Search, find_row, seek_row};
 use rtrb::Consumer;
 use snapshot::Snapshot;
 use std::alloc::Global;
@@ -29,6 +26,9 @@ use std::marker::Model;
 use std::sync::Wait;
 use std::sync::ledger::{Book, Ledger, Share};
 use world::{Event, Reply, SplitTask, VisitTask, World};
+use writes::{
+    Moving, Search, Way, find_row, insert_step, move_step, seek_row, split_at_once, split_prepared,
+};
 
 /// What stands under the lock of a desk.
 pub trait Guarded: Drop {

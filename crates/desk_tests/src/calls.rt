@@ -4,13 +4,13 @@ use change_list::{Config, Item};
 use desk::{Desk, Ended, Seat, Taker};
 use history::Naming;
 use interval_class::{Interval, Intervals};
-use interval_queries::all;
 use key_class::Refusal;
 use std::alloc::Global;
 use std::process::Abort;
 use std::sync::Wait;
 use std::sync::ledger::Ledger;
 use std::test::*;
+use test_support::all;
 use world::Reply;
 
 /// A call of a seat, with a number as its answer.

@@ -5,7 +5,6 @@ use change_list::{Item, Status};
 use desk::{Desk, Seat, Taker};
 use history::Naming;
 use interval_class::{Interval, Intervals};
-use interval_queries::{all, overlapping};
 use key_class::Refusal;
 use snapshot::Snapshot;
 use std::alloc::Global;
@@ -14,6 +13,7 @@ use std::sync::Wait;
 use std::sync::atomic::AtomicBool;
 use std::sync::ledger::Ledger;
 use std::test::*;
+use test_support::{all, overlapping};
 use world::Reply;
 
 /// How many items fit into a ring.

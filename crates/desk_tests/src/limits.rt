@@ -4,7 +4,6 @@ use crate::desks::{Scene, limits, play};
 use desk::{Desk, Seat};
 use history::Naming;
 use interval_class::{Interval, Intervals};
-use interval_queries::all;
 use key_class::Refusal;
 use pumps::{Gate, Pumps};
 use std::alloc::Global;
@@ -12,6 +11,7 @@ use std::process::Abort;
 use std::sync::Wait;
 use std::sync::ledger::Ledger;
 use std::test::*;
+use test_support::all;
 
 /// Opens a cursor on all rows, which stays open, and returns the number of commits at its opening.
 fn open<L: Ledger + Naming, R: Wait>(

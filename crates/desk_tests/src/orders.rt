@@ -8,7 +8,6 @@ use crossbeam_channel::{Receiver, unbounded};
 use desk::{Desk, Seat, Taker};
 use history::{BlankHistory, Naming};
 use interval_class::{Interval, Intervals};
-use interval_queries::all;
 use key_class::Refusal;
 use pumps::{Gate, Order, Pumped, Pumps};
 use std::alloc::Global;
@@ -22,6 +21,7 @@ use std::test::*;
 use std::thread::Threads;
 use std::time::Duration;
 use std::{io, thread};
+use test_support::all;
 
 /// A runtime that counts pauses of a millisecond instead of making them.
 #[derive(Drop)]

@@ -5,13 +5,13 @@ use change_list::Item;
 use desk::{Desk, Ended, Seat, Taker};
 use history::Naming;
 use interval_class::{Interval, Intervals};
-use interval_queries::all;
 use key_class::Refusal;
 use std::alloc::Global;
 use std::process::Abort;
 use std::sync::Wait;
 use std::sync::ledger::Ledger;
 use std::test::*;
+use test_support::all;
 
 /// How the items that a client took are altered before they are handed in.
 #[derive(Clone, Copy)]

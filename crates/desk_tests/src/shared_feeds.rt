@@ -5,7 +5,6 @@ use change_list::{Item, Row};
 use desk::{Desk, Seat};
 use history::Naming;
 use interval_class::{Interval, Intervals};
-use interval_queries::{all, overlapping};
 use key_class::Refusal;
 use shared_feed::{SharedFeed, Subscriber};
 use std::alloc::Global;
@@ -13,6 +12,7 @@ use std::process::Abort;
 use std::sync::Wait;
 use std::sync::ledger::Ledger;
 use std::test::*;
+use test_support::{all, overlapping};
 
 const LOW: Interval = Interval { lo: 5, hi: 8 };
 

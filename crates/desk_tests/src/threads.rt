@@ -7,7 +7,6 @@ use change_list::{Config, Item, Write};
 use desk::{Desk, Seat, Taker};
 use history::{BlankHistory, Naming};
 use interval_class::{Interval, Intervals};
-use interval_queries::all;
 use key_class::Refusal;
 use std::alloc::Global;
 use std::marker::Brand;
@@ -18,6 +17,7 @@ use std::test::*;
 use std::thread;
 use std::thread::Threads;
 use storm::{Reading, Verdict, judged};
+use test_support::all;
 
 const CONFIG: Config = Config {
     fan: 8,

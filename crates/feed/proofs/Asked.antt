@@ -9,8 +9,8 @@ use Rattle.change_list.specs.declared.item.Item.{Item}
 use Rattle.change_list.specs.declared.item.Row.{Row}
 use Rattle.change_list.specs.declared.write.Write.{Write}
 use Rattle.change_list.specs.Changes.{item_at}
-use Rattle.reach.specs.QueryLaws.{satisfied_overlap}
-use Rattle.reach.specs.Reaches.{MatchesOverlap}
+use Rattle.feed.specs.QueryLaws.{satisfied_overlap}
+use Rattle.feed.specs.Reaches.{MatchesOverlap}
 use Rattle.feed.specs.declared.change.Change.{Change}
 use Rattle.feed.specs.declared.topics.Topic.{Topic}
 use Rattle.feed.specs.Changing.{IsChangeOf}

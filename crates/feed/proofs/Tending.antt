@@ -21,7 +21,7 @@ use Rattle.key_class.specs.declared.refusal.Refusal.{Refusal}
 use Rattle.std.specs.Prelude.{IfOk, None, OnErr, OnOk, Option, Result, Ok, Err}
 use Rattle.feed.specs.Planting.{AreTagged, HasRow, HasRows, IsPlanted, IsTagged, LivesAs, MayBePlanted, Tends}
 use Rattle.feed.specs.Holding.{MayBeRooted}
-use Rattle.reach.specs.Reaches.{reaches_of}
+use Rattle.feed.specs.Reaches.{reaches_of}
 use Rattle.feed.proofs.Members.{contains_filter, contains_found, contains_map}
 
 or_false : (b : Bool) → (b || false) ≡ b

@@ -3,7 +3,7 @@ use Rattle.std.specs.Prelude.{◌≡◌, ◌⊎◌, ℕ, ◌≤◌, max, nat_le,
 use Rattle.key_class.specs.Queries.{Query, query_of}
 use Rattle.change_list.specs.declared.write.Write.{Write}
 use Rattle.change_list.specs.Changes.{IsLegal}
-use Rattle.reach.specs.Reaches.{reaches_of}
+use Rattle.feed.specs.Reaches.{reaches_of}
 use Rattle.world.specs.Serials.{Rise, member}
 use Rattle.feed.specs.declared.registration.Registration.{Registration}
 use Rattle.feed.specs.declared.topics.Topic.{Topic}

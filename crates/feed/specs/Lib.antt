@@ -1,4 +1,6 @@
 pub mod Asking
+pub mod AtomLaws
+pub mod Atoms
 pub mod Changing
 pub mod Feeds
 pub mod GoingOn
@@ -6,3 +8,5 @@ pub mod Hearing
 pub mod Holding
 pub mod Listening
 pub mod Planting
+pub mod QueryLaws
+pub mod Reaches

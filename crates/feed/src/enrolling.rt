@@ -5,9 +5,10 @@ ghost use Rattle.change_list.specs.Changes.{IsLegal};
 ghost use Rattle.feed.specs.Holding.{IsEnrolled, MayBeRooted};
 ghost use Rattle.feed.specs.Planting.{Tends};
 
+use crate::queries::reaches;
+use crate::reach::Reach;
 use crate::tree::{plant, tagged_rows, uproot};
 use key_class::{Pred, Refusal};
-use reach::{Reach, reaches};
 use std::alloc::Global;
 use std::collections::BTreeSet;
 use store::Store;

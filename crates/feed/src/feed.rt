@@ -5,12 +5,12 @@ ghost use Rattle.key_class.specs.declared.refusal.Refusal.TheVariants.{BadConfig
 ghost use Rattle.feed.specs.Asking.{GivesInto, due_at, due_upto};
 ghost use Rattle.feed.specs.Feeds.{AdvancesInto, HasNoPlaceFor, RefusesSubscription, new_feed, subscription_of, with_subscription, without_subscription};
 
+use crate::reach::Reach;
 use crate::registration::{Registration, tell_since};
 use crate::topics::Topics;
 use change_list::Item;
 use key_class::limits::{MAX_DEPTH, MAX_SERIAL, MAX_SUBSCRIPTIONS};
 use key_class::{Pred, Refusal};
-use reach::Reach;
 use snapshot::Snapshot;
 use std::alloc::Global;
 use std::collections::BTreeMap;

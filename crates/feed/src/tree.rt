@@ -4,9 +4,9 @@ ghost use Rattle.key_class.specs.declared.refusal.Refusal.TheVariants.{OutOfMemo
 ghost use Rattle.change_list.specs.Changes.{IsLegal};
 ghost use Rattle.feed.specs.Planting.{AreTagged, MayBePlanted, Tends, tags_at};
 
+use crate::reach::Reach;
 use change_list::Row;
 use key_class::{KeyClass, Pred, Refusal};
-use reach::Reach;
 use std::alloc::Global;
 use store::Store;
 

@@ -3,7 +3,7 @@ use Rattle.std.proofs.Common.{◌≡◌, ◌∙◌, ◌+◌, ◌<◌, ◌≤◌,
 use Rattle.std.proofs.lemmas.List.{drop_more}
 use Rattle.std.specs.Io.KnownBytes.{Appends}
 use Rattle.std.proofs.KnownBytes.{Appends-trans}
-use Rattle.listing.proofs.Cuts.{drop_past}
+use Rattle.delivery_check.proofs.Cuts.{drop_past}
 use Rattle.storm.specs.declared.judge.Verdict.{Verdict}
 use Rattle.gist.specs.declared.options.Role.{Role}
 use Rattle.gist.specs.Storms.{client_line, client_lines}

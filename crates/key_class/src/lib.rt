@@ -9,6 +9,7 @@ mod grouping;
 pub mod limits;
 mod plain;
 mod pred;
+mod ranking;
 mod refusal;
 mod sides;
 
@@ -19,5 +20,6 @@ pub use gains::in_64_bits;
 pub use grouping::Grouping;
 pub use plain::Plain;
 pub use pred::{Pred, bounds_miss_no_match};
+pub use ranking::{Ranked, Ranking, rank_all};
 pub use refusal::{Fault, Refusal};
 pub use sides::{Rel, Side, Sides};

@@ -28,7 +28,7 @@ use Rattle.std.specs.declared.clone.Clone as clone
 use Rattle.std.specs.declared.cmp.PartialEq as partial_eq
 use Rattle.store.specs.contracts.store.Store as Store
 use Rattle.store.specs.contracts.store.Store.TheInside as store_inside
-use Rattle.reach.specs.declared.reach.Reach as reach
+use Rattle.feed.specs.declared.reach.Reach as reach
 use Rattle.slab.specs.contracts.Slab as Slab
 use Rattle.slab.specs.contracts.Slab.TheInside as slab_inside
 use Rattle.std.specs.contracts.alloc.Global as Heap

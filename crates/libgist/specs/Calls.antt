@@ -8,7 +8,7 @@ use Rattle.key_class.specs.Rules.{Rules}
 use Rattle.change_list.specs.declared.write.Write.TheVariants.{Insert, Delete, Move}
 use Rattle.change_list.specs.declared.item.Item.{Item}
 use Rattle.change_list.specs.Changes.{IsLegal, NamesNoRow, NamesDead}
-use Rattle.relocation.specs.Moves.{IsToldFirst}
+use Rattle.writes.specs.Moves.{IsToldFirst}
 use Rattle.store.specs.declared.stats.Stats.{Stats}
 use Rattle.store.specs.declared.stats.Standing.{Standing}
 use Rattle.store.specs.Stats.{TellsOf, standing_of}

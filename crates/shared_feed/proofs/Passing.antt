@@ -4,7 +4,7 @@ use Rattle.std.proofs.lemmas.List.{drop_more}
 use Rattle.key_class.specs.Rules.{Rules}
 use Rattle.change_list.specs.declared.item.Item.{Item}
 use Rattle.change_list.specs.declared.write.Write.{Write}
-use Rattle.listing.proofs.Cuts.{drop_past}
+use Rattle.delivery_check.proofs.Cuts.{drop_past}
 use Rattle.feed.specs.Feeds.{FeedState}
 use Rattle.shared_feed.specs.Boards.{AllStand}
 use Rattle.shared_feed.specs.Handing.{AreDue, EndAside, EndsOpenWhere, HandsOn}

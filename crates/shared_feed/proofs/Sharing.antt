@@ -17,7 +17,7 @@ use Rattle.world.proofs.Crossing.{world_send}
 use Rattle.slab.proofs.Slab.TheSendSync as slab
 use Rattle.std.proofs.collections.BTreeMap.TheSendSync as map
 use Rattle.std.proofs.collections.BTreeSet.TheSendSync as set
-use Rattle.reach.specs.declared.reach.Reach as reach
+use Rattle.feed.specs.declared.reach.Reach as reach
 use Rattle.feed.proofs.listeners.Listeners.TheSendSync as listeners
 use Rattle.feed.specs.contracts.topics.Topics as Topics
 use Rattle.feed.specs.contracts.topics.Topics.TheInside as topics

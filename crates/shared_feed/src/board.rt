@@ -13,7 +13,7 @@ use change_list::{Item, Write};
 use feed::Feed;
 use history::{Naming, Past};
 use key_class::{Pred, Refusal};
-use reach::Reach;
+use feed::Reach;
 use rtrb::Consumer;
 use snapshot::Snapshot;
 use std::alloc::Global;

@@ -1,7 +1,7 @@
 use crate::shared::SharedFeed;
 use history::Naming;
 use key_class::Columned;
-use reach::Reach;
+use feed::Reach;
 use std::sync::ledger::Ledger;
 
 /// Compile-time check that `T: Sync`.

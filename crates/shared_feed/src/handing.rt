@@ -10,7 +10,7 @@ use change_list::{Item, Write};
 use feed::Feed;
 use history::{Naming, Past};
 use key_class::{KeyClass, Refusal};
-use reach::Reach;
+use feed::Reach;
 use std::collections::BTreeMap;
 use std::sync::ledger::Ledger;
 

@@ -14,7 +14,7 @@ use desk::{Desk, Seat};
 use history::Naming;
 use key_class::limits::{MAX_DEPTH, MAX_ROOM};
 use key_class::{Pred, Refusal};
-use reach::Reach;
+use feed::Reach;
 use rtrb::Consumer;
 use snapshot::Snapshot;
 use std::alloc::Global;

@@ -9,7 +9,7 @@ use Rattle.mailbox.specs.Outlets.{Rule}
 use Rattle.change_list.proofs.Lists.{slice_get_within}
 use Rattle.collector.specs.Horizons.{IsHorizon}
 use Rattle.cursor.specs.OpenCursors.{OpenCursor, is_scanning, shown}
-use Rattle.removal.proofs.HorizonFacts.{horizon_unique}
+use Rattle.writes.proofs.HorizonFacts.{horizon_unique}
 use Rattle.world.specs.States as world
 use Rattle.store.specs.Stats.{KeepsDead, horizon_in, standing_of}
 use Rattle.store.specs.Worlds.{store_state}

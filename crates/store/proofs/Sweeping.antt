@@ -16,8 +16,8 @@ use Rattle.page_table.specs.Trees.{Tree, rows_of_tree}
 use Rattle.page_table.proofs.Under.{entries_under}
 use Rattle.row_version.specs.Entries.{Entry}
 use Rattle.scan.specs.Agreement.{IsEntryOf, IsDeath}
-use Rattle.removal.proofs.HorizonFacts.{horizon_unique}
-use Rattle.removal.specs.Sweeping.{SweepsAll, SweepsSome, is_past}
+use Rattle.writes.proofs.HorizonFacts.{horizon_unique}
+use Rattle.writes.specs.Sweeping.{SweepsAll, SweepsSome, is_past}
 use Rattle.world.proofs.Refusing.{open_passes}
 use Rattle.world.proofs.Serials.{member_at, member_within}
 use Rattle.world.specs.Resting.{death, death_from, deaths, Rests}

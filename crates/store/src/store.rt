@@ -5,7 +5,7 @@ ghost use Rattle.key_class.specs.Queries.{query_of, depth_of};
 ghost use Rattle.change_list.specs.Configs.{IsWithinLimits};
 ghost use Rattle.change_list.specs.declared.write.Write.TheVariants.{Insert, Delete, Move};
 ghost use Rattle.change_list.specs.Changes.{IsLegal, NamesNoRow, NamesDead, commit_at, row_at, status_of};
-ghost use Rattle.relocation.specs.Moves.{IsToldFirst};
+ghost use Rattle.writes.specs.Moves.{IsToldFirst};
 ghost use Rattle.store.specs.Worlds.{HasCursor};
 ghost use Rattle.store.specs.States.{new_store, Commits, Keeps, cursor_of, IsOpenedFor, IsFollowerFor, IsBadOpening, IsFromFuture, HasNoFollowerFor, HasFewPages, HasNoCommitLeft, HasNoCommitFor, HasNoFinderFor, HasNoCursorFor, RefusesRow, RefusesCursor, RefusesFollower, AddsDead, MayRefuseDelete, MayRefuseMove, LacksCursor, Closes, DrainsInto, SweepsStore, SweepsStorePart, Nexts, RefusesNext, ChangesCursor, with_asking, matching_rows};
 
@@ -121,7 +121,7 @@ impl<C: KeyClass> Store<C> {
         ensures legal { IsLegal self.new.commits }
         ensures few_pages { HasFewPages self.new }
     {
-        let inserted = insertion::insert(self.alloc, &mut self.world, key, tag);
+        let inserted = writes::insert(self.alloc, &mut self.world, key, tag);
         self.recall_soundness();
         inserted
     }
@@ -149,7 +149,7 @@ impl<C: KeyClass> Store<C> {
         ensures legal { IsLegal self.new.commits }
         ensures few_pages { HasFewPages self.new }
     {
-        let deleted = removal::delete(&mut self.world, row);
+        let deleted = writes::delete(&mut self.world, row);
         self.recall_soundness();
         deleted
     }
@@ -181,7 +181,7 @@ impl<C: KeyClass> Store<C> {
         ensures legal { IsLegal self.new.commits }
         ensures few_pages { HasFewPages self.new }
     {
-        let moved = relocation::move_row(self.alloc, &mut self.world, row, key);
+        let moved = writes::move_row(self.alloc, &mut self.world, row, key);
         self.recall_soundness();
         moved
     }
@@ -289,7 +289,7 @@ impl<C: KeyClass> Store<C> {
         ensures refusals { IfErr result (λ e. e ≡ OutOfMemory) }
     {
         self.world.recall_soundness();
-        removal::sweep_all(&mut self.world)
+        writes::sweep_all(&mut self.world)
     }
 
     /// Asks a cursor for a mark.

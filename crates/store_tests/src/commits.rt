@@ -1,10 +1,10 @@
 //! Lists of commits in segments, and views of them.
 use change_list::{ChangeList, View, Write, next_asked};
 use interval_class::{Interval, Intervals};
-use interval_queries::overlapping;
 use key_class::Refusal;
 use std::alloc::Global;
 use std::test::Fail;
+use test_support::overlapping;
 
 /// The greatest number of commits of a list.
 const MOST_COMMITS: usize = 4_294_967_295;

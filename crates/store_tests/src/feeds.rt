@@ -2,12 +2,12 @@
 use change_list::{Config, Item};
 use feed::Feed;
 use interval_class::{Atom, Interval, Intervals};
-use interval_queries::overlapping;
 use key_class::{Pred, Refusal};
 use snapshot::Snapshot;
 use std::alloc::Global;
 use std::test::Fail;
 use store::Store;
+use test_support::overlapping;
 
 const CONFIG: Config = Config {
     fan: 4,

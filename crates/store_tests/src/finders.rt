@@ -2,9 +2,9 @@
 use crate::events::{Step, Trial, make_all, new_world};
 use change_list::Config;
 use key_class::Refusal;
-use removal::delete;
 use std::alloc::Global;
 use std::test::Fail;
+use writes::delete;
 
 const CONFIG: Config = Config {
     fan: 4,

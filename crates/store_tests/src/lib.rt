@@ -25,6 +25,10 @@ mod plain_blocks;
 #[cfg(test)]
 mod random_tasks;
 #[cfg(test)]
+mod reach_classes;
+#[cfg(test)]
+mod reach_queries;
+#[cfg(test)]
 mod snapshots;
 #[cfg(test)]
 mod stores;

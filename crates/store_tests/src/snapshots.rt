@@ -1,12 +1,12 @@
 //! Snapshots, their changes, and stores that are renewed from them.
 use change_list::{Config, Item, Status};
 use interval_class::{Interval, Intervals};
-use interval_queries::overlapping;
 use key_class::Refusal;
 use snapshot::Snapshot;
 use std::alloc::Global;
 use std::test::Fail;
 use store::{Renewed, Store};
+use test_support::overlapping;
 
 /// As many commits as there are of both parts.
 const CONFIG: Config = Config {

@@ -1,12 +1,12 @@
 //! Whole calls of a store.
 use change_list::{Config, Item, Row};
 use interval_class::{Interval, Intervals};
-use interval_queries::overlapping;
 use key_class::Refusal;
 use mailbox::Tray;
 use std::alloc::Global;
 use std::test::Fail;
 use store::{Standing, Stats, Store};
+use test_support::overlapping;
 use world::World;
 
 const CONFIG: Config = Config {

@@ -2,7 +2,7 @@
 use Rattle.std.proofs.Common.{append_assoc, drop, get_or, ◌<◌, ◌≤◌, ◌+◌, ◌≡◌, ◌↔◌, ℕ, Bool, List, [], ◌∷◌, ◌++◌, length, append-nil, Result, Ok, Err, IfOk, IsTrue, sym, ap, ◌∙◌, subst}
 use Rattle.std.proofs.lemmas.List.{drop_more}
 use Rattle.key_class.specs.declared.refusal.Refusal.{Refusal}
-use Rattle.listing.proofs.Cuts.{drop_past}
+use Rattle.delivery_check.proofs.Cuts.{drop_past}
 use Rattle.storm.specs.Judging.{TellsEach}
 use Rattle.storm.specs.declared.judge.Verdict.{Verdict}
 

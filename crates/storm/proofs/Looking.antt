@@ -12,7 +12,7 @@ use Rattle.change_list.specs.Changes.{item_at, snapshot}
 use Rattle.change_list.specs.Listings.{AreChanges, IsListing, is_mark, without_marks}
 use Rattle.change_list.proofs.Items.{IsChange, item_is_change}
 use Rattle.change_list.proofs.Pushing.{changes_none}
-use Rattle.listing.proofs.Parts.{rows_no_marks}
+use Rattle.delivery_check.proofs.Parts.{rows_no_marks}
 use Rattle.page_table.specs.Weights.{Same}
 use Rattle.survey.proofs.Rising.{Rises, same_permutation, sorted_is}
 use Rattle.survey.proofs.Surveying.{snapshot_rises}

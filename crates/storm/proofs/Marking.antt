@@ -6,8 +6,8 @@ use Rattle.change_list.specs.declared.item.Item.TheVariants as item
 use Rattle.change_list.specs.Changes.{changes}
 use Rattle.change_list.specs.Listings.{BeginsChanges, BeginsListingFor, IsListingFor, is_mark, without_marks}
 use Rattle.change_list.proofs.Resuming.{begun}
-use Rattle.listing.specs.Deliveries.{IsDelivered}
-use Rattle.listing.proofs.Parts.{append_marks}
+use Rattle.delivery_check.specs.Deliveries.{IsDelivered}
+use Rattle.delivery_check.proofs.Parts.{append_marks}
 
 module _ {K : Type 0} where
   no_marks_twice : (items : List (Item K)) → without_marks (without_marks items) ≡ without_marks items

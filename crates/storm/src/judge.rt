@@ -5,9 +5,9 @@ ghost use Rattle.change_list.specs.Listings.{is_mark, without_marks};
 ghost use Rattle.storm.specs.Judging.{Begins, HasNoReceipt, TellsGiven, TellsListing, TellsWhole, is_whole};
 
 use change_list::{Item, View, Write};
+use delivery_check::is_delivered;
 use desk::Ended;
 use key_class::{KeyClass, Pred, Refusal};
-use listing::is_delivered;
 use std::alloc::Global;
 
 /// How a reader, a looker or a subscriber fared.

@@ -1,7 +1,7 @@
 use Rattle.std.proofs.Common.{true, subst}
 use Rattle.key_class.specs.Queries.{query_of}
 use Rattle.key_class.specs.Rules.{satisfies}
-use Rattle.listing.specs.Deliveries.{IsDelivered}
+use Rattle.delivery_check.specs.Deliveries.{IsDelivered}
 use Rattle.shared_feed.proofs.subscriber.Subscriber.close.Goals as goal
 
 pub returns-in-Ok-true-clause-taken : goal.returns-in-Ok-true-clause-taken

@@ -1,5 +1,0 @@
-pub mod Coming
-pub mod Moving
-pub mod OnWay
-pub mod Visiting
-pub mod Nearing

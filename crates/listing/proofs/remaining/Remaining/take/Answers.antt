@@ -1,9 +1,0 @@
-use Rattle.std.proofs.Common.{refl, ◌≡◌, ◌-◌, Some, rules, subst, Contains, slice_get}
-use Rattle.listing.proofs.Slots.{stands}
-use Rattle.listing.proofs.remaining.Remaining.take.Goals as goal
-
-pub returns-clause-told : goal.returns-clause-told
-returns-clause-told g c =
-    let there = c.has_row.ensures.0 (search rules) in
-    let at : slice_get c.self.inside.slots.items (c.args.row.row - 1) ≡ Some (Some c.args.row) = rw c.as_slice.ensures.value at there.1 in
-    (λ yes. subst (λ l. Contains l c.args.row) c.self.view_is (stands c.self.inside.slots.items _ c.args.row at), λ is. refl)

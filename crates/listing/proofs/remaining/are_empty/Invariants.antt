@@ -1,6 +1,0 @@
-use Rattle.std.proofs.Common.{◌≡◌, drop}
-use Rattle.listing.specs.Remaining.{rows_in}
-use Rattle.listing.proofs.remaining.are_empty.Given as goal
-
-abbrev pub invariant-loop-slot : goal.invariant-loop-slot
-invariant-loop-slot g l = rows_in l.slots ≡ rows_in (drop l.slot-index l.slots)

@@ -1,5 +1,0 @@
-use Rattle.listing.specs.Remaining.{IsTaken}
-use Rattle.listing.proofs.remaining.take_rows.Given as goal
-
-abbrev pub invariant-loop-place : goal.invariant-loop-place
-invariant-loop-place g l = IsTaken l.initial.remaining l.items l.place l.remaining

@@ -1,4 +1,0 @@
-pub mod AtomLaws
-pub mod Atoms
-pub mod QueryLaws
-pub mod Reaches

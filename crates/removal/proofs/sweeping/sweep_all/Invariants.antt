@@ -1,5 +1,0 @@
-use Rattle.removal.proofs.Swept.{HasSwept}
-use Rattle.removal.proofs.sweeping.sweep_all.Given as goal
-
-abbrev pub invariant-loop-page : goal.invariant-loop-page
-invariant-loop-page g l = HasSwept g.C.KeyClass.rules g.O.Outlet.rule l.fn.world l.page l.number l.world

@@ -1,4 +1,0 @@
-pub mod Ending
-pub mod Events
-pub mod Sweeping
-pub mod Visits

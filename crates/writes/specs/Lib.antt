@@ -1,0 +1,9 @@
+pub mod EndVisits
+pub mod Ending
+pub mod Events
+pub mod InsertVisits
+pub mod Moves
+pub mod PageSteps
+pub mod Splitting
+pub mod Sweeping
+pub mod Ways
