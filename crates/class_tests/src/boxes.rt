@@ -1,6 +1,6 @@
 use crate::picks::{has_too_few, splits, splits_again};
-use box_class::{BoxKey, Boxes, atoms_mean_their_words};
-use key_class::{KeyClass, Refusal};
+use box_class::{BoxKey, Boxes};
+use key_class::Refusal;
 use std::alloc::Global;
 use std::test::Fail;
 
@@ -8,21 +8,6 @@ use std::test::Fail;
 fn key(ends: [i32; 4]) -> Result<BoxKey, Refusal> {
     let [x1, y1, x2, y2] = ends;
     BoxKey::new(x1, y1, x2, y2)
-}
-
-fn has_ends(ends: [i32; 4]) -> bool {
-    match key(ends) {
-        Ok(made) => [made.x1, made.y1, made.x2, made.y2] == ends,
-        Err(_) => false,
-    }
-}
-
-#[test]
-fn makes_boxes_in_order(rt: HostRuntime) {
-    assert!(rt; has_ends([-1, 2, 3, 2]));
-    for ends in [[1, 0, 0, 0], [0, 1, 0, 0], [5, 5, 4, 4]] {
-        assert!(rt; key(ends).err() == Some(Refusal::BadConfig), "{ends:?}");
-    }
 }
 
 const LOW: i32 = i32::MIN;
@@ -34,60 +19,6 @@ const PLANE: [i32; 4] = [LOW, LOW, HIGH, HIGH];
 const FIRST: [i32; 4] = [LOW, LOW, LOW, LOW];
 
 const LAST: [i32; 4] = [HIGH, HIGH, HIGH, HIGH];
-
-static SIZES: [([i32; 4], u128); 2] = [(PLANE, 18_446_744_073_709_551_616), ([-1, 0, 1, 4], 15)];
-
-/// A bound, a key, and by how much the key enlarges the bound.
-static PENALTIES: [([i32; 4], [i32; 4], u128); 3] = [
-    (FIRST, LAST, 18_446_744_073_709_551_615),
-    (PLANE, LAST, 0),
-    ([0, 0, 1, 1], [3, 0, 3, 0], 4),
-];
-
-/// Two boxes and the least box over both.
-static UNIONS: [([i32; 4], [i32; 4], [i32; 4]); 2] = [
-    (FIRST, LAST, PLANE),
-    ([0, 5, 2, 6], [1, 0, 1, 1], [0, 0, 2, 6]),
-];
-
-fn size(ends: [i32; 4]) -> Result<u128, Refusal> {
-    Ok(Boxes::size(key(ends)?))
-}
-
-fn penalty(bound: [i32; 4], added: [i32; 4]) -> Result<u128, Refusal> {
-    Ok(Boxes::penalty(key(bound)?, key(added)?))
-}
-
-fn union(a: [i32; 4], b: [i32; 4]) -> Result<BoxKey, Refusal> {
-    Ok(Boxes::union(key(a)?, key(b)?))
-}
-
-fn covers(bound: [i32; 4], covered: [i32; 4]) -> Result<bool, Refusal> {
-    Ok(Boxes::covers(key(bound)?, key(covered)?))
-}
-
-#[test]
-fn measures_boxes(rt: HostRuntime) {
-    for (ends, wanted) in &SIZES {
-        assert!(rt; size(*ends) == Ok(*wanted), "{ends:?}");
-    }
-    for (bound, added, wanted) in &PENALTIES {
-        assert!(rt;
-            penalty(*bound, *added) == Ok(*wanted),
-            "{bound:?} {added:?}"
-        );
-    }
-    atoms_mean_their_words();
-}
-
-#[test]
-fn joins_boxes(rt: HostRuntime) {
-    for (a, b, wanted) in &UNIONS {
-        assert!(rt; union(*a, *b) == key(*wanted), "{a:?} {b:?}");
-    }
-    assert!(rt; covers(PLANE, FIRST) == Ok(true));
-    assert!(rt; covers(FIRST, PLANE) == Ok(false));
-}
 
 /// Boxes by their ends x1, y1, x2, y2, the least number of entries for a side, and the side of each box.
 struct Split {

@@ -1,5 +1,5 @@
-//! Tests of key classes: refusals, sides and queries; the three classes compared with vectors and, on random pages,
-//! with naive splits; and the texts of their keys and queries.
+//! Tests of key classes: the splits of the three classes compared with vectors and, on random pages, with naive ones;
+//! printed queries; copies of queries, sides and blocks; laws; and memory that is refused.
 #![tactic(auto)]
 
 #[cfg(test)]
@@ -7,9 +7,9 @@ mod boxes;
 #[cfg(test)]
 mod columns;
 #[cfg(test)]
-mod groupings;
-#[cfg(test)]
 mod intervals;
+#[cfg(test)]
+mod laws;
 #[cfg(test)]
 mod letters;
 #[cfg(test)]

@@ -11,11 +11,6 @@ fn both(alloc: Global, left: Pred<u8>, right: Pred<u8>) -> Result<Pred<u8>, Fail
     Ok(Pred::And(left, Box::new(alloc, right)?))
 }
 
-fn either(alloc: Global, left: Pred<u8>, right: Pred<u8>) -> Result<Pred<u8>, Fail> {
-    let left = Box::new(alloc, left)?;
-    Ok(Pred::Or(left, Box::new(alloc, right)?))
-}
-
 /// Writes the query in prefix form.
 fn spell(query: &Pred<u8>, text: &mut String) -> Result<(), AllocError> {
     match query {
@@ -43,30 +38,10 @@ fn spell(query: &Pred<u8>, text: &mut String) -> Result<(), AllocError> {
     }
 }
 
-/// The query `not (1 and not 2) or (3 or 0 and 1)`.
-fn composed(alloc: Global) -> Result<Pred<u8>, Fail> {
-    let right = both(alloc, Pred::Atom(0), Pred::Atom(1))?;
-    let right = either(alloc, Pred::Atom(3), right)?;
-    let left = negated(alloc, Pred::Atom(2))?;
-    let left = both(alloc, Pred::Atom(1), left)?;
-    let left = negated(alloc, left)?;
-    either(alloc, left, right)
-}
-
 fn is_spelled(alloc: Global, query: &Pred<u8>, wanted: &str) -> Result<bool, Fail> {
     let mut text = String::new(alloc);
     spell(query, &mut text)?;
     Ok(text.as_str() == wanted)
-}
-
-#[test]
-fn copies_queries(rt: HostRuntime) -> Result<(), Fail> {
-    let query = composed(rt.alloc())?;
-    let copy = query.copy(rt.alloc())?;
-    for tree in [&query, &copy] {
-        assert!(rt; is_spelled(rt.alloc(), tree, "|!&0'!0''|0'''&00'")?);
-    }
-    Ok(())
 }
 
 /// The query `1 and not 2`.
@@ -90,23 +65,6 @@ fn answers_want_of_memory(rt: HostRuntime) -> Result<(), Fail> {
     let copy = copied(rt.alloc(), &query)?;
     for tree in [&query, &copy] {
         assert!(rt; is_spelled(rt.alloc(), tree, "&0'!0''")?);
-    }
-    Ok(())
-}
-
-#[test]
-fn bounds_the_depth(rt: HostRuntime) -> Result<(), Fail> {
-    assert!(rt; !Pred::Atom(7u8).is_within_depth(0));
-    assert!(rt; Pred::Atom(7u8).is_within_depth(1));
-    let query = composed(rt.alloc())?;
-    assert!(rt; !query.is_within_depth(4));
-    assert!(rt; query.is_within_depth(5));
-    let mut query = query;
-    for limit in 6..40 {
-        query = negated(rt.alloc(), query)?;
-        assert!(rt; !query.is_within_depth(limit - 1));
-        assert!(rt; query.is_within_depth(limit));
-        assert!(rt; query.is_within_depth(u32::MAX));
     }
     Ok(())
 }

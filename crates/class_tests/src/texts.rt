@@ -1,10 +1,7 @@
 use box_class::Boxes;
 use interval_class::Intervals;
 use key_class::Refusal;
-use query_text::{
-    ClassText, one_cut_for_text, one_meaning_for_text, one_meaning_for_tokens, parse, print,
-    set_texts_name_their_elements,
-};
+use query_text::{ClassText, parse, print};
 use set_class::Sets;
 use std::alloc::Global;
 
@@ -107,14 +104,6 @@ fn queries_are_printed_with_fewest_brackets(rt: HostRuntime) {
             "{text}"
         );
     }
-}
-
-#[test]
-fn texts_have_one_meaning(rt: HostRuntime) {
-    one_cut_for_text();
-    one_meaning_for_text::<Sets>();
-    one_meaning_for_tokens::<Sets>();
-    set_texts_name_their_elements();
 }
 
 /// The printed form of a text that is parsed.
