@@ -60,9 +60,12 @@ fn has_row<C: KeyClass>(slots: &[Option<Row<C::Key>>], row: Row<C::Key>) -> bool
     if row.row == 0 {
         return false;
     }
-    match slots.get((row.row - 1) as usize) {
-        Some(Some(found)) => is_same_row::<C>(*found, row),
-        _ => false,
+    let Some(slot) = slots.get((row.row - 1) as usize) else {
+        return false;
+    };
+    match slot {
+        Some(found) => is_same_row::<C>(*found, row),
+        None => false,
     }
 }
 

@@ -1,4 +1,4 @@
-use Rattle.std.proofs.Common.{rules, arith}
+use Rattle.std.proofs.Common.{◌≡◌, rules, arith}
 use Rattle.delivery_check.proofs.Rolls.{names_next, roll_none, roll_next, none_within}
 use Rattle.delivery_check.proofs.remaining.snapshot.Goals as goal
 
@@ -15,3 +15,8 @@ pub loop-place-preserved : goal.loop-place-preserved
 loop-place-preserved g c =
     rw (c.in_ok-slots-in-Some.ensures.ok, c.row.ensures)
     (roll_next _ c.args.commits.now c.loop-place.place c.loop-place.slots.items c.in-Some.write c.requires.legal c.loop-place.invariant (search rules))
+
+pub returns-clause-rows : goal.returns-clause-rows
+returns-clause-rows g c =
+    let whole : c.loop-place.place ≡ c.args.opened = omega arith in
+    rw whole at c.loop-place.invariant.is
