@@ -1,4 +1,5 @@
 use Rattle.std.proofs.Common.{◌<◌, length, arith, ◌∙◌}
+use Rattle.std.proofs.lemmas.Bool.Decides.{nat_tests}
 use Rattle.box_class.proofs.Bounds.{bound_within, put_within, left_within}
 use Rattle.box_class.proofs.Places.{written_length}
 use Rattle.box_class.proofs.quadratic.part_rest.Goals as goal
@@ -46,3 +47,6 @@ parting-preserved g c =
       left_can = omega (arith, c.parting.invariant.left_can, c.put-else-lt.ensures.opens, c.put-else-lt.ensures.lefts, c.if-lefts-opens.false, c.lefts.ensures, c.opens.ensures.value);
       right_can = omega (arith, c.parting.invariant.right_can, c.put-else-lt.ensures.opens, c.put-else-lt.ensures.rights, c.if-rights-opens.false, c.rights.ensures, c.opens-in-parting.ensures.value);
     }
+
+pub most_decided-at-requires-clause-some : goal.most_decided-at-requires-clause-some
+most_decided-at-requires-clause-some g c = grind (arith, nat_tests)
