@@ -19,6 +19,6 @@ returns-in-Some-slot g c =
     let slot = c.in-Some.ensures.lookup in
     let at : slice_get c.args.slots.now (c.args.row.row - 1) ≡ Some (Some c.in-Some-slot.found) =
     slice_get_read c.args.slots.now _ (c.args.row.row - 1) _ refl slot.3.0 slot.1 ∙ ap Some c.in-Some-slot.is in (
-      λ yes. (omega arith, at ∙ ap (λ r. Some (Some r)) (c.is_same_row.ensures.0 yes)),
-      λ there. let same : c.in-Some-slot.found ≡ c.args.row = cc (at, there.1) in c.is_same_row.ensures.1 same,
+      λ yes. let same = c.is_same_row.ensures.0 yes in (omega arith, cc (at, same)),
+      λ there. c.is_same_row.ensures.1 (cc (at, there.1)),
     )
