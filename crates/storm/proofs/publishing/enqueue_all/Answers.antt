@@ -7,7 +7,7 @@ loop-serial-preserved c =
     let loop = c.loop-serial in
     let one = c.loop-serial-item in
     one_enqueued c.args.delivered.now loop.serial-index c.args.streams.now.entries loop.streams.entries one.result c.enqueue.new.streams.entries
-    (omega (arith, c.loop-serial-test.true)) one.is c.enqueue.ensures loop.invariant
+    (omega (arith, c.loop-serial-test.true)) one.is c.in_ok-enqueue.ensures loop.invariant
 
 pub returns : goal.returns
 returns c =
