@@ -1,4 +1,4 @@
 pub mod Judging
 pub mod Looking
 pub mod Marking
-mod Sharing
+mod Streams

@@ -3,3 +3,4 @@ pub mod Judging
 pub mod Looking
 pub mod Outcomes
 pub mod Sizes
+pub mod Streams

@@ -3,9 +3,13 @@ use Rattle.std.specs.Prelude.{ℕ, ◌+◌, ◌≤◌, min}
 use Rattle.key_class.specs.Limits.{most_room, most_seats}
 use Rattle.storm.specs.declared.limits.StormSize.{StormSize}
 
--- how many threads serve the subscribers, each with a seat
+-- how many threads receive for the subscribers
 abbrev pub hosts_of : StormSize → ℕ
 hosts_of s = min s.subscribers 4
+
+-- how many feeds there are, each with a seat
+abbrev pub feeds_of : StormSize → ℕ
+feeds_of s = min s.subscribers 1
 
 pub record IsStorm (s : StormSize) : Type 0 where
   pub some_writer : 1 ≤ s.writers
@@ -15,7 +19,7 @@ pub record IsStorm (s : StormSize) : Type 0 where
   pub readers : s.readers ≤ 32
   pub lookers : s.lookers ≤ 32
   pub subscribers : s.subscribers ≤ 1000
-  pub seats : s.writers + s.readers + s.lookers + hosts_of s ≤ most_seats
+  pub clients : s.writers + s.readers + s.lookers + hosts_of s ≤ most_seats
   pub some_room : 1 ≤ s.room
   pub room : s.room ≤ most_room
   pub some_pump : 1 ≤ s.pumps

@@ -1,12 +1,14 @@
 //! What the clients of a storm do, each in a thread of its own.
 ghost use Rattle.key_class.specs.Queries.{query_of};
+ghost use Rattle.std.specs.Fork.{AcceptsEach};
 ghost use Rattle.storm.specs.Outcomes.{AsksFirst500};
 ghost use Rattle.storm.specs.Sizes.{IsStorm};
 
-use crate::hearings::{Hearing, asked_by};
+use crate::hearings::Host;
 use crate::judge::Reading;
 use crate::limits::StormSize;
 use crate::looks::Look;
+use crate::publishing::{Publication, Stream};
 use change_list::Item;
 use crossbeam_channel::Sender;
 use desk::{Desk, Ended, Seat, Taker};
@@ -16,7 +18,6 @@ use key_class::{Pred, Refusal, Rel};
 use pumps::Order;
 use rand_core::Rng;
 use rand_pcg::Pcg32;
-use shared_feed::{SharedFeed, Subscriber};
 use std::alloc::Global;
 use std::rt::Clock;
 use std::sync::Wait;
@@ -38,7 +39,7 @@ const PAUSE: u64 = 200;
 /// After how many such sleeps in a row a reader gives up: a minute.
 const PAUSES: u32 = 300_000;
 
-/// A looker looks again when more commits have come than one of so many parts of all, and so does a host of subscribers.
+/// A looker looks again when more commits have come than one of so many parts of all, and so does the publisher.
 const PARTS: u64 = 16;
 
 /// The query of all readers and lookers.
@@ -74,21 +75,14 @@ pub struct Looker<L: Ledger + Naming> {
     pub looks: Vec<Look<Interval>>,
 }
 
-/// A host of subscribers: its seat, and what each subscriber that it serves was given.
+/// The client that owns the feed: its seat, and the streams of all subscribers until it publishes.
 #[derive(Drop)]
-pub struct Host<L: Ledger + Naming> {
+pub struct Publisher<L: Ledger + Naming> {
     pub seat: Seat<Intervals, L>,
-    pub hearings: Vec<Hearing<Interval>>,
+    pub streams: Option<Vec<Stream>>,
 }
 
-/// Where clients of a storm work: a desk, and a feed of it.
-#[derive(Drop)]
-pub struct Place<'s, L: Ledger + Naming> {
-    pub desk: &'s Desk<Intervals, L>,
-    pub feed: &'s SharedFeed<Intervals, L>,
-}
-
-/// What a storm tells its readers, lookers and hosts.
+/// What readers, lookers and the publisher of a storm need to know.
 #[derive(Drop)]
 pub struct Told<'s> {
     pub limits: StormSize,
@@ -97,11 +91,11 @@ pub struct Told<'s> {
     pub commits: &'s AtomicU64,
     /// Raised once all rows are written.
     pub is_over: &'s AtomicBool,
-    /// A looker or a host looks again when more than so many commits have come, or the flag is raised.
+    /// A looker or the publisher looks again when more than so many commits have come, or the flag is raised.
     pub pace: u64,
 }
 
-/// Where clients of a storm work: writers `W`, readers `V`, lookers `X` and hosts `Y`.
+/// Where clients of a storm work: writers `W`, readers `V`, lookers `X` and publishers `Y`.
 pub trait Clients<W, V, X, Y> {
     /// Inserts rows and deletes the first of them, up to the first refusal.
     fn write<R: Wait>(&self, rt: &R, limits: StormSize, writer: &mut W);
@@ -115,10 +109,10 @@ pub trait Clients<W, V, X, Y> {
     /// Takes and searches snapshots, one after the other, up to one that has all commits.
     fn look<R: Wait>(&self, rt: &R, alloc: Global, told: &Told<'_>, looker: &mut X);
 
-    /// Advances the feed and lets subscribers catch up, again and again, until they were given the changes of all commits.
-    fn serve<R: Wait>(&self, rt: &R, alloc: Global, told: &Told<'_>, host: &mut Y);
+    /// Advances a feed over snapshots, one after the other, and sends to subscribers the changes of all commits.
+    fn publish<R: Wait>(&self, rt: &R, alloc: Global, told: &Told<'_>, publisher: &mut Y);
 
-    /// Wakes lookers and hosts, to see that all rows were written.
+    /// Wakes lookers and publishers, to see that all rows were written.
     fn wake_all<R: Wait>(&self, rt: &R);
 
     /// Sweeps pages 0 to 63 in turn, and ignores refusals.
@@ -197,50 +191,8 @@ fn look_behind<L: Ledger + Naming, R: Wait>(
     Some(commits)
 }
 
-/// Subscribes for each subscriber of a host to the changes of its query from the first commit on.
-fn subscribe_all<'f, L: Ledger + Naming, R: Wait>(
-    rt: &R,
-    alloc: Global,
-    feed: &'f SharedFeed<Intervals, L>,
-    host: &Host<L>,
-    room: u32,
-) -> Result<Vec<Subscriber<'f, Intervals, L>>, Refusal> {
-    let mut subscribers = Vec::with_capacity(alloc, host.hearings.len())?;
-    for hearing in host.hearings.as_slice() {
-        let query = asked_by(hearing.number);
-        let subscriber = feed.subscribe(rt, &host.seat, query, 0, u64::from(room))?;
-        subscribers.push(subscriber)?;
-    }
-    Ok(subscribers)
-}
-
-/// Lets each subscriber take what stands in its ring, and what it missed where the ring was full.
-fn catch_up_all<L: Ledger + Naming, R: Wait>(
-    rt: &R,
-    desk: &Desk<Intervals, L>,
-    host: &mut Host<L>,
-    subscribers: &mut [Subscriber<'_, Intervals, L>],
-) {
-    for (subscriber, hearing) in subscribers.iter_mut().zip(host.hearings.iter_mut()) {
-        let _was_aside = subscriber.catch_up(rt, desk, &mut host.seat, &mut hearing.items);
-    }
-}
-
-/// Closes each subscription.
-fn close_all<L: Ledger + Naming, R: Wait>(
-    rt: &R,
-    desk: &Desk<Intervals, L>,
-    host: &mut Host<L>,
-    subscribers: Vec<Subscriber<'_, Intervals, L>>,
-) {
-    for (subscriber, hearing) in subscribers.into_iter().zip(host.hearings.iter_mut()) {
-        let receipt = subscriber.close(rt, desk, &mut host.seat, hearing.items.as_slice());
-        hearing.has_receipt = receipt.is_some();
-    }
-}
-
-impl<L: Ledger + Naming> Clients<Seat<Intervals, L>, Reader<L>, Looker<L>, Host<L>>
-    for Place<'_, L> {
+impl<L: Ledger + Naming> Clients<Seat<Intervals, L>, Reader<L>, Looker<L>, Publisher<L>>
+    for Desk<Intervals, L> {
     fn write<R: Wait>(&self, rt: &R, limits: StormSize, seat: &mut Seat<Intervals, L>) {
         let state = u64::from(limits.seed) + u64::from(seat.number());
         let mut generator = Pcg32::new(state, 0);
@@ -248,7 +200,7 @@ impl<L: Ledger + Naming> Clients<Seat<Intervals, L>, Reader<L>, Looker<L>, Host<
             let Ok(key) = small_interval(&mut generator) else {
                 return;
             };
-            if self.desk.insert(rt, seat, key, 0).is_err() {
+            if self.insert(rt, seat, key, 0).is_err() {
                 return;
             }
         }
@@ -256,7 +208,7 @@ impl<L: Ledger + Naming> Clients<Seat<Intervals, L>, Reader<L>, Looker<L>, Host<
             let Some(row) = seat.stamps().get(place).map(|stamp| stamp.number()) else {
                 return;
             };
-            if self.desk.delete(rt, seat, row).is_err() {
+            if self.delete(rt, seat, row).is_err() {
                 return;
             }
         }
@@ -274,12 +226,12 @@ impl<L: Ledger + Naming> Clients<Seat<Intervals, L>, Reader<L>, Looker<L>, Host<
         reader: &mut Reader<L>,
     ) {
         let room = u64::from(told.limits.room);
-        let Ok(mut taker) = self.desk.open_cursor(rt, &mut reader.seat, asked(), room) else {
+        let Ok(mut taker) = self.open_cursor(rt, &mut reader.seat, asked(), room) else {
             return;
         };
         let opened = taker.opened();
         let mut items = Vec::new(alloc);
-        follow(rt, self.desk, &mut taker, told, &mut items);
+        follow(rt, self, &mut taker, told, &mut items);
         let ended = taker.close(rt, &mut reader.seat, items.as_slice());
         reader.reading = Some(Reading {
             opened,
@@ -293,119 +245,70 @@ impl<L: Ledger + Naming> Clients<Seat<Intervals, L>, Reader<L>, Looker<L>, Host<
         for _ in rt.forever() {
             // read before the snapshot is made: if the flag is up by now, the snapshot has all commits
             let is_last = told.is_over.load(Ordering::SeqCst);
-            let Some(commits) = look_behind(rt, alloc, self.desk, looker, from) else {
+            let Some(commits) = look_behind(rt, alloc, self, looker, from) else {
                 return;
             };
             if is_last {
                 return;
             }
             from = commits;
-            let _count = self
-                .desk
-                .wait_past_unless(rt, from.saturating_add(told.pace), told.is_over);
+            let _count = self.wait_past_unless(rt, from.saturating_add(told.pace), told.is_over);
         }
     }
 
-    fn serve<R: Wait>(&self, rt: &R, alloc: Global, told: &Told<'_>, host: &mut Host<L>) {
-        let room = told.limits.room;
-        let Ok(mut subscribers) = subscribe_all(rt, alloc, self.feed, host, room) else {
+    fn publish<R: Wait>(
+        &self,
+        rt: &R,
+        alloc: Global,
+        told: &Told<'_>,
+        publisher: &mut Publisher<L>,
+    ) {
+        let Some(streams) = publisher.streams.take() else {
             return;
         };
-        'serving: for _ in rt.forever() {
-            // read before the feed is advanced: where the flag is raised, that goes over all commits
+        let Ok(mut publication) = Publication::open(alloc, streams) else {
+            return;
+        };
+        for _ in rt.forever() {
+            // read before the feed is advanced: if the flag is up by now, the feed processes all commits
             let is_last = told.is_over.load(Ordering::SeqCst);
-            let advanced = self.feed.advance(rt, self.desk, &mut host.seat, u64::MAX);
-            let Ok(upto) = advanced else {
-                break 'serving;
+            let Ok(commits) = publication.advance(rt, self, &mut publisher.seat) else {
+                return;
             };
-            catch_up_all(rt, self.desk, host, subscribers.as_mut_slice());
+            publication.flush(rt);
             if is_last {
-                break 'serving;
+                publication.close(rt, commits);
+                return;
             }
-            let _count = self
-                .desk
-                .wait_past_unless(rt, upto.saturating_add(told.pace), told.is_over);
+            let _count = self.wait_past_unless(rt, commits.saturating_add(told.pace), told.is_over);
         }
-        close_all(rt, self.desk, host, subscribers);
     }
 
     fn wake_all<R: Wait>(&self, rt: &R) {
-        self.desk.wake(rt);
+        self.wake(rt);
     }
 
     fn sweep_pages<R: Wait>(&self, rt: &R, times: u32) {
         for time in 0..times {
-            let _reply = self.desk.sweep(rt, u64::from(time % 64));
+            let _reply = self.sweep(rt, u64::from(time % 64));
         }
     }
 }
 
-/// Lets all writers write, each in a thread of its own.
-fn write_all<D, W, V, X, Y, R>(rt: &R, desk: &D, limits: StormSize, writers: &mut [W])
+/// Lets each client of a role do its work, each in a thread of its own.
+fn run_role<T, R, F>(rt: &R, clients: &mut [T], work: &F)
 where
-    D: Clients<W, V, X, Y> + Sync,
-    W: Send,
-    R: Threads + Wait + Sync,
+    T: Send,
+    R: Threads + Sync,
+    F: Fn(usize, &mut T) + Sync,
+    requires { AcceptsEach F.Fn work.now clients.old }
 {
-    let threads = writers.len().max(1);
-    thread::for_each_mut(
-        rt,
-        writers,
-        threads,
-        &|_, writer| desk.write(rt, limits, writer),
-    )
-}
-
-/// Lets all readers read, each in a thread of its own.
-fn read_all<D, W, V, X, Y, R>(rt: &R, alloc: Global, desk: &D, told: &Told<'_>, readers: &mut [V])
-where
-    D: Clients<W, V, X, Y> + Sync,
-    V: Send,
-    R: Threads + Wait + Clock + Sync,
-{
-    let threads = readers.len().max(1);
-    thread::for_each_mut(
-        rt,
-        readers,
-        threads,
-        &|_, reader| desk.read(rt, alloc, told, reader),
-    )
-}
-
-/// Lets all lookers look, each in a thread of its own.
-fn look_all<D, W, V, X, Y, R>(rt: &R, alloc: Global, desk: &D, told: &Told<'_>, lookers: &mut [X])
-where
-    D: Clients<W, V, X, Y> + Sync,
-    X: Send,
-    R: Threads + Wait + Sync,
-{
-    let threads = lookers.len().max(1);
-    thread::for_each_mut(
-        rt,
-        lookers,
-        threads,
-        &|_, looker| desk.look(rt, alloc, told, looker),
-    )
-}
-
-/// Lets all hosts serve their subscribers, each in a thread of its own.
-fn serve_all<D, W, V, X, Y, R>(rt: &R, alloc: Global, desk: &D, told: &Told<'_>, hosts: &mut [Y])
-where
-    D: Clients<W, V, X, Y> + Sync,
-    Y: Send,
-    R: Threads + Wait + Sync,
-{
-    let threads = hosts.len().max(1);
-    thread::for_each_mut(
-        rt,
-        hosts,
-        threads,
-        &|_, host| desk.serve(rt, alloc, told, host),
-    )
+    let threads = clients.len().max(1);
+    thread::for_each_mut(rt, clients, threads, work)
 }
 
 /// Lets all writers write while another thread sweeps, and then tells readers how many commits were made, and lookers and
-/// hosts that no more come.
+/// publishers that no more come.
 fn write_and_sweep<D, W, V, X, Y, R>(rt: &R, desk: &D, told: &Told<'_>, writers: &mut [W])
 where
     D: Clients<W, V, X, Y> + Sync,
@@ -417,7 +320,7 @@ where
     thread::join(
         rt,
         sweep,
-        || write_all::<D, W, V, X, Y, R>(rt, desk, limits, writers),
+        || run_role(rt, writers, &|_, writer| desk.write(rt, limits, writer)),
     );
     let mut commits: u64 = 0;
     for writer in writers {
@@ -428,57 +331,9 @@ where
     desk.wake_all(rt);
 }
 
-/// Lets writers and readers work at once, until the last of them has ended.
-fn write_and_read<D, W, V, X, Y, R>(
-    rt: &R,
-    alloc: Global,
-    desk: &D,
-    told: &Told<'_>,
-    writers: &mut [W],
-    readers: &mut [V],
-)
-where
-    D: Clients<W, V, X, Y> + Sync,
-    W: Send,
-    V: Send,
-    R: Threads + Wait + Clock + Sync,
-{
-    let read = || read_all::<D, W, V, X, Y, R>(rt, alloc, desk, told, readers);
-    thread::join(
-        rt,
-        read,
-        || write_and_sweep::<D, W, V, X, Y, R>(rt, desk, told, writers),
-    );
-}
-
-/// Lets writers, readers and lookers work at once, until the last of them has ended. Where there is no thread for lookers they come
-/// last, and find all rows written.
-fn write_read_and_look<D, W, V, X, Y, R>(
-    rt: &R,
-    alloc: Global,
-    desk: &D,
-    told: &Told<'_>,
-    writers: &mut [W],
-    readers: &mut [V],
-    lookers: &mut [X],
-)
-where
-    D: Clients<W, V, X, Y> + Sync,
-    W: Send,
-    V: Send,
-    X: Send,
-    R: Threads + Wait + Clock + Sync,
-{
-    let look = || look_all::<D, W, V, X, Y, R>(rt, alloc, desk, told, lookers);
-    thread::join(
-        rt,
-        look,
-        || write_and_read::<D, W, V, X, Y, R>(rt, alloc, desk, told, writers, readers),
-    );
-}
-
-/// Lets all clients work at once, until the last of them has ended. Where there is no thread for hosts they come last, and find all
-/// rows written.
+/// Lets all clients work at once, until the last of them has ended. What gets no thread of its own runs after what is joined
+/// with it: lookers and publishers then find all rows written, and hosts, which are joined last since they wait for the
+/// publisher, find all messages in their channels.
 fn work_at_once<D, W, V, X, Y, R>(
     rt: &R,
     alloc: Global,
@@ -487,7 +342,8 @@ fn work_at_once<D, W, V, X, Y, R>(
     writers: &mut [W],
     readers: &mut [V],
     lookers: &mut [X],
-    hosts: &mut [Y],
+    publishers: &mut [Y],
+    hosts: &mut [Host],
 )
 where
     D: Clients<W, V, X, Y> + Sync,
@@ -497,14 +353,25 @@ where
     Y: Send,
     R: Threads + Wait + Clock + Sync,
 {
-    let serve = || serve_all::<D, W, V, X, Y, R>(rt, alloc, desk, told, hosts);
-    thread::join(
+    let write = || write_and_sweep::<D, W, V, X, Y, R>(rt, desk, told, writers);
+    let read = || run_role(rt, readers, &|_, reader| desk.read(rt, alloc, told, reader));
+    let look = || run_role(rt, lookers, &|_, looker| desk.look(rt, alloc, told, looker));
+    let publish = || run_role(
         rt,
-        serve,
-        || write_read_and_look::<D, W, V, X, Y, R>(
-            rt, alloc, desk, told, writers, readers, lookers,
-        ),
+        publishers,
+        &|_, publisher| desk.publish(rt, alloc, told, publisher),
     );
+    let receive = || run_role(rt, hosts, &|_, host| host.receive_all(rt));
+    let write_and_read = || {
+        thread::join(rt, read, write);
+    };
+    let write_read_and_look = || {
+        thread::join(rt, look, write_and_read);
+    };
+    let all_but_hosts = || {
+        thread::join(rt, publish, write_read_and_look);
+    };
+    thread::join(rt, receive, all_but_hosts);
 }
 
 /// Lets all clients work beside what pumps, whose orders end with the last client.
@@ -516,7 +383,8 @@ pub fn work_beside<D, W, V, X, Y, R, P>(
     writers: &mut [W],
     readers: &mut [V],
     lookers: &mut [X],
-    hosts: &mut [Y],
+    publishers: &mut [Y],
+    hosts: &mut [Host],
     orders: Sender<Order>,
     pump: P,
 )
@@ -542,7 +410,9 @@ where
             is_over: &is_over,
             pace,
         };
-        work_at_once(rt, alloc, desk, &told, writers, readers, lookers, hosts);
+        work_at_once(
+            rt, alloc, desk, &told, writers, readers, lookers, publishers, hosts,
+        );
     };
     thread::join(rt, clients, pump);
 }

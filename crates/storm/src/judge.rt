@@ -14,11 +14,11 @@ use std::alloc::Global;
 #[derive(Clone, Copy, Debug, PartialEq, Eq)]
 pub enum Verdict {
     /// A reader took a listing of all commits, and a mark of them. A looker found what there was, up to all commits. A
-    /// subscriber was given all changes.
+    /// subscriber received all changes, and then the end of its stream, after all commits.
     Whole,
-    /// It took, found or was given something else.
+    /// It took, found or received something else.
     NotWhole,
-    /// A reader's cursor or a subscription was closed without a receipt. A looker got no snapshot.
+    /// A reader's cursor was closed without a receipt. A looker got no snapshot. A subscriber's stream has no end.
     Missing,
 }
 

@@ -1,5 +1,5 @@
 //! A storm: many clients of one desk at once. What each reader took, what each looker found in its snapshots, and what each
-//! subscriber to a feed was given, is compared with the commits when all is over.
+//! subscriber to a feed received, is compared with the commits when all is over.
 #![tactic(auto)]
 
 mod clients;
@@ -8,6 +8,7 @@ mod judge;
 mod limits;
 mod looks;
 mod outcome;
+mod publishing;
 
 pub use hearings::{Hearing, subscriber_judged};
 pub use judge::{Reading, Verdict, begins, is_listing, judged};

@@ -1,10 +1,10 @@
 //! The size of a storm.
 ghost use Rattle.std.specs.Prelude.{◌≡◌, ◌↔◌, ◌+◌, ◌*◌, IsTrue};
-ghost use Rattle.storm.specs.Sizes.{IsStorm, hosts_of};
+ghost use Rattle.storm.specs.Sizes.{IsStorm, feeds_of, hosts_of};
 
 use key_class::limits::{MAX_ROOM, MAX_SEATS};
 
-/// How many threads serve subscribers at most.
+/// The most threads that receive for subscribers.
 pub(crate) const MAX_HOSTS: u32 = 4;
 
 /// How many clients a storm has, and what they do.
@@ -20,7 +20,8 @@ pub struct StormSize {
     pub readers: u32,
     /// How many threads look at snapshots: 0 to 32. There are at most 64 writers, readers, lookers and hosts.
     pub lookers: u32,
-    /// How many subscribers the feed has: 0 to 1,000. Each of up to four has a host, a thread with a seat; more share four.
+    /// How many subscribers the feed has: 0 to 1,000. Each of up to four has a host, a thread that receives for it; more share
+    /// four.
     pub subscribers: u32,
     /// How many items a cursor's mailbox holds: 1 to 4,096.
     pub room: u32,
@@ -52,20 +53,27 @@ impl StormSize {
             && self.sweeps <= 1_000
     }
 
-    /// How many threads serve subscribers, each with a seat.
+    /// How many threads receive for subscribers.
     pub fn hosts(&self) -> u32
         ensures { result ≡ hosts_of self.now }
     {
         self.subscribers.min(MAX_HOSTS)
     }
 
-    /// How many seats it takes.
+    /// How many feeds there are: one if there are subscribers.
+    fn feeds(&self) -> u32
+        ensures { result ≡ feeds_of self.now }
+    {
+        self.subscribers.min(1)
+    }
+
+    /// How many seats it takes: one for each writer, reader, looker and feed.
     pub fn seats(&self) -> usize
         requires { IsStorm self.now }
         ensures { result ≡ self.now.writers + self.now.readers + self.now.lookers
-            + hosts_of self.now }
+            + feeds_of self.now }
     {
-        (self.writers + self.readers + self.lookers + self.hosts()) as usize
+        (self.writers + self.readers + self.lookers + self.feeds()) as usize
     }
 
     /// How many commits it makes if nothing is refused.

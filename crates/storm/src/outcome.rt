@@ -3,22 +3,22 @@ ghost use Rattle.std.specs.Prelude.{◌≡◌, ◌↔◌, ◌+◌, Err, IfErr, I
 ghost use Rattle.desk.specs.Weaving.{Woven};
 ghost use Rattle.key_class.specs.Refusals.{IsEither};
 ghost use Rattle.storm.specs.Outcomes.{AreStampsOf, IsTrueOutcome, IsWholeStorm, TellsLookers, TellsReaders, TellsSubscribers};
-ghost use Rattle.storm.specs.Sizes.{IsStorm, hosts_of};
+ghost use Rattle.storm.specs.Sizes.{IsStorm, feeds_of};
 
-use crate::clients::{Host, Looker, Place, Reader, asked, work_beside};
-use crate::hearings::{Hearing, hearing_judged, hearings_from};
+use crate::clients::{Looker, Publisher, Reader, asked, work_beside};
+use crate::hearings::{Hearing, Host, hearing_judged, hearings_from};
 use crate::judge::{Reading, Verdict, are_whole, judged};
 use crate::limits::{MAX_HOSTS, StormSize};
 use crate::looks::{Look, looker_judged};
+use crate::publishing::{Stream, streams_to};
 use change_list::{ChangeList, Config, Write};
-use crossbeam_channel::bounded;
+use crossbeam_channel::{bounded, unbounded};
 use desk::{Desk, Finished, Seat, Torn};
 use history::{BlankHistory, Naming};
 use interval_class::{Atom, Interval, Intervals};
 use key_class::limits::{MAX_COMMITS, MAX_PAGES};
 use key_class::{Pred, Refusal};
 use pumps::{Gate, Pumps};
-use shared_feed::SharedFeed;
 use std::alloc::{AllocError, Global};
 use std::rt::Clock;
 use std::sync::Wait;
@@ -59,7 +59,7 @@ pub struct Outcome {
     pub looks: Vec<Vec<Look<Interval>>>,
     /// How each looker fared, in the same order.
     pub lookers: Vec<Verdict>,
-    /// What each subscriber was given, by their numbers.
+    /// What each subscriber received, by their numbers.
     pub hearings: Vec<Hearing<Interval>>,
     /// How each subscriber fared, in the same order.
     pub subscribers: Vec<Verdict>,
@@ -91,13 +91,13 @@ fn run_all<L, R>(
     rt: &R,
     alloc: Global,
     desk: &Desk<Intervals, L>,
-    feed: &SharedFeed<Intervals, L>,
     pumps: &Pumps<Open>,
     limits: StormSize,
     writers: &mut [Seat<Intervals, L>],
     readers: &mut [Reader<L>],
     lookers: &mut [Looker<L>],
-    hosts: &mut [Host<L>],
+    publishers: &mut [Publisher<L>],
+    hosts: &mut [Host],
 ) -> Result<(), Refusal>
 where
     L: Ledger + Naming + Send + Sync,
@@ -111,9 +111,8 @@ where
     let pump = move || {
         let _pumped = pumps.run(rt, alloc, desk, &told);
     };
-    let place = Place { desk, feed };
     work_beside(
-        rt, alloc, &place, limits, writers, readers, lookers, hosts, orders, pump,
+        rt, alloc, desk, limits, writers, readers, lookers, publishers, hosts, orders, pump,
     );
     Ok(())
 }
@@ -150,26 +149,47 @@ fn lookers_of<L: Ledger + Naming>(
     Ok(lookers)
 }
 
-/// Some seats as hosts of so many subscribers, which are numbered from 1 and shared out evenly.
-fn hosts_over<L: Ledger + Naming>(
+/// Makes publishers of some seats. The first has the streams.
+fn publishers_of<L: Ledger + Naming>(
     alloc: Global,
     seats: Vec<Seat<Intervals, L>>,
-    subscribers: u32,
-) -> Result<Vec<Host<L>>, AllocError>
-    ensures { IfOk result (λ hosts. length hosts.items ≡ length seats.items) }
+    streams: Vec<Stream>,
+) -> Result<Vec<Publisher<L>>, AllocError>
+    ensures { IfOk result (λ publishers. length publishers.items ≡ length seats.items) }
 {
-    let mut first: u32 = 1;
-    let mut left_over = subscribers % MAX_HOSTS;
-    let mut hosts = Vec::with_capacity(alloc, seats.len())?;
+    let mut streams = Some(streams);
+    let mut publishers = Vec::with_capacity(alloc, seats.len())?;
     for seat in seats {
-        let one_more = left_over.min(1);
-        let count = subscribers / MAX_HOSTS + one_more;
-        let hearings = hearings_from(alloc, first, count)?;
-        hosts.push(Host { seat, hearings })?;
-        first = first.saturating_add(count);
-        left_over -= one_more;
+        publishers.push(Publisher {
+            seat,
+            streams: streams.take(),
+        })?;
     }
-    Ok(hosts)
+    Ok(publishers)
+}
+
+/// The hosts of all subscribers, which are numbered from 1 and shared out evenly, and the streams to them. The channels have
+/// no bound: what a host receives is kept anyway until the storm ends, and the publisher never waits for a host.
+fn hosts_and_streams(
+    alloc: Global,
+    limits: StormSize,
+) -> Result<(Vec<Host>, Vec<Stream>), AllocError> {
+    let mut hosts = Vec::with_capacity(alloc, limits.hosts() as usize)?;
+    let mut streams = Vec::with_capacity(alloc, limits.subscribers as usize)?;
+    let mut first: u32 = 1;
+    for place in 0..limits.hosts() {
+        let one_more = u32::from(place < limits.subscribers % MAX_HOSTS);
+        let count = limits.subscribers / MAX_HOSTS + one_more;
+        let (sender, messages) = unbounded(alloc)?;
+        let hearings = hearings_from(alloc, first, count)?;
+        streams_to(alloc, &sender, hearings.as_slice(), &mut streams)?;
+        hosts.push(Host {
+            messages: Some(messages),
+            hearings,
+        })?;
+        first = first.saturating_add(count);
+    }
+    Ok((hosts, streams))
 }
 
 /// How readers of a query fared, told by the commits.
@@ -220,7 +240,7 @@ fn sights_of(
     Ok(verdicts)
 }
 
-/// How subscribers fared, told by the commits.
+/// How subscribers fared, by the commits.
 fn hearings_judged(
     alloc: Global,
     commits: &ChangeList<Interval>,
@@ -254,7 +274,7 @@ fn stamps_of<L: Ledger + Naming>(
     Ok(stamps)
 }
 
-/// What the readers of a storm took, what its lookers found, and what its subscribers were given.
+/// What the readers of a storm took, what its lookers found, and what its subscribers received.
 #[derive(Drop)]
 struct Findings {
     readings: Vec<Option<Reading<Interval>>>,
@@ -326,12 +346,12 @@ fn outcome_of<L: Ledger + Naming, R: Wait>(
     }
 }
 
-/// Writers, readers, lookers, hosts of subscribers, pumps and a sweeper at one desk of intervals, each in a thread of its own. Each
-/// writer inserts rows with small keys and deletes the first of them. Each reader follows a cursor up to a mark of all commits.
-/// Each looker takes snapshots, finds in each what readers ask for, and takes the changes after the one before, up to a
-/// snapshot of all commits. Each host advances a feed that all of them share, and lets its subscribers catch up, until all
-/// commits are gone over. Then the desk is finished, and what each reader took, each looker found and each subscriber was
-/// given is compared with the commits.
+/// Writers, readers, lookers, a publisher, hosts of subscribers, pumps and a sweeper at one desk of intervals, each in a thread of
+/// its own. Each writer inserts rows with small keys and deletes the first of them. Each reader follows a cursor up to a mark of
+/// all commits. Each looker takes snapshots, finds in each what readers ask for, and takes the changes after the one before, up
+/// to a snapshot of all commits. The publisher owns a feed, advances it over snapshots up to one of all commits, and sends each
+/// change to the host of its subscriber. Then the desk is finished, and what each reader took, each looker found and each
+/// subscriber received is compared with the commits.
 ///
 /// # Errors
 /// `BadConfig` if a number is out of range, or `OutOfMemory`.
@@ -349,11 +369,11 @@ where
     requires parts { blank.parts ≡ L.parts }
     requires history { history ≡ L.history }
     requires one_each { blank.parts ≡ limits.writers + limits.readers + limits.lookers
-        + hosts_of limits }
+        + feeds_of limits }
     ensures told { IfOk result IsTrueOutcome }
     ensures seats { IfOk result
         (λ o. length o.stamps.items
-        ≡ limits.writers + limits.readers + limits.lookers + hosts_of limits) }
+        ≡ limits.writers + limits.readers + limits.lookers + feeds_of limits) }
     ensures within { OnOk result (IsStorm limits) }
     ensures bad { (result ≡ Err Refusal.BadConfig) ↔ (¬ IsStorm limits) }
     ensures refusals { IfErr result (IsEither Refusal.BadConfig Refusal.OutOfMemory) }
@@ -379,12 +399,12 @@ where
     requires parts { blank.parts ≡ L.parts }
     requires history { history ≡ L.history }
     requires one_each { blank.parts ≡ limits.writers + limits.readers + limits.lookers
-        + hosts_of limits }
+        + feeds_of limits }
     requires within { IsStorm limits }
     ensures told { IfOk result IsTrueOutcome }
     ensures seats { IfOk result
         (λ o. length o.stamps.items
-        ≡ limits.writers + limits.readers + limits.lookers + hosts_of limits) }
+        ≡ limits.writers + limits.readers + limits.lookers + feeds_of limits) }
     ensures refusals { IfErr result (λ why. why ≡ Refusal.OutOfMemory) }
 {
     let (desk, mut writers) = Desk::<Intervals, L>::new(
@@ -403,14 +423,16 @@ where
     let Ok(last) = others.split_off(limits.lookers as usize) else {
         return Err(Refusal::OutOfMemory);
     };
-    let feed = SharedFeed::new(alloc, &writers[0])?;
     let Ok(mut readers) = readers_of(alloc, rest) else {
         return Err(Refusal::OutOfMemory);
     };
     let Ok(mut lookers) = lookers_of(alloc, others) else {
         return Err(Refusal::OutOfMemory);
     };
-    let Ok(mut hosts) = hosts_over(alloc, last, limits.subscribers) else {
+    let Ok((mut hosts, streams)) = hosts_and_streams(alloc, limits) else {
+        return Err(Refusal::OutOfMemory);
+    };
+    let Ok(mut publishers) = publishers_of(alloc, last, streams) else {
         return Err(Refusal::OutOfMemory);
     };
     let pumps = Pumps::new(limits.pumps as usize, Open)?;
@@ -418,35 +440,37 @@ where
         rt,
         alloc,
         &desk,
-        &feed,
         &pumps,
         limits,
         writers.as_mut_slice(),
         readers.as_mut_slice(),
         lookers.as_mut_slice(),
+        publishers.as_mut_slice(),
         hosts.as_mut_slice(),
     )?;
-    let Ok(findings) = take_back(alloc, &mut writers, readers, lookers, hosts) else {
+    let Ok(findings) = take_back(alloc, &mut writers, readers, lookers, publishers, hosts) else {
         return Err(Refusal::OutOfMemory);
     };
     outcome_of(rt, alloc, desk, writers, findings)
 }
 
-/// Puts the seats of readers, lookers and hosts behind those of writers, and gives what these took and found, and what subscribers
-/// were given.
+/// Puts the seats of readers, lookers and publishers behind those of writers, and gives what readers took, lookers found and
+/// subscribers received.
 fn take_back<L: Ledger + Naming>(
     alloc: Global,
     seats: &mut Vec<Seat<Intervals, L>>,
     readers: Vec<Reader<L>>,
     lookers: Vec<Looker<L>>,
-    hosts: Vec<Host<L>>,
+    publishers: Vec<Publisher<L>>,
+    hosts: Vec<Host>,
 ) -> Result<Findings, AllocError>
     ensures { OnOk result (length seats.new.items ≡ length seats.old.items
-        + length readers.items + length lookers.items + length hosts.items) }
+        + length readers.items + length lookers.items + length publishers.items) }
 {
     let readings = take_readings(alloc, seats, readers)?;
     let looks = take_looks(alloc, seats, lookers)?;
-    let hearings = take_hearings(alloc, seats, hosts)?;
+    take_seats(seats, publishers)?;
+    let hearings = hearings_of(alloc, hosts)?;
     Ok(Findings {
         readings,
         looks,
@@ -454,24 +478,30 @@ fn take_back<L: Ledger + Naming>(
     })
 }
 
-/// Puts the seats of hosts behind others, and gives what their subscribers were given.
-fn take_hearings<L: Ledger + Naming>(
-    alloc: Global,
+/// Puts the seats of publishers back with the others.
+fn take_seats<L: Ledger + Naming>(
     seats: &mut Vec<Seat<Intervals, L>>,
-    hosts: Vec<Host<L>>,
-) -> Result<Vec<Hearing<Interval>>, AllocError>
+    publishers: Vec<Publisher<L>>,
+) -> Result<(), AllocError>
     ensures { OnOk result
-        (length seats.new.items ≡ length seats.old.items + length hosts.items) }
+        (length seats.new.items ≡ length seats.old.items + length publishers.items) }
 {
+    for publisher in publishers {
+        let Publisher { seat, .. } = publisher;
+        seats.push(seat)?;
+    }
+    Ok(())
+}
+
+/// What the subscribers of all hosts received.
+fn hearings_of(alloc: Global, hosts: Vec<Host>) -> Result<Vec<Hearing<Interval>>, AllocError> {
     let mut hearings = Vec::new(alloc);
     for host in hosts {
         let Host {
-            seat,
-            hearings: given,
+            hearings: mut received,
+            ..
         } = host;
-        let mut given = given;
-        seats.push(seat)?;
-        hearings.append(&mut given)?;
+        hearings.append(&mut received)?;
     }
     Ok(hearings)
 }

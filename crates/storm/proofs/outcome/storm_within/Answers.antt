@@ -17,8 +17,8 @@ outcome_of-requires g c =
     let writers = back c.split_off.new.self.len c.run_all.new.writers c.split_off.new.self.items (omega (arith, c.run_all.auto.writers, c.as_mut_slice.ensures.len)) (omega arith) in
     let readers = back c.in-Ok-readers_of.readers.len c.run_all.new.readers c.in-Ok-readers_of.readers.items (omega (arith, c.run_all.auto.readers, c.as_mut_slice-2.ensures.len)) (omega arith) in
     let lookers = back c.in-Ok-lookers_of.lookers.len c.run_all.new.lookers c.in-Ok-lookers_of.lookers.items (omega (arith, c.run_all.auto.lookers, c.as_mut_slice-3.ensures.len)) (omega arith) in
-    let hosts = back c.in-Ok-hosts_over.hosts.len c.run_all.new.hosts c.in-Ok-hosts_over.hosts.items (omega (arith, c.run_all.auto.hosts, c.as_mut_slice-4.ensures.len)) (omega arith) in
-    omega (arith, grown, writers, readers, lookers, hosts, first.len, first.tail_len, second.len, second.tail_len, third.len, third.tail_len, c.in-Ok-readers_of.ensures, c.in-Ok-lookers_of.ensures, c.in-Ok-hosts_over.ensures, desk.desk, desk.seats, c.seats.ensures)
+    let publishers = back c.in-Ok-publishers_of.publishers.len c.run_all.new.publishers c.in-Ok-publishers_of.publishers.items (omega (arith, c.run_all.auto.publishers, c.as_mut_slice-4.ensures.len)) (omega arith) in
+    omega (arith, grown, writers, readers, lookers, publishers, first.len, first.tail_len, second.len, second.tail_len, third.len, third.tail_len, c.in-Ok-readers_of.ensures, c.in-Ok-lookers_of.ensures, c.in-Ok-publishers_of.ensures, desk.desk, desk.seats, c.seats.ensures)
 
 pub returns-clause-seats : goal.returns-clause-seats
 returns-clause-seats g c =

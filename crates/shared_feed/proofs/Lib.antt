@@ -1,8 +1,0 @@
-mod Boards
-mod Cutting
-mod Draining
-mod Dues
-pub mod Passing
-pub mod Sharing
-mod Subscriptions
-mod Supplies
