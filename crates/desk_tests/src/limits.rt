@@ -1,4 +1,4 @@
-//! Seats, cursors, rooms and pumps at their limits.
+//! Seats, cursors and pumps at their limits.
 use crate::calls::insert;
 use crate::desks::{Scene, limits, play};
 use desk::{Desk, Seat};
@@ -57,8 +57,6 @@ impl Scene for Many {
         let Some(seat) = seats.first_mut() else {
             return Err(Refusal::BadConfig);
         };
-        let rooms = [open(rt, desk, seat, 0), open(rt, desk, seat, 4_097)];
-        assert!(rt; rooms == [Err(Refusal::BadConfig), Err(Refusal::BadConfig)]);
         let opened = open_all(rt, desk, seat);
         assert!(rt; opened == (192, Some(Refusal::CursorsFull)));
         Ok(())
@@ -68,8 +66,6 @@ impl Scene for Many {
 #[test]
 fn limits_are_reached(rt: HostRuntime) -> Result<(), Fail> {
     assert!(rt; play(&rt, rt.alloc(), limits(64, 99), 64, &Many {})? == 64);
-    let crowd = play(&rt, rt.alloc(), limits(64, 99), 65, &Many {});
-    assert!(rt; crowd == Err(Refusal::BadConfig));
     Ok(())
 }
 
