@@ -15,7 +15,7 @@ test: ## test what is built, else the release
 lint: ## check pages, the names in them, plots and mutants
 	tools/pages
 	tools/claims
-	tools/dependents --check
+	dev/gistdev/dependents.py --check
 	bench/plots.py --check
 	tests/mutation_tests.py
 

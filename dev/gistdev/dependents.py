@@ -1,16 +1,16 @@
 #!/usr/bin/env python3
 """Writes the table of CONTRIBUTING.md: for each crate, the crates above it, which are proved again when it changes.
 
-    tools/dependents [--check]
+    dev/gistdev/dependents.py [--check]
 
 The table is made from crates.txt. With --check nothing is written, and the status is 1 if the table isn't current.
 """
 import os
 import sys
 
-ROOT = os.path.dirname(os.path.dirname(os.path.abspath(__file__)))
+ROOT = os.path.dirname(os.path.dirname(os.path.dirname(os.path.abspath(__file__))))
 PAGE = f"{ROOT}/CONTRIBUTING.md"
-BEGIN, END = "<!-- dependents: written by tools/dependents -->\n", "<!-- end of dependents -->\n"
+BEGIN, END = "<!-- dependents: written by dev/gistdev/dependents.py -->\n", "<!-- end of dependents -->\n"
 
 # The most dependents that a row names; a longer row only counts them
 MOST_NAMED = 8
@@ -52,7 +52,7 @@ def main():
     new = before + BEGIN + "\n" + table() + "\n" + END + rest.split(END)[1]
     if sys.argv[1:] == ["--check"]:
         is_current = new == text
-        print("1 passed, 0 failed" if is_current else "the table of CONTRIBUTING.md is not that of crates.txt: run tools/dependents\n0 passed, 1 failed")
+        print("1 passed, 0 failed" if is_current else "the table of CONTRIBUTING.md is not that of crates.txt: run dev/gistdev/dependents.py\n0 passed, 1 failed")
         return 0 if is_current else 1
     with open(PAGE, "w", encoding="utf-8") as file:
         file.write(new)

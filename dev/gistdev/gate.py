@@ -4,7 +4,7 @@ that what must not compile doesn't, `rt ci` (every proof, every test, the progra
 with each request for memory refused, the program and the library as they were built (tools/test), that the release is what
 these sources build, that it runs in a fresh clone, and that mutants are killed.
 
-    tools/gate [--all]
+    dev/gistdev/gate.py [--all]
 
 Of the mutants that docs/PROMISES.md names, tools/mutants tries as many as 25 processor minutes allow, others each time; once
 the gate has run for 120 minutes, fewer, and it ends 150 minutes after it began. --all tries every mutant, without a limit.
@@ -121,7 +121,7 @@ def tell_time(checks, began):
 def main():
     if sys.argv[1:] not in ([], ["--all"]):
         sys.exit(__doc__)
-    os.chdir(os.path.join(os.path.dirname(os.path.abspath(__file__)), ".."))
+    os.chdir(os.path.join(os.path.dirname(os.path.abspath(__file__)), "..", ".."))
     with tempfile.TemporaryDirectory() as folder:
         gate(folder)
 
@@ -136,7 +136,7 @@ def limits(minutes):
 def gate(folder):
     """Runs the steps; the library for C goes into a folder."""
     steps = [
-        ["tools/claims"], ["tools/pages"], ["tools/dependents", "--check"], ["bench/plots.py", "--check"], ["tools/must-not-compile"], ["rt", "ci"], ["tools/refused-memory"], ["tools/library", folder],
+        ["tools/claims"], ["tools/pages"], ["dev/gistdev/dependents.py", "--check"], ["bench/plots.py", "--check"], ["tools/must-not-compile"], ["rt", "ci"], ["tools/refused-memory"], ["tools/library", folder],
         ["tools/test", "--library", folder], ["tools/release", "--check", "--built"], ["tools/first-start"],
         ["tools/mutants", "--self-test"], ["tools/mutants"],
     ]
