@@ -20,9 +20,9 @@ import tempfile
 import time
 
 sys.dont_write_bytecode = True
-sys.path.insert(0, os.path.join(os.path.dirname(os.path.dirname(os.path.abspath(__file__))), "tools"))
+sys.path.insert(0, os.path.join(os.path.dirname(os.path.dirname(os.path.abspath(__file__))), "dev"))
 
-from trials import chosen_program  # noqa: E402
+from gistdev.program import chosen_program  # noqa: E402
 
 HERE = os.path.dirname(os.path.abspath(__file__))
 PEER_SOURCE = os.path.join(HERE, "peer", "peer.cpp")

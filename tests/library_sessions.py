@@ -3,9 +3,9 @@
 
     GIST_LIB_DIR=FOLDER tests/library_sessions.py [--seeds N] [--seed S] [--lines N] [--verbose]
 
-For each of 18 seeds, in the three classes, 500 lines are drawn as those of tests/session_drawing.py: inserts, moves, deletes,
+For each of 18 seeds, in the three classes, 500 lines are drawn as those of tests/random_lists/session_drawing.py: inserts, moves, deletes,
 finds, sweeps, cursors that open and follow, their items, marks and closings, with names that are stale or foreign. The library
-makes the call of each, and its answers have to be ones that tests/session_model.py allows. Between the lines come calls that
+makes the call of each, and its answers have to be ones that tests/models/session_model.py allows. Between the lines come calls that
 sessions don't have, each compared with the model's plain lists:
 
 - snapshots that are kept for a while: their counts, rows, rows of many keys, rows and commits by their numbers, and the
@@ -17,19 +17,18 @@ sessions don't have, each compared with the model's plain lists:
 """
 import argparse
 import collections
-import os
 import sys
 from random import Random
 
-sys.dont_write_bytecode = True
-HERE = os.path.dirname(os.path.abspath(__file__))
-sys.path[:0] = [HERE, os.path.join(HERE, "../bindings/python")]
+from checkout import ROOT
+from models.keys import RELATIONS, SETS, matches, wanted
+from models.refusals import refusal_line
+from models.session_model import Session
+from random_lists.drawn_lines import query_tokens
+from random_lists.session_drawing import SessionDrawer
+
+sys.path.insert(0, f"{ROOT}/bindings/python")
 import gist  # noqa: E402
-from drawn_lines import query_tokens  # noqa: E402
-from keys import RELATIONS, SETS, matches, wanted  # noqa: E402
-from refusals import refusal_line  # noqa: E402
-from session_drawing import SessionDrawer  # noqa: E402
-from session_model import Session  # noqa: E402
 
 SEEDS, LINES, INSERTS = 18, 500, 60
 MOST_KEPT, MOST_SUBSCRIBED = 4, 60

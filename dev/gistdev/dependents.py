@@ -1,63 +1,71 @@
-#!/usr/bin/env python3
-"""Writes the table of CONTRIBUTING.md: for each crate, the crates above it, which are proved again when it changes.
+"""Writes the table of CONTRIBUTING.md: what each crate's check costs, and which crates are checked again after a change.
 
-    dev/gistdev/dependents.py [--check]
+    dev/dependents [--check]
 
-The table is made from crates.txt. With --check nothing is written, and the status is 1 if the table isn't current.
+The table is made from crates.txt and dev/check-minutes. With --check nothing is written, and the status is 1 if the
+table isn't current.
 """
-import os
-import sys
+from __future__ import annotations
 
-ROOT = os.path.dirname(os.path.dirname(os.path.dirname(os.path.abspath(__file__))))
+import sys
+from collections.abc import Mapping, Sequence
+
+from gistdev import check_minutes
+from gistdev.sources import ROOT, lines_of_crates, text_of
+
 PAGE = f"{ROOT}/CONTRIBUTING.md"
-BEGIN, END = "<!-- dependents: written by dev/gistdev/dependents.py -->\n", "<!-- end of dependents -->\n"
+BEGIN, END = "<!-- dependents: written by dev/dependents -->\n", "<!-- end of dependents -->\n"
 
 # The most dependents that a row names; a longer row only counts them
 MOST_NAMED = 8
 
 
-def uses():
+def uses() -> dict[str, list[str]]:
     """The crates of the repository that each crate uses, in the order of crates.txt."""
-    with open(f"{ROOT}/crates.txt", encoding="utf-8") as file:
-        lines = [line.split("#")[0].partition(":") for line in file]
-    named = {head.split()[0]: rest.split() for head, _, rest in lines if head.strip()}
-    return {crate: [it for it in below if it in named] for crate, below in named.items()}
+    listed = lines_of_crates()
+    return {crate: [it for it in below if it in listed] for crate, (_, below) in listed.items()}
 
 
-def above(crate, used):
-    """The crates that use a crate, directly or by others."""
-    found = set()
-    for it, below in used.items():
-        if crate in below:
-            found |= {it} | above(it, used)
+def above(used: Mapping[str, Sequence[str]]) -> dict[str, set[str]]:
+    """For each crate those that use it, directly or through others."""
+    found: dict[str, set[str]] = {crate: set() for crate in used}
+
+    def note(crate: str, user: str) -> None:
+        if user not in found[crate]:
+            found[crate].add(user)
+            for below in used[crate]:
+                note(below, user)
+
+    for user, crates in used.items():
+        for crate in crates:
+            note(crate, user)
     return found
 
 
-def table():
-    used = uses()
-    rows = ["| Crate | Crates above it |", "|---|---|"]
+def table() -> str:
+    """The table's rows, in the order of crates.txt."""
+    used, minutes = uses(), check_minutes.read()
+    dependents = above(used)
+    rows = ["| Crate | Check, processor minutes | Crates above it |", "|---|---|---|"]
     for crate in used:
-        found = [it for it in used if it in above(crate, used)]
+        found = [it for it in used if it in dependents[crate]]
         named = ", ".join(found) if len(found) <= MOST_NAMED else str(len(found))
-        rows.append(f"| {crate} | {named or 'none'} |")
+        cost = f"{minutes[crate]:.1f}" if crate in minutes else "not measured"
+        rows.append(f"| {crate} | {cost} | {named or 'none'} |")
     return "\n".join(rows) + "\n"
 
 
-def main():
+def main() -> int:
     if sys.argv[1:] not in ([], ["--check"]):
         sys.exit(__doc__)
-    with open(PAGE, encoding="utf-8") as file:
-        text = file.read()
+    text = text_of(PAGE)
     before, rest = text.split(BEGIN)
     new = before + BEGIN + "\n" + table() + "\n" + END + rest.split(END)[1]
     if sys.argv[1:] == ["--check"]:
-        is_current = new == text
-        print("1 passed, 0 failed" if is_current else "the table of CONTRIBUTING.md is not that of crates.txt: run dev/gistdev/dependents.py\n0 passed, 1 failed")
-        return 0 if is_current else 1
+        if new != text:
+            print("the table of CONTRIBUTING.md is not that of crates.txt and dev/check-minutes: run dev/dependents")
+        print("1 passed, 0 failed" if new == text else "0 passed, 1 failed")
+        return 0 if new == text else 1
     with open(PAGE, "w", encoding="utf-8") as file:
         file.write(new)
     return 0
-
-
-if __name__ == "__main__":
-    sys.exit(main())

@@ -1,27 +1,36 @@
-#!/usr/bin/env python3
-"""The whole gate, from scratch: that what the documents name exists and no page is too long, that plots show their figures,
-that what must not compile doesn't, `rt ci` (every proof, every test, the program as two compilers build it), tests of a desk
-with each request for memory refused, the program and the library as they were built (tools/test), that the release is what
-these sources build, that it runs in a fresh clone, and that mutants are killed.
+"""Runs the whole gate, from nothing, step by step, up to the first step that fails.
 
-    dev/gistdev/gate.py [--all]
+    dev/gate [--all] [--record]
 
-Of the mutants that docs/PROMISES.md names, tools/mutants tries as many as 25 processor minutes allow, others each time; once
-the gate has run for 120 minutes, fewer, and it ends 150 minutes after it began. --all tries every mutant, without a limit.
+The steps check pages, names, plots and Python (dev/lint-docs, dev/check-clauses, dev/dependents, bench/plots.py,
+dev/lint-python), try programs that must not compile, prove and test every crate (`rt ci`), refuse memory in tests in
+Rattle, test the program and the library as they were built (tests/run), compare the release with what these sources
+build, start it in a fresh clone, and try mutants.
 
-At the end it reports the processor time of proofs, tests and mutants, and of each crate. Each check is a process of its own,
-which is sampled five times a second (Linux, /proc); time after the last sample is missing there, and counts under `rest` with
-everything else. The last line is `N passed, M failed`, the sum over all steps; the status is 0 only if M is 0.
+dev/mutants tries as many of the mutants that docs/PROMISES.md names as 25 processor minutes allow, others each time;
+once the gate has run for 120 minutes, fewer, and it ends 150 minutes after it began. --all tries every mutant, without
+a limit. --record writes the processor minutes of each crate's check into dev/check-minutes.
+
+At the end it reports the processor time of proofs, tests and mutants, and of each crate. Each check is a process of its
+own, which is sampled five times a second (Linux, /proc); time after the last sample counts under `rest` with everything
+else. The last line is `N passed, M failed`, the sum over all steps; the status is 0 only if M is 0.
 """
+from __future__ import annotations
+
+import argparse
 import collections
 import os
 import re
 import resource
 import subprocess
-import sys
 import tempfile
 import threading
 import time
+from collections.abc import Iterator, Mapping, Sequence
+
+from gistdev import check_minutes
+from gistdev.mutation.run import ROOM
+from gistdev.sources import ROOT
 
 TICKS = os.sysconf("SC_CLK_TCK")
 COUNT = re.compile(r"(\d+) passed, (\d+) failed$")
@@ -33,22 +42,32 @@ FOR_MUTANTS, LATE, LATEST = 25, 120, 150
 # Minutes that the report takes, and the end of the checks that run
 ENDING = 1
 
+# The name, and the fields after it, of each process by its number
+Processes = Mapping[str, tuple[str, list[str]]]
+
 
 class Check:
     """A process of the checker: what it works on, and the seconds that it and its finished children have taken."""
 
-    def __init__(self, pid):
+    def __init__(self, pid: str) -> None:
         folder = os.readlink(f"/proc/{pid}/cwd")
         with open(f"/proc/{pid}/cmdline", encoding="utf-8", errors="replace") as file:
             words = file.read().split("\0")
         self.crate = words[words.index("--crate-name") + 1] if "--crate-name" in words else "?"
-        is_mutant = "/mutants-" in folder
+        is_mutant = f"/{ROOM}" in folder
         self.part = "mutants" if is_mutant else "tests" if "--test" in words else "proofs"
         self.seconds = 0.0
 
 
-def processes():
-    """The name, and the fields after it, of each process of the machine by its number."""
+# The checks by the process's number and the time of its start
+Checks = dict[tuple[str, str], Check]
+
+# Processor seconds by part
+Seconds = dict[str, float]
+
+
+def processes() -> Processes:
+    """All processes of the machine."""
     found = {}
     for pid in filter(str.isdigit, os.listdir("/proc")):
         try:
@@ -60,18 +79,19 @@ def processes():
     return found
 
 
-def ancestors(found, pid):
+def ancestors(found: Processes, pid: str) -> Iterator[str]:
     while pid in found:
         pid = found[pid][1][1]
         yield pid
 
 
-def look(checks):
+def sample(checks: Checks) -> None:
     """Updates the times of this gate's running checks."""
     found = processes()
     for pid, (name, fields) in found.items():
         # a check's forks are counted with it, once they have ended
-        if name != "rattle" or any(pid_of == fields[1] for pid_of, _ in checks) or str(os.getpid()) not in ancestors(found, pid):
+        is_fork = any(pid_of == fields[1] for pid_of, _ in checks)
+        if name != "rattle" or is_fork or str(os.getpid()) not in ancestors(found, pid):
             continue
         try:
             key = pid, fields[19]
@@ -82,75 +102,95 @@ def look(checks):
             continue
 
 
-def run(words, checks):
-    """Runs a step, shows what it prints, and gives whether it went well, and how many passed and failed by its last count."""
+def run(words: Sequence[str], checks: Checks) -> tuple[bool, int, int]:
+    """Runs a step and shows what it prints: whether it went well, and how many passed and failed by its last count."""
     print(f"== {' '.join(words)}", flush=True)
-    running = subprocess.Popen(words, stdin=subprocess.DEVNULL, stdout=subprocess.PIPE, stderr=subprocess.STDOUT, errors="replace", text=True)
-    last = None
+    running = subprocess.Popen(
+        words, stdin=subprocess.DEVNULL, stdout=subprocess.PIPE, stderr=subprocess.STDOUT, errors="replace", text=True
+    )
+    output = running.stdout or ()
+    counts: list[tuple[int, int]] = []
 
-    def show():
-        nonlocal last
-        for line in running.stdout:
+    def show() -> None:
+        for line in output:
             print(line, end="", flush=True)
-            last = COUNT.search(line.rstrip("\n")) or last
+            if found := COUNT.search(line.rstrip("\n")):
+                counts.append((int(found[1]), int(found[2])))
 
     shower = threading.Thread(target=show)
     shower.start()
     while running.poll() is None:
-        look(checks)
+        sample(checks)
         time.sleep(0.2)
     shower.join()
-    passed, failed = (int(it) for it in last.groups()) if last else (0, 0)
+    passed, failed = counts[-1] if counts else (0, 0)
     return running.returncode == 0, passed, failed
 
 
-def tell_time(checks, began):
+def seconds_by_crate(checks: Checks) -> dict[str, Seconds]:
+    """The processor seconds of each crate's proofs, tests and mutants."""
+    found: dict[str, Seconds] = collections.defaultdict(lambda: dict.fromkeys(PARTS, 0.0))
+    for check in checks.values():
+        found[check.crate][check.part] += check.seconds
+    return found
+
+
+def report(crates: Mapping[str, Seconds], began: float) -> None:
+    """Prints the processor time of all, and of each crate."""
     used = resource.getrusage(resource.RUSAGE_CHILDREN)
     whole = used.ru_utime + used.ru_stime
-    parts, crates = collections.Counter(), collections.defaultdict(collections.Counter)
-    for check in checks.values():
-        parts[check.part] += check.seconds
-        crates[check.crate][check.part] += check.seconds
+    parts = {part: sum(seconds[part] for seconds in crates.values()) for part in PARTS}
     rest = max(whole - sum(parts.values()), 0)
-    print(f"processor minutes: {whole / 60:.1f}, in {(time.monotonic() - began) / 60:.1f} minutes on {len(os.sched_getaffinity(0))} cores")
+    minutes = (time.monotonic() - began) / 60
+    print(f"processor minutes: {whole / 60:.1f}, in {minutes:.1f} minutes on {len(os.sched_getaffinity(0))} cores")
     print("  " + "".join(f"{part} {parts[part] / 60:.1f}, " for part in PARTS) + f"rest {rest / 60:.1f}")
-    for crate, of in sorted(crates.items(), key=lambda it: -sum(it[1].values())):
-        print(f"  {crate:16}" + "".join(f"{of[part] / 60:8.2f}" for part in PARTS))
+    for crate, seconds in sorted(crates.items(), key=lambda it: -sum(it[1].values())):
+        print(f"  {crate:16}" + "".join(f"{seconds[part] / 60:8.2f}" for part in PARTS))
 
 
-def main():
-    if sys.argv[1:] not in ([], ["--all"]):
-        sys.exit(__doc__)
-    os.chdir(os.path.join(os.path.dirname(os.path.abspath(__file__)), "..", ".."))
-    with tempfile.TemporaryDirectory() as folder:
-        gate(folder)
-
-
-def limits(minutes):
+def limits(minutes: float) -> list[str]:
     """The limits for mutants, in a gate that has run for so many minutes."""
     left = max(LATEST - ENDING - minutes, 0)
     budget = FOR_MUTANTS * min(left / (LATEST - ENDING - LATE), 1)
     return [f"--processor-minutes={budget:.1f}", f"--until-minutes={left:.1f}"]
 
 
-def gate(folder):
-    """Runs the steps; the library for C goes into a folder."""
-    steps = [
-        ["tools/claims"], ["tools/pages"], ["dev/gistdev/dependents.py", "--check"], ["bench/plots.py", "--check"], ["tools/must-not-compile"], ["rt", "ci"], ["tools/refused-memory"], ["tools/library", folder],
-        ["tools/test", "--library", folder], ["tools/release", "--check", "--built"], ["tools/first-start"],
-        ["tools/mutants", "--self-test"], ["tools/mutants"],
+def steps(folder: str) -> list[list[str]]:
+    """The steps before the mutants; the library for C goes into a folder."""
+    return [
+        ["dev/check-clauses"], ["dev/lint-docs"], ["dev/dependents", "--check"], ["bench/plots.py", "--check"],
+        ["dev/lint-python"], ["tests/must-not-compile"], ["rt", "ci"], ["tests/alloc-faults"], ["tools/library", folder],
+        ["tests/run", "--library", folder], ["dev/release", "--check", "--built"], ["tests/install-test"],
+        ["dev/mutants", "--self-test"],
     ]
-    began, checks, passed, failed = time.monotonic(), {}, 0, 0
-    for words in steps:
-        if words == ["tools/mutants"]:
-            words = [*words, *(sys.argv[1:] or limits((time.monotonic() - began) / 60))]
-        is_well, more, fewer = run(words, checks)
+
+
+def gate(folder: str, tries_all: bool, records: bool) -> int:
+    """Runs the steps, and returns the status."""
+    began, passed, failed = time.monotonic(), 0, 0
+    checks: Checks = {}
+    for words in [*steps(folder), ["dev/mutants"]]:
+        if words == ["dev/mutants"]:
+            words += ["--all"] if tries_all else limits((time.monotonic() - began) / 60)
+        of_step: Checks = {}
+        is_well, more, fewer = run(words, of_step)
+        checks |= of_step
         passed, failed = passed + more, failed + max(fewer, int(not is_well))
         if not is_well:
             break
-    tell_time(checks, began)
+        if words == ["rt", "ci"] and records:
+            found = seconds_by_crate(of_step)
+            check_minutes.write({crate: sum(seconds.values()) / 60 for crate, seconds in found.items()})
+    report(seconds_by_crate(checks), began)
     print(f"{passed} passed, {failed} failed")
-    sys.exit(0 if not failed else 1)
+    return 0 if not failed else 1
 
 
-main()
+def main() -> int:
+    parser = argparse.ArgumentParser(description=__doc__, formatter_class=argparse.RawDescriptionHelpFormatter)
+    parser.add_argument("--all", action="store_true", help="try every mutant")
+    parser.add_argument("--record", action="store_true", help="write dev/check-minutes")
+    options = parser.parse_args()
+    os.chdir(ROOT)
+    with tempfile.TemporaryDirectory() as folder:
+        return gate(folder, options.all, options.record)

@@ -1,6 +1,6 @@
 /*
  * Every call that requests memory, for each class. A call that is refused for lack of memory is made again; then it has
- * to succeed, and everything has to be as if it had not been refused. tools/examples runs this with each request for
+ * to succeed, and everything has to be as if it had not been refused. tests/examples runs this with each request for
  * memory refused, one in each run.
  *
  * It prints nothing, and ends with status 0, or tells the line of the first thing that isn't as it should be.
