@@ -11,8 +11,7 @@ reported:
 - last, a query deeper than 32, an atom being 1, is refused at its first token;
 - a line of more than 4,096 bytes is refused at 4,096, whatever it says.
 
-Keys: an interval is the pair (lo, hi), a box (x1, y1, x2, y2), a set a frozenset. A query is ("atom", relation, key),
-("not", query), ("and", query, query) or ("or", query, query).
+Keys and queries are those of keys.py.
 """
 import functools
 import re
@@ -46,6 +45,17 @@ class Token(NamedTuple):
     kind: str
     text: bytes
     place: int
+
+
+class Request(NamedTuple):
+    """What a line asks: a verb and its arguments.
+
+    A line without a token is `blank`; a wrong line is a `fault`, whose argument is the answer; `open ROOM from N QUERY`
+    is `follow`.
+    """
+
+    verb: str
+    arguments: tuple = ()
 
 
 class Fault(Exception):
@@ -152,11 +162,11 @@ class Reading:
     def elements(self):
         """`{`, numbers from 0 to 127 in any order, `}`."""
         self.take("{")
-        elements = set()
+        elements = 0
         while self.front().kind != "}":
-            elements.add(self.number(ELEMENT))
+            elements |= 1 << self.number(ELEMENT)
         self.take("}")
-        return frozenset(elements)
+        return elements
 
     def query(self):
         """A query, up to the line's end."""
@@ -197,7 +207,7 @@ class Reading:
         relation = self.take("word")
         if relation.text not in RELATIONS:
             raise self.fault(relation.place)
-        return ("atom", relation.text.decode("ascii"), self.key()), 1
+        return (relation.text.decode("ascii"), self.key()), 1
 
     def line_end(self):
         """Nothing may be left."""
@@ -205,10 +215,9 @@ class Reading:
             raise self.fault(self.front().place)
 
     def opening(self):
-        """What follows `open`: the room, the commit that is followed, if any, and the query."""
+        """What follows `open`: the room, the commit after `from` if there is one, and the query."""
         room = self.number()
-        commit = self.number() if self.takes_word(b"from") else None
-        return room, commit, self.query()
+        return (room, self.number(), self.query()) if self.takes_word(b"from") else (room, self.query())
 
     def numbers(self, count):
         """Several numbers, one after the other."""
@@ -252,10 +261,10 @@ LANGUAGES = {"serve": COMMANDS, "replay": EVENTS}
 
 @functools.cache
 def read_known(language, class_name, line):
-    """What a line asks, as `read_line` gives it; bytes that begin no token are replaced by `?`."""
+    """What a line asks, as `read_line` returns it; bytes that begin no token are replaced by `?`."""
     reading = Reading(class_name, line)
     if not reading.tokens:
-        return None
+        return Request("blank")
     word = reading.front()
     try:
         reading.take("word")
@@ -264,18 +273,19 @@ def read_known(language, class_name, line):
         values = LANGUAGES[language][word.text](reading)
         reading.line_end()
     except Fault as fault:
-        return str(fault)
-    return (word.text.decode("ascii"), *values)
+        return Request("fault", (str(fault),))
+    is_follow = word.text == b"open" and len(values) == 3
+    return Request("follow" if is_follow else word.text.decode("ascii"), values)
 
 
 def read_line(language, class_name, line):
-    """What a line asks: None if it has no token, its refusal if it is wrong, otherwise its word and its values.
+    """What a line asks; the line has no line feed.
 
-    The line has no line feed. To the grammar all bytes that begin no token are alike, so they are replaced by one of
-    them, and results are cached: a line that is like an earlier one isn't read again.
+    To the grammar all bytes that begin no token are alike, so they are replaced by one of them, and results are cached:
+    a line that is like an earlier one isn't read again.
     """
     if len(line) > MOST_BYTES:
-        return f"refused 22 Line {MOST_BYTES}"
+        return Request("fault", (f"refused 22 Line {MOST_BYTES}",))
     return read_known(language, class_name, line.translate(AS_READ))
 
 

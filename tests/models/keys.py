@@ -92,6 +92,11 @@ SETS = Sets()
 CLASSES = (INTERVALS, BOXES, SETS)
 
 
+def keys_of(name):
+    """The keys of the class with a name."""
+    return next(keys for keys in CLASSES if keys.name == name)
+
+
 def atom_matches(keys, relation, key, operand):
     """Whether a key matches an atom."""
     if relation == "overlaps":

@@ -24,6 +24,8 @@ class Commits:
         self.writes = []
         self.rows = {}
         self.ended = {}
+        # the numbers of the rows that live, rising
+        self.live = {}
 
     def __len__(self):
         return len(self.writes)
@@ -48,8 +50,11 @@ class Commits:
             self.rows[number] = Row(number, write[1], write[2])
         else:
             self.ended[write[1]] = number
+            del self.live[write[1]]
         if write[0] == "move":
             self.rows[number] = Row(number, write[2], self.rows[write[1]].tag)
+        if number in self.rows:
+            self.live[number] = None
         return number
 
     def lives(self, row, count):
@@ -58,7 +63,7 @@ class Commits:
 
     def live_rows(self):
         """The rows that live, by rising number."""
-        return [row for row in self.rows.values() if row.number not in self.ended]
+        return [self.rows[number] for number in self.live]
 
     def row_line(self, row):
         """The item of a row of a snapshot."""
@@ -66,7 +71,8 @@ class Commits:
 
     def snapshot(self, wanted, count):
         """The rows that are live after this many commits and whose key is wanted, by rising number."""
-        return [self.row_line(row) for row in self.rows.values() if self.lives(row.number, count) and wanted(row.key)]
+        numbers = self.live if count == len(self) else [number for number in self.rows if self.lives(number, count)]
+        return [self.row_line(self.rows[number]) for number in numbers if wanted(self.rows[number].key)]
 
     def change(self, wanted, number):
         """The item of a commit for these wanted keys, or none."""

@@ -1,9 +1,12 @@
 """A slow model of a session: the allowed answers to each line.
 
-Everything is exact except for two things. The rows of a cursor's snapshot come in any order, so `next` may give any
-that is left. And how far a scan has come isn't known, except that it is over once something other than a row was given,
-and hasn't begun before the first `next`. So `sweep` has one answer for each opening that may be the least of the scans
-under way: it removes the dead rows that died up to that opening, or all if no scan is under way.
+Everything is exact except for two things. The rows of a cursor's snapshot come in any order, so `next` may deliver any
+that is left. And how far a scan has come isn't known, except that it is over once something other than a row was
+delivered, and hasn't begun before the first `next`. So `sweep` has one answer for each opening that may be the least of
+the scans under way: it removes the rows that died up to that opening, or all dead rows if no scan is under way.
+
+A line that runs out of memory changes nothing that its client sees, but a sweep may have removed some rows by then, and
+a cursor may have begun its scan (`note_out_of_memory`).
 
 An answer of several lines is one text.
 """
@@ -56,8 +59,10 @@ class Session:
         self.commits = Commits(keys)
         self.cursors = {}
         self.last_cursor = 0
-        # the commits that ended rows which no sweep removed, rising
+        # the commits that ended rows which no sweep surely removed, rising, and how many of these rows may be gone:
+        # those that a sweep removed before it ran out of memory
         self.deaths = []
+        self.maybe_gone = 0
 
     def answers(self, line):
         """The answers that a line may have."""
@@ -73,6 +78,12 @@ class Session:
             self.work(line.verb, line.arguments[0], answer)
         elif line.verb == "sweep":
             self.sweep(int(answer.split(" ")[1]))
+
+    def some_answer(self, line):
+        """Notes the first answer that a line may have, and returns it."""
+        answer = self.answers(line)[0]
+        self.note(line, answer)
+        return answer
 
     def commit(self, line):
         """Notes a commit."""
@@ -98,11 +109,24 @@ class Session:
             del self.cursors[serial]
 
     def sweep(self, count):
-        """Notes how many rows went, those that died first. If some died after an opening, that scan is over."""
+        """Notes how many rows a sweep removed: with those that were gone, all that died up to one of the horizons.
+
+        If some of them surely died after an opening, that scan is over.
+        """
+        totals = [total for total in self.totals_gone() if total - self.maybe_gone <= count <= total]
+        least, most = min(totals), max(totals)
         for cursor in self.cursors.values():
-            if self.dead_up_to(cursor.listing.opened) < count:
+            if self.dead_up_to(cursor.listing.opened) < least:
                 cursor.has_begun = cursor.is_over = True
-        del self.deaths[:count]
+        del self.deaths[:least]
+        self.maybe_gone = most - least
+
+    def note_out_of_memory(self, line):
+        """Notes that a line ran out of memory."""
+        if line.verb == "next" and line.arguments[0] in self.cursors:
+            self.cursors[line.arguments[0]].has_begun = True
+        elif line.verb == "sweep":
+            self.maybe_gone = max(self.maybe_gone, *self.totals_gone())
 
     def dead_up_to(self, commit):
         """How many rows that died up to a commit were not removed."""
@@ -170,13 +194,17 @@ class Session:
         rows = self.commits.snapshot(wanted(self.keys, query), len(self.commits))
         return ["\n".join([f"found {len(rows)}", *rows])]
 
-    def sweep_answers(self):
-        """How many rows go, for each opening that may be the least of the scans under way."""
+    def totals_gone(self):
+        """How many dead rows are gone after a sweep, for each opening that may be the least of the scans under way."""
         sure = [cursor.listing.opened for cursor in self.cursors.values() if not cursor.has_begun]
         least = min(sure, default=len(self.commits))
         unsure = {cursor.listing.opened for cursor in self.cursors.values() if cursor.has_begun and not cursor.is_over}
-        horizons = [least] + [opened for opened in unsure if opened < least]
-        return sorted({f"swept {self.dead_up_to(horizon)}" for horizon in horizons})
+        return {self.dead_up_to(horizon) for horizon in (least, *(opened for opened in unsure if opened < least))}
+
+    def sweep_answers(self):
+        """How many rows a sweep may remove."""
+        totals = self.totals_gone()
+        return sorted({f"swept {total - gone}" for total in totals for gone in range(min(total, self.maybe_gone) + 1)})
 
 
 def first_flaw(keys, steps):

@@ -8,8 +8,8 @@ from random import Random
 
 import limited
 from random_lists import session_edits
-from models import session_model
-from models import trace_checker
+from models import session_model, trace_checker
+from models.steps import first_difference, steps_of
 from random_lists import trace_edits
 from random_lists.session_drawing import SessionDrawer
 from random_lists.trace_drawing import TraceDrawer
@@ -82,18 +82,6 @@ def output_of(program, verb, drawer):
     return ended.stdout.decode("ascii", "replace"), told
 
 
-def steps_of(lines, output):
-    """Each line with its answer, and what is left of the output. A find that found rows has as many lines more."""
-    told, place, steps = output.split("\n"), 0, []
-    for line in lines:
-        count = 0 if line.verb == "blank" else 1
-        if count and line.verb == "find" and told[place:place + 1] and told[place].startswith("found "):
-            count += int("0" + "".join(filter(str.isdigit, told[place][6:12])))
-        steps.append((line, "\n".join(told[place:place + count]) if count else None))
-        place += count
-    return steps, "\n".join(told[place:])
-
-
 def shown(place, steps, told):
     """The message about a fault at a place of some steps."""
     if place >= len(steps):
@@ -101,12 +89,6 @@ def shown(place, steps, told):
     line, answer = steps[place]
     text = line.text if len(line.text) < 200 else line.text[:200] + b".."
     return f"line {place + 1}, {text!r}, has the answer {answer!r}: {told}"
-
-
-def first_difference(steps, answers):
-    """The first place at which an answer isn't the expected one, and which is; or none."""
-    differences = ((place, due) for place, ((_, answer), due) in enumerate(zip(steps, answers)) if answer != due)
-    return next(((place, f"{due!r} is due") for place, due in differences), None)
 
 
 def note_flaw(outcome, name, steps, flaw):
