@@ -7,7 +7,6 @@
 #include "checks.h"
 #include "gist.h"
 
-
 #define MOST_CURSORS 256
 #define MOST_SUBSCRIPTIONS 1000000
 

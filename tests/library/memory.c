@@ -8,7 +8,6 @@
 #include "checks.h"
 #include "gist.h"
 
-
 #define ROWS 24
 
 /* Makes a call, and makes it again if memory ran out: one request is refused in a run. */
