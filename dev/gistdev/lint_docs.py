@@ -31,9 +31,14 @@ HEADING = re.compile(r"^#+ (.*)$")
 FILE = re.compile(r"(?<![\w/.-])((?:crates|dev|tools|tests|examples|bench|include|docs)/[\w./-]*\w|\w+/(?:src|specs|proofs)/[\w./-]*\w)")
 
 
+def widths(page: str) -> list[tuple[int, int]]:
+    """(columns, number) of each line that is neither a row of a table nor code."""
+    return [(len(line), number) for number, line in prose_of(page) if not line.lstrip("> ").startswith("|")]
+
+
 def widest(page: str) -> tuple[int, int]:
-    """(columns, number) of the widest line that is neither a row of a table nor code."""
-    return max((len(line), number) for number, line in prose_of(page) if not line.lstrip("> ").startswith("|"))
+    """(columns, number) of the widest line."""
+    return max(widths(page))
 
 
 @functools.cache
@@ -88,9 +93,9 @@ def faults_of_page(page: str) -> Iterator[str]:
     most = MOST_OF_README if page == "README.md" else MOST_LINES
     if len(lines_of(page)) > most:
         yield f"{page} has {len(lines_of(page))} lines, more than {most}"
-    columns, number = widest(page)
-    if columns > MOST_COLUMNS:
-        yield f"{page}:{number} has {columns} columns, more than {MOST_COLUMNS}"
+    for columns, number in widths(page):
+        if columns > MOST_COLUMNS:
+            yield f"{page}:{number} has {columns} columns, more than {MOST_COLUMNS}"
 
 
 def main() -> int:
