@@ -241,7 +241,7 @@ def instructions(words, input_path, folder):
     for line in told.splitlines():
         if "Collected" in line:
             return int(line.split(":")[1])
-    raise SystemExit("bench: valgrind told no number of instructions")
+    raise SystemExit("bench: valgrind printed no number of instructions")
 
 
 def instructions_by_function(words, input_path, folder):

@@ -7,10 +7,9 @@ import collections
 from random import Random
 
 import limited
-from random_lists import session_edits
 from models import session_model, trace_checker
 from models.steps import first_difference, steps_of
-from random_lists import trace_edits
+from random_lists import session_edits, trace_edits
 from random_lists.session_drawing import SessionDrawer
 from random_lists.trace_drawing import TraceDrawer
 from random_lists.wrong_rules import RULES
@@ -117,46 +116,48 @@ def some_of(edits, seed, each):
 def note_run(outcome, name, told, rest):
     """Notes whether a program ended well and wrote as many answers as are due."""
     outcome.note(told is None, f"{name}: {told}")
-    outcome.note(rest == "", f"{name}: behind the last answer stands {rest[:200]!r}")
+    outcome.note(rest == "", f"{name}: after the last answer is {rest[:200]!r}")
+
+
+def answered(outcome, name, program, verb, drawer):
+    """The steps of a drawer's lines, with a program's answers; without a program with those that were drawn."""
+    if not program:
+        return list(zip(drawer.asked, drawer.answers))
+    output, told = output_of(program, verb, drawer)
+    steps, rest = steps_of(drawer.asked, output)
+    note_run(outcome, name, told, rest)
+    return steps
+
+
+def check_and_edit(outcome, name, steps, drawer, edits, each, first_flaw):
+    """Checks steps, and if they are right edits them in some of the ways of a module."""
+    flaw = first_flaw(drawer.keys, steps)
+    note_flaw(outcome, name, steps, flaw)
+    outcome.count_answers(name.split()[0], steps)
+    if flaw is None:
+        edited = edits.Edited(drawer.keys, steps, Random(drawer.seed))
+        kinds = some_of(edits.EDITS, drawer.seed, each), some_of(edits.ALLOWED, drawer.seed, each)
+        try_edits(outcome, name, edited, kinds, first_flaw)
+    return outcome
 
 
 def try_trace(program, seed, each):
     """A random list of events. Without a program the answers are those of the model."""
     outcome, drawer = Outcome(), TraceDrawer(seed).drawn()
     name = f"trace {seed} ({' '.join(drawer.options())})"
-    steps = list(zip(drawer.asked, drawer.answers))
+    steps = answered(outcome, name, program, "replay", drawer)
     if program:
-        output, told = output_of(program, "replay", drawer)
-        steps, rest = steps_of(drawer.asked, output)
-        note_run(outcome, name, told, rest)
         note_flaw(outcome, name, steps, first_difference(steps, drawer.answers))
-    flaw = trace_checker.first_flaw(drawer.keys, steps)
-    note_flaw(outcome, f"{name}, checked by events and answers alone", steps, flaw)
-    outcome.count_answers("trace", steps)
-    if flaw is None:
-        edited = trace_edits.Trace(drawer.keys, steps, Random(seed))
-        kinds = some_of(trace_edits.EDITS, seed, each), some_of(trace_edits.ALLOWED, seed, each)
-        try_edits(outcome, name, edited, kinds, trace_checker.first_flaw)
-    return outcome
+    name = f"{name}, checked by events and answers alone"
+    return check_and_edit(outcome, name, steps, drawer, trace_edits, each, trace_checker.first_flaw)
 
 
 def try_session(program, seed, each, lines, inserts=0):
     """A random session, which begins with some inserts. Without a program the answers are such as the model allows."""
     outcome, drawer = Outcome(), SessionDrawer(seed, lines, inserts).drawn()
     name = f"session {seed} of {lines} lines ({' '.join(drawer.options())})"
-    steps = list(zip(drawer.asked, drawer.answers))
-    if program:
-        output, told = output_of(program, "serve", drawer)
-        steps, rest = steps_of(drawer.asked, output)
-        note_run(outcome, name, told, rest)
-    flaw = session_model.first_flaw(drawer.keys, steps)
-    note_flaw(outcome, name, steps, flaw)
-    outcome.count_answers("session", steps)
-    if flaw is None:
-        edited = session_edits.Talk(drawer.keys, steps, Random(seed))
-        kinds = some_of(session_edits.EDITS, seed, each), some_of(session_edits.ALLOWED, seed, each)
-        try_edits(outcome, name, edited, kinds, session_model.first_flaw)
-    return outcome
+    steps = answered(outcome, name, program, "serve", drawer)
+    return check_and_edit(outcome, name, steps, drawer, session_edits, each, session_model.first_flaw)
 
 
 def try_wrong_world(index, seeds):

@@ -3,7 +3,7 @@ from random_lists import edits
 from random_lists.edits import Steps, raised
 
 
-class Talk(Steps):
+class Edited(Steps):
     """A session with right answers, and what follows from these."""
 
     giving, asking = "next", "mark"

@@ -4,7 +4,7 @@ from random_lists.edits import Steps, raised, word_of
 from models.refusals import refusal_line
 
 
-class Trace(Steps):
+class Edited(Steps):
     """A faithful trace, and what follows from its answers."""
 
     giving, asking = "take", "askmark"
