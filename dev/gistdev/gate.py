@@ -9,7 +9,8 @@ build, start it in a fresh clone, and try mutants.
 
 dev/mutants tries as many of the mutants that docs/PROMISES.md names as 25 processor minutes allow, others each time;
 once the gate has run for 120 minutes, fewer, and it ends 150 minutes after it began. --all tries every mutant, without
-a limit. --record writes the processor minutes of each crate's check into dev/check-minutes.
+a limit. --record writes the processor minutes of each crate's check into dev/check-minutes, from which dev/dependents
+writes the table of CONTRIBUTING.md.
 
 At the end it reports the processor time of proofs, tests and mutants, and of each crate. Each check is a process of its
 own, which is sampled five times a second (Linux, /proc); time after the last sample counts under `rest` with everything

@@ -166,7 +166,7 @@ DUE = {
 
 
 def self_test(options: argparse.Namespace, kit: Toolchain) -> int:
-    """Shows with the checker itself that each verdict occurs: that this tool can fail."""
+    """Shows with the checker itself that each verdict occurs: that this command can fail."""
     crate = next(it for it in kit.crates_below(ROOT) if it.name == "row_version")
     with tempfile.TemporaryDirectory(prefix="mutants-test-") as room:
         shutil.copytree(crate.folder, f"{room}/row_version", ignore=shutil.ignore_patterns("out", FILE))

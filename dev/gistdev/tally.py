@@ -10,19 +10,27 @@ def skipped(what: str, why: str) -> None:
 
 
 class Tally:
-    """Counts checks. `shows_passed` prints a line for each that passes, too."""
+    """Counts checks, and prints a line for each that passes, fails or is skipped, unless it shows only some."""
 
-    def __init__(self, shows_passed: bool = True) -> None:
-        self.passed, self.failed, self.shows_passed = 0, 0, shows_passed
+    def __init__(self, shows_passed: bool = True, shows_failed: bool = True) -> None:
+        self.passed, self.failed, self.skipped = 0, 0, 0
+        self.shows_passed, self.shows_failed = shows_passed, shows_failed
 
     def note(self, what: str, is_well: bool, said: str = "") -> None:
         """Counts a check. What it printed is shown on standard error if it failed."""
         self.passed += is_well
         self.failed += not is_well
-        if self.shows_passed or not is_well:
-            print(f"{'passed' if is_well else 'FAILED'}: {what}", flush=True)
+        if not (self.shows_passed if is_well else self.shows_failed):
+            return
+        print(f"{'passed' if is_well else 'FAILED'}: {what}", flush=True)
         if said and not is_well:
             print(said, file=sys.stderr, flush=True)
+
+    def skip(self, what: str, why: str) -> None:
+        """Counts what isn't tested."""
+        self.skipped += 1
+        if self.shows_passed:
+            skipped(what, why)
 
     def end(self) -> int:
         """Prints the last line, `N passed, M failed`, and returns the status."""

@@ -8,7 +8,7 @@ checker proves them as it proves the right code, or it isn't known whether it do
 repository, in which the test's module is run before any proof (`rt try --test`). The test must fail, or the run must
 not end within LONGEST seconds: that is how a thread ends that waits for itself.
 
-The tool rebuilds the crate and those above it for each mutant, which takes some minutes, and isn't part of the gate.
+The command rebuilds the crate and those above it for each mutant, which takes some minutes, and isn't part of the gate.
 The last line is `N passed, M failed`, the killed ones and all others; the status is 0 only if M is 0.
 """
 from __future__ import annotations

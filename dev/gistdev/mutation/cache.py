@@ -18,7 +18,7 @@ KEPT = (Verdict.KILLED, Verdict.SURVIVED, Verdict.NOT_JUDGED)
 
 
 def cache_folder() -> str:
-    """The folder for what this project's tools keep on this machine."""
+    """The folder for what this project's commands keep on this machine."""
     return os.path.join(os.environ.get("XDG_CACHE_HOME") or os.path.expanduser("~/.cache"), "gist")
 
 
