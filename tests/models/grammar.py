@@ -1,4 +1,4 @@
-"""A slow reader of lines, written only from the grammar: what a line of a session or a replay asks, or its fault.
+"""A slow reader of lines, written only from the grammar: the request of a line of a session or a replay, or its fault.
 
 A line is a run of tokens with spaces before, between and after them. A token is one of `( ) { }`, a word of the
 letters `a` to `z`, or a number: digits, perhaps with a `-` before them. Words and numbers need a space between them;
@@ -6,7 +6,7 @@ one without it is no token, nor is a byte that can't begin one. Lines are read f
 reported:
 
 - from where a query begins: `refused 21 QueryText PLACE`, for any other fault: `refused 22 Line PLACE`;
-- the place is that of the token that can't stand there or whose number is out of its range, of the opening bracket of a
+- the place is that of the token that isn't allowed there or whose number is out of its range, of the opening bracket of a
   key whose ends are out of order (once its closing bracket was read), or the line's length if it ends too early;
 - last, a query deeper than 32, an atom being 1, is refused at its first token;
 - a line of more than 4,096 bytes is refused at 4,096, whatever it says.
@@ -48,7 +48,7 @@ class Token(NamedTuple):
 
 
 class Request(NamedTuple):
-    """What a line asks: a verb and its arguments.
+    """The request of a line: a verb and its arguments.
 
     A line without a token is `blank`; a wrong line is a `fault`, whose argument is the answer; `open ROOM from N QUERY`
     is `follow`.
@@ -63,7 +63,7 @@ class Fault(Exception):
 
 
 def kind_of(text):
-    """The kind of a token that stands where it may."""
+    """The kind of a token that isn't stray."""
     first = text[:1]
     if first in (b"(", b")", b"{", b"}"):
         return first.decode("ascii")
@@ -261,7 +261,7 @@ LANGUAGES = {"serve": COMMANDS, "replay": EVENTS}
 
 @functools.cache
 def read_known(language, class_name, line):
-    """What a line asks, as `read_line` returns it; bytes that begin no token are replaced by `?`."""
+    """The request of a line, as `read_line` returns it; bytes that begin no token are replaced by `?`."""
     reading = Reading(class_name, line)
     if not reading.tokens:
         return Request("blank")
@@ -279,7 +279,7 @@ def read_known(language, class_name, line):
 
 
 def read_line(language, class_name, line):
-    """What a line asks; the line has no line feed.
+    """The request of a line, which has no line feed.
 
     To the grammar all bytes that begin no token are alike, so they are replaced by one of them, and results are cached:
     a line that is like an earlier one isn't read again.

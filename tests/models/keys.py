@@ -20,7 +20,7 @@ class Ranges:
         self.greatest = greatest
 
     def covers(self, bound, key):
-        """Whether a key lies inside another."""
+        """Whether a bound covers a key."""
         lower = all(outer <= inner for outer, inner in zip(bound[:self.dimensions], key[:self.dimensions]))
         return lower and all(inner <= outer for outer, inner in zip(bound[self.dimensions:], key[self.dimensions:]))
 

@@ -1,4 +1,4 @@
-"""Commits, the rows that they make, and what a client may be given for a query: snapshots, changes and listings.
+"""Commits, the rows that they make, and what a cursor may deliver for a query: snapshots, changes and listings.
 
 Items are lines of answers, such as `row 1 (5 5) 0`. A commit is a tuple: `insert`, a key and a tag; `delete` and a
 row; `move`, a row and a key.
@@ -41,7 +41,7 @@ class Commits:
         return write[0] == "insert" or self.refusal(write[1]) is None
 
     def add(self, write):
-        """Adds a commit, which has to be legal, and gives its number."""
+        """Adds a commit, which has to be legal, and returns its number."""
         if not self.is_legal(write):
             raise ValueError(f"{write} may not come next")
         self.writes.append(write)
@@ -104,7 +104,7 @@ def is_mark(item):
 
 
 class Listing:
-    """What a cursor may give: the rows of its snapshot, each once and in any order, and then the changes that follow.
+    """What a cursor may deliver: the rows of its snapshot, each once and in any order, and then the changes that follow.
 
     A cursor that follows a commit has no rows to give. Marks aren't noted here.
     """
@@ -131,7 +131,7 @@ class Listing:
         return None
 
     def goes_on_with(self, item):
-        """Whether what was given, and then an item, begins a listing up to the last commit. If so, it is noted."""
+        """Whether the delivered items, and then an item, begin a listing up to the last commit. If so, it is noted."""
         if is_row(item):
             if item not in self.rows:
                 return False
@@ -145,5 +145,5 @@ class Listing:
         return True
 
     def is_whole(self, last):
-        """Whether what was given is a listing up to a commit."""
+        """Whether the delivered items are a listing up to a commit."""
         return not self.rows and self.position <= last <= len(self.commits) and self.next_change(last) is None

@@ -100,7 +100,7 @@ class Session:
         self.cursors[self.last_cursor] = Cursor(listing, follows)
 
     def work(self, verb, serial, answer):
-        """Notes what an open cursor gave, or that it is asked for a mark or closed."""
+        """Notes what an open cursor delivered, or that it is to deliver a mark, or that it is closed."""
         if verb == "next":
             self.cursors[serial].give(answer)
         elif verb == "mark":
@@ -182,7 +182,7 @@ class Session:
         return self.cursor_refusal(serial) or self.cursors[serial].items(len(self.commits))
 
     def mark_answers(self, serial):
-        """An asking for a mark."""
+        """A request for a mark."""
         return self.cursor_refusal(serial) or ["asked"]
 
     def close_answers(self, serial):

@@ -1,7 +1,7 @@
 """A checker of traces: it sees only events and their answers, and knows nothing of the contents of pages, of links and
 of stacks.
 
-It demands: commits are numbered 1, 2, 3 and are legal; serials are given once and in order; what is taken from a cursor
+It demands: commits are numbered 1, 2, 3 and are legal; serials are used once and in order; what is taken from a cursor
 begins a listing for its query and opening, or the changes after the commit that it follows; what is taken before a mark
 is a listing up to it, and each mark was asked for by an event of its own; a closed cursor is refused. Since a mailbox
 is first in, first out, each item taken belongs to a known turn: it can't be about later commits, and a mark's number is
@@ -61,7 +61,7 @@ class Follower:
         self.is_open = True
         self.passed = listing.opened
         self.passes = 0
-        # how many commits there were at each offer, and how many offers at each asking
+        # how many commits there were at each offer, and how many offers at each request for a mark
         self.offers = []
         self.askings = []
         self.taken = 0
@@ -99,7 +99,7 @@ class Follower:
         self.rest_at(number, -1)
 
     def rest_at(self, commit, asked_at):
-        """What was offered so far is a listing up to a commit; if a mark was asked for, it was offered since.
+        """What was offered so far is a listing up to a commit; if a mark was requested, it was offered since.
 
         Each commit after the opening was offered or passed by a turn of its own.
         """
@@ -133,7 +133,7 @@ class Follower:
         self.look_back()
 
     def take_mark(self, number, offered_at):
-        """A mark was taken. It was asked for before its offer, and after the offer of the mark before."""
+        """A mark was taken. It was requested before its offer, and after the offer of the mark before."""
         demand(number == offered_at, "a mark tells of other commits than there were")
         demand(self.listing.is_whole(number), "something up to a mark wasn't taken before it")
         demand(any(self.last_mark < asked <= self.taken for asked in self.askings), "a mark wasn't asked for")
@@ -208,7 +208,7 @@ class TraceChecker:
         return refusal_line(ALREADY_DELETED) if has_ended else None
 
     def due_to_cursor(self, verb, serial):
-        """The answer to an event of a cursor that isn't open, and to an asking and a closing."""
+        """The answer to an event of a cursor that isn't open, and to a request for a mark and a closing."""
         if not 1 <= serial <= len(self.followers):
             return refusal_line(NUMBERS["NoSuchCursor"])
         if not self.followers[serial - 1].is_open:
@@ -307,7 +307,7 @@ class TraceChecker:
             follower.turn(answer, self.commits, self.pages)
 
     def askmark(self, answer, serial):
-        """A mark was asked for."""
+        """A mark was requested."""
         follower = self.open_follower(serial)
         if follower:
             follower.askings.append(len(follower.offers))
@@ -325,7 +325,7 @@ class TraceChecker:
             follower.is_open = False
 
     def end(self):
-        """The list ends as each does: all pages were swept with no scan under way, and one cursor gave every row."""
+        """The list ends as each does: all pages were swept with no scan under way, and one cursor delivered every row."""
         demand(self.swept == len(self.commits.ended), "dead rows were left that no scan needs")
         last = self.followers[-1]
         is_whole = last.listing.is_whole(len(self.commits)) and last.last_mark >= 0

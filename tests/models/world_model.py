@@ -248,7 +248,7 @@ class World:
     # Finders
 
     def visit(self, stack, is_wanted):
-        """Takes the last item off a stack, pushes what is to be visited after it, and gives the page."""
+        """Takes the last item off a stack, pushes what is to be visited after it, and returns the page."""
         number, memo = stack.pop()
         page = self.pages[number]
         if page.owed or page.nsn > memo:
@@ -381,7 +381,7 @@ class World:
         return "offered" if item is not None else f"passed {cursor.position}"
 
     def askmark(self, serial):
-        """Asks for a mark; asking twice before it is put asks once."""
+        """Requests a mark; two requests before it is put are one."""
         self.open_cursor(serial).is_mark_asked = True
         return "asked"
 
