@@ -18,6 +18,7 @@ lint: ## check pages, the names in them, plots, Python and mutants
 	dev/dependents --check
 	bench/plots.py --check
 	dev/lint-python
+	tests/dev_tests.py
 	tests/mutation_tests.py
 
 docs: ## write the generated parts of pages: the table of crates, and plots

@@ -17,7 +17,7 @@ from collections.abc import Sequence
 from typing import Any, cast
 from unittest import mock
 
-from checkout import ROOT, text_of
+from checkout import ROOT, run_tests_of, text_of
 from gistdev import mutants as command
 from gistdev.mutation import basis, cache, choose, judge, run
 from gistdev.mutation.edits import BadMutant, Edit, Mutant, located, mutants_of, mutated, parsed, symbol_of
@@ -513,13 +513,5 @@ class Reporting(unittest.TestCase):
         )
 
 
-def main() -> int:
-    tests = unittest.defaultTestLoader.loadTestsFromModule(sys.modules[__name__])
-    result = unittest.TextTestRunner(stream=sys.stdout, verbosity=2).run(tests)
-    failed = len(result.failures) + len(result.errors)
-    print(f"{result.testsRun - failed} passed, {failed} failed")
-    return 1 if failed else 0
-
-
 if __name__ == "__main__":
-    sys.exit(main())
+    sys.exit(run_tests_of(__name__))
