@@ -282,7 +282,7 @@ ANSWERED_EVENTS = (
     ("set", b"sweep 0\nplace 0 {2 1} 3\n", b"swept 0\ncommitted 1\n"),
 )
 
-# Queries as deep as may be, and deeper ones, over sets: how often each part stands in a line, and the answer of a new
+# Queries as deep as may be, and deeper ones, over sets: how often each part is in a line, and the answer of a new
 # store
 DEEP = (
     (((1, b"find "), (31, b"not "), (1, b"same{}")), b"found 0\n"),
@@ -318,7 +318,7 @@ NESTED_QUERIES = {
     "set": b"not(within{3}and not holds{1})and not same{1 7 127}",
 }
 
-# Lines of each class that meet what is there. `@` stands for a key, `&` and `?` for queries, and six capitals for a
+# Lines of each class that meet what is there. `@` means a key, `&` and `?` mean queries, and six capitals for a
 # number of six digits: `R` of a row that lives, `C` of an open cursor, `F` of an open finder, and `N` for the number of
 # commits
 LIVE_COMMANDS = (
@@ -375,7 +375,7 @@ LEAVES = {
 }
 COVERED_KEYS = {"interval": b"(3 4)", "box": b"(1 1 2 2)", "set": b"{1 7}"}
 
-# Events of each class that meet two leaves. `@` stands for a key, and `#` for one that page 1 covers
+# Events of each class that meet two leaves. `@` means a key, and `#` one that page 1 covers
 LEAVES_EVENTS = (
     b"enlarge 0 1 @",
     b"enlarge 0 2 @\nplace 2 @ 7",

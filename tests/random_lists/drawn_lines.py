@@ -80,7 +80,7 @@ def number_token(random, number):
 
 
 def key_tokens(keys, random, key):
-    """The tokens of a key. Elements of a set stand in any order, and some twice."""
+    """The tokens of a key. Elements of a set are in any order, and some twice."""
     if not isinstance(keys, Sets):
         return ["(", *(number_token(random, end) for end in key), ")"]
     elements = keys.elements(key)

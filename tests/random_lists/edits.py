@@ -1,6 +1,6 @@
 """Edits of a program's answers, in traces and in sessions. Wherever an edit applies, it makes right answers wrong.
 
-An edit changes answers, or leaves out or inserts steps. It gives the edited steps, or none if it doesn't apply. A step
+An edit changes answers, or leaves out or inserts steps. It returns the edited steps, or none if it doesn't apply. A step
 is a line and its answer; an answer of several lines is one text. The exception is `rows_exchanged`, after which right
 answers are still right.
 """
@@ -27,7 +27,7 @@ def raised(answer, index, by=1):
 
 
 class Given:
-    """An item that a cursor gave, where, and the place of the turn that offered it."""
+    """An item that a cursor delivered, where, and the place of the turn that offered it."""
 
     def __init__(self, place, item, offered_at):
         self.place = place
@@ -51,7 +51,7 @@ class Given:
 
 
 class History:
-    """What a cursor gave, and when it was asked for marks."""
+    """What a cursor delivered, and when marks were requested."""
 
     def __init__(self, line):
         self.line = line
@@ -85,7 +85,7 @@ class Steps:
             self.note(place, line, answer)
 
     def write_of(self, line):
-        """The commit that a line asks for."""
+        """The commit that a line requests."""
         raise NotImplementedError
 
     def note(self, place, line, answer):
@@ -116,11 +116,11 @@ class Steps:
         return [place for place in refused if not verbs or self.steps[place][0].verb in verbs]
 
     def given(self, is_fitting=lambda given: True):
-        """The items that cursors gave and that fit."""
+        """The items that cursors delivered and that fit."""
         return [given for history in self.cursors.values() for given in history.given if is_fitting(given)]
 
     def pairs(self, is_fitting):
-        """The items that fit and that one cursor gave one after the other."""
+        """The items that fit and that one cursor delivered one after the other."""
         histories = [history.given for history in self.cursors.values()]
         couples = [couple for given in histories for couple in zip(given, given[1:])]
         return [(first, second) for first, second in couples if is_fitting(first) and is_fitting(second)]
@@ -161,13 +161,13 @@ class Steps:
 # What cursors give
 
 def row_doubled(steps):
-    """A row is given again instead of the next one."""
+    """A row is delivered again instead of the next one."""
     pair = steps.any_of(steps.pairs(lambda given: given.is_row))
     return pair and steps.changed({pair[1].place: pair[0].item})
 
 
 def row_given_besides(steps):
-    """A row is given again after everything else."""
+    """A row is delivered again after everything else."""
     choices = []
     for cursor, history in steps.cursors.items():
         choices += [(history.given[-1].place, cursor, given.item) for given in history.given if given.is_row]
@@ -176,13 +176,13 @@ def row_given_besides(steps):
 
 
 def change_doubled(steps):
-    """A change is given again instead of the next one."""
+    """A change is delivered again instead of the next one."""
     pair = steps.any_of(steps.pairs(lambda given: given.is_change))
     return pair and steps.changed({pair[1].place: pair[0].item})
 
 
 def item_of_another(steps):
-    """An item is given that is another cursor's: a change, or a row to one that gave all its rows."""
+    """An item is delivered that is another cursor's: a change, or a row to one that delivered all its rows."""
     items, choices = {given.item for given in steps.given() if not given.is_mark}, []
     for history in steps.cursors.values():
         own = {given.item for given in history.given}
@@ -200,12 +200,12 @@ def exchanged(steps, is_fitting):
 
 
 def changes_exchanged(steps):
-    """Two changes that follow each other are given in the other order."""
+    """Two changes that follow each other are delivered in the other order."""
     return exchanged(steps, lambda given: given.is_change)
 
 
 def rows_exchanged(steps):
-    """Two rows of a snapshot are given in the other order, which is as good."""
+    """Two rows of a snapshot are delivered in the other order, which is as good."""
     return exchanged(steps, lambda given: given.is_row)
 
 
@@ -220,14 +220,14 @@ def mark_too_low(steps):
 
 
 def mark_doubled(steps):
-    """A mark is given twice for one asking."""
+    """A mark is delivered twice for one request."""
     marks = [(cursor, it) for cursor, history in steps.cursors.items() for it in history.given if it.is_mark]
     mark = steps.any_of(marks)
     return mark and steps.with_another(mark[1].place, mark[0], mark[1].item, {})
 
 
 def unasked_mark(steps):
-    """A mark is given that nobody asked for."""
+    """A mark is delivered that nobody requested."""
     choices = []
     for history in steps.cursors.values():
         first = next((given.place for given in history.given if given.is_mark), None)
@@ -238,7 +238,7 @@ def unasked_mark(steps):
 
 
 def lost(steps, is_fitting):
-    """The steps without an item that fits, if its cursor gave a change or a mark later."""
+    """The steps without an item that fits, if its cursor delivered a change or a mark later."""
     choices = []
     for history in steps.cursors.values():
         last = max((given.place for given in history.given if not given.is_row), default=-1)
@@ -248,17 +248,17 @@ def lost(steps, is_fitting):
 
 
 def row_lost(steps):
-    """A row of a snapshot isn't given, but what follows it is."""
+    """A row of a snapshot isn't delivered, but what follows it is."""
     return lost(steps, lambda given: given.is_row)
 
 
 def change_lost(steps):
-    """A change isn't given, but what follows it is."""
+    """A change isn't delivered, but what follows it is."""
     return lost(steps, lambda given: given.is_change)
 
 
 def given_after_closing(steps):
-    """A closed cursor gives an item."""
+    """A closed cursor delivers an item."""
     item = steps.any_of(given.item for given in steps.given())
     return item and steps.changed_at_one(steps.refusals([17], [steps.giving]), lambda answer: item)
 
@@ -288,7 +288,7 @@ def row_to_follower(steps):
 
 
 def row_after_changes(steps):
-    """A row is given instead of a change."""
+    """A row is delivered instead of a change."""
     row = steps.any_of(given.item for given in steps.given() if given.is_row)
     return row and steps.changed_at_one([given.place for given in steps.given() if given.is_change], lambda answer: row)
 
@@ -327,9 +327,9 @@ def other_commit(steps):
 
 
 def delete_told_as_move(steps):
-    """A delete, or a move out of a query, is given as a move within it."""
+    """A delete, or a move out of a query, is delivered as a move within it."""
     def edit(answer):
-        """The answer that is given instead."""
+        """The answer that replaces it."""
         _, commit, number = answer.split(" ")
         row = steps.commits.rows[int(number)]
         return f"moved {commit} {number} {steps.keys.text(row.key)} {row.tag}"
@@ -337,18 +337,18 @@ def delete_told_as_move(steps):
 
 
 def move_told_otherwise(steps):
-    """A move within a query is given as an insert or as a delete."""
+    """A move within a query is delivered as an insert or as a delete."""
     def edit(answer):
-        """The answer that is given instead."""
+        """The answer that replaces it."""
         _, commit, row, rest = answer.split(" ", 3)
         return steps.random.choice((f"inserted {commit} {rest}", f"deleted {commit} {row}"))
     return steps.changed_at_one(steps.places("moved"), edit)
 
 
 def insert_told_as_move(steps):
-    """An insert, or a move into a query, is given as a move within it."""
+    """An insert, or a move into a query, is delivered as a move within it."""
     def edit(answer):
-        """The answer that is given instead."""
+        """The answer that replaces it."""
         _, commit, rest = answer.split(" ", 2)
         return f"moved {commit} {int(commit) - 1} {rest}"
     return steps.changed_at_one(steps.places("inserted"), edit)
@@ -367,7 +367,7 @@ def dead_row_ended(steps):
 
 
 def commit_by_other_line(steps):
-    """A line makes a commit that asks for none."""
+    """A line makes a commit that requests none."""
     return steps.next_commit_at(steps.places("asked", "closed", "swept", "opened"))
 
 
@@ -384,7 +384,7 @@ def cursor_serial_twice(steps):
 def other_refusal(steps):
     """Another refusal than the expected one."""
     def edit(answer):
-        """The answer that is given instead."""
+        """The answer that replaces it."""
         return refusal_line(OTHER_REFUSALS[refused_number(answer)])
     return steps.changed_at_one(steps.refusals(OTHER_REFUSALS), edit)
 
@@ -410,7 +410,7 @@ def wrong_place(steps):
 def fault_of_line(steps):
     """The fault of a query is reported as one of the line, or the other way round."""
     def edit(answer):
-        """The answer that is given instead."""
+        """The answer that replaces it."""
         return refusal_line(43 - refused_number(answer), answer.split(" ")[3])
     return steps.changed_at_one(steps.refusals([21, 22]), edit)
 

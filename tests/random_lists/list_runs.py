@@ -42,12 +42,12 @@ class Outcome:
         self.answers = collections.Counter()
         self.edits = collections.Counter()
 
-    def note(self, is_well, told):
+    def note(self, is_well, fault):
         """Notes a test."""
         if is_well:
             self.passed += 1
         else:
-            self.failures.append(told)
+            self.failures.append(fault)
 
     def add(self, other):
         """Adds the results of other tests."""
@@ -61,8 +61,8 @@ class Outcome:
         for line, answer in steps:
             if answer is not None:
                 words = answer.split()
-                told = words[1] if words[:1] == ["refused"] else "".join(words[:1])
-                self.answers[f"{kind}: {line.verb} {told}"] += 1
+                word = words[1] if words[:1] == ["refused"] else "".join(words[:1])
+                self.answers[f"{kind}: {line.verb} {word}"] += 1
 
 
 def text_of(lines):
@@ -77,17 +77,17 @@ def output_of(program, verb, drawer):
         ended = limited.run(words, LONGEST, text_of(drawer.asked))
     except limited.TookTooLong as late:
         return "", str(late)
-    told = None if (ended.returncode, ended.stderr) == (0, b"") else f"status {ended.returncode}, {ended.stderr!r}"
-    return ended.stdout.decode("ascii", "replace"), told
+    fault = None if (ended.returncode, ended.stderr) == (0, b"") else f"status {ended.returncode}, {ended.stderr!r}"
+    return ended.stdout.decode("ascii", "replace"), fault
 
 
-def shown(place, steps, told):
+def shown(place, steps, fault):
     """The message about a fault at a place of some steps."""
     if place >= len(steps):
-        return f"at the end: {told}"
+        return f"at the end: {fault}"
     line, answer = steps[place]
     text = line.text if len(line.text) < 200 else line.text[:200] + b".."
-    return f"line {place + 1}, {text!r}, has the answer {answer!r}: {told}"
+    return f"line {place + 1}, {text!r}, has the answer {answer!r}: {fault}"
 
 
 def note_flaw(outcome, name, steps, flaw):
@@ -104,8 +104,8 @@ def try_edits(outcome, name, edited, kinds, first_flaw):
             continue
         outcome.edits[f"{name.split()[0]}: {edit.__name__}"] += 1
         is_refused = first_flaw(edited.keys, steps) is not None
-        told = "is not refused" if edit in wrong else "is refused"
-        outcome.note(is_refused == (edit in wrong), f"{name}, edited by {edit.__name__}, {told}")
+        verdict = "is not rejected" if edit in wrong else "is rejected"
+        outcome.note(is_refused == (edit in wrong), f"{name}, edited by {edit.__name__}, {verdict}")
 
 
 def some_of(edits, seed, each):
@@ -113,9 +113,9 @@ def some_of(edits, seed, each):
     return [edit for index, edit in enumerate(edits) if (index + seed) % each == 0]
 
 
-def note_run(outcome, name, told, rest):
+def note_run(outcome, name, fault, rest):
     """Notes whether a program ended well and wrote as many answers as are due."""
-    outcome.note(told is None, f"{name}: {told}")
+    outcome.note(fault is None, f"{name}: {fault}")
     outcome.note(rest == "", f"{name}: after the last answer is {rest[:200]!r}")
 
 
@@ -123,9 +123,9 @@ def answered(outcome, name, program, verb, drawer):
     """The steps of a drawer's lines, with a program's answers; without a program with those that were drawn."""
     if not program:
         return list(zip(drawer.asked, drawer.answers))
-    output, told = output_of(program, verb, drawer)
+    output, fault = output_of(program, verb, drawer)
     steps, rest = steps_of(drawer.asked, output)
-    note_run(outcome, name, told, rest)
+    note_run(outcome, name, fault, rest)
     return steps
 
 
@@ -198,7 +198,7 @@ def answers_due():
     """Each answer that has to occur in some list."""
     tables = (("trace", TRACE_ANSWERS), ("session", SESSION_ANSWERS))
     verbs = [(f"{kind}: {verb}", words) for kind, table in tables for verb, words in table.items()]
-    return [f"{verb} {told}" for verb, words in verbs for told in words.split(" ")]
+    return [f"{verb} {word}" for verb, words in verbs for word in words.split(" ")]
 
 
 def edits_due():

@@ -1,4 +1,4 @@
-"""Random sessions: the lines that `gist serve` is given, and with each an answer that the slow model allows."""
+"""Random sessions: the lines that `gist serve` reads, and with each an answer that the slow model allows."""
 from random import Random
 
 from random_lists.drawn_lines import Drawer
@@ -39,7 +39,7 @@ class SessionDrawer(Drawer):
         return ["--class", self.keys.name, f"--fan={self.fan}", f"--least={self.least}"]
 
     def ask(self, verb, *arguments):
-        """Draws the line of a command, and gives an answer that it may have."""
+        """Draws the line of a command, and returns an answer that it may have."""
         return self.note(self.finished(self.draft(verb, *arguments)))
 
     def note(self, line):
@@ -112,7 +112,7 @@ class SessionDrawer(Drawer):
                 return
 
     def draw_mark(self):
-        """An asking for a mark."""
+        """A request for a mark."""
         self.ask("mark", self.cursor_name())
 
     def draw_close(self):
@@ -165,7 +165,7 @@ class SessionDrawer(Drawer):
             pass
 
     def settle(self):
-        """Lets a cursor give all that is left; closes all, sweeps, and lets another cursor give every row."""
+        """Lets a cursor deliver all that is left; closes all, sweeps, and lets another cursor deliver every row."""
         for cursor in list(self.session.cursors)[:1]:
             self.drain(cursor)
         for cursor in list(self.session.cursors):

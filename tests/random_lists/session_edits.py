@@ -1,4 +1,4 @@
-"""Edits of sessions, beside those of sessions and traces alike: of found rows, of sweeps and of what is left."""
+"""Edits of sessions, in addition to those of sessions and traces alike: of found rows, of sweeps and of what is left."""
 from random_lists import edits
 from random_lists.edits import Steps, raised
 
@@ -21,7 +21,7 @@ def found_rows(talk, least):
 def found_row_lost(talk):
     """A find leaves out a row, and doesn't count it."""
     def edit(answer):
-        """The answer that is given instead."""
+        """The answer that replaces it."""
         lines = answer.split("\n")
         del lines[talk.random.randrange(1, len(lines))]
         return "\n".join([f"found {len(lines) - 1}", *lines[1:]])
@@ -29,18 +29,18 @@ def found_row_lost(talk):
 
 
 def found_row_doubled(talk):
-    """A find gives a row twice, and counts it twice."""
+    """A find returns a row twice, and counts it twice."""
     def edit(answer):
-        """The answer that is given instead."""
+        """The answer that replaces it."""
         lines = answer.split("\n")
         return "\n".join([f"found {len(lines)}", *lines[1:], lines[-1]])
     return talk.changed_at_one(found_rows(talk, 1), edit)
 
 
 def found_rows_exchanged(talk):
-    """A find gives two rows in the other order."""
+    """A find returns two rows in the other order."""
     def edit(answer):
-        """The answer that is given instead."""
+        """The answer that replaces it."""
         lines = answer.split("\n")
         place = talk.random.randrange(1, len(lines) - 1)
         lines[place:place + 2] = lines[place + 1], lines[place]
@@ -49,16 +49,16 @@ def found_rows_exchanged(talk):
 
 
 def found_count_wrong(talk):
-    """A find counts one row more than it gives."""
+    """A find counts one row more than it returns."""
     def edit(answer):
-        """The answer that is given instead."""
+        """The answer that replaces it."""
         first, *rows = answer.split("\n")
         return "\n".join([raised(first, 1), *rows])
     return talk.changed_at_one(found_rows(talk, 0), edit)
 
 
 def dead_row_found(talk):
-    """A find gives a row that ended."""
+    """A find returns a row that ended."""
     choices = []
     for place in found_rows(talk, 0):
         dead = [row for row, died in talk.commits.ended.items() if died <= talk.counts[place]]
@@ -78,7 +78,7 @@ def empty_too_early(talk):
 
 
 def mark_for_empty(talk):
-    """A mark is given that wasn't asked for, instead of `empty`."""
+    """A mark is delivered that wasn't requested, instead of `empty`."""
     place = talk.any_of(talk.places("empty"))
     return None if place is None else talk.changed({place: f"mark {talk.counts[place]}"})
 

@@ -1,4 +1,4 @@
-"""Random lists of events: the lines that `gist replay` is given, and the answer to each by the slow model of a world.
+"""Random lists of events: the lines that `gist replay` reads, and the answer to each by the slow model of a world.
 
 Events are drawn by the model's state, so that trees grow, scans and finders meet splits, and mailboxes fill. About one
 number in seven is drawn from 0 up to twice the greatest that was given, so that it is stale, foreign or valid by
@@ -46,7 +46,7 @@ class TraceDrawer(Drawer):
         return ["--class", self.keys.name, "--fan", str(self.fan), "--least", str(self.least)]
 
     def ask(self, verb, *arguments):
-        """Draws the line of an event, and gives its answer."""
+        """Draws the line of an event, and returns its answer."""
         return self.note(self.finished(self.draft(verb, *arguments)))
 
     def note(self, line):
@@ -256,7 +256,7 @@ class TraceDrawer(Drawer):
         self.ask("take", self.cursor_name())
 
     def draw_askmark(self):
-        """An asking for a mark."""
+        """A request for a mark."""
         self.ask("askmark", self.cursor_name())
 
     def draw_close(self):
@@ -361,7 +361,7 @@ class TraceDrawer(Drawer):
             self.ask("unfind", finder)
 
     def settle(self):
-        """Lets a cursor give everything there is; then closes the cursors, ends the finders and sweeps all pages."""
+        """Lets a cursor deliver everything there is; then closes the cursors, ends the finders and sweeps all pages."""
         cursors = list(self.world.cursors)
         for cursor in cursors[:-1]:
             self.ask("close", cursor)

@@ -1,4 +1,4 @@
-"""Edits of traces, beside those of sessions and traces alike: of mailboxes, turns, pages and finders."""
+"""Edits of traces, in addition to those of sessions and traces alike: of mailboxes, turns, pages and finders."""
 from random_lists import edits
 from random_lists.edits import Steps, raised, word_of
 from models.refusals import refusal_line
@@ -48,7 +48,7 @@ def waiting_at(trace, word):
 # Mailboxes and turns
 
 def passed_commit_given(trace):
-    """A commit that doesn't match the query is given."""
+    """A commit that doesn't match the query is delivered."""
     place = trace.any_of(waiting_at(trace, "passed"))
     if place is None:
         return None
@@ -57,7 +57,7 @@ def passed_commit_given(trace):
 
 
 def given_before_offered(trace):
-    """An item is given before it was offered."""
+    """An item is delivered before it was offered."""
     choices = []
     for place in waiting_at(trace, "nothing"):
         given = trace.cursors[trace.cursor_at(place)].given
@@ -67,7 +67,7 @@ def given_before_offered(trace):
 
 
 def nothing_given(trace):
-    """Nothing is given although an item waits."""
+    """Nothing is delivered although an item waits."""
     return trace.changed_at_one([given.place for given in trace.given()], lambda answer: "nothing")
 
 
@@ -82,7 +82,7 @@ def refused_with_room(trace):
 
 
 def idle_too_early(trace):
-    """A cursor has nothing to do though there are rows to give, which it gives later."""
+    """A cursor has nothing to do though there are rows to deliver, which it delivers later."""
     choices = []
     for place in trace.places("visited"):
         given = trace.cursors[trace.cursor_at(place)].given
@@ -92,7 +92,7 @@ def idle_too_early(trace):
 
 
 def mark_forgotten(trace):
-    """A cursor has nothing to do though a mark was asked for."""
+    """A cursor has nothing to do though a mark was requested."""
     mark = trace.any_of(given for given in trace.given() if given.is_mark)
     if mark is None:
         return None
@@ -187,7 +187,7 @@ def finder_serial_twice(trace):
 def finder_refused(trace):
     """A finder of a live row isn't opened; or an open one is refused as unknown, or because its row has ended."""
     def edit(answer):
-        """The answer that is given instead."""
+        """The answer that replaces it."""
         return refusal_line(trace.random.choice((15, 20) if answer == "seeking" else (6, 14, 15)))
     return trace.changed_at_one(trace.places("seeking", "finder"), edit)
 
@@ -215,7 +215,7 @@ def page_skipped(trace):
 
 
 def ends_early(trace):
-    """The last cursor doesn't give the mark after every row."""
+    """The last cursor doesn't deliver the mark after every row."""
     marks = trace.places("mark")
     return trace.steps[:marks[-1]] if marks else None
 

@@ -207,7 +207,7 @@ class BranchesFromLast(WrongRule):
     """The last of the branches that a page pushes is visited first."""
 
     def visit(self, stack, is_wanted):
-        """Takes the last item off a stack, pushes what is to be visited after it, and gives the page."""
+        """Takes the last item off a stack, pushes what is to be visited after it, and returns the page."""
         (number, memo), count = stack[-1], len(stack) - 1
         links = self.pages[number].owed or self.pages[number].nsn > memo
         page = super().visit(stack, is_wanted)
@@ -219,7 +219,7 @@ class LinkIsVisitedFirst(WrongRule):
     """The right link of a page is visited before its branches."""
 
     def visit(self, stack, is_wanted):
-        """Takes the last item off a stack, pushes what is to be visited after it, and gives the page."""
+        """Takes the last item off a stack, pushes what is to be visited after it, and returns the page."""
         (number, memo), count = stack[-1], len(stack) - 1
         links = self.pages[number].owed or self.pages[number].nsn > memo
         page = super().visit(stack, is_wanted)
@@ -261,7 +261,7 @@ class SidesMayHaveFewer(WrongRule):
 
 
 class AndAsksOnePart(WrongRule):
-    """Of a bound the first part of an `and` is asked alone."""
+    """Of an `and` only the first part is tested on a bound."""
 
     def scan(self, cursor):
         """A visit of a cursor."""

@@ -32,7 +32,7 @@ class WrongScan(WrongWorld):
         return answer
 
     def visit(self, stack, is_wanted):
-        """Takes the last item off a stack, pushes what is to be visited after it, and gives the page."""
+        """Takes the last item off a stack, pushes what is to be visited after it, and returns the page."""
         return self.wrong_visit(stack, is_wanted) if self.is_scanning else super().visit(stack, is_wanted)
 
     def wrong_visit(self, stack, is_wanted):
@@ -187,7 +187,7 @@ class NotIsTurnedRound(WrongWorld):
 
 
 class BoundsMatch(WrongWorld):
-    """A search asks of a branch's key what it asks of a row's."""
+    """A search tests a branch's key as it tests a row's."""
 
     def scan(self, cursor):
         """A visit of a cursor."""
@@ -290,7 +290,7 @@ class MoveLeavesOld(WrongWorld):
 
 
 class MarkComesTwice(WrongWorld):
-    """The first mark that a cursor puts stays asked for."""
+    """The first mark that a cursor puts stays requested."""
 
     def turn(self, serial):
         """The next piece of work of a cursor."""
