@@ -3,7 +3,7 @@
 
     tests/dev_tests.py
 
-The mutants' commands are tested in tests/mutation_tests.py. The last line is `N passed, M failed`; the status is 1 if M
+It also tests what no text shows of the slow model of a session. The mutants' commands are tested in tests/mutation_tests.py. The last line is `N passed, M failed`; the status is 1 if M
 isn't 0.
 """
 import contextlib
@@ -17,6 +17,9 @@ from unittest import mock
 
 from checkout import Tally, run_tests_of
 from gistdev import build, check_clauses, check_minutes, dependents, documents, gate, lint_docs
+from models.grammar import read_line
+from models.keys import INTERVALS
+from models.session_model import Session
 
 
 class Folder(unittest.TestCase):
@@ -136,6 +139,37 @@ class Building(unittest.TestCase):
         self.assertEqual(work.next(["short"], [("long", 2)], 4, 35), ("short", 1))
         self.assertIsNone(work.next(["short"], [("long", 2)], 4, 25))
         self.assertIsNone(work.next(["short"], [("long", 4)], 4, 100))
+
+
+class OutOfMemory(unittest.TestCase):
+    """The model of a session in which a sweep runs out of memory."""
+
+    def setUp(self):
+        self.session, self.sweep = Session(INTERVALS), read_line("serve", "interval", b"sweep")
+
+    def answer(self, *lines):
+        """Carries lines out with answers that they may have."""
+        return [self.session.some_answer(read_line("serve", "interval", line)) for line in lines]
+
+    def test_some_of_the_rows_may_be_gone_until_the_next_sweep(self):
+        self.answer(b"insert (1 1) 0", b"insert (2 2) 0", b"delete 1", b"delete 2")
+        self.session.note_out_of_memory(self.sweep)
+        self.assertEqual(self.session.answers(self.sweep), ["swept 0", "swept 1", "swept 2"])
+        self.session.note(self.sweep, "swept 1")
+        self.assertEqual(self.session.answers(self.sweep), ["swept 0"])
+
+    def test_a_scan_under_way_leaves_two_bounds(self):
+        self.answer(b"insert (1 1) 0", b"insert (2 2) 0", b"insert (3 3) 0", b"delete 1", b"open 4 overlaps(0 9)", b"next 1", b"delete 2")
+        self.assertEqual(self.session.answers(self.sweep), ["swept 1", "swept 2"])
+        self.session.note_out_of_memory(self.sweep)
+        self.session.note(self.sweep, "swept 1")
+        self.assertEqual(self.session.answers(self.sweep), ["swept 0", "swept 1"])
+
+    def test_a_scan_may_have_begun(self):
+        self.answer(b"insert (1 1) 0", b"open 4 overlaps(0 9)", b"delete 1")
+        self.assertEqual(self.session.answers(self.sweep), ["swept 0"])
+        self.session.note_out_of_memory(read_line("serve", "interval", b"next 1"))
+        self.assertEqual(self.session.answers(self.sweep), ["swept 0", "swept 1"])
 
 
 class Counting(unittest.TestCase):
