@@ -3,33 +3,39 @@
 help: ## list these commands
 	@sed -n 's/^\([a-z]*\):.*## \(.*\)/\1\t\2/p' Makefile | expand -t 10
 
-build: ## prove and build the program
+build: ## prove and build the program (dev/build)
 	./gist --build
 
-library: ## put the released library for C into the folder lib
+library: ## put the released library for C into the folder lib (tools/library)
 	tools/library --release lib
 
-test: ## test what is built, else the release
-	tools/test
+test: ## run all tests that need no proof, on the built program or the released one (tests/run)
+	tests/run
 
-lint: ## check pages, the names in them, plots and mutants
-	tools/pages
-	tools/claims
-	tools/dependents --check
+lint: ## check pages, the names in them, plots, Python and mutants
+	dev/lint-docs
+	dev/check-clauses
+	dev/dependents --check
 	bench/plots.py --check
+	dev/lint-python
+	tests/dev_tests.py
 	tests/mutation_tests.py
 
-bench: ## measure the released program and library
-	python3 bench/bench.py --release
-	python3 bench/library.py --release
+docs: ## write the generated parts of pages: the table of crates, and plots
+	dev/dependents
+	bench/plots.py
 
-release: ## pack what these sources build
-	tools/release
+bench: ## measure the released program and library (bench/README.md)
+	bench/bench.py --release
+	bench/library.py --release
 
-setup: ## install what optional tests need (root, Debian)
-	tools/setup
+release: ## pack what these sources build (dev/release)
+	dev/release
 
-ci: ## run the whole gate
+setup: ## install what optional tests and linters need (dev/setup; root, Debian)
+	dev/setup
+
+ci: ## run the whole gate (dev/gate)
 	.ci/run
 
-.PHONY: help build library test lint bench release setup ci
+.PHONY: help build library test lint docs bench release setup ci

@@ -20,9 +20,9 @@ import tempfile
 import time
 
 sys.dont_write_bytecode = True
-sys.path.insert(0, os.path.join(os.path.dirname(os.path.dirname(os.path.abspath(__file__))), "tools"))
+sys.path.insert(0, os.path.join(os.path.dirname(os.path.dirname(os.path.abspath(__file__))), "dev"))
 
-from trials import chosen_program  # noqa: E402
+from gistdev.program import chosen_program  # noqa: E402
 
 HERE = os.path.dirname(os.path.abspath(__file__))
 PEER_SOURCE = os.path.join(HERE, "peer", "peer.cpp")
@@ -241,7 +241,7 @@ def instructions(words, input_path, folder):
     for line in told.splitlines():
         if "Collected" in line:
             return int(line.split(":")[1])
-    raise SystemExit("bench: valgrind told no number of instructions")
+    raise SystemExit("bench: valgrind printed no number of instructions")
 
 
 def instructions_by_function(words, input_path, folder):

@@ -10,6 +10,7 @@ import shutil
 import subprocess
 import tempfile
 
+import bench
 from program import HERE, OUT, build
 
 PROGRAM = os.path.join(OUT, "desk_bench")
@@ -17,7 +18,7 @@ PEER_SOURCE = os.path.join(HERE, "peer", "threads.cpp")
 PEER = os.path.join(OUT, "peer_threads")
 PEER_FLAGS = ["-O2", "-march=x86-64-v2", "-std=c++17", "-DNDEBUG", "-pthread"]
 
-# The aims: instructions of an insert compared with a store's, and instructions of a take.
+# The targets: instructions of an insert compared with a store's, and instructions of a take.
 INSERT_AIM = 1.1
 TAKE_AIM = 60
 
@@ -50,18 +51,7 @@ def parts(words, program=PROGRAM):
 def instructions(words):
     """How many instructions a run takes."""
     with tempfile.TemporaryDirectory(prefix="gist-bench-") as folder:
-        out = os.path.join(folder, "callgrind.out")
-        told = subprocess.run(
-            ["valgrind", "--tool=callgrind", f"--callgrind-out-file={out}", PROGRAM, *map(str, words)],
-            stdout=subprocess.DEVNULL,
-            stderr=subprocess.PIPE,
-            check=True,
-            text=True,
-        ).stderr
-    for line in told.splitlines():
-        if "Collected" in line:
-            return int(line.split(":")[1])
-    raise SystemExit("bench: valgrind told no number of instructions")
+        return bench.instructions([PROGRAM, *map(str, words)], os.devnull, folder)
 
 
 def least(runs, words):

@@ -3,9 +3,9 @@
 
     GIST_LIB_DIR=FOLDER tests/library_sessions.py [--seeds N] [--seed S] [--lines N] [--verbose]
 
-For each of 18 seeds, in the three classes, 500 lines are drawn as those of tests/session_drawing.py: inserts, moves, deletes,
+For each of 18 seeds, in the three classes, 500 lines are drawn as those of tests/random_lists/session_drawing.py: inserts, moves, deletes,
 finds, sweeps, cursors that open and follow, their items, marks and closings, with names that are stale or foreign. The library
-makes the call of each, and its answers have to be ones that tests/session_model.py allows. Between the lines come calls that
+makes the call of each, and its answers have to be ones that tests/models/session_model.py allows. Between the lines come calls that
 sessions don't have, each compared with the model's plain lists:
 
 - snapshots that are kept for a while: their counts, rows, rows of many keys, rows and commits by their numbers, and the
@@ -17,27 +17,26 @@ sessions don't have, each compared with the model's plain lists:
 """
 import argparse
 import collections
-import os
 import sys
 from random import Random
 
-sys.dont_write_bytecode = True
-HERE = os.path.dirname(os.path.abspath(__file__))
-sys.path[:0] = [HERE, os.path.join(HERE, "../bindings/python")]
+from checkout import ROOT
+from models.keys import RELATIONS, SETS, matches, wanted
+from models.refusals import refusal_line
+from models.session_model import Session
+from random_lists.drawn_lines import query_tokens
+from random_lists.session_drawing import SessionDrawer
+
+sys.path.insert(0, f"{ROOT}/bindings/python")
 import gist  # noqa: E402
-from drawn_lines import query_tokens  # noqa: E402
-from keys import RELATIONS, SETS, matches, wanted  # noqa: E402
-from refusals import refusal_line  # noqa: E402
-from session_drawing import SessionDrawer  # noqa: E402
-from session_model import Session  # noqa: E402
 
 SEEDS, LINES, INSERTS = 18, 500, 60
 MOST_KEPT, MOST_SUBSCRIBED = 4, 60
 
 CLASSES = {"interval": gist.Interval, "box": gist.Box, "set": gist.Set}
 
-# How often, of each line, something beside it is tried
-BESIDE = 0.4
+# How often a further call is made after a line
+FURTHER = 0.4
 
 
 class Wrong(Exception):
@@ -51,7 +50,7 @@ def due(what, given, wanted_one):
 
 
 class Run:
-    """A session with the library beside the model."""
+    """A session with the library, compared with the model."""
 
     def __init__(self, seed, lines):
         drawer = SessionDrawer(seed, lines, INSERTS).drawn()
@@ -166,9 +165,9 @@ class Run:
         gist._need(gist._call["close"](self.store._at, number))
         return "closed"
 
-    # What comes beside the lines
+    # Calls that sessions don't have
 
-    def beside_keep(self):
+    def further_keep(self):
         """Takes a snapshot, and drops one if there are many."""
         self.kept.append(self.store.snapshot())
         if len(self.kept) > MOST_KEPT:
@@ -183,14 +182,14 @@ class Run:
         query = self.drawer.query()
         return self.query(query), wanted(self.keys, query)
 
-    def beside_find(self):
+    def further_find(self):
         """The rows of a snapshot, and how many they are."""
         now, (query, test) = self.some_snapshot(), self.some_query()
         rows = self.session.commits.snapshot(test, now.commits())
         due("rows", [*map(self.row_text, now.find(query))], rows)
         due("a count", now.count(query), len(rows))
 
-    def beside_find_each(self):
+    def further_find_each(self):
         """The rows of many keys."""
         now, relation = self.some_snapshot(), self.random.choice(RELATIONS)
         keys = [self.drawer.key() for _ in range(self.random.choice((0, 1, 7, 60)))]
@@ -199,7 +198,7 @@ class Run:
         rows = [[row.number for row in live if matches(self.keys, (relation, key), row.key)] for key in keys]
         due("rows of keys", [[row.number for row in some] for some in found], rows)
 
-    def beside_number(self):
+    def further_number(self):
         """A row and a commit by their numbers."""
         now, commits = self.some_snapshot(), self.session.commits
         number = self.random.randrange(now.commits() + 3)
@@ -210,10 +209,10 @@ class Run:
             known = now.known(number)
             due(f"row {number}", (self.row_text(known.row), known.lives), (commits.row_line(row), commits.lives(number, now.commits())))
         commit = now.commit(number)
-        told = commits.change(lambda _: True, number) if 1 <= number <= now.commits() else None
-        due(f"commit {number}", commit and self.item_text(commit), told)
+        item = commits.change(lambda _: True, number) if 1 <= number <= now.commits() else None
+        due(f"commit {number}", commit and self.item_text(commit), item)
 
-    def beside_changes(self):
+    def further_changes(self):
         """The changes after a commit, a few at once."""
         now, (query, test) = self.some_snapshot(), self.some_query()
         at = begin = self.random.randrange(now.commits() + 1)
@@ -226,7 +225,7 @@ class Run:
                 break
         due("changes", items, self.session.commits.changes(test, begin, now.commits()))
 
-    def beside_subscribe(self):
+    def further_subscribe(self):
         """A subscription, from a commit before or after the one to which the feed has gone; or the end of one."""
         if len(self.subscribed) == MOST_SUBSCRIBED or (self.subscribed and self.random.random() < 0.2):
             number = self.random.choice(list(self.subscribed))
@@ -236,20 +235,20 @@ class Run:
         (query, test), since = self.some_query(), self.random.randrange(len(self.session.commits) + 3)
         self.subscribed[self.feed.subscribe(query, since)] = [test, since]
 
-    def beside_advance(self):
+    def further_advance(self):
         """An advance. Each subscription gets what is new to it, and nothing else is given."""
         before = self.fed
-        told, self.fed = self.feed.advance(self.store.snapshot(), self.random.choice((0, 1, 5, 40, None)))
+        delivered, self.fed = self.feed.advance(self.store.snapshot(), self.random.choice((0, 1, 5, 40, None)))
         due("an advance goes on", before <= self.fed <= len(self.session.commits), True)
         given = collections.defaultdict(list)
-        for it in told:
+        for it in delivered:
             given[it.subscription].append(self.item_text(it.item))
         for number, (test, since) in self.subscribed.items():
-            due(f"what subscription {number} is told", given.pop(number, []), self.session.commits.changes(test, since, self.fed))
+            due(f"the items of subscription {number}", given.pop(number, []), self.session.commits.changes(test, since, self.fed))
             self.subscribed[number][1] = max(since, self.fed)
-        due("what is told beside the subscriptions", {number: some for number, some in given.items() if number in self.subscribed}, {})
+        due("items of other subscriptions", {number: some for number, some in given.items() if number in self.subscribed}, {})
 
-    def beside_renew(self):
+    def further_renew(self):
         """A store of the rows of a snapshot, numbered from 1 again, and the numbers that they had."""
         now, commits = self.some_snapshot(), self.session.commits
         rows = [row for row in commits.rows.values() if commits.lives(row.number, now.commits())]
@@ -261,8 +260,8 @@ class Run:
     # The whole
 
     def go(self):
-        """Runs all lines, with something beside some of them."""
-        beside = [name for name in dir(self) if name.startswith("beside_")]
+        """Runs all lines, with further calls after some of them."""
+        further = [name for name in dir(self) if name.startswith("further_")]
         for place, line in enumerate(self.asked):
             if line.verb in ("fault", "blank"):
                 continue
@@ -274,8 +273,8 @@ class Run:
                 raise Wrong(f"line {place}, {line.verb} {line.arguments}: {answer!r} was given, and {allowed[0]!r} is due, or one of {len(allowed)}")
             self.session.note(line, answer)
             self.counts[f"line, {line.verb}{', refused' if answer.startswith('refused') else ''}"] += 1
-            if self.random.random() < BESIDE:
-                name = self.random.choice(beside)
+            if self.random.random() < FURTHER:
+                name = self.random.choice(further)
                 getattr(self, name)()
                 self.counts[name.replace("_", ": ", 1)] += 1
 

@@ -1,5 +1,5 @@
 #!/usr/bin/env python3
-"""Tests what tools/mutants does without the checker: reading mutants, choosing, judging recorded output, and budgets.
+"""Tests what dev/mutants does without the checker: reading mutants, choosing, judging recorded output, and budgets.
 
     tests/mutation_tests.py
 
@@ -7,28 +7,23 @@ tests/mutants has output of the checker, recorded for changed functions of the c
 with errors, notes and verdicts. The last line is `N passed, M failed`; the status is 1 if M isn't 0.
 """
 import contextlib
-import importlib.machinery
 import io
 import os
 import sys
 import tempfile
 import time
-import types
 import unittest
 from collections.abc import Sequence
 from typing import Any, cast
 from unittest import mock
 
-sys.dont_write_bytecode = True
-HERE = os.path.dirname(os.path.abspath(__file__))
-sys.path.insert(0, os.path.join(HERE, "..", "tools"))
-
-from mutation import basis, cache, choose, judge, run  # noqa: E402
-from mutation.edits import BadMutant, Edit, Mutant, located, mutants_of, mutated, parsed, symbol_of  # noqa: E402
-from mutation.judge import Judgement, Verdict  # noqa: E402
-from mutation.source import functions_in, owner_of  # noqa: E402
-from sources import ROOT, text_of  # noqa: E402
-from toolchain import Crate, Toolchain  # noqa: E402
+from checkout import ROOT, run_tests_of, text_of
+from gistdev import mutants as command
+from gistdev.mutation import basis, cache, choose, judge, run
+from gistdev.mutation.edits import BadMutant, Edit, Mutant, located, mutants_of, mutated, parsed, symbol_of
+from gistdev.mutation.judge import Judgement, Verdict
+from gistdev.mutation.source import functions_in, owner_of
+from gistdev.toolchain import Crate, Toolchain
 
 TWO = """# a comment
 mutant: close-nothing_is_kept
@@ -192,7 +187,7 @@ class Choosing(unittest.TestCase):
         self.assertEqual(choose.share_of(due, set(NAMES), {"b", "c"}), 27 + 3)
 
     def test_promises_are_read_from_the_page(self) -> None:
-        page = "| A | `node/keep-x`, `node/keep-y.2` |\n`tools/must-not` and `node/src`"
+        page = "| A | `node/keep-x`, `node/keep-y.2` |\n`tests/must-not` and `node/src`"
         self.assertEqual(choose.promised(page, ["node"]), {"node/keep-x", "node/keep-y.2"})
 
     def test_mutants_with_another_text_are_new(self) -> None:
@@ -213,7 +208,7 @@ def source_with(owner: str, function: str, first: int, last: int) -> str:
 
 def recorded(name: str) -> str:
     """A recorded output of the checker."""
-    return text_of(f"{HERE}/mutants/{name}.txt")
+    return text_of(f"{ROOT}/tests/mutants/{name}.txt")
 
 
 def judged(output: str, owner: str, function: str, path: str, first: int, last: int) -> Judgement:
@@ -494,9 +489,6 @@ class Reporting(unittest.TestCase):
     """What the command prints."""
 
     def test_killed_ones_pass_and_survivors_fail(self) -> None:
-        path = os.path.join(HERE, "..", "tools", "mutants")
-        command = types.ModuleType("command")
-        importlib.machinery.SourceFileLoader("command", path).exec_module(command)
         due = of_names(["a/k-x", "a/s-x", "a/n-x", "b/c-x", "b/k-y", "b/u-x", "b/later-x"])
         verdicts = [Verdict.KILLED, Verdict.SURVIVED, Verdict.NOT_JUDGED, Verdict.CALLS_UNPROVED]
         verdicts += [Verdict.KILLED, Verdict.UNCLEAR]
@@ -521,13 +513,5 @@ class Reporting(unittest.TestCase):
         )
 
 
-def main() -> int:
-    tests = unittest.defaultTestLoader.loadTestsFromModule(sys.modules[__name__])
-    result = unittest.TextTestRunner(stream=sys.stdout, verbosity=2).run(tests)
-    failed = len(result.failures) + len(result.errors)
-    print(f"{result.testsRun - failed} passed, {failed} failed")
-    return 1 if failed else 0
-
-
 if __name__ == "__main__":
-    sys.exit(main())
+    sys.exit(run_tests_of(__name__))

@@ -12,8 +12,8 @@ class Text:
     def __init__(self, name, words):
         self.name, self.words = name, words
         self.language = words[0]
-        told = re.search(r"--class[ =](\w+)", " ".join(words))
-        self.class_name = told[1] if told else "interval"
+        named = re.search(r"--class[ =](\w+)", " ".join(words))
+        self.class_name = named[1] if named else "interval"
         self.lines, self.answers = [], []
         self.is_plain = True
 

@@ -5,21 +5,10 @@
  *
  * It prints nothing, and ends with status 0, or tells the line of the first thing that isn't as it should be.
  */
-#include <inttypes.h>
-#include <stdio.h>
-#include <stdlib.h>
 #include <string.h>
 
+#include "checks.h"
 #include "gist.h"
-
-static void told(int line, const char *what, uint64_t is, uint64_t wanted) {
-    if (is != wanted) {
-        fprintf(stderr, "line %d: %s is %" PRIu64 ", not %" PRIu64 "\n", line, what, is, wanted);
-        exit(1);
-    }
-}
-
-#define IS(what, wanted) told(__LINE__, #what, (uint64_t)(what), (uint64_t)(wanted))
 
 static int same_key(gist_key a, gist_key b) {
     return a.words[0] == b.words[0] && a.words[1] == b.words[1];

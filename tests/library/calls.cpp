@@ -5,23 +5,15 @@
  *
  * It prints nothing, and ends with status 0, or tells the line of the first thing that isn't as it should be.
  */
+#include "checks.hpp"
 #include "gist.hpp"
 
-#include <cstdlib>
-#include <iostream>
 #include <thread>
 #include <type_traits>
 
 using gist::Box, gist::Error, gist::Feed, gist::Interval, gist::Kind, gist::Limits, gist::Query, gist::Relation, gist::Set, gist::Store;
 
 namespace {
-
-void fail(int line, const std::string &what) {
-    std::cerr << "line " << line << ": " << what << '\n';
-    std::exit(1);
-}
-
-#define HOLDS(what) ((what) ? (void)0 : fail(__LINE__, #what))
 
 /* Whether a call is refused so, after so many were done. */
 template <class Call> void refused(int line, uint32_t number, const char *name, Call call, uint64_t done = 0) {

@@ -4,23 +4,11 @@
  *
  * It prints nothing, and ends with status 0, or tells the line of the first thing that isn't as it should be.
  */
+#include "checks.h"
 #include "gist.h"
-
-#include <inttypes.h>
-#include <stdio.h>
-#include <stdlib.h>
 
 #define MOST_CURSORS 256
 #define MOST_SUBSCRIPTIONS 1000000
-
-static void told(int line, const char *what, uint64_t is, uint64_t wanted) {
-    if (is != wanted) {
-        fprintf(stderr, "line %d: %s is %" PRIu64 ", not %" PRIu64 "\n", line, what, is, wanted);
-        exit(1);
-    }
-}
-
-#define IS(what, wanted) told(__LINE__, #what, (uint64_t)(what), (uint64_t)(wanted))
 
 static gist_store made(uint32_t pages, uint32_t commits) {
     const gist_limits limits = {4, 2, pages, commits};

@@ -1,26 +1,14 @@
 /*
  * Every call that requests memory, for each class. A call that is refused for lack of memory is made again; then it has
- * to succeed, and everything has to be as if it had not been refused. tools/examples runs this with each request for
+ * to succeed, and everything has to be as if it had not been refused. tests/examples runs this with each request for
  * memory refused, one in each run.
  *
  * It prints nothing, and ends with status 0, or tells the line of the first thing that isn't as it should be.
  */
+#include "checks.h"
 #include "gist.h"
 
-#include <inttypes.h>
-#include <stdio.h>
-#include <stdlib.h>
-
 #define ROWS 24
-
-static void told(int line, const char *what, uint64_t is, uint64_t wanted) {
-    if (is != wanted) {
-        fprintf(stderr, "line %d: %s is %" PRIu64 ", not %" PRIu64 "\n", line, what, is, wanted);
-        exit(1);
-    }
-}
-
-#define IS(what, wanted) told(__LINE__, #what, (uint64_t)(what), (uint64_t)(wanted))
 
 /* Makes a call, and makes it again if memory ran out: one request is refused in a run. */
 #define NEED(call)                                                                                  \

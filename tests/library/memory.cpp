@@ -1,6 +1,6 @@
 /*
  * gist.hpp: every call that allocates memory, for each class. A call that runs out of memory is made again; then it has to
- * succeed, and nothing is lost or done twice. tools/examples runs this with each request for memory refused, one in each
+ * succeed, and nothing is lost or done twice. tests/examples runs this with each request for memory refused, one in each
  * run.
  *
  * It prints nothing, and ends with status 0, or reports the line of the first thing that differs.

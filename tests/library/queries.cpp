@@ -5,24 +5,16 @@
  *
  * It prints nothing and ends with status 0, or reports the line of the first thing that differs.
  */
+#include "checks.hpp"
 #include "gist.hpp"
 
 #include <array>
-#include <cstdlib>
-#include <iostream>
 #include <list>
 #include <random>
 
 using gist::Box, gist::Error, gist::Interval, gist::Query, gist::Relation, gist::Set, gist::Snapshot, gist::Store;
 
 namespace {
-
-void fail(int line, const std::string &what) {
-    std::cerr << "line " << line << ": " << what << '\n';
-    std::exit(1);
-}
-
-#define HOLDS(what) ((what) ? (void)0 : fail(__LINE__, #what))
 
 /* What an exception says, or an empty text if there is none. */
 template <class Call> std::string said(Call call) {

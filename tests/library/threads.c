@@ -10,9 +10,9 @@
 
 #include <inttypes.h>
 #include <pthread.h>
-#include <stdio.h>
 #include <stdlib.h>
 
+#include "checks.h"
 #include "gist.h"
 
 enum { ROWS = 4000, AT_ONCE = 10, TAKERS = 3, LOOKS = 60, SHARED_ROWS = 300, SHARERS = 4, SHARED_LOOKS = 200 };
@@ -23,15 +23,6 @@ static gist_store store = GIST_NONE;
 /* What is shared, as it is read: by const pointers alone. */
 static gist_snapshot shared_snapshot = GIST_NONE;
 static gist_query shared_query = GIST_NONE;
-
-static void told(int line, const char *what, uint64_t is, uint64_t wanted) {
-    if (is != wanted) {
-        fprintf(stderr, "line %d: %s is %" PRIu64 ", not %" PRIu64 "\n", line, what, is, wanted);
-        exit(1);
-    }
-}
-
-#define IS(what, wanted) told(__LINE__, #what, (uint64_t)(what), (uint64_t)(wanted))
 
 static void *write_rows(void *nothing) {
     gist_entry rows[AT_ONCE];

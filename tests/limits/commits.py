@@ -112,7 +112,7 @@ def items(changes, query):
 
 
 class Trial:
-    """The program beside the rows that it should have."""
+    """The program, and the rows that it should have."""
 
     def __init__(self, program, rows, most):
         self.program = program
@@ -229,14 +229,14 @@ class Trial:
         return len(found)
 
     def read_cursor(self, cursor, snapshot, changes):
-        """A cursor gives its snapshot, the changes, a mark and then nothing."""
+        """A cursor delivers its snapshot, the changes, a mark and then nothing."""
         self.program.answer_in_any_order([f"next {cursor}"] * len(snapshot), snapshot)
         self.program.answer([f"next {cursor}"] * len(changes), changes)
         self.program.answer([f"mark {cursor}"], ["asked"])
         self.program.answer([f"next {cursor}"] * 2, [f"mark {self.most}", "empty"])
 
     def close(self, cursor):
-        """Closes a cursor, which then gives nothing more."""
+        """Closes a cursor, which then delivers nothing more."""
         self.program.answer([f"close {cursor}", f"next {cursor}"], ["closed", "refused 17 CursorClosed"])
 
 

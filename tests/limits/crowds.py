@@ -62,7 +62,7 @@ def cursors_that_are_used_up(path):
 
 
 def open_one_after_the_other(program, count):
-    """Opens cursors with the greatest room when there is no row that they ask for, and closes each before the next."""
+    """Opens cursors with the greatest room when there is no row that they match, and closes each before the next."""
     for first in range(1, count + 1, 1_000):
         serials = range(first, first + 1_000)
         lines = [line for serial in serials for line in (f"open {ROOM} same(-1 -1)", f"next {serial}", f"close {serial}")]
@@ -261,7 +261,7 @@ class Crowd:
         self.cursors = range(1, count + 1)
         # How many rows there are at the opening
         self.first = first
-        # The commit of a row for which no cursor asks
+        # The commit of a row that no cursor matches
         self.passed = None
 
     def place_up_to(self, last):
@@ -270,7 +270,7 @@ class Crowd:
         self.program.answer_all(self.tree.taken())
 
     def place_elsewhere(self):
-        """Places a row for which no cursor asks."""
+        """Places a row that no cursor matches."""
         self.tree.place_elsewhere("(20000 20000)")
         self.passed = self.tree.commits
         self.program.answer_all(self.tree.taken())
@@ -303,7 +303,7 @@ class Crowd:
         self.each("turn #", "refused 19 Idle")
 
     def rows(self, word, first, last):
-        """The lines of the rows from one to another, without the one for which no cursor asks."""
+        """The lines of the rows from one to another, without the one that no cursor matches."""
         return [f"{word} {row} (5 5) {3 * row}" for row in range(first, last + 1) if row != self.passed]
 
     def empty(self, cursor):

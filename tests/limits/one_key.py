@@ -1,4 +1,4 @@
-"""Many rows with the same key: each is found, given, deleted and swept on its own."""
+"""Many rows with the same key: each is found, delivered, deleted and swept on its own."""
 import dataclasses
 
 from .talk import Program
@@ -42,7 +42,7 @@ def find(program, key, rows):
 
 
 def give(program, cursor, rows):
-    """A cursor gives these rows in any order, and then nothing."""
+    """A cursor delivers these rows in any order, and then nothing."""
     program.answer_in_any_order([f"next {cursor}"] * len(rows), rows)
     program.answer([f"next {cursor}"], ["empty"])
 
@@ -57,7 +57,7 @@ def delete(program, extent):
 
 
 def keep(path, name, key, extent):
-    """All rows are found and given, some of them are deleted and swept, and the others found and given."""
+    """All rows are found and delivered, some of them are deleted and swept, and the others found and delivered."""
     with Program(path, "serve", "--class", name, "--fan", str(extent.fan), "--least", str(extent.least)) as program:
         numbers = range(1, extent.count + 1)
         deleted = set(extent.deleted())

@@ -104,13 +104,13 @@ class Filled:
         self.program.answer([f"find {EVERYTHING}"], [f"found {len(rows)}", *rows])
 
     def give_all(self, cursor):
-        """A cursor gives each row that filled the store, and then the changes."""
+        """A cursor delivers each row that filled the store, and then the changes."""
         rows = [f"row {it} ({10 * it} {10 * it}) {3 * it}" for it in range(1, self.first + 1)]
         self.program.answer_in_any_order([f"next {cursor}"] * len(rows), rows)
         self.give(cursor, self.changes)
 
     def give(self, cursor, items):
-        """A cursor gives some items, and then nothing."""
+        """A cursor delivers some items, and then nothing."""
         self.program.answer([f"next {cursor}"] * (len(items) + 1), [*items, "empty"])
 
 

@@ -1,4 +1,4 @@
-"""A program that is running, the lines that it is given, and the expected answers."""
+"""A running program, the lines that it reads, and the expected answers."""
 import os
 import select
 import subprocess
@@ -122,7 +122,7 @@ class Program:
         return self.bytes_of("VmHWM")
 
     def asked(self):
-        """The bytes that the program has asked of the system for its data, touched or not."""
+        """The bytes that the program has allocated from the system for its data, touched or not."""
         return self.bytes_of("VmData")
 
     def seconds(self):
