@@ -1,4 +1,4 @@
-//! Lists of events for a new world, one of which runs out of memory. tools/refused-memory lets each request fail in turn.
+//! Lists of events for a new world, one of which runs out of memory. tests/alloc-faults lets each request fail in turn.
 use crate::events::{Answer, Query, Step};
 use change_list::Config;
 use interval_class::{Atom, Interval, Intervals};

@@ -1,4 +1,4 @@
-//! What a reader or a writer that fails leaves in a store and in a world. tools/faults tests what the program then writes.
+//! What a reader or a writer that fails leaves in a store and in a world. tests/io-faults tests what the program then writes.
 use change_list::Config;
 use front::{replay, session};
 use interval_class::{Interval, Intervals};
