@@ -331,9 +331,91 @@ where
     desk.wake_all(rt);
 }
 
-/// Lets all clients work at once, until the last of them has ended. What gets no thread of its own runs after what is joined
-/// with it: lookers and publishers then find all rows written, and hosts, which are joined last since they wait for the
-/// publisher, find all messages in their channels.
+/// Lets writers and readers work at once, until the last of them has ended.
+fn write_and_read<D, W, V, X, Y, R>(
+    rt: &R,
+    alloc: Global,
+    desk: &D,
+    told: &Told<'_>,
+    writers: &mut [W],
+    readers: &mut [V],
+)
+where
+    D: Clients<W, V, X, Y> + Sync,
+    W: Send,
+    V: Send,
+    R: Threads + Wait + Clock + Sync,
+{
+    let read = || run_role(rt, readers, &|_, reader| desk.read(rt, alloc, told, reader));
+    thread::join(
+        rt,
+        read,
+        || write_and_sweep::<D, W, V, X, Y, R>(rt, desk, told, writers),
+    );
+}
+
+/// Lets writers, readers and lookers work at once. If lookers get no thread of their own they run last, and find all rows
+/// written.
+fn write_read_and_look<D, W, V, X, Y, R>(
+    rt: &R,
+    alloc: Global,
+    desk: &D,
+    told: &Told<'_>,
+    writers: &mut [W],
+    readers: &mut [V],
+    lookers: &mut [X],
+)
+where
+    D: Clients<W, V, X, Y> + Sync,
+    W: Send,
+    V: Send,
+    X: Send,
+    R: Threads + Wait + Clock + Sync,
+{
+    let look = || run_role(rt, lookers, &|_, looker| desk.look(rt, alloc, told, looker));
+    thread::join(
+        rt,
+        look,
+        || write_and_read::<D, W, V, X, Y, R>(rt, alloc, desk, told, writers, readers),
+    );
+}
+
+/// Lets all clients but hosts work at once. If publishers get no thread of their own they run last, and find all rows
+/// written.
+fn work_without_hosts<D, W, V, X, Y, R>(
+    rt: &R,
+    alloc: Global,
+    desk: &D,
+    told: &Told<'_>,
+    writers: &mut [W],
+    readers: &mut [V],
+    lookers: &mut [X],
+    publishers: &mut [Y],
+)
+where
+    D: Clients<W, V, X, Y> + Sync,
+    W: Send,
+    V: Send,
+    X: Send,
+    Y: Send,
+    R: Threads + Wait + Clock + Sync,
+{
+    let publish = || run_role(
+        rt,
+        publishers,
+        &|_, publisher| desk.publish(rt, alloc, told, publisher),
+    );
+    thread::join(
+        rt,
+        publish,
+        || write_read_and_look::<D, W, V, X, Y, R>(
+            rt, alloc, desk, told, writers, readers, lookers,
+        ),
+    );
+}
+
+/// Lets all clients work at once, until the last of them has ended. If hosts get no thread of their own they run last, and
+/// find all messages in their channels.
 fn work_at_once<D, W, V, X, Y, R>(
     rt: &R,
     alloc: Global,
@@ -353,25 +435,14 @@ where
     Y: Send,
     R: Threads + Wait + Clock + Sync,
 {
-    let write = || write_and_sweep::<D, W, V, X, Y, R>(rt, desk, told, writers);
-    let read = || run_role(rt, readers, &|_, reader| desk.read(rt, alloc, told, reader));
-    let look = || run_role(rt, lookers, &|_, looker| desk.look(rt, alloc, told, looker));
-    let publish = || run_role(
-        rt,
-        publishers,
-        &|_, publisher| desk.publish(rt, alloc, told, publisher),
-    );
     let receive = || run_role(rt, hosts, &|_, host| host.receive_all(rt));
-    let write_and_read = || {
-        thread::join(rt, read, write);
-    };
-    let write_read_and_look = || {
-        thread::join(rt, look, write_and_read);
-    };
-    let all_but_hosts = || {
-        thread::join(rt, publish, write_read_and_look);
-    };
-    thread::join(rt, receive, all_but_hosts);
+    thread::join(
+        rt,
+        receive,
+        || work_without_hosts::<D, W, V, X, Y, R>(
+            rt, alloc, desk, told, writers, readers, lookers, publishers,
+        ),
+    );
 }
 
 /// Lets all clients work beside what pumps, whose orders end with the last client.

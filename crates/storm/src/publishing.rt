@@ -163,7 +163,8 @@ impl Publication {
         ensures publishes { OnOk result (Publishes snapshot.now self.old self.new) }
     {
         self.delivered.clear();
-        let upto = self.feed.advance(snapshot, u64::MAX, &mut self.delivered)?;
+        let commits = snapshot.commits();
+        let upto = self.feed.advance(snapshot, commits, &mut self.delivered)?;
         enqueue_all(&mut self.streams, self.delivered.as_slice())?;
         Ok(upto)
     }
