@@ -1,0 +1,8 @@
+use Rattle.search.specs.Picks.{HasBitsFor}
+use Rattle.search.proofs.search.Search.sample_below.Given as goal
+
+abbrev pub invariant-children : goal.invariant-children
+invariant-children g l = HasBitsFor l.branches l.wanted
+
+abbrev pub decreases-children : goal.decreases-children
+decreases-children g l = l.wanted
