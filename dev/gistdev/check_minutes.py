@@ -29,7 +29,9 @@ def read() -> dict[str, float]:
 
 def write(minutes: Mapping[str, float]) -> None:
     """Writes the minutes of the crates in the order of crates.txt. A crate that wasn't measured has no line."""
+    # the file is a part of the sources: the commit is read before it changes
+    measured = f"commit {commit()}, {machine()}, {datetime.date.today()}"
     with open(FILE, "w", encoding="utf-8") as file:
         file.write("# Processor minutes of each crate's check from nothing, written by dev/gate --record.\n")
-        file.write(f"# commit {commit()}, {machine()}, {datetime.date.today()}\n")
+        file.write(f"# {measured}\n")
         file.writelines(f"{crate} {minutes[crate]:.1f}\n" for crate in lines_of_crates() if crate in minutes)
