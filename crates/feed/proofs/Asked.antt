@@ -1,7 +1,8 @@
 -- The topics that a commit has to test.
 use Rattle.std.proofs.Common.{◌≡◌, ◌⊎◌, ℕ, true, List, ◌++◌, map, Option, Some, None, refl, sym, ap, ◌∙◌, subst, inl, inr}
-use Rattle.std.specs.Prelude.{Contains, option_map, slice_index_or}
+use Rattle.std.specs.Prelude.{Contains, IsPermutation, option_map, slice_index_or}
 use Rattle.std.proofs.lemmas.List.Elements.{All-contains, Contains-append_left, Contains-append_right}
+use Rattle.std.proofs.lemmas.List.Sorted.{Contains-permutation, IsPermutation-sym}
 use Rattle.key_class.specs.Queries.{Query, query_of}
 use Rattle.key_class.specs.Rules.{Rules, satisfies}
 use Rattle.key_class.specs.declared.pred.Pred.TheVariants.{Atom}
@@ -31,9 +32,9 @@ module _ {K A : Type 0} (rules : Rules K A) (reach_of : A → Option K) (overlap
       tag_found rules (Atom (overlap_with row.key)) tree number some.0 some.2 (All-contains (HasRow tree number) p.keys some.0 p.rows some.1)
 
   module _ (commits tree : List (Write K)) (place : ℕ) (always numbers : List ℕ) (topics : List (Option (Topic A))) (change : Change K) (of : IsChangeOf commits place change) (h : AreEnrolled reach_of rules.size_of tree always topics)
-      (is : numbers ≡ (always ++ tags_at rules overlap_with tree change.ended) ++ tags_at rules overlap_with tree change.made) where
+      (are : IsPermutation numbers ((always ++ tags_at rules overlap_with tree change.ended) ++ tags_at rules overlap_with tree change.made)) where
     among : (number : ℕ) → Contains ((always ++ tags_at rules overlap_with tree change.ended) ++ tags_at rules overlap_with tree change.made) number → Contains numbers number
-    among number c = subst (λ l. Contains l number) (sym is) c
+    among number c = Contains-permutation _ numbers number (IsPermutation-sym numbers _ are) c
 
     asked : (number : ℕ) → Contains always number → Contains numbers number
     asked number c =

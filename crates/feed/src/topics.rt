@@ -196,7 +196,7 @@ impl<C: Reach> Topics<C> {
             query_at self.now number ≡ Some (query_of query.now))) }
         ensures refused { IfErr result (λ why. why ≡ OutOfMemory) }
     {
-        let rows = self.tree.find(&Pred::Atom(C::same(key)))?;
+        let rows = self.tree.find_any(&Pred::Atom(C::same(key)))?;
         for row in &rows {
             if self.is_about(row.tag as usize, query) {
                 return Ok(Some(row.tag as usize));

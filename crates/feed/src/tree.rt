@@ -1,5 +1,5 @@
 //! The tree of a feed: a store whose rows lead from keys to topics.
-ghost use Rattle.std.specs.Prelude.{◌≡◌, ◌++◌, OnOk, IfOk, IfErr, option_map, vec_items};
+ghost use Rattle.std.specs.Prelude.{◌≡◌, ◌++◌, OnOk, IfOk, IfErr, IsPermutation, option_map, vec_items};
 ghost use Rattle.key_class.specs.declared.refusal.Refusal.TheVariants.{OutOfMemory};
 ghost use Rattle.change_list.specs.Changes.{IsLegal};
 ghost use Rattle.feed.specs.Planting.{AreTagged, MayBePlanted, Tends, tags_at};
@@ -78,7 +78,7 @@ pub(crate) fn tagged_rows<C: Reach>(
 ) -> Result<Vec<u64>, Refusal>
     ensures ok { IfOk result (λ rows. AreTagged tree.now.commits tag rows.items) }
 {
-    let found = tree.find(&Pred::Atom(C::same(key)))?;
+    let found = tree.find_any(&Pred::Atom(C::same(key)))?;
     let mut rows = Vec::new(alloc);
     for row in &found {
         if row.tag == tag {
@@ -88,7 +88,8 @@ pub(crate) fn tagged_rows<C: Reach>(
     Ok(rows)
 }
 
-/// Appends to a list the tags of the tree's rows whose keys overlap the key of `row`, if there is a row.
+/// Appends to a list, in any order, the tags of the tree's rows whose keys overlap the key of `touched`, if there is such
+/// a row.
 ///
 /// # Errors
 /// `OutOfMemory`.
@@ -97,15 +98,15 @@ pub(crate) fn find_tags<C: Reach>(
     touched: Option<Row<C::Key>>,
     tags: &mut Vec<u64>,
 ) -> Result<(), Refusal>
-    ensures ok { OnOk result (tags.new.items ≡ tags.old.items
-        ++ tags_at C.rules C.overlap_with tree.now.commits touched) }
+    ensures ok { OnOk result (IsPermutation tags.new.items
+        (tags.old.items ++ tags_at C.rules C.overlap_with tree.now.commits touched)) }
     ensures refused { IfErr result (λ why. why ≡ OutOfMemory) }
 {
     let Some(touched) = touched else {
         return Ok(());
     };
     let query = Pred::Atom(C::overlapping(touched.key));
-    let rows = tree.find(&query)?;
+    let rows = tree.find_any(&query)?;
     for row in &rows {
         tags.push(row.tag)?;
     }

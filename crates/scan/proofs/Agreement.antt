@@ -26,7 +26,7 @@ use Rattle.page_table.specs.Weights.{one_if_equal, weigh}
 use Rattle.row_version.specs.Entries.{Entry, died_at, is_needed, lives_at, marked}
 use Rattle.scan.proofs.Commits.{commit_last, commit_push, commit_pushed, ended_by, ended_push, ends_push, live_pushed, none_live, or_false}
 use Rattle.scan.specs.Agreement.{Agrees, IsDeath, IsEntryOf, is_row}
-use Rattle.scan.specs.Scanning.{row_of}
+use Rattle.search.specs.Live.{row_of}
 
 none : (K : Type 0) (n : ℕ) → weigh (is_row n) (rows_of_tree (new_tree {K = K})) ≡ 0
 unfolding new_tree pages_under pages_within

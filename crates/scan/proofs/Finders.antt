@@ -28,7 +28,8 @@ use Rattle.scan.proofs.Scans.{keeps_stack, rows_stack}
 use Rattle.scan.proofs.Visiting.{next_exists, visit_stack}
 use Rattle.scan.specs.Agreement.{Agrees, IsEntryOf, is_row}
 use Rattle.scan.specs.Finding.{FindsHere, IsFinder, SeeksFurther}
-use Rattle.scan.specs.Scanning.{GoesOn, row_of, seen}
+use Rattle.scan.specs.Scanning.{GoesOn, seen}
+use Rattle.search.specs.Live.{row_of}
 
 -- a finder has something left to visit
 pub finder_open : {K : Type 0} (row : ℕ) (t : Tree K) → IsFinder row t [] → ⊥

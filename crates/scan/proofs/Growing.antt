@@ -8,7 +8,8 @@ use Rattle.node.specs.declared.branch.Branch.{Branch}
 use Rattle.page_table.specs.Stacks.{StackItem}
 use Rattle.page_table.specs.Trees.{Tree, page_at}
 use Rattle.row_version.specs.Entries.{Entry}
-use Rattle.scan.specs.Scanning.{IsNext, PushesSome, child_items, is_seen, row_of, seen}
+use Rattle.scan.specs.Scanning.{IsNext, PushesSome, child_items, is_seen, seen}
+use Rattle.search.specs.Live.{row_of}
 
 -- what holds anyhow holds of an error
 pub on_err : {A E P : Type 0} (r : Result A E) → P → OnErr r P

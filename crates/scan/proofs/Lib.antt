@@ -9,4 +9,4 @@ pub mod Seeking
 pub mod Seen
 pub mod Visiting
 pub mod Preparing
-pub mod Picking
+pub mod Pushing

@@ -21,7 +21,8 @@ use Rattle.row_version.specs.Entries.{Entry, lives_at}
 use Rattle.scan.proofs.Commits.{ended_by}
 use Rattle.scan.proofs.Seen.{seen_weight, weigh_seen}
 use Rattle.scan.specs.Agreement.{Agrees, IsDeath, IsEntryOf, is_row}
-use Rattle.scan.specs.Scanning.{row_of, to_find}
+use Rattle.scan.specs.Scanning.{to_find}
+use Rattle.search.specs.Live.{row_of}
 
 -- sums in either order
 weigh-exchange : {A B : Type 0} (f : A → B → ℕ) (xs : List A) (ys : List B) → weigh (λ x. weigh (f x) ys) xs ≡ weigh (λ y. weigh (λ x. f x y) xs) ys

@@ -22,7 +22,8 @@ use Rattle.row_version.specs.Entries.{Entry, died_at, is_needed, lives_at, marke
 use Rattle.scan.proofs.Commits.{ended_by}
 use Rattle.scan.proofs.Seen.{seen_weight, unseen_weight, weigh_seen}
 use Rattle.scan.specs.Agreement.{Agrees, IsDeath, IsEntryOf}
-use Rattle.scan.specs.Scanning.{row_of, to_find}
+use Rattle.scan.specs.Scanning.{to_find}
+use Rattle.search.specs.Live.{row_of}
 
 pub rows_length : {K : Type 0} (t : Tree K) (p : ℕ) (rows : List (Entry K)) → length (after_rows t p rows).pages ≡ length t.pages
 unfolding after_rows

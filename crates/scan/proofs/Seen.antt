@@ -3,7 +3,8 @@ use Rattle.std.proofs.Common.{◌≡◌, ◌+◌, ℕ, Bool, true, false, cond, 
 use Rattle.change_list.specs.declared.item.Row.{Row}
 use Rattle.row_version.specs.Entries.{Entry}
 use Rattle.page_table.specs.Weights.{weigh}
-use Rattle.scan.specs.Scanning.{row_of, is_seen, seen}
+use Rattle.scan.specs.Scanning.{is_seen, seen}
+use Rattle.search.specs.Live.{row_of}
 
 module _ {K : Type 0} where
   -- what a weight of rows gives an entry that is seen

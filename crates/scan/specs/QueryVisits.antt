@@ -1,5 +1,5 @@
 -- One visit of a scan by its result, for a query in the form in which the program stores it.
-use Rattle.std.specs.Prelude.{◌≡◌, ℕ, ◌++◌, Bool, List, [], Option, Result, IfOk, IfSome, MatchOption, Vec}
+use Rattle.std.specs.Prelude.{◌≡◌, ℕ, Bool, List, [], Option, Result, IfOk, IfSome, MatchOption}
 use Rattle.key_class.specs.declared.pred.Pred.{Pred}
 use Rattle.key_class.specs.Queries.{query_of}
 use Rattle.key_class.specs.Rules.{Rules, satisfies, may_satisfy}
@@ -10,7 +10,7 @@ use Rattle.page_table.specs.Stacks.{StackItem}
 use Rattle.page_table.specs.Trees.{Tree, page_at}
 use Rattle.scan.specs.declared.stack.Visited.{Visited}
 use Rattle.scan.specs.Prepared.{PreparedVisit, wanted_children, IsFresh}
-use Rattle.scan.specs.Scanning.{GoesOn, IsNext, Visits, PushesSome, VisitGrows, LosesNothing, LowersWork, NothingLeft, seen, seen_on}
+use Rattle.scan.specs.Scanning.{GoesOn, IsNext, Visits, PushesSome, VisitGrows, LosesNothing, LowersWork, NothingLeft, seen}
 
 module _ {K A : Type 0} (rules : Rules K A) (query : Pred A) where
   -- of some entries, the rows that the query asks for
@@ -41,19 +41,6 @@ module _ {K A : Type 0} (rules : Rules K A) (query : Pred A) where
   -- in a sound tree what is noted, together with what is still to be found, is what was to be found before
   abbrev pub Tallies : {E : Type 0} → ℕ → Tree K → List StackItem → Result (Option (Visited K)) E → List StackItem → Type 0
   Tallies s t old result new = IfOk result (λ r. IfSome r (λ v. LosesNothing rules.is_cover (satisfies rules (query_of query)) s t old v.rows.items new))
-
-  -- the same if the result is the page's number
-  abbrev pub VisitsOn : {E : Type 0} → ℕ → Tree K → List StackItem → Result (Option ℕ) E → List StackItem → Type 0
-  VisitsOn s t old result new = IfOk result (λ r. MatchOption r (NothingLeft old new)
-      (λ page. Visits (may_satisfy rules (query_of query)) (satisfies rules (query_of query)) s t old page (seen_on (satisfies rules (query_of query)) s t page) new))
-
-  abbrev pub AddsUp : {E : Type 0} → ℕ → Tree K → List StackItem → Result (Option ℕ) E → List StackItem → Type 0
-  AddsUp s t old result new = IfOk result (λ r. IfSome r (λ page. LosesNothing rules.is_cover (satisfies rules (query_of query)) s t old (seen_on (satisfies rules (query_of query)) s t page) new))
-
-  -- the list is unchanged, or followed by the rows that are noted on the page
-  abbrev pub Notes : {Z E : Type 0} → ℕ → Tree K → Vec (Row K) Z → Result (Option ℕ) E → Vec (Row K) Z → Type 0
-  Notes s t before result after = IfOk result (λ r. MatchOption r (after.items ≡ before.items)
-      (λ page. after.items ≡ before.items ++ seen_on (satisfies rules (query_of query)) s t page))
 
 module _ {K A : Type 0} where
   -- nothing is left; or there is a visit of the last item's page for the query, not yet worked out

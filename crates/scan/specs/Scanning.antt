@@ -7,6 +7,7 @@ use Rattle.page_table.specs.Soundness.{IsSound}
 use Rattle.page_table.specs.Stacks.{StackItem, rows_left, pages_left, pushed}
 use Rattle.page_table.specs.Trees.{Tree, page_at}
 use Rattle.page_table.specs.Weights.{Same}
+use Rattle.search.specs.Live.{row_of}
 
 -- the item to be visited next
 pub record IsNext (stack : List StackItem) (item : StackItem) : Type 0 where
@@ -28,10 +29,6 @@ abbrev pub with_memo : ℕ → List ℕ → List StackItem
 with_memo memo pages = map (λ p. record { page = p; memo = memo }) pages
 
 module _ {K : Type 0} where
-  -- the row of an entry
-  abbrev pub row_of : Entry K → Row K
-  row_of e = record { row = e.row; key = e.key; tag = e.tag }
-
   -- the row is live after the first s commits and its key is wanted
   abbrev pub is_seen : (K → Bool) → ℕ → Entry K → Bool
   is_seen wanted s e = visible_at s e && wanted e.key
@@ -48,9 +45,13 @@ module _ {K : Type 0} where
   abbrev pub to_find : (K → Bool) → ℕ → Tree K → List StackItem → List (Row K)
   to_find wanted s t stack = seen wanted s (rows_left t stack)
 
+  -- the item for a branch's child
+  abbrev pub item_of_child : ℕ → Branch K → StackItem
+  item_of_child memo branch = record { page = branch.child; memo = memo }
+
   -- the items for the children whose bounds are wanted, the first child last
   abbrev pub child_items : (K → Bool) → ℕ → List (Branch K) → List StackItem
-  child_items wanted memo branches = reverse (map (λ b. record { page = b.child; memo = memo }) (filter (λ b. wanted b.key) branches))
+  child_items wanted memo branches = reverse (map (item_of_child memo) (filter (λ b. wanted b.key) branches))
 
   -- those items on top of a stack
   abbrev pub children_on : (K → Bool) → ℕ → List (Branch K) → List StackItem → List StackItem

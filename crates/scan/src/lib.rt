@@ -2,19 +2,14 @@
 //! a tree agree with a list of commits, and what a scan still has to find.
 #![tactic(auto)]
 
-mod branch_test;
-mod key_test;
 mod laws;
-mod picks;
 mod prepared;
 mod rows;
 mod stack;
 
-pub use branch_test::{BranchTest, Covering};
 pub use laws::{
     entries_follow_commits, finders_survive_steps, scans_begin_with_snapshots, scans_survive_steps,
 };
-pub use picks::ByBounds;
 pub use prepared::PreparedVisit;
 pub use rows::holds_row;
 pub use stack::{Sought, Stack, StackItem, Visited};

@@ -1,29 +1,28 @@
-ghost use Rattle.std.specs.Prelude.{Bool, ◌≡◌, ◌≢◌, ◌<◌, ◌≤◌, ◌↔◌, ℕ, ◌+◌, ◌++◌, [], length, take, true, option_to_list, IfOk, OnOk, OnErr, MatchOption, IsTrue, false};
+ghost use Rattle.std.specs.Prelude.{Bool, ◌≡◌, ◌≢◌, ◌<◌, ◌≤◌, ◌↔◌, ℕ, ◌+◌, ◌++◌, [], length, map, reverse, take, true, option_to_list, IfOk, OnOk, OnErr, MatchOption, IsTrue, false};
 ghost use Rattle.std.specs.Arc.{arc_value};
 ghost use Rattle.smallvec.specs.SmallVec.{HasRoomFor};
 ghost use Rattle.page_table.specs.Stacks.{IsStack, root_stack};
 ghost use Rattle.page_table.specs.Trees.{page_at};
 ghost use Rattle.scan.specs.Finding.{stack_at, LacksNext, KeepsFinding, SeekLowersWork, PushesCovering, SeeksNext};
-ghost use Rattle.scan.specs.Scanning.{IsNext, IsNextPage, GoesOn, PushesSome, with_memo, children_on, HasWanted, KeepsWanted};
-ghost use Rattle.scan.specs.QueryVisits.{GoesOnBy, AddsUp, Prepares, GrowsBy, Tallies, IsStillNext, Notes, VisitPushes, VisitsOn, VisitsBy, PushesBy, MakesVisit, VisitLowersWork};
+ghost use Rattle.scan.specs.Scanning.{IsNext, IsNextPage, GoesOn, PushesSome, with_memo, children_on, HasWanted, KeepsWanted, item_of_child};
+ghost use Rattle.scan.specs.QueryVisits.{GoesOnBy, Prepares, GrowsBy, Tallies, IsStillNext, VisitPushes, VisitsBy, PushesBy, MakesVisit, VisitLowersWork};
+ghost use Rattle.search.specs.Picks.{HasBitsFor, picked};
 
-use crate::branch_test::{BranchTest, Covering};
-use crate::key_test::OneAtom;
-use crate::picks::{BITS, push_picked, wanted_bits};
 use crate::prepared::PreparedVisit;
-use crate::rows::{holds_row, note_rows, seen_rows};
+use crate::rows::{holds_row, seen_rows};
 use change_list::Row;
-use key_class::{KeyClass, Pred};
+use key_class::{Columned, KeyClass, Pred};
 use node::{Branches, same_page};
 use page_table::PageTable;
+use search::{BranchTest, Covering, OneAtom, wanted_bits};
 use smallvec::SmallVec;
 use std::alloc::{AllocError, Global};
 use std::collections::VecDeque;
 use std::marker::Model;
 use std::sync::Arc;
 
-/// How many rows of its child pages a visit reserves memory for at most: most of these rows don't match.
-const AT_ONCE: usize = 16;
+/// How many bits a number has. Each says whether one branch passes a test.
+const BITS: usize = 64;
 
 /// A page still to be visited, and the counter when its number was read.
 #[derive(Clone, Copy, Default)]
@@ -152,42 +151,6 @@ impl Stack {
             page: item.page,
             rows,
         }))
-    }
-
-    /// Visits like `visit`, but appends the rows to a list. Gives the page's number.
-    ///
-    /// # Errors
-    /// Memory ran out; the stack and the list's rows are unchanged.
-    pub fn visit_into<C: KeyClass>(
-        &mut self,
-        table: &PageTable<C::Key>,
-        query: &Pred<C::Atom>,
-        opened: u32,
-        rows: &mut Vec<Row<C::Key>>,
-    ) -> Result<Option<u32>, AllocError>
-        requires { IsStack table.now self.old }
-        ensures visited { VisitsOn C.rules query.now opened table.now self.old result self.new }
-        ensures noted { Notes C.rules query.now opened table.now rows.old result rows.new }
-        ensures lost_nothing { AddsUp C.rules query.now opened table.now self.old result self.new }
-        ensures less_work { VisitLowersWork C.rules.is_cover table.now self.old result self.new }
-        ensures refused { OnErr result (self.new ≡ self.old) }
-        ensures none_noted { OnErr result (rows.new.items ≡ rows.old.items) }
-    {
-        let Some(item) = self.last() else {
-            return Ok(None);
-        };
-        let page = table.page(item.page);
-        rows.reserve(page.rows().len())?;
-        if page.branches().is_empty() {
-            self.leave::<C>(table, item);
-        } else {
-            let below = self.go_on_by_query::<C>(table, item, query)?;
-            let _visits_ask_again = rows.reserve(below.min(AT_ONCE));
-        }
-        if !page.rows().is_empty() {
-            note_rows::<C>(page.rows(), query, opened, rows);
-        }
-        Ok(Some(item.page))
     }
 
     /// Prepares the visit of the last item's page, if there is one, to be worked out without the table. Changes
@@ -320,14 +283,13 @@ impl Stack {
         push_link(&mut self.items, right, item.memo);
     }
 
-    /// Goes on to the children whose bounds are consistent with the query. Gives how many rows they have, like
-    /// `go_on`.
+    /// Goes on to the children whose bounds are consistent with the query.
     fn go_on_by_query<C: KeyClass>(
         &mut self,
         table: &PageTable<C::Key>,
         item: StackItem,
         query: &Pred<C::Atom>,
-    ) -> Result<usize, AllocError>
+    ) -> Result<(), AllocError>
         requires next { IsNext self.old item }
         requires exists { item.page < length table.now.pages }
         ensures ok { OnOk result (GoesOnBy C.rules query.now table.now self.old item self.new) }
@@ -343,13 +305,13 @@ impl Stack {
     }
 
     /// Replaces the last item, that of a page, by what follows the page. A page of a store never has more branches
-    /// than a number has bits. Gives how many rows the pushed pages have, or 0 if it has more branches than that.
+    /// than a number has bits.
     fn go_on<C: KeyClass, T: BranchTest<C>>(
         &mut self,
         table: &PageTable<C::Key>,
         item: StackItem,
         test: &T,
-    ) -> Result<usize, AllocError>
+    ) -> Result<(), AllocError>
         requires next { IsNext self.old item }
         requires exists { item.page < length table.now.pages }
         ensures ok { OnOk result (GoesOn (T.wants test.now) table.now self.old item self.new) }
@@ -359,18 +321,16 @@ impl Stack {
         if table.page(item.page).branches().len() <= BITS {
             return self.go_on_by_bits::<C, T>(table, item, test);
         }
-        self.go_on_one_by_one::<C, T>(table, item, test)?;
-        Ok(0)
+        self.go_on_one_by_one::<C, T>(table, item, test)
     }
 
-    /// Goes on from a page that has at most as many branches as a number has bits. Gives how many rows its children
-    /// have.
+    /// Goes on from a page that has at most as many branches as a number has bits.
     fn go_on_by_bits<C: KeyClass, T: BranchTest<C>>(
         &mut self,
         table: &PageTable<C::Key>,
         item: StackItem,
         test: &T,
-    ) -> Result<usize, AllocError>
+    ) -> Result<(), AllocError>
         requires next { IsNext self.old item }
         requires exists { item.page < length table.now.pages }
         requires few { length (page_at table.now item.page).branches ≤ 64 }
@@ -385,8 +345,8 @@ impl Stack {
         self.items.pop();
         push_link(&mut self.items, page.followed(item.memo), item.memo);
         let memo = table.counter();
-        let rows = push_picked::<C::Key>(&mut self.items, branches, wanted, memo, table);
-        Ok(rows)
+        push_picked::<C::Key>(&mut self.items, branches, wanted, memo);
+        Ok(())
     }
 
     /// Goes on from a page with any number of branches.
@@ -506,5 +466,26 @@ fn push_children<C: KeyClass, T: BranchTest<C>>(
                 memo,
             });
         }
+    }
+}
+
+/// Pushes the children of the picked branches, the last one first.
+fn push_picked<K: Columned>(
+    items: &mut SmallVec<StackItem, 32>,
+    branches: &Branches<K>,
+    mut bits: u64,
+    memo: u32,
+)
+    requires few { length branches.now ≤ 64 }
+    requires within { HasBitsFor branches.now bits }
+    requires room { HasRoomFor items.old (length (picked bits branches.now)) }
+    ensures { items.new.items
+        ≡ items.old.items ++ map (item_of_child memo) (reverse (picked bits branches.now)) }
+{
+    while bits != 0 {
+        let place = 63 - bits.leading_zeros();
+        let page = branches.get(place as usize).child;
+        items.push_reserved(StackItem { page, memo });
+        bits -= 1 << place;
     }
 }

@@ -1,9 +1,8 @@
 -- What is under a page, by its own rows, its wanted children and its right link; and how a search comes through them.
-use Rattle.std.proofs.Common.{◌≡◌, ◌+◌, ◌-◌, ◌^◌, ◌<◌, ◌≤◌, ℕ, Bool, true, false, List, All, [], ◌∷◌, ◌++◌, length, map, filter, reverse, get_or, refl, sym, ap, ap₂, ◌∙◌, arith, subst}
+use Rattle.std.proofs.Common.{◌≡◌, ◌+◌, ◌<◌, ℕ, Bool, true, List, All, [], ◌∷◌, ◌++◌, length, map, filter, reverse, get_or, sym, ap, arith, subst}
 use Rattle.std.proofs.lemmas.Bool.{and_right}
 use Rattle.std.proofs.lemmas.List.Elements.{All-head}
 use Rattle.change_list.specs.declared.item.Row.{Row}
-use Rattle.row_version.specs.Entries.{Entry}
 use Rattle.node.specs.declared.branch.Branch.{Branch}
 use Rattle.node.specs.Pages.{Page, followed}
 use Rattle.page_table.proofs.Scans.{scan_visit}
@@ -14,7 +13,7 @@ use Rattle.page_table.specs.Soundness.{IsSound}
 use Rattle.page_table.specs.Stacks.{StackItem, pushed}
 use Rattle.page_table.specs.TraversalLaws.{Prunes}
 use Rattle.page_table.specs.Trees.{Falls, Tree, page_at, pages_under, rows_under}
-use Rattle.page_table.specs.Weights.{Same, weigh}
+use Rattle.page_table.specs.Weights.{weigh}
 use Rattle.search.proofs.Found.{found_weight, unfound_weight, weigh_found}
 use Rattle.search.proofs.Picking.{none_picked}
 use Rattle.search.specs.Live.{is_live, live_rows}

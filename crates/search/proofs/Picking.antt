@@ -1,6 +1,6 @@
 -- How the bits that tell some of a list are made, and how those that they tell are taken one by one.
 use Rattle.std.proofs.Common.{◌≡◌, ℕ, zero, suc, ◌+◌, ◌-◌, ◌*◌, ◌/◌, ◌%◌, ◌^◌, ◌<◌, ◌≤◌, ◌==◌, ◌&&◌, Bool, true, false, cond, List, [], ◌∷◌, ◌++◌, length, map, filter, reverse, take, drop, get_or, refl, sym, ap, ap₂, ◌∙◌, arith, subst, pow-suc, append_assoc, length-drop}
-use Rattle.std.proofs.lemmas.List.{append-nil, map-append, drop-drop, get_or-drop, drop_all, drop_more, reverse-append, take_more, length-map}
+use Rattle.std.proofs.lemmas.List.{append-nil, drop-drop, get_or-drop, drop_all, drop_more, reverse-append, take_more, length-map}
 use Rattle.std.proofs.lemmas.List.Elements.{filter-append}
 use Rattle.std.proofs.Common.{⊎_elim}
 use Rattle.std.proofs.lemmas.Bool.{cases_lt}

@@ -1,5 +1,5 @@
 -- How a sink takes the rows of picked entries one by one.
-use Rattle.std.proofs.Common.{◌≡◌, ◌+◌, ◌≤◌, ℕ, List, [], ◌∷◌, ◌++◌, map, refl, sym, ap, subst, append-nil, append_assoc, ◌∙◌, arith}
+use Rattle.std.proofs.Common.{◌≡◌, List, [], ◌∷◌, ◌++◌, map, refl, sym, ap, subst, append-nil, append_assoc, ◌∙◌, arith}
 use Rattle.std.specs.Prelude.{OnErr, Ok, Err, Result}
 use Rattle.change_list.specs.declared.item.Row.{Row}
 use Rattle.page_table.proofs.Weights.{weigh-append}

@@ -1,5 +1,5 @@
 -- How many members collections have.
-use Rattle.std.proofs.Common.{◌≡◌, ◌+◌, ◌≤◌, ℕ, Bool, true, false, cond, List, [], ◌∷◌, length, filter, refl, sym, ◌∙◌, arith}
+use Rattle.std.proofs.Common.{◌≡◌, ◌≤◌, Bool, true, false, cond, List, [], ◌∷◌, length, filter, refl, sym, ◌∙◌, arith}
 use Rattle.page_table.specs.Weights.{Same, weigh}
 use Rattle.search.specs.Sinks.{IsSomeOf}
 

@@ -1,6 +1,6 @@
 -- What a counter counted.
-use Rattle.std.specs.Prelude.{◌≡◌, ℕ, ◌+◌, ◌%◌, ◌^◌, List, [], ◌++◌, length, refl}
-use Rattle.std.proofs.Common.{arith, length-append, ◌∙◌, ap}
+use Rattle.std.specs.Prelude.{◌≡◌, ◌+◌, ◌%◌, ◌^◌, List, [], ◌++◌, length}
+use Rattle.std.proofs.Common.{arith, length-append}
 use Rattle.change_list.specs.declared.item.Row.{Row}
 use Rattle.search.specs.declared.row_sink.Stop.{Stop}
 use Rattle.search.specs.declared.sinks.Counter.{Counter}

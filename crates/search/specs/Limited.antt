@@ -1,5 +1,5 @@
 -- What a list of limited length has after it took rows.
-use Rattle.std.specs.Prelude.{◌≡◌, ℕ, ◌≤◌, List, [], ◌++◌, length, refl}
+use Rattle.std.specs.Prelude.{◌≡◌, ◌≤◌, List, [], ◌++◌, length, refl}
 use Rattle.std.proofs.Common.{sym, ap, ◌∙◌, append-nil, append_assoc}
 use Rattle.change_list.specs.declared.item.Row.{Row}
 use Rattle.search.specs.declared.row_sink.Stop.{Stop}

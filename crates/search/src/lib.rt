@@ -3,6 +3,7 @@
 #![tactic(auto)]
 
 mod at_most;
+mod bounded_query;
 mod branch_test;
 mod find;
 mod key_test;
@@ -15,11 +16,12 @@ mod slots;
 mod sorting;
 
 pub use at_most::AtMost;
+pub use bounded_query::BoundedQuery;
 pub use branch_test::{BranchTest, Covering};
 pub use find::find_all;
 pub use key_test::{KeyTest, OneAtom};
 pub use picks::{ByBounds, wanted_bits};
 pub use row_sink::{RowSink, Stop, row_of};
 pub use sinks::Counter;
-pub use slots::Slots;
+pub use slots::{AsRow, RowForm, Slots};
 pub use sorting::sort_by_number;

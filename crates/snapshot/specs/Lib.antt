@@ -1,3 +1,4 @@
 pub mod Ended
+pub mod Finds
 pub mod Life
 pub mod Snapshots

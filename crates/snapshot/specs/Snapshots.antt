@@ -1,6 +1,6 @@
 -- What a snapshot is made of, and what is found in it.
 use Rattle.std.specs.Prelude.{◌≡◌, ◌⊎◌, ℕ, ◌<◌, ◌≤◌, Bool, List, ◌++◌, length, map}
-use Rattle.key_class.specs.Limits.{most_commits, most_depth}
+use Rattle.key_class.specs.Limits.{most_commits, most_depth, most_fan}
 use Rattle.key_class.specs.Queries.{Query, query_of, depth_of}
 use Rattle.key_class.specs.Rules.{Rules, satisfies}
 use Rattle.key_class.specs.declared.pred.Pred.{Pred}
@@ -17,9 +17,11 @@ use Rattle.page_table.specs.Soundness.{IsSound}
 use Rattle.page_table.specs.Trees.{Tree}
 use Rattle.scan.specs.Agreement.{Agrees}
 
--- a sound tree, whose entries agree with a legal list of commits, no more of them than a world may have
+-- a sound tree, whose pages have no more entries than they may, and whose entries agree with a legal list of commits,
+-- no more of them than a world may have
 pub record IsSnapshot {K : Type 0} (is_cover : K → K → Bool) (tree : Tree K) (commits : List (Write K)) : Type 0 where
   pub fan : ℕ
+  pub few_entries : fan ≤ most_fan
   pub sound : IsSound is_cover fan tree
   pub agrees : Agrees tree commits
   pub legal : IsLegal commits

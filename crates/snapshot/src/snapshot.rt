@@ -1,16 +1,21 @@
-ghost use Rattle.std.specs.Prelude.{◌≡◌, ◌↔◌, ◌<◌, length, Err, IfOk, IfErr, OnErr};
+ghost use Rattle.std.specs.Prelude.{◌≡◌, ◌↔◌, ◌<◌, ◌^◌, length, Err, IfOk, IfErr, IsPermutation, OnErr, OnOk};
 ghost use Rattle.key_class.specs.declared.refusal.Refusal.TheVariants.{BadConfig, OutOfMemory, FromFuture};
 ghost use Rattle.key_class.specs.Refusals.{IsEither};
 ghost use Rattle.key_class.specs.Queries.{query_of, depth_of};
+ghost use Rattle.key_class.specs.Rules.{satisfies};
 ghost use Rattle.change_list.specs.Changes.{IsLegal, commit_at, row_at, rows, status_of};
+ghost use Rattle.search.specs.Sinks.{TakesAll, TakesSome};
+ghost use Rattle.snapshot.specs.Finds.{AreFirst, AreWritten, live_after};
 ghost use Rattle.snapshot.specs.Snapshots.{IsSnapshot, Appends, IsAfterAll, RefusesChanges, found_in};
 
 use crate::all_rows::all_rows;
+use crate::finds::{first_rows, number_of_rows, rows_in_any_order, rows_in_order, write_rows};
 use crate::life::lives;
 use change_list::{Item, Row, Status, View, Write, change_item, next_asked};
 use key_class::limits::MAX_DEPTH;
 use key_class::{KeyClass, Pred, Refusal};
 use page_table::PageTable;
+use search::{BoundedQuery, RowSink, Stop, find_all};
 use std::alloc::Global;
 use std::marker::Model;
 
@@ -28,6 +33,7 @@ pub struct Snapshot<C: KeyClass> {
 impl<C: KeyClass> Model for Snapshot<C> {
     ghost use Rattle.std.specs.Prelude.{List};
     ghost use Rattle.change_list.specs.declared.write.Write.{Write};
+    ghost use Rattle.snapshot.specs.Finds.{AreFirst, AreWritten, live_after};
     ghost use Rattle.snapshot.specs.Snapshots.{IsSnapshot};
 
     ghost Value = { List (Write C.Key) };
@@ -115,29 +121,88 @@ impl<C: KeyClass> Snapshot<C> {
         ensures depth { (result ≡ Err BadConfig) ↔ (32 < depth_of (query_of query.now)) }
         ensures refusals { IfErr result (IsEither BadConfig OutOfMemory) }
     {
-        if !query.is_within_depth(MAX_DEPTH) {
-            return Err(Refusal::BadConfig);
-        }
-        let commits = self.list.len() as u32;
-        let rows = survey::live_rows::<C>(self.alloc, &self.pages, commits, query)?;
+        let query = BoundedQuery::new(query)?;
+        let rows = rows_in_order::<C>(self.alloc, &self.pages, &query)?;
         Ok(rows)
     }
 
-    /// How many rows were live after its last commit and match. It keeps the rows of only one page at a time.
+    /// The rows that were live after its last commit and match, in any order: `find` without its sort.
     ///
     /// # Errors
     /// `BadConfig` if the query is deeper than 32, else `OutOfMemory`.
-    pub fn count(&self, query: &Pred<C::Atom>) -> Result<u64, Refusal>
-        ensures ok { IfOk result (λ n. n ≡ length (found_in C.rules query.now self.now)) }
+    pub fn find_any(&self, query: &Pred<C::Atom>) -> Result<Vec<Row<C::Key>>, Refusal>
+        ensures ok { IfOk result (λ rows. IsPermutation rows.items
+            (found_in C.rules query.now self.now)) }
         ensures depth { (result ≡ Err BadConfig) ↔ (32 < depth_of (query_of query.now)) }
         ensures refusals { IfErr result (IsEither BadConfig OutOfMemory) }
     {
-        if !query.is_within_depth(MAX_DEPTH) {
-            return Err(Refusal::BadConfig);
-        }
-        let commits = self.list.len() as u32;
-        let count = survey::live_count::<C>(self.alloc, &self.pages, commits, query)?;
-        Ok(count)
+        let query = BoundedQuery::new(query)?;
+        let rows = rows_in_any_order::<C>(self.alloc, &self.pages, &query)?;
+        Ok(rows)
+    }
+
+    /// Writes the rows that were live after its last commit and match, in any order, into a slice from its first place
+    /// on, as many as fit. Gives how many match. It needs no memory.
+    ///
+    /// # Errors
+    /// `BadConfig` if the query is deeper than 32. The slice is unchanged then.
+    pub fn find_into(&self, query: &Pred<C::Atom>, into: &mut [Row<C::Key>]) -> Result<u64, Refusal>
+        ensures ok { IfOk result
+            (AreWritten (found_in C.rules query.now self.now) into.old into.new) }
+        ensures unchanged { OnErr result (into.new ≡ into.old) }
+        ensures depth { (result ≡ Err BadConfig) ↔ (32 < depth_of (query_of query.now)) }
+        ensures refusals { IfErr result (λ why. why ≡ BadConfig) }
+    {
+        let query = BoundedQuery::new(query)?;
+        Ok(write_rows::<C>(&self.pages, &query, into))
+    }
+
+    /// At most `limit` of the rows that were live after its last commit and match, in any order.
+    ///
+    /// # Errors
+    /// `BadConfig` if the query is deeper than 32, else `OutOfMemory`.
+    pub fn first(&self, query: &Pred<C::Atom>, limit: usize) -> Result<Vec<Row<C::Key>>, Refusal>
+        ensures ok { IfOk result (λ rows. AreFirst
+            (found_in C.rules query.now self.now) limit rows.items) }
+        ensures depth { (result ≡ Err BadConfig) ↔ (32 < depth_of (query_of query.now)) }
+        ensures refusals { IfErr result (IsEither BadConfig OutOfMemory) }
+    {
+        let query = BoundedQuery::new(query)?;
+        let rows = first_rows::<C>(self.alloc, &self.pages, &query, limit)?;
+        Ok(rows)
+    }
+
+    /// Gives a sink the rows that were live after its last commit and match, in any order. It needs no memory but the
+    /// sink's.
+    ///
+    /// # Errors
+    /// The sink takes no more rows; it has some of them.
+    pub fn search<S: RowSink<C::Key>>(
+        &self,
+        query: &BoundedQuery<C::Atom>,
+        sink: &mut S,
+    ) -> Result<(), Stop>
+        ensures all { OnOk result
+            (TakesAll S.takes (live_after (satisfies C.rules query.now) self.now) sink.old sink.new) }
+        ensures some { OnErr result
+            (TakesSome S.takes (live_after (satisfies C.rules query.now) self.now) sink.old sink.new) }
+        ensures why { IfErr result (S.stops sink.new) }
+        ensures few { length (live_after (satisfies C.rules query.now) self.now) < 2 ^ 64 }
+    {
+        find_all::<C, S>(&self.pages, query, sink)
+    }
+
+    /// How many rows were live after its last commit and match. It needs no memory.
+    ///
+    /// # Errors
+    /// `BadConfig` if the query is deeper than 32.
+    pub fn count(&self, query: &Pred<C::Atom>) -> Result<u64, Refusal>
+        ensures ok { IfOk result (λ n. n ≡ length (found_in C.rules query.now self.now)) }
+        ensures depth { (result ≡ Err BadConfig) ↔ (32 < depth_of (query_of query.now)) }
+        ensures refusals { IfErr result (λ why. why ≡ BadConfig) }
+    {
+        let query = BoundedQuery::new(query)?;
+        Ok(number_of_rows::<C>(&self.pages, &query))
     }
 
     /// Appends the matching items of the commits after `from` to a list, in commit order and at most `most` of them,

@@ -6,15 +6,19 @@ ghost use Rattle.change_list.specs.Configs.{IsWithinLimits};
 ghost use Rattle.change_list.specs.declared.write.Write.TheVariants.{Insert, Delete, Move};
 ghost use Rattle.change_list.specs.Changes.{IsLegal, NamesNoRow, NamesDead, commit_at, row_at, status_of};
 ghost use Rattle.writes.specs.Moves.{IsToldFirst};
+ghost use Rattle.snapshot.specs.Finds.{AreFirst, AreWritten};
 ghost use Rattle.store.specs.Worlds.{HasCursor};
 ghost use Rattle.store.specs.States.{new_store, Commits, Keeps, cursor_of, IsOpenedFor, IsFollowerFor, IsBadOpening, IsFromFuture, HasNoFollowerFor, HasFewPages, HasNoCommitLeft, HasNoCommitFor, HasNoFinderFor, HasNoCursorFor, RefusesRow, RefusesCursor, RefusesFollower, AddsDead, MayRefuseDelete, MayRefuseMove, LacksCursor, Closes, DrainsInto, SweepsStore, SweepsStorePart, Nexts, RefusesNext, ChangesCursor, with_asking, matching_rows};
 
 use crate::reading::next_item;
 use change_list::{Config, Item, Row, Status, Write};
-use key_class::limits::{MAX_DEPTH, MAX_ROOM};
+use key_class::limits::MAX_ROOM;
 use key_class::{KeyClass, Pred, Refusal};
 use mailbox::Tray;
-use snapshot::Snapshot;
+use search::BoundedQuery;
+use snapshot::{
+    Snapshot, first_rows, number_of_rows, rows_in_any_order, rows_in_order, write_rows,
+};
 use std::alloc::Global;
 use std::marker::Model;
 use world::World;
@@ -315,39 +319,82 @@ impl<C: KeyClass> Store<C> {
     }
 
     /// The live rows that match, by rising number.
+    ///
+    /// # Errors
+    /// `BadConfig` if the query is deeper than 32, else `OutOfMemory`.
     pub fn find(&self, query: &Pred<C::Atom>) -> Result<Vec<Row<C::Key>>, Refusal>
         ensures ok { IfOk result (λ rows. rows.items
             ≡ matching_rows C.rules self.now query.now) }
         ensures depth { (result ≡ Err BadConfig) ↔ (32 < depth_of (query_of query.now)) }
         ensures refusals { IfErr result (IsEither BadConfig OutOfMemory) }
     {
-        if !query.is_within_depth(MAX_DEPTH) {
-            return Err(Refusal::BadConfig);
-        }
+        let query = BoundedQuery::new(query)?;
         self.world.recall_soundness();
-        let table = self.world.search().pages();
-        let commits = self.world.commits() as u32;
-        let rows = survey::live_rows::<C>(self.alloc, table, commits, query)?;
+        let rows = rows_in_order::<C>(self.alloc, self.world.search().pages(), &query)?;
         Ok(rows)
     }
 
-    /// How many live rows match. It keeps the rows of only one page at a time.
+    /// The live rows that match, in any order: `find` without its sort.
     ///
     /// # Errors
     /// `BadConfig` if the query is deeper than 32, else `OutOfMemory`.
+    pub fn find_any(&self, query: &Pred<C::Atom>) -> Result<Vec<Row<C::Key>>, Refusal>
+        ensures ok { IfOk result (λ rows. IsPermutation rows.items
+            (matching_rows C.rules self.now query.now)) }
+        ensures depth { (result ≡ Err BadConfig) ↔ (32 < depth_of (query_of query.now)) }
+        ensures refusals { IfErr result (IsEither BadConfig OutOfMemory) }
+    {
+        let query = BoundedQuery::new(query)?;
+        self.world.recall_soundness();
+        let rows = rows_in_any_order::<C>(self.alloc, self.world.search().pages(), &query)?;
+        Ok(rows)
+    }
+
+    /// Writes the live rows that match, in any order, into a slice from its first place on, as many as fit. Gives how
+    /// many match. It needs no memory.
+    ///
+    /// # Errors
+    /// `BadConfig` if the query is deeper than 32. The slice is unchanged then.
+    pub fn find_into(&self, query: &Pred<C::Atom>, into: &mut [Row<C::Key>]) -> Result<u64, Refusal>
+        ensures ok { IfOk result
+            (AreWritten (matching_rows C.rules self.now query.now) into.old into.new) }
+        ensures unchanged { OnErr result (into.new ≡ into.old) }
+        ensures depth { (result ≡ Err BadConfig) ↔ (32 < depth_of (query_of query.now)) }
+        ensures refusals { IfErr result (λ why. why ≡ BadConfig) }
+    {
+        let query = BoundedQuery::new(query)?;
+        self.world.recall_soundness();
+        Ok(write_rows::<C>(self.world.search().pages(), &query, into))
+    }
+
+    /// At most `limit` of the live rows that match, in any order.
+    ///
+    /// # Errors
+    /// `BadConfig` if the query is deeper than 32, else `OutOfMemory`.
+    pub fn first(&self, query: &Pred<C::Atom>, limit: usize) -> Result<Vec<Row<C::Key>>, Refusal>
+        ensures ok { IfOk result (λ rows. AreFirst
+            (matching_rows C.rules self.now query.now) limit rows.items) }
+        ensures depth { (result ≡ Err BadConfig) ↔ (32 < depth_of (query_of query.now)) }
+        ensures refusals { IfErr result (IsEither BadConfig OutOfMemory) }
+    {
+        let query = BoundedQuery::new(query)?;
+        self.world.recall_soundness();
+        let rows = first_rows::<C>(self.alloc, self.world.search().pages(), &query, limit)?;
+        Ok(rows)
+    }
+
+    /// How many live rows match. It needs no memory.
+    ///
+    /// # Errors
+    /// `BadConfig` if the query is deeper than 32.
     pub fn count(&self, query: &Pred<C::Atom>) -> Result<u64, Refusal>
         ensures ok { IfOk result (λ n. n
             ≡ length (matching_rows C.rules self.now query.now)) }
         ensures depth { (result ≡ Err BadConfig) ↔ (32 < depth_of (query_of query.now)) }
-        ensures refusals { IfErr result (IsEither BadConfig OutOfMemory) }
+        ensures refusals { IfErr result (λ why. why ≡ BadConfig) }
     {
-        if !query.is_within_depth(MAX_DEPTH) {
-            return Err(Refusal::BadConfig);
-        }
+        let query = BoundedQuery::new(query)?;
         self.world.recall_soundness();
-        let table = self.world.search().pages();
-        let commits = self.world.commits() as u32;
-        let count = survey::live_count::<C>(self.alloc, table, commits, query)?;
-        Ok(count)
+        Ok(number_of_rows::<C>(self.world.search().pages(), &query))
     }
 }

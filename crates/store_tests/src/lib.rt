@@ -29,6 +29,8 @@ mod reach_classes;
 #[cfg(test)]
 mod reach_queries;
 #[cfg(test)]
+mod searches;
+#[cfg(test)]
 mod snapshots;
 #[cfg(test)]
 mod stores;

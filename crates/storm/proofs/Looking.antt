@@ -14,8 +14,8 @@ use Rattle.change_list.proofs.Items.{IsChange, item_is_change}
 use Rattle.change_list.proofs.Pushing.{changes_none}
 use Rattle.delivery_check.proofs.Parts.{rows_no_marks}
 use Rattle.page_table.specs.Weights.{Same}
-use Rattle.survey.proofs.Rising.{Rises, same_permutation, sorted_is}
-use Rattle.survey.proofs.Surveying.{snapshot_rises}
+use Rattle.search.proofs.Rising.{Rises, same_permutation, sorted_is}
+use Rattle.snapshot.proofs.Finding.{snapshot_rises}
 
 module _ {X : Type 0} (n : X → ℕ) where
   adjacent : (xs : List X) → Rises n xs → AllAdjacentBelow (λ x y. n x ≤ n y) xs (length xs)

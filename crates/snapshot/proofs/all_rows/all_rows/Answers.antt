@@ -1,5 +1,4 @@
-use Rattle.std.proofs.Common.{◌≡◌, ◌<◌, length, sym, ap, ◌∙◌, arith}
-use Rattle.change_list.specs.Changes.{is_ended}
+use Rattle.std.proofs.Common.{◌<◌, length, sym, ◌∙◌, arith}
 use Rattle.snapshot.proofs.Ending.{flag_at, living_ended, living_more, living_none, living_unmade}
 use Rattle.snapshot.proofs.all_rows.all_rows.Goals as goal
 use Rattle.snapshot.proofs.all_rows.all_rows.Goals.{in-Some+in_ok-push, in_default}

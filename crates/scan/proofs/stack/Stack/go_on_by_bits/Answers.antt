@@ -5,14 +5,15 @@ use Rattle.smallvec.specs.SmallVec.{HasRoomFor}
 use Rattle.page_table.specs.Stacks.{StackItem}
 use Rattle.page_table.specs.Trees.{page_at}
 use Rattle.scan.proofs.Visiting.{room_popped, goes_on_made}
-use Rattle.scan.specs.Picks.{item_of_child, picked}
-use Rattle.scan.specs.Scanning.{IsNext, child_items}
+use Rattle.scan.specs.Scanning.{IsNext, child_items, item_of_child}
 use Rattle.scan.proofs.Growing.{on_err, pushes_some}
-use Rattle.scan.proofs.Picking.{ones_picked, wanted_items}
+use Rattle.scan.proofs.Pushing.{wanted_items}
+use Rattle.search.proofs.Picking.{ones_picked}
+use Rattle.search.specs.Picks.{picked}
 use Rattle.scan.proofs.stack.Stack.go_on_by_bits.Goals as goal
 
-pub push_picked-rows-requires : goal.push_picked-rows-requires
-push_picked-rows-requires g c =
+pub push_picked-requires : goal.push_picked-requires
+push_picked-requires g c =
     let bits = c.wanted_bits-wanted.result in
     let branches = c.branches-branches.result.now in
     let n = length (picked bits branches) in
@@ -33,10 +34,10 @@ returns-clause-ok g c =
     let bits = c.wanted_bits-wanted.result in
     let before = c.push_link.new.items.items in
     let pushed =
-    c.push_picked-rows.ensures ∙ ap (λ n. before ++ map (item_of_child n) (reverse (picked bits branches))) c.counter-memo.ensures
+    c.push_picked.ensures ∙ ap (λ n. before ++ map (item_of_child n) (reverse (picked bits branches))) c.counter-memo.ensures
     ∙ ap (λ l. before ++ map (item_of_child counter) (reverse l)) c.wanted_bits-wanted.ensures.wanted
     ∙ ap (λ l. before ++ l) (wanted_items wants counter branches) in
-    goes_on_made wants c.args.table.now old c.make_room.new.items.items c.pop.new.self.items before c.push_picked-rows.new.items.items c.args.item c.item.inside.memo _ c.page-page.result.now
+    goes_on_made wants c.args.table.now old c.make_room.new.items.items c.pop.new.self.items before c.push_picked.new.items.items c.args.item c.item.inside.memo _ c.page-page.result.now
     c.requires.next (c.make_room.ensures.items ∙ c.self.view_is) c.pop.ensures.rest (ap (λ i. i.memo) c.item.view_is) (search rules) c.push_link.ensures.pushed (search rules)
     (pushed ∙ ap (λ bs. before ++ child_items wants counter bs) c.branches-branches.ensures)
 

@@ -1,4 +1,4 @@
-use Rattle.std.proofs.Common.{arith, ◌≡◌, ◌+◌, ◌/◌, ◌^◌, ◌<◌, ◌∷◌, [], ◌∙◌, ap, drop, map, subst, sym}
+use Rattle.std.proofs.Common.{arith, ◌+◌, ◌/◌, ◌^◌, ◌<◌, ◌∷◌, [], ◌∙◌, ap, drop, map, subst}
 use lib.Count.{count_trailing_zeros}
 use Rattle.search.specs.Live.{row_of}
 use Rattle.search.specs.Picks.{picked}

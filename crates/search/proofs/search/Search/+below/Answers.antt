@@ -1,9 +1,9 @@
-use Rattle.std.proofs.Common.{arith, ◌≡◌, ◌-◌, ◌^◌, ◌<◌, ◌≤◌, length, get_or, ◌++◌, ◌∷◌, [], ◌∙◌, ap, append-nil, filter, map, sym, subst}
+use Rattle.std.proofs.Common.{arith, ◌≡◌, ◌-◌, ◌^◌, ◌<◌, ◌≤◌, length, get_or, [], ◌∙◌, ap, append-nil, filter, map, sym, subst}
 use lib.Count.{count_leading_zeros}
 use Rattle.std.specs.Prelude.{OnErr, OnOk, Ok, Err, Result}
 use Rattle.node.specs.Pages.{followed}
 use Rattle.page_table.specs.Trees.{page_at, pages_under}
-use Rattle.search.specs.Live.{is_found, live_rows, row_of}
+use Rattle.search.specs.Live.{live_rows, row_of}
 use Rattle.search.specs.Picks.{HasBitsFor, picked}
 use Rattle.search.specs.Searches.{rows_below}
 use Rattle.search.specs.Sinks.{TakesAll, TakesSome}

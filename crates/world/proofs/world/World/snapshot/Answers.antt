@@ -11,4 +11,4 @@ new-requires g c =
     let list : inside.changes ≡ c.in_ok-list.list = sym c.in_ok-list.ensures.list in
     subst (λ l. IsSnapshot covers c.in_ok-pages.pages l) list
     (subst (λ t. IsSnapshot covers t inside.changes) tree
-    (record { fan = inside.search.fan; sound = c.pages.ensures.sound; agrees = world.agrees; legal = world.legal; few = omega (arith, world.few_commits, world.commit_limit) }))
+    (record { fan = inside.search.fan; few_entries = world.tree.fan_limit; sound = c.pages.ensures.sound; agrees = world.agrees; legal = world.legal; few = omega (arith, world.few_commits, world.commit_limit) }))

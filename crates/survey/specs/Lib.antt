@@ -1,2 +1,0 @@
-pub mod Radix
-pub mod Surveys
