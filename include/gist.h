@@ -62,7 +62,7 @@ extern "C" {
 
 #define GIST_VERSION_MAJOR 0
 #define GIST_VERSION_MINOR 3
-#define GIST_VERSION_PATCH 5
+#define GIST_VERSION_PATCH 6
 #define GIST_VERSION (GIST_VERSION_MAJOR * 1000000 + GIST_VERSION_MINOR * 1000 + GIST_VERSION_PATCH)
 
 /* The GIST_VERSION of the library that the program runs with. */
@@ -325,7 +325,10 @@ uint32_t gist_commit_of(const gist_snapshot *snapshot, uint64_t number, gist_ite
  */
 uint32_t gist_find(const gist_snapshot *snapshot, const gist_query *query, gist_row *rows, size_t room, uint64_t *found);
 
-/* Counts the live rows that match a query. GIST_OUT_OF_MEMORY. */
+/* The same in any order: it takes less time, and needs no memory. */
+uint32_t gist_find_any(const gist_snapshot *snapshot, const gist_query *query, gist_row *rows, size_t room, uint64_t *found);
+
+/* Counts the live rows that match a query. It needs no memory. */
 uint32_t gist_count(const gist_snapshot *snapshot, const gist_query *query, uint64_t *count);
 
 /*

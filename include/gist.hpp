@@ -280,14 +280,9 @@ template <class Key> struct Snapshot : detail::Owner<gist_snapshot, gist_drop> {
         return item.kind == GIST_NOTHING ? std::nullopt : std::optional(detail::item_of<Key>(item));
     }
     /* The live rows that match a query, by rising number. */
-    std::vector<Row<Key>> find(const Query<Key> &query) const {
-        std::vector<gist_row> rows(detail::room);
-        for (uint64_t found = 0;; rows.resize(detail::size_of(found))) {
-            detail::need(gist_find(this->held(), query.held(), rows.data(), rows.size(), &found));
-            if (found <= rows.size())
-                return Span<gist_row>(rows.data(), size_t(found)).made(detail::row_of<Key>);
-        }
-    }
+    std::vector<Row<Key>> find(const Query<Key> &query) const { return found_by(gist_find, query); }
+    /* The same in any order, which takes less time. */
+    std::vector<Row<Key>> find_any(const Query<Key> &query) const { return found_by(gist_find_any, query); }
     /* For each key, the live rows that have a relation to it. If it throws, Error::done keys were answered. */
     std::vector<std::vector<Row<Key>>> find_each(Relation relation, Span<Key> keys) const {
         const auto asked = keys.made([](const Key &it) { return it.key(); });
@@ -319,6 +314,16 @@ template <class Key> struct Snapshot : detail::Owner<gist_snapshot, gist_drop> {
             std::transform(buffer, buffer + count, std::back_inserter(all.items), detail::item_of<Key>);
         }
         return all;
+    }
+
+  private:
+    std::vector<Row<Key>> found_by(decltype(gist_find) find, const Query<Key> &query) const {
+        std::vector<gist_row> rows(detail::room);
+        for (uint64_t found = 0;; rows.resize(detail::size_of(found))) {
+            detail::need(find(this->held(), query.held(), rows.data(), rows.size(), &found));
+            if (found <= rows.size())
+                return Span<gist_row>(rows.data(), size_t(found)).made(detail::row_of<Key>);
+        }
     }
 };
 

@@ -187,6 +187,7 @@ class Run:
         now, (query, test) = self.some_snapshot(), self.some_query()
         rows = self.session.commits.snapshot(test, now.commits())
         due("rows", [*map(self.row_text, now.find(query))], rows)
+        due("rows in any order", sorted(map(self.row_text, now.find_any(query))), sorted(rows))
         due("a count", now.count(query), len(rows))
 
     def further_find_each(self):

@@ -80,6 +80,7 @@ CALLS: Dict[str, Callable[[World], Call]] = {
     "Snapshot.commits": lambda it: (it.now.commits, {}),
     "Snapshot.count": lambda it: (it.now.count, {"query": it.query}),
     "Snapshot.find": lambda it: (it.now.find, {"query": it.query}),
+    "Snapshot.find_any": lambda it: (it.now.find_any, {"query": it.query}),
     "Snapshot.find_each": lambda it: (it.now.find_each, {"relation": Relation.SAME, "keys": [(1, 2)]}),
     "Snapshot.get": lambda it: (it.now.get, {"number": 1}),
     "Snapshot.known": lambda it: (it.now.known, {"number": 1}),
@@ -232,7 +233,7 @@ class Table(Case):
         cursor = store.open(query)
         of_closed_store = [store.commits, store.figures, store.standings, store.snapshot, store.sweep, cursor.items, cursor.mark]
         of_closed_store += [lambda: store.open("same (1 2)"), lambda: store.insert((1, 2), 3), lambda: store.delete(1), lambda: store.wait_past(0)]
-        of_closed_now = [now.commits, lambda: len(now), lambda: list(now), lambda: now[1], lambda: now.find("same (1 2)"), now.renew]
+        of_closed_now = [now.commits, lambda: len(now), lambda: list(now), lambda: now[1], lambda: now.find("same (1 2)"), lambda: now.find_any("same (1 2)"), now.renew]
         of_closed_now += [lambda: now.commit(1), lambda: world.feed().advance(now), lambda: now.find_each(Relation.SAME, [(1, 2)])]
         of_closed_query = [lambda: world.store.open(query), lambda: world.now.find(query), lambda: world.feed().subscribe(query, 0)]
         of_closed_feed = [lambda: feed.subscribe("same (1 2)", 0), lambda: feed.advance(world.now), lambda: feed.unsubscribe(1)]

@@ -73,6 +73,7 @@ class Stores(Case):
             now = store.snapshot()
             one, two, far = Row(number=1, key=keys.one, tag=10), Row(2, keys.two, 20), Row(3, keys.far, 30)
             self.assertEqual(now.find(keys.text), [one, two])
+            self.assertEqual(sorted(now.find_any(keys.text), key=lambda row: row.number), [one, two])
             self.assertEqual(now.find(overlaps(keys.one)), [one, two])
             self.assertEqual(now.find(within(keys.far)), [far])
             self.assertEqual(now.find(holds(keys.far)), [far])

@@ -56,6 +56,8 @@ template <class Key> void snapshots(const Keys<Key> &keys) {
     const auto now = store.snapshot();
     const auto near = now.find(Query<Key>(keys.text));
     HOLDS(near.size() == 2 && is(near[0], 1, keys.one, 10) && is(near[1], 2, keys.two, 20));
+    const auto any = now.find_any(Query<Key>(keys.text));
+    HOLDS(any.size() == 2 && any[0].row + any[1].row == 3 && now.find_any(gist::within(keys.far))[0].row == 3);
     HOLDS(now.find(gist::overlaps(keys.one)).size() == 2 && now.find(gist::same(keys.two))[0].row == 2);
     HOLDS(now.find(gist::within(keys.far))[0].row == 3 && now.find(gist::holds(keys.far))[0].row == 3);
     for (const auto relation : {Relation::Overlaps, Relation::Within, Relation::Holds, Relation::Same})

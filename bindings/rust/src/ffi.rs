@@ -154,6 +154,13 @@ extern "C" {
         room: usize,
         found: *mut u64,
     ) -> u32;
+    pub fn gist_find_any(
+        snapshot: *const Snapshot,
+        query: *const Query,
+        rows: *mut Row,
+        room: usize,
+        found: *mut u64,
+    ) -> u32;
     pub fn gist_count(snapshot: *const Snapshot, query: *const Query, count: *mut u64) -> u32;
     pub fn gist_find_each(
         snapshot: *const Snapshot,

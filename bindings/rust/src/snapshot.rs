@@ -12,6 +12,15 @@ use std::marker::PhantomData;
 use std::sync::Arc;
 use std::vec;
 
+/// A call of the library that writes rows into a buffer.
+type Find = unsafe extern "C" fn(
+    *const ffi::Snapshot,
+    *const ffi::Query,
+    *mut ffi::Row,
+    usize,
+    *mut u64,
+) -> u32;
+
 /// A store's commits as they stood when it was taken. Later commits don't change it.
 ///
 /// It may be sent to and shared by any number of threads; a clone is the same snapshot. As long as it lives it keeps
@@ -210,21 +219,49 @@ impl<K: Key> Snapshot<K> {
     /// # Ok::<(), gist::Error>(())
     /// ```
     pub fn find(&self, query: &Query<K>) -> Result<Vec<Row<K>>, Error> {
+        self.found_by(ffi::gist_find, query)
+    }
+
+    /// The live rows that match a query, in any order: it takes less time than [`find`](Self::find).
+    ///
+    /// # Errors
+    /// [`Error::OutOfMemory`].
+    ///
+    /// ```
+    /// use gist::{Interval, Query, Store};
+    ///
+    /// let rooms = Store::<Interval>::new()?;
+    /// rooms.insert_all([(9..12, 71), (14..17, 72), (20..22, 73)])?;
+    /// let found = rooms.snapshot()?.find_any(&Query::overlaps(11..=14)?)?;
+    /// assert_eq!(found.iter().map(|row| row.tag).sum::<u64>(), 71 + 72);
+    /// # Ok::<(), gist::Error>(())
+    /// ```
+    pub fn find_any(&self, query: &Query<K>) -> Result<Vec<Row<K>>, Error> {
+        self.found_by(ffi::gist_find_any, query)
+    }
+
+    /// All rows that a call of the library writes into a buffer.
+    fn found_by(&self, find: Find, query: &Query<K>) -> Result<Vec<Row<K>>, Error> {
         let mut rows = vec![ffi::Row::default(); Self::ROOM];
-        let mut found = self.find_into(query, &mut rows)?;
+        let mut found = self.find_into(find, query, &mut rows)?;
         if found > rows.len() {
             rows.resize(found, ffi::Row::default());
-            found = self.find_into(query, &mut rows)?;
+            found = self.find_into(find, query, &mut rows)?;
         }
         Ok(rows[..found].iter().copied().map(row).collect())
     }
 
     /// Fills a buffer with the live rows that match a query, as many as fit, and returns how many there are in all.
-    fn find_into(&self, query: &Query<K>, rows: &mut [ffi::Row]) -> Result<usize, Error> {
+    fn find_into(
+        &self,
+        find: Find,
+        query: &Query<K>,
+        rows: &mut [ffi::Row],
+    ) -> Result<usize, Error> {
         let mut found = 0;
         told(self.read(|it| {
             query.read(|query| unsafe {
-                ffi::gist_find(it, query, rows.as_mut_ptr(), rows.len(), &mut found)
+                find(it, query, rows.as_mut_ptr(), rows.len(), &mut found)
             })
         }))?;
         Ok(found as usize)
@@ -233,7 +270,7 @@ impl<K: Key> Snapshot<K> {
     /// Counts the live rows that match a query.
     ///
     /// # Errors
-    /// [`Error::OutOfMemory`].
+    /// No error is known: a count needs no memory.
     ///
     /// ```
     /// use gist::{Query, Set, Store};

@@ -115,6 +115,9 @@ fn rows<K: Key>(keys: Keys<K>) -> Tried {
     ];
     assert_eq!(now.find(&Query::new(keys.text)?)?, [one, two]);
     assert_eq!(now.find(&keys.text.parse()?)?, [one, two]);
+    let mut any = now.find_any(&Query::overlaps(keys.one)?)?;
+    any.sort_by_key(|row| row.number);
+    assert_eq!(any, [one, two]);
     assert_eq!(now.find(&Query::overlaps(keys.one)?)?, [one, two]);
     assert_eq!(now.find(&Query::within(keys.far)?)?, [far]);
     assert_eq!(now.find(&Query::holds(keys.far)?)?, [far]);

@@ -1,5 +1,5 @@
 /// The version of what is released.
-pub const VERSION: &str = "0.3.5";
+pub const VERSION: &str = "0.3.6";
 
 /// What the program does.
 pub const ABOUT: &str = "Rows with keys, queries over them, and cursors that follow their changes";

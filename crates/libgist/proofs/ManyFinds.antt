@@ -4,7 +4,7 @@ use Rattle.std.specs.Prelude.{Result, Ok, Some, slice_get, ◌⊎◌, min}
 use Rattle.libgist.specs.declared.denied.Denied.{Denied}
 use Rattle.std.proofs.lemmas.List.{append-nil, append_assoc, drop-drop, length-append, length-map, map-append}
 use Rattle.std.proofs.Math.Seq.{drop-append-add, take-append_seam}
-use Rattle.libgist.specs.Buffers.{written_over}
+use Rattle.search.specs.Fills.{written_over}
 use Rattle.libgist.specs.ManyFinds.{joined, ends_from, AskFor, StopsAt, ShowsFirst}
 use Rattle.libgist.proofs.Writing.{written_more, push_more}
 

@@ -6,7 +6,7 @@ use Rattle.libgist.specs.Denials.{PassesOn}
 use Rattle.libgist.specs.Feeding.{InFeedBy, InFeedOver}
 use Rattle.libgist.specs.Following.{IsAdvancing, IsSubscribing}
 use Rattle.libgist.specs.ManyFinds.{IsFindOfEach}
-use Rattle.libgist.specs.Reading.{IsFind, IsCount, IsChanges, IsRowOf}
+use Rattle.libgist.specs.Reading.{IsFind, IsFindAny, IsCount, IsChanges, IsRowOf}
 use Rattle.libgist.specs.Shown.{shown_commit}
 use Rattle.libgist.specs.declared.denied.Denied.{Denied}
 use Rattle.libgist.specs.declared.figures.Figures.{Figures}
@@ -37,6 +37,10 @@ AnswersFindOfEach relation keys ends_before ends_after before after =
 -- the live rows that match a query
 abbrev pub AnswersFind : List ShownRow → List ShownRow → Held → Held → Result ℕ Denied → Type 0
 AnswersFind before after = InSnapshotBy (λ K A class query commits. PassesOn (IsFind class.rules class.words_of query commits before after))
+
+-- the same in any order
+abbrev pub AnswersFindAny : List ShownRow → List ShownRow → Held → Held → Result ℕ Denied → Type 0
+AnswersFindAny before after = InSnapshotBy (λ K A class query commits. PassesOn (IsFindAny class.rules class.words_of query commits before after))
 
 -- how many live rows match a query
 abbrev pub AnswersCount : Held → Held → Result ℕ Denied → Type 0

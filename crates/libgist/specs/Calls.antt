@@ -21,7 +21,7 @@ use Rattle.libgist.specs.declared.words.ShownItem.{ShownItem}
 use Rattle.libgist.specs.declared.denied.Denied.{Denied}
 use Rattle.libgist.specs.declared.denied.Denied.TheVariants.{BadEnds}
 use Rattle.libgist.specs.Batches.{IsBatch}
-use Rattle.libgist.specs.Buffers.{written_over}
+use Rattle.search.specs.Fills.{written_over}
 use Rattle.libgist.specs.Denials.{PassesOn}
 use Rattle.libgist.specs.Shown.{shown_item}
 

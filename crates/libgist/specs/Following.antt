@@ -11,7 +11,7 @@ use Rattle.change_list.specs.declared.write.Write.{Write}
 use Rattle.feed.specs.Feeds.{FeedState, AdvancesInto, HasNoPlaceFor, RefusesSubscription, new_feed, subscription_of, with_subscription, without_subscription}
 use Rattle.libgist.specs.declared.words.KeyWords.{KeyWords}
 use Rattle.libgist.specs.declared.words.ToldItem.{ToldItem}
-use Rattle.libgist.specs.Buffers.{written_over}
+use Rattle.search.specs.Fills.{written_over}
 use Rattle.libgist.specs.Shown.{shown_item}
 
 pub record FollowingState (K A : Type 0) : Type 0 where

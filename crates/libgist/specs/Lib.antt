@@ -1,7 +1,6 @@
 pub mod Asked
 pub mod Batches
 pub mod BoxKeys
-pub mod Buffers
 pub mod Calls
 pub mod Classes
 pub mod Configs

@@ -11,7 +11,7 @@ use Rattle.libgist.specs.declared.words.KeyWords.{KeyWords}
 use Rattle.libgist.specs.declared.words.ShownRow.{ShownRow}
 use Rattle.libgist.specs.declared.denied.Denied.{Denied}
 use Rattle.libgist.specs.declared.denied.Denied.TheVariants.{By}
-use Rattle.libgist.specs.Buffers.{written_over}
+use Rattle.search.specs.Fills.{written_over}
 use Rattle.libgist.specs.Relations.{atom_for}
 use Rattle.libgist.specs.Shown.{shown_row}
 

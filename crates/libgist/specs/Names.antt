@@ -3,7 +3,7 @@ use Rattle.std.specs.Prelude.{◌≡◌, ◌⊎◌, ◌<◌, ℕ, List, [], ◌�
 use Rattle.key_class.specs.Refusals.{name_of}
 use Rattle.libgist.specs.declared.denied.Denied.{Denied}
 use Rattle.libgist.specs.declared.denied.Denied.TheVariants.{By, BadEnds, OtherClass, NoHandle, BadLimits}
-use Rattle.libgist.specs.Buffers.{written_over}
+use Rattle.search.specs.Fills.{written_over}
 use Rattle.libgist.specs.Denials.{number_told}
 
 -- the name that C is told

@@ -1,5 +1,5 @@
 -- What calls of a snapshot answer.
-use Rattle.std.specs.Prelude.{◌≡◌, ◌↔◌, ℕ, ◌<◌, ◌≤◌, ◌⊎◌, Bool, true, List, length, map, Some, None, Result, Err, IfOk, IfErr, OnErr}
+use Rattle.std.specs.Prelude.{◌≡◌, ◌↔◌, ℕ, ◌<◌, ◌≤◌, ◌⊎◌, Bool, true, List, length, map, Some, None, Result, Err, IfOk, IfErr, IsPermutation, OnErr}
 use Rattle.key_class.specs.declared.refusal.Refusal.{Refusal}
 use Rattle.key_class.specs.declared.refusal.Refusal.TheVariants.{BadConfig, OutOfMemory, FromFuture, NoSuchRow}
 use Rattle.key_class.specs.declared.pred.Pred.{Pred}
@@ -15,8 +15,15 @@ use Rattle.snapshot.specs.Snapshots.{IsAfterAll, RefusesChanges, found_in}
 use Rattle.libgist.specs.declared.words.KeyWords.{KeyWords}
 use Rattle.libgist.specs.declared.words.ShownRow.{ShownRow}
 use Rattle.libgist.specs.declared.words.ShownItem.{ShownItem}
-use Rattle.libgist.specs.Buffers.{written_over}
+use Rattle.search.specs.Fills.{written_over}
 use Rattle.libgist.specs.Shown.{shown_row, shown_item}
+
+module _ {K : Type 0} (words_of : K → KeyWords) where
+  -- some rows, in any order, stand over the first places of a buffer, as many as fit
+  pub record StandsInAnyOrder (rows : List (Row K)) (before after : List ShownRow) : Type 0 where
+    pub given : List (Row K)
+    pub arranged : IsPermutation given rows
+    pub written : after ≡ written_over (map (shown_row words_of) given) before
 
 module _ {K A : Type 0} (rules : Rules K A) (words_of : K → KeyWords) (query : Pred A) (commits : List (Write K)) where
   -- the live rows that match are counted, and stand over the first places of a buffer, by rising number
@@ -26,6 +33,14 @@ module _ {K A : Type 0} (rules : Rules K A) (words_of : K → KeyWords) (query :
     pub unfilled : OnErr answer (after ≡ before)
     pub depth : (answer ≡ Err BadConfig) ↔ (32 < depth_of (query_of query))
     pub refusals : IfErr answer (IsEither BadConfig OutOfMemory)
+
+  -- the live rows that match are counted, and stand over the first places of a buffer, in any order
+  pub record IsFindAny (before after : List ShownRow) (answer : Result ℕ Refusal) : Type 0 where
+    pub counted : IfOk answer (λ n. n ≡ length (found_in rules query commits))
+    pub written : IfOk answer (λ n. StandsInAnyOrder words_of (found_in rules query commits) before after)
+    pub unfilled : OnErr answer (after ≡ before)
+    pub depth : (answer ≡ Err BadConfig) ↔ (32 < depth_of (query_of query))
+    pub refusals : IfErr answer (λ why. why ≡ BadConfig)
 
   -- The matching items of the commits after `from`, up to another commit, are counted and stand over the first places
   -- of a buffer. That commit is the last one, or the buffer is full.
@@ -50,7 +65,7 @@ module _ {K A : Type 0} (rules : Rules K A) (query : Pred A) (commits : List (Wr
   pub record IsCount (answer : Result ℕ Refusal) : Type 0 where
     pub counted : IfOk answer (λ n. n ≡ length (found_in rules query commits))
     pub depth : (answer ≡ Err BadConfig) ↔ (32 < depth_of (query_of query))
-    pub refusals : IfErr answer (IsEither BadConfig OutOfMemory)
+    pub refusals : IfErr answer (λ why. why ≡ BadConfig)
 
 module _ {K : Type 0} (words_of : K → KeyWords) (commits : List (Write K)) where
   -- the row with a number, and whether it is live

@@ -12,7 +12,7 @@ use Rattle.libgist.specs.declared.held.AnySnapshot.TheVariants as snapshot
 use Rattle.libgist.specs.declared.held.Held.{Held}
 use Rattle.libgist.specs.declared.held.Held.TheVariants as held
 use Rattle.libgist.specs.declared.renewal.Anew.{Anew}
-use Rattle.libgist.specs.Buffers.{written_over}
+use Rattle.search.specs.Fills.{written_over}
 
 -- whether it is a snapshot
 abbrev pub IsSnapshot : Held → Type 0

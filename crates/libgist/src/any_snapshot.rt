@@ -1,7 +1,7 @@
 //! The calls of a lent snapshot, of any class.
 ghost use Rattle.std.specs.Prelude.{◌≡◌, Ok, OnErr};
 ghost use Rattle.libgist.specs.Classes.{FromHandle, FromHandles};
-ghost use Rattle.libgist.specs.Asked.{AnswersChanges, AnswersCommit, AnswersCommits, AnswersCount, AnswersFind, AnswersFindOfEach, AnswersRow};
+ghost use Rattle.libgist.specs.Asked.{AnswersChanges, AnswersCommit, AnswersCommits, AnswersCount, AnswersFind, AnswersFindAny, AnswersFindOfEach, AnswersRow};
 
 use crate::by_class::{in_snapshot, in_snapshot_by, of_class, of_one_class};
 use crate::denied::{Denied, passed_on};
@@ -40,6 +40,17 @@ pub fn find(asked: &Lent, lent: &Lent, rows: &mut [ShownRow]) -> Result<u64, Den
 {
     in_snapshot_by!(asked, query, lent, snapshot => {
         passed_on(reading::find(snapshot, query, rows))
+    })
+}
+
+/// Finds the live rows that match, in any order.
+pub fn find_any(asked: &Lent, lent: &Lent, rows: &mut [ShownRow]) -> Result<u64, Denied>
+    ensures answered { FromHandles (AnswersFindAny rows.old rows.new) asked.now.inside.state
+        lent.now.inside.state result }
+    ensures unfilled { OnErr result (rows.new ≡ rows.old) }
+{
+    in_snapshot_by!(asked, query, lent, snapshot => {
+        passed_on(reading::find_any(snapshot, query, rows))
     })
 }
 

@@ -1,6 +1,6 @@
 //! Filling a caller's buffer as far as it goes.
 ghost use Rattle.std.specs.Prelude.{◌≡◌, map};
-ghost use Rattle.libgist.specs.Buffers.{written_over};
+ghost use Rattle.search.specs.Fills.{written_over};
 ghost use Rattle.libgist.specs.Shown.{shown_row};
 
 use crate::crossing::Crossing;

@@ -2,7 +2,7 @@
 ghost use Rattle.std.specs.Prelude.{◌≡◌, ◌↔◌, ◌<◌, ◌≤◌, min, length, map, drop, Err, IfOk, IfErr, OnOk, OnErr};
 ghost use Rattle.key_class.specs.declared.refusal.Refusal.TheVariants.{FromFuture, OutOfMemory};
 ghost use Rattle.key_class.specs.Refusals.{IsEither};
-ghost use Rattle.libgist.specs.Buffers.{written_over};
+ghost use Rattle.search.specs.Fills.{written_over};
 ghost use Rattle.libgist.specs.Following.{GivesWaiting, GoesOn, IsAdvancing, IsSubscribing, IsUnsubscribing, commits_allowed, new_following, told_item};
 
 use crate::crossing::Crossing;

@@ -1,18 +1,20 @@
 //! The calls of a snapshot of any class.
 ghost use Rattle.std.specs.Prelude.{◌≡◌, ◌↔◌, IsTrue, map};
 ghost use Rattle.change_list.specs.declared.write.Status.TheVariants.{Live};
-ghost use Rattle.libgist.specs.Buffers.{written_over};
-ghost use Rattle.libgist.specs.Reading.{IsFind, IsCount, IsChanges, IsRowOf};
+ghost use Rattle.search.specs.Fills.{written_over};
+ghost use Rattle.libgist.specs.Reading.{IsFind, IsFindAny, IsCount, IsChanges, IsRowOf};
 ghost use Rattle.libgist.specs.Shown.{shown_commit, shown_item};
 
 use crate::buffers::write_rows;
 use crate::crossing::Crossing;
-use crate::shown;
+use crate::shown::{self, AsShown};
 use crate::words::{ShownItem, ShownRow};
 use change_list::{Item, Status};
 use key_class::{KeyClass, Pred, Refusal};
+use search::{BoundedQuery, Slots};
 use snapshot::Snapshot;
 use std::alloc::Global;
+use std::marker::PhantomData;
 
 /// Writes the live rows that match into a buffer, as many as fit, and gives how many there are in all.
 pub fn find<C: Crossing>(
@@ -25,6 +27,26 @@ pub fn find<C: Crossing>(
     let found = snapshot.find(query)?;
     write_rows::<C>(rows, &found);
     Ok(found.len() as u64)
+}
+
+/// Writes the live rows that match into a buffer, in any order, as many as fit, and gives how many there are in all. It
+/// needs no memory.
+pub fn find_any<C: Crossing>(
+    snapshot: &Snapshot<C>,
+    query: &Pred<C::Atom>,
+    rows: &mut [ShownRow],
+) -> Result<u64, Refusal>
+    ensures { IsFindAny C.rules C.words_of query.now snapshot.now rows.old rows.new result }
+{
+    let query = BoundedQuery::new(query)?;
+    let mut slots = Slots::<ShownRow, AsShown<C>> {
+        places: rows,
+        filled: 0,
+        found: 0,
+        form: PhantomData,
+    };
+    let _never_stops = snapshot.search(&query, &mut slots);
+    Ok(slots.total())
 }
 
 /// How many live rows match.

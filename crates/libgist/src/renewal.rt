@@ -1,6 +1,6 @@
 //! Renewal: a new store made of the rows that are live in a snapshot.
 ghost use Rattle.std.specs.Prelude.{◌≡◌, ◌≢◌, ◌↔◌, length, None, Ok, Err, IfOk, IfErr, IsSomeAnd};
-ghost use Rattle.libgist.specs.Buffers.{written_over};
+ghost use Rattle.search.specs.Fills.{written_over};
 ghost use Rattle.change_list.specs.Changes.{rows};
 ghost use Rattle.change_list.specs.Configs.{IsWithinLimits};
 ghost use Rattle.store.specs.Renewing.{IsRenewed, numbers_of_living};

@@ -5,6 +5,8 @@ ghost use Rattle.libgist.specs.Shown.{shown, shown_row, shown_with, shown_write,
 use crate::crossing::Crossing;
 use crate::words::{KeyWords, ShownItem, ShownRow};
 use change_list::{Item, Row, Write};
+use search::RowForm;
+use std::marker::PhantomData;
 
 /// The kind of nothing: no item, no commit.
 const NOTHING: u32 = 0;
@@ -32,6 +34,21 @@ pub fn row<C: Crossing>(row: Row<C::Key>) -> ShownRow
         row: row.row,
         tag: row.tag,
         key: C::words(row.key),
+    }
+}
+
+/// Rows in the layout that C reads.
+pub struct AsShown<C> {
+    of: PhantomData<C>,
+}
+
+impl<C: Crossing> RowForm<C::Key, ShownRow> for AsShown<C> {
+    ghost form_of = { shown_row C.words_of };
+
+    fn form(row: Row<C::Key>) -> ShownRow
+        ensures { result ≡ shown_row C.words_of row }
+    {
+        self::row::<C>(row)
     }
 }
 

@@ -1,7 +1,7 @@
 //! The exported calls of snapshots and queries. Next to each export that takes pointers is a function that takes
 //! references instead.
 ghost use Rattle.std.specs.Prelude.{◌≡◌, ◌≢◌, None};
-ghost use Rattle.libgist.specs.Asked.{AnswersChanges, AnswersCommit, AnswersCommits, AnswersCount, AnswersFind, AnswersFindOfEach, AnswersRow};
+ghost use Rattle.libgist.specs.Asked.{AnswersChanges, AnswersCommit, AnswersCommits, AnswersCount, AnswersFind, AnswersFindAny, AnswersFindOfEach, AnswersRow};
 ghost use Rattle.std.specs.Borrow.{sem};
 ghost use Rattle.libgist.specs.Classes.{FromHandle, FromHandles};
 ghost use Rattle.libgist.specs.Loans.{Loan, is_lent, lasts, are_lent, both_last, state_of};
@@ -158,6 +158,37 @@ fn find_rows(snapshot: &Lent, query: &Lent, rows: &mut [ShownRow], found: &mut u
     ensures unfilled { result ≢ 0 → rows.new ≡ rows.old }
 {
     tell(any_snapshot::find(query, snapshot, rows), found)
+}
+
+/// Writes the live rows that match into a buffer, in any order, as many as fit, and gives how many there are in all.
+#[unsafe(no_mangle)]
+pub unsafe extern "C" fn gist_find_any(
+    snapshot: *const Handle,
+    query: *const Handle,
+    rows: &mut [ShownRow],
+    found: &mut u64,
+) -> u32
+    ghost loans: { Loan × Loan }
+    requires* { sem 𝓛 (are_lent snapshot query loans) }
+    ensures* back { sem 𝓛 (both_last loans) }
+    ensures found { Tells result found.old found.new (FromHandles (AnswersFindAny rows.old rows.new)
+        (state_of loans.1) (state_of loans.0)) }
+    ensures unfilled { result ≢ 0 → rows.new ≡ rows.old }
+{
+    find_any_rows(
+        &*(snapshot as *const Lent),
+        &*(query as *const Lent),
+        rows,
+        found,
+    )
+}
+
+fn find_any_rows(snapshot: &Lent, query: &Lent, rows: &mut [ShownRow], found: &mut u64) -> u32
+    ensures found { Tells result found.old found.new (FromHandles (AnswersFindAny rows.old rows.new)
+        query.now.inside.state snapshot.now.inside.state) }
+    ensures unfilled { result ≢ 0 → rows.new ≡ rows.old }
+{
+    tell(any_snapshot::find_any(query, snapshot, rows), found)
 }
 
 /// Gives how many live rows match.

@@ -1,5 +1,5 @@
 use Rattle.std.proofs.Common.{◌∙◌, ap, map, length, min}
-use Rattle.libgist.specs.Buffers.{written_over}
+use Rattle.search.specs.Fills.{written_over}
 use Rattle.libgist.specs.Following.{FollowingState, told_item}
 use Rattle.libgist.proofs.following.give.Goals as goal
 
