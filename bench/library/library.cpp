@@ -13,6 +13,7 @@
 #include <cstdlib>
 #include <cstring>
 #include <ctime>
+#include <iterator>
 #include <memory>
 #include <string>
 #include <vector>
@@ -73,9 +74,10 @@ struct Found {
     bool operator==(const Found& other) const { return count == other.count && sum == other.sum; }
 };
 
-// Finds of one kind: their names when all rows live and when half of them do, and how large the answer or the key is
+// Finds of one kind: their names when all rows live and when half of them do, in any order, and as counts, and how large
+// the answer or the key is
 struct Asked {
-    const char *name, *later;
+    const char *name, *later, *any, *counted;
     std::uint64_t size;
 };
 
@@ -85,7 +87,8 @@ struct Intervals {
         std::int64_t lo, hi;
     };
     static constexpr std::uint32_t CLASS = GIST_INTERVALS, RELATION = GIST_OVERLAPS;
-    static constexpr Asked ASKED[] = {{"find of 1,000", "find of 500", 1000}, {"find of ten", "find of five", 10}};
+    static constexpr Asked ASKED[] = {{"find of 1,000", "find of 500", "1,000, any order", "count of 1,000", 1000},
+                                      {"find of ten", "find of five", "ten, any order", "count of ten", 10}};
     static constexpr std::uint64_t FOLLOWED = 200;
 
     static Key key(Generator& generator, std::uint64_t rows) {
@@ -110,7 +113,8 @@ struct Boxes {
         std::int32_t x1, y1, x2, y2;
     };
     static constexpr std::uint32_t CLASS = GIST_BOXES, RELATION = GIST_OVERLAPS;
-    static constexpr Asked ASKED[] = {{"find of 1,000", "find of 500", 1000}, {"find of ten", "find of five", 10}};
+    static constexpr Asked ASKED[] = {{"find of 1,000", "find of 500", "1,000, any order", "count of 1,000", 1000},
+                                      {"find of ten", "find of five", "ten, any order", "count of ten", 10}};
     static constexpr std::uint64_t FOLLOWED = 200;
 
     static std::int64_t side(std::uint64_t rows) {
@@ -149,10 +153,10 @@ struct Sets {
         bool holds(const Key& other) const { return (other.low & ~low) == 0 && (other.high & ~high) == 0; }
     };
     static constexpr std::uint32_t CLASS = GIST_SETS, RELATION = GIST_HOLDS;
-    static constexpr Asked ASKED[] = {{"find by one", "by one, half dead", 1},
-                                      {"find by two", "by two, half dead", 2},
-                                      {"find by three", "by three, half dead", 3},
-                                      {"find by four", "by four, half dead", 4}};
+    static constexpr Asked ASKED[] = {{"find by one", "by one, half dead", "by one, any order", "count by one", 1},
+                                      {"find by two", "by two, half dead", "by two, any order", "count by two", 2},
+                                      {"find by three", "by three, half dead", "by three, any order", "count by three", 3},
+                                      {"find by four", "by four, half dead", "by four, any order", "count by four", 4}};
     static constexpr std::uint64_t FOLLOWED = 2;
     static constexpr int ELEMENTS = 128, SIZE = 8;
 
@@ -185,6 +189,7 @@ class Store {
 
     explicit Store(std::uint64_t most) : rows(most) { expect(gist_create(&store, Kind::CLASS, &LIMITS), "gist_create"); }
     ~Store() {
+        forget();
         gist_drop(&snapshot);
         gist_destroy(&store);
     }
@@ -208,6 +213,27 @@ class Store {
         expect(gist_find_each(&snapshot, Kind::RELATION, &key, 1, rows.data(), rows.size(), &end, 1, &answered), "gist_find_each");
         if (answered != 1) fail("a find has more rows than the buffer");
         return first(end);
+    }
+    // Makes the queries of finds in any order, and of counts
+    void prepare(const std::vector<typename Kind::Key>& keys) {
+        forget();
+        take();
+        queries.reserve(keys.size());  // a handle isn't copied
+        for (const auto& wanted : keys) {
+            queries.push_back(GIST_NONE);
+            expect(gist_ask(&queries.back(), Kind::CLASS, Kind::RELATION, Kind::key_of(wanted)), "gist_ask");
+        }
+    }
+    Found find_any(std::size_t at) {
+        std::uint64_t count = 0;
+        expect(gist_find_any(&snapshot, &queries[at], rows.data(), rows.size(), &count), "gist_find_any");
+        if (count > rows.size()) fail("a find has more rows than the buffer");
+        return first(count);
+    }
+    std::uint64_t count(std::size_t at) {
+        std::uint64_t count = 0;
+        expect(gist_count(&snapshot, &queries[at], &count), "gist_count");
+        return count;
     }
     Found find_text(const std::string& text) {
         gist_query query = prepared(text);
@@ -235,6 +261,10 @@ class Store {
     }
 
   private:
+    void forget() {
+        for (gist_query& query : queries) gist_forget(&query);
+        queries.clear();
+    }
     void take() {
         if (is_current) return;
         gist_drop(&snapshot);
@@ -256,6 +286,7 @@ class Store {
     gist_store store = GIST_NONE;
     gist_snapshot snapshot = GIST_NONE;
     bool is_current = false;
+    std::vector<gist_query> queries;
     std::vector<gist_row> rows;
 };
 
@@ -287,8 +318,16 @@ class Loop {
         for (std::uint64_t row : found) sum.add(row);
         return sum;
     }
+    void prepare(const std::vector<typename Kind::Key>& wanted) { asked = &wanted; }
+    Found find_any(std::size_t at) { return find((*asked)[at]); }
+    std::uint64_t count(std::size_t at) {
+        std::uint64_t count = 0;
+        for (const auto& key : keys) count += key.holds((*asked)[at]);
+        return count;
+    }
 
   private:
+    const std::vector<typename Kind::Key>* asked = nullptr;
     std::vector<typename Kind::Key> keys;
     std::vector<std::uint64_t> rows, places, found;
 };
@@ -307,6 +346,26 @@ inline auto box_of(const Boxes::Key& key) {
     using Point = bg::model::point<std::int32_t, 2, bg::cs::cartesian>;
     return bg::model::box<Point>(Point(key.x1, key.y1), Point(key.x2, key.y2));
 }
+
+// Where a query of Boost's tree puts what it finds, if it is only counted
+struct Counting {
+    using iterator_category = std::output_iterator_tag;
+    using value_type = void;
+    using difference_type = std::ptrdiff_t;
+    using pointer = void;
+    using reference = void;
+
+    std::uint64_t* count;
+
+    Counting& operator*() { return *this; }
+    Counting& operator++() { return *this; }
+    Counting& operator++(int) { return *this; }
+    template <class Value>
+    Counting& operator=(const Value&) {
+        *count += 1;
+        return *this;
+    }
+};
 
 // Boost's tree with a way to split
 template <class Kind, class Splits>
@@ -327,8 +386,16 @@ class Boost {
         for (const Value& value : rows) found.add(value.second);
         return found;
     }
+    void prepare(const std::vector<typename Kind::Key>& wanted) { asked = &wanted; }
+    Found find_any(std::size_t at) { return find((*asked)[at]); }
+    std::uint64_t count(std::size_t at) {
+        std::uint64_t count = 0;
+        tree.query(bgi::intersects(box_of((*asked)[at])), Counting{&count});
+        return count;
+    }
 
   private:
+    const std::vector<typename Kind::Key>* asked = nullptr;
     bgi::rtree<Value, Splits> tree;
     std::vector<Value> rows;
 };
@@ -397,6 +464,21 @@ void finds(Tree& tree, const Work<Kind>& work, const char* Asked::*name, std::ve
         }));
 }
 
+// Finds in any order, and counts; the queries are made before
+template <class Kind, class Tree>
+void prepared_finds(Tree& tree, const Work<Kind>& work, std::vector<Phase>& phases) {
+    for (std::size_t at = 0; at < work.wanted.size(); at += 1) {
+        std::size_t calls = work.wanted[at].size();
+        tree.prepare(work.wanted[at]);
+        phases.push_back(timed(Kind::ASKED[at].any, calls, [&](Phase& phase) {
+            for (std::size_t call = 0; call < calls; call += 1) phase.found.push_back(tree.find_any(call));
+        }));
+        phases.push_back(timed(Kind::ASKED[at].counted, calls, [&](Phase& phase) {
+            for (std::size_t call = 0; call < calls; call += 1) phase.found.push_back({tree.count(call), 0});
+        }));
+    }
+}
+
 template <class Kind, class Tree>
 std::vector<Phase> common_phases(Tree& tree, const Work<Kind>& work) {
     std::vector<Phase> phases;
@@ -404,6 +486,7 @@ std::vector<Phase> common_phases(Tree& tree, const Work<Kind>& work) {
         for (std::uint64_t at = 0; at < work.keys.size(); at += 1) tree.insert(at + 1, work.keys[at]);
     }));
     finds<Kind>(tree, work, &Asked::name, phases);
+    prepared_finds<Kind>(tree, work, phases);
     phases.push_back(timed("delete", work.ended.size(), [&](Phase&) {
         for (std::uint64_t row : work.ended) tree.erase(row, work.keys[row - 1]);
     }));
