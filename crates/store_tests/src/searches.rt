@@ -42,7 +42,11 @@ fn filled(alloc: Global) -> Result<Store<Intervals>, Refusal> {
 fn are_in_order(rows: &[Row<Interval>]) -> bool {
     let mut before = 100;
     for row in rows {
-        if row.row <= before || row.row > 2_000 || row.row % 3 == 0 || row.tag + 1 != row.row {
+        if row.row <= before
+            || row.row > 2_000
+            || row.row % 3 == 0
+            || row.tag.wrapping_add(1) != row.row
+        {
             return false;
         }
         before = row.row;
