@@ -225,7 +225,7 @@ impl<K: Key> Snapshot<K> {
     /// The live rows that match a query, in any order: it takes less time than [`find`](Self::find).
     ///
     /// # Errors
-    /// [`Error::OutOfMemory`].
+    /// No error is known: the library needs no memory for it.
     ///
     /// ```
     /// use gist::{Interval, Query, Store};
