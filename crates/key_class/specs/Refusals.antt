@@ -2,7 +2,7 @@
 use Rattle.std.specs.Prelude.{◌≡◌, ◌⊎◌, ℕ, List, ◌++◌, codes}
 use Rattle.std.specs.Fmt.{decimal}
 use Rattle.key_class.specs.declared.refusal.Refusal.{Refusal}
-use Rattle.key_class.specs.declared.refusal.Refusal.TheVariants.{OutOfMemory, BadConfig, PagesFull, CommitsFull, CursorsFull, FindersFull, NotHere, NodeFull, TooFew, Uncovered, Owed, Unhung, BadSides, NoSuchRow, AlreadyDeleted, NoSuchCursor, CursorClosed, NoRoom, Idle, NoSuchFinder, QueryText, Line, FromFuture, FeedFull, NotSubscribed}
+use Rattle.key_class.specs.declared.refusal.Refusal.TheVariants.{OutOfMemory, BadConfig, PagesFull, CommitsFull, CursorsFull, FindersFull, NotHere, NodeFull, TooFew, Uncovered, Owed, Unhung, BadSides, NoSuchRow, AlreadyDeleted, NoSuchCursor, CursorClosed, NoRoom, Idle, NoSuchFinder, QueryText, Line, FromFuture, FeedFull, NotSubscribed, Compacted, OtherStore}
 
 -- the number of a refusal
 abbrev pub number_of : Refusal → ℕ
@@ -31,6 +31,8 @@ number_of (Line place) = 22
 number_of FromFuture = 23
 number_of FeedFull = 24
 number_of NotSubscribed = 25
+number_of Compacted = 30
+number_of OtherStore = 31
 
 -- the name of a refusal
 abbrev pub name_of : Refusal → List ℕ
@@ -59,6 +61,8 @@ name_of (Line place) = codes "Line"
 name_of FromFuture = codes "FromFuture"
 name_of FeedFull = codes "FeedFull"
 name_of NotSubscribed = codes "NotSubscribed"
+name_of Compacted = codes "Compacted"
+name_of OtherStore = codes "OtherStore"
 
 -- the number and the name, with one space between
 abbrev pub number_and_name : Refusal → List ℕ

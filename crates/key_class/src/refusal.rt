@@ -59,6 +59,10 @@ pub enum Refusal {
     FeedFull,
     /// No subscription with the serial is open at a feed.
     NotSubscribed,
+    /// The changes after the revision are no longer known.
+    Compacted,
+    /// The snapshot is of another map.
+    OtherStore,
 }
 
 impl<T: Drop> From<AllocFailed<T>> for Refusal {
@@ -108,6 +112,9 @@ impl Refusal {
             Refusal::FromFuture => 23,
             Refusal::FeedFull => 24,
             Refusal::NotSubscribed => 25,
+            // The library for C has 26 to 29 for refusals of its own.
+            Refusal::Compacted => 30,
+            Refusal::OtherStore => 31,
         }
     }
 
@@ -141,6 +148,8 @@ impl Refusal {
             Refusal::FromFuture => "FromFuture",
             Refusal::FeedFull => "FeedFull",
             Refusal::NotSubscribed => "NotSubscribed",
+            Refusal::Compacted => "Compacted",
+            Refusal::OtherStore => "OtherStore",
         }
     }
 }

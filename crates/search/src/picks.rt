@@ -32,7 +32,12 @@ impl<'a, C: KeyClass, T: KeyTest<C>> BlockTest<Entry<C::Key>, RowBlock<<C::Key a
     ghost passes = { λ by entry. is_found (T.accepts by.test.now) entry };
 
     fn tested(&self, block: &RowBlock<<C::Key as Columned>::Block>) -> u64 {
-        live_bits(&block.versions) & self.test.accepted_block(&block.keys)
+        let accepted = self.test.accepted_block(&block.keys);
+        // Most blocks have no accepted key, so that their versions are not read.
+        if accepted == 0 {
+            return 0;
+        }
+        live_bits(&block.versions) & accepted
     }
 }
 

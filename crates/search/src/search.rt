@@ -7,7 +7,7 @@ use crate::page_test::PageTest;
 use crate::picks::{found_bits, wanted_bits};
 use crate::row_sink::{RowSink, Stop};
 use key_class::KeyClass;
-use node::{Branches, Page};
+use node::Branches;
 use page_table::PageTable;
 
 /// From how many pages on a search reads ahead: smaller trees are in the cache.
@@ -76,41 +76,23 @@ impl<'a, C: KeyClass, T: PageTest<C>> Search<'a, C, T> {
         if self.table.len() < MANY_PAGES {
             return 0;
         }
-        self.sample_below(branches, wanted).min(AT_ONCE)
+        self.rows_of_children(branches, wanted).min(AT_ONCE)
     }
 
-    /// About how many rows are accepted, and branches wanted, on the children of the picked branches: one of each eight
-    /// is tested. That reads the memory which the tests of all of them will read, all at once.
-    fn sample_below(&self, branches: &Branches<C::Key>, mut wanted: u64) -> usize
+    /// How many rows the children of the picked branches have. That reads the heads of their pages, all at once.
+    fn rows_of_children(&self, branches: &Branches<C::Key>, mut wanted: u64) -> usize
         requires few { length branches.now ≤ 64 }
         requires within { HasBitsFor branches.now wanted }
     {
-        let mut found = 0;
+        let mut rows = 0;
         'children: while wanted != 0 {
             let place = 63 - wanted.leading_zeros();
             let child = branches.get(place as usize).child;
             if (child as usize) < self.table.len() {
-                found = self.sample_of(self.table.page(child)).wrapping_add(found);
+                rows = self.table.page(child).rows().len().wrapping_add(rows);
             }
             wanted -= 1 << place;
         }
-        found
-    }
-
-    /// About how many rows of a page are accepted, and branches wanted.
-    fn sample_of(&self, page: &Page<C::Key>) -> usize {
-        let mut found = 0usize;
-        let rows = page.rows();
-        for number in 0..rows.len().div_ceil(8) {
-            let row = rows.get(8 * number);
-            let is_found = self.test.is_accepted(row.key()) & row.is_live();
-            found = found.wrapping_add(8 * usize::from(is_found));
-        }
-        let branches = page.branches();
-        for number in 0..branches.len().div_ceil(8) {
-            let is_wanted = self.test.is_wanted(branches.get(8 * number).key);
-            found = found.wrapping_add(usize::from(is_wanted));
-        }
-        found
+        rows
     }
 }

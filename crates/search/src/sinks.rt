@@ -81,7 +81,8 @@ impl<K: Columned> RowSink<K> for Counter {
     fn take_picked(&mut self, _entries: &Rows<K>, bits: u64) -> Result<(), Stop>
         requires few { length _entries.now ≤ 64 }
         requires within { HasBitsFor _entries.now bits }
-        ensures all { OnOk result (counts self.old (map row_of (picked bits _entries.now)) self.new) }
+        ensures all { OnOk result
+            (counts self.old (map row_of (picked bits _entries.now)) self.new) }
         ensures some { OnErr result
             (TakesSome counts (map row_of (picked bits _entries.now)) self.old self.new) }
         ensures why { IfErr result (never_stops self.new) }

@@ -1,8 +1,8 @@
 mod Counting
-mod Ending
+pub mod Ending
 pub mod Finding
 mod Going
 mod Live
 mod Living
 mod Passing
-mod Taken
+pub mod Taken

@@ -25,7 +25,8 @@ pub fn rows_in_order<C: KeyClass>(
     query: &BoundedQuery<C::Atom>,
 ) -> Result<Vec<Row<C::Key>>, AllocError>
     requires { IsSearchable C.rules.is_cover table.now }
-    ensures { IfOk result (λ v. OfCommits (satisfies C.rules query.now) table.now (λ all. v.items ≡ all)) }
+    ensures { IfOk result (λ v.
+        OfCommits (satisfies C.rules query.now) table.now (λ all. v.items ≡ all)) }
 {
     let rows = found_rows::<C>(alloc, table, query)?;
     sort_by_number(alloc, rows)
@@ -41,7 +42,8 @@ pub fn rows_in_any_order<C: KeyClass>(
     query: &BoundedQuery<C::Atom>,
 ) -> Result<Vec<Row<C::Key>>, AllocError>
     requires { IsSearchable C.rules.is_cover table.now }
-    ensures { IfOk result (λ v. OfCommits (satisfies C.rules query.now) table.now (IsPermutation v.items)) }
+    ensures { IfOk result (λ v.
+        OfCommits (satisfies C.rules query.now) table.now (IsPermutation v.items)) }
 {
     found_rows::<C>(alloc, table, query)
 }

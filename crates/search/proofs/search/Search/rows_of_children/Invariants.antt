@@ -1,5 +1,5 @@
 use Rattle.search.specs.Picks.{HasBitsFor}
-use Rattle.search.proofs.search.Search.sample_below.Given as goal
+use Rattle.search.proofs.search.Search.rows_of_children.Given as goal
 
 abbrev pub invariant-children : goal.invariant-children
 invariant-children g l = HasBitsFor l.branches l.wanted

@@ -1,7 +1,7 @@
 use Rattle.std.proofs.Common.{arith, ◌-◌, ◌<◌, subst, sym}
 use Rattle.search.specs.Picks.{HasBitsFor}
 use Rattle.search.proofs.Picking.{last_bits, last_low, last_shifted, last_within}
-use Rattle.search.proofs.search.Search.sample_below.Goals as goal
+use Rattle.search.proofs.search.Search.rows_of_children.Goals as goal
 
 pub get-child-requires : goal.get-child-requires
 get-child-requires g c = last_within c.args.branches.now c.children.wanted (omega (arith, c.children-test.true)) c.children.invariant c.requires.few
