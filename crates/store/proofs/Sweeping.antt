@@ -1,9 +1,10 @@
--- What a sweep of every leaf takes of the dead of a store.
-use Rattle.std.proofs.Common.{◌≡◌, ◌<◌, ◌≤◌, ◌⊎◌, inl, inr, ℕ, zero, suc, Bool, true, false, cond, List, [], ◌∷◌, ◌++◌, length, map, filter, All, Option, Some, None, refl, ap, ◌∙◌, arith, subst, min}
-use Rattle.std.specs.Prelude.{slice_get, nat_lt, option_to_list, if◌then◌else◌, IsPermutation}
+-- What sweeps of every leaf and of one page take of the dead of a store.
+use Rattle.std.proofs.Common.{◌≡◌, ◌<◌, ◌≤◌, ◌⊎◌, inl, inr, ℕ, zero, suc, Bool, true, false, cond, List, [], ◌∷◌, ◌++◌, length, map, filter, All, Option, Some, None, refl, sym, ap, ◌∙◌, arith, subst, min}
+use Rattle.std.specs.Prelude.{slice_get, slice_set, nat_lt, option_to_list, if◌then◌else◌, IsPermutation}
 use Rattle.std.specs.List.{AllByRecursion, filter_map}
-use Rattle.std.proofs.lemmas.Bool.{both_ways}
-use Rattle.std.proofs.lemmas.List.{length-map, map-append}
+use Rattle.std.proofs.lemmas.Bool.{both_ways, cases_Bool}
+use Rattle.std.proofs.lemmas.List.{get_or_past, length-map, map-append, map-set, set-get_or}
+use Rattle.std.proofs.Math.ListN.{get_or-map}
 use Rattle.std.proofs.lemmas.List.Elements.{All-nil, All-cons, All-head, All-tail}
 use Rattle.std.proofs.lemmas.List.Sorted.{All-permutation}
 use Rattle.key_class.specs.Rules.{Rules}
@@ -12,18 +13,22 @@ use Rattle.change_list.proofs.Lists.{filter_map_cons}
 use Rattle.change_list.proofs.Tracking.{commit_within}
 use Rattle.cursor.specs.OpenCursors.{OpenCursor, shown, is_scanning}
 use Rattle.collector.specs.Horizons.{IsHorizon, ScansFrom}
-use Rattle.page_table.specs.Trees.{Tree, rows_of_tree}
+use Rattle.node.specs.Changes.{with_rows}
+use Rattle.page_table.specs.Soundness.{IsSound}
+use Rattle.page_table.specs.Trees.{Tree, after_rows, no_page, page_at, rows_of_tree}
 use Rattle.page_table.proofs.Under.{entries_under}
-use Rattle.row_version.specs.Entries.{Entry}
+use Rattle.row_version.specs.Entries.{Entry, is_needed, lives_at}
 use Rattle.scan.specs.Agreement.{IsEntryOf, IsDeath}
+use Rattle.split.specs.Tests.{is_leaf}
 use Rattle.writes.proofs.HorizonFacts.{horizon_unique}
 use Rattle.writes.specs.Sweeping.{SweepsAll, SweepsSome, is_past}
 use Rattle.world.proofs.Refusing.{open_passes}
 use Rattle.world.proofs.Serials.{member_at, member_within}
 use Rattle.world.specs.Resting.{death, death_from, deaths, Rests}
 use Rattle.world.specs.States as world
-use Rattle.store.specs.States.{KeepsLiving, SweepsStore, SweepsStorePart as StoreSweepsSome, IsNeededBy, is_dead_needed, horizon_of}
-use Rattle.store.specs.Worlds.{dead_row, store_state}
+use Rattle.world.specs.Steps.{SweepsLeaf}
+use Rattle.store.specs.States.{StoreState, KeepsLiving, SweepsOnePage, SweepsStore, SweepsStorePart as StoreSweepsSome, IsNeededBy, dead_on, is_dead_needed, horizon_of}
+use Rattle.store.specs.Worlds.{dead_of_page, dead_row, store_state}
 use Rattle.store.proofs.Worlds.{open_as}
 use Rattle.store.proofs.Keeping.{keeps_cursors, as_many, dead_rows_permuted}
 
@@ -140,6 +145,74 @@ module _ {K A : Type 0} (rules : Rules K A) (rule : Rule) (old : world.State K A
   pub old_kept : All IsKept (filter (is_past horizon) (deaths old.search.tree))
   old_kept = kept_filtered (deaths old.search.tree) (deaths_within (rows_of_tree old.search.tree)
       (entries_under old.search.tree sound.tree.sound.rank sound.tree.sound.ranked (λ e. IsEntryOf old.commits e) sound.agrees.entries 0 old.search.tree.counter sound.tree.sound.root_exists))
+
+-- the needed rows of a page have the deaths past the horizon
+needed_deaths : {K : Type 0} (horizon : ℕ) (es : List (Entry K)) → filter_map death (filter (is_needed horizon) es) ≡ filter (is_past horizon) (filter_map death es)
+needed_deaths horizon [] = refl
+needed_deaths {K} horizon (e ∷ es) = by_death e.died refl (needed_deaths horizon es) ∙ ap (filter (is_past horizon)) (sym (filter_map_cons death e es))
+  where
+    kept : List (Entry K)
+    kept = filter (is_needed horizon) es
+
+    died : List (ℕ × ℕ)
+    died = filter_map death es
+
+    by_death : (o : Option ℕ) → e.died ≡ o → filter_map death kept ≡ filter (is_past horizon) died → filter_map death (cond (lives_at horizon e.died) (e ∷ kept) kept) ≡ filter (is_past horizon) (option_to_list (death_from e.row e.died) ++ died)
+    by_death None none h =
+        ap (λ o. filter_map death (cond (lives_at horizon o) (e ∷ kept) kept)) none ∙ filter_map_cons death e kept
+        ∙ ap (λ o. option_to_list (death_from e.row o) ++ filter_map death kept) none ∙ h ∙ sym (ap (λ o. filter (is_past horizon) (option_to_list (death_from e.row o) ++ died)) none)
+    by_death (Some n) some h =
+        ap (λ o. filter_map death (cond (lives_at horizon o) (e ∷ kept) kept)) some ∙ by_number (nat_lt horizon n)
+        ∙ sym (ap (λ o. filter (is_past horizon) (option_to_list (death_from e.row o) ++ died)) some)
+      where
+        by_number : (b : Bool) → filter_map death (cond b (e ∷ kept) kept) ≡ cond b ((e.row, n) ∷ filter (is_past horizon) died) (filter (is_past horizon) died)
+        by_number true = filter_map_cons death e kept ∙ ap (λ o. option_to_list (death_from e.row o) ++ filter_map death kept) some ∙ ap (λ ds. (e.row, n) ∷ ds) h
+        by_number false = h
+
+-- the dead rows on a page, as a store shows them
+dead_on_as : {K A : Type 0} (rules : Rules K A) (rule : Rule) (s : world.State K A) (page : ℕ) → dead_on (store_state rules rule s) page ≡ dead_of_page (page_at s.search.tree page)
+dead_on_as rules rule s page = get_or-map dead_of_page s.search.tree.pages page no_page
+
+-- a page that isn't a leaf has no rows
+no_rows : {K : Type 0} (is_cover : K → K → Bool) (t : Tree K) (fan : ℕ) → IsSound is_cover fan t → (page : ℕ) → is_leaf t page ≡ false → (page_at t page).rows ≡ []
+no_rows is_cover t fan sound page no_leaf = elim within [
+  | inl l ↦ (sound.shape page l).inner (search (arith, no_leaf, l))
+  | inr past ↦ ap (λ p. p.rows) (get_or_past t.pages page no_page past)
+]
+  where
+    within : (page < length t.pages) ⊎ (length t.pages ≤ page)
+    within = search arith
+
+module _ {K A : Type 0} (rules : Rules K A) (rule : Rule) (old new : world.State K A) (sound : world.IsSoundWorld rules.is_cover old) (page : ℕ) where
+  abbrev before : StoreState K A
+  before = store_state rules rule old
+
+  leaf_swept : (count : ℕ) → SweepsLeaf old page count new → SweepsOnePage before page (store_state rules rule new)
+  unfolding after_rows
+  leaf_swept count s =
+      ap (λ w. map dead_of_page w.search.tree.pages) s.after
+      ∙ map-set dead_of_page old.search.tree.pages page (with_rows (page_at old.search.tree page) (filter (is_needed s.horizon) rows))
+      ∙ ap (slice_set before.dead_by_page page) left
+    where
+      rows : List (Entry K)
+      rows = (page_at old.search.tree page).rows
+
+      left : map dead_row (filter_map death (filter (is_needed s.horizon) rows)) ≡ filter (is_dead_needed before) (dead_on before page)
+      left =
+          ap (map dead_row) (needed_deaths s.horizon rows) ∙ sym (filter_as rules rule old sound s.horizon s.is (filter_map death rows))
+          ∙ ap (filter (is_dead_needed before)) (sym (dead_on_as rules rule old page))
+
+  nothing_swept : is_leaf old.search.tree page ≡ false → SweepsOnePage before page before
+  nothing_swept no_leaf = sym (ap (slice_set before.dead_by_page page) (ap (filter (is_dead_needed before)) none ∙ sym none) ∙ set-get_or before.dead_by_page page [])
+    where
+      none : dead_on before page ≡ []
+      none = dead_on_as rules rule old page ∙ ap (λ rows. map dead_row (filter_map death rows)) (no_rows rules.is_cover old.search.tree old.search.fan sound.tree.sound page no_leaf)
+
+  pub sweeps_one : (count : ℕ) → (is_leaf old.search.tree page ≡ true → SweepsLeaf old page count new) → (is_leaf old.search.tree page ≡ false → new ≡ old) → SweepsOnePage before page (store_state rules rule new)
+  sweeps_one count leaf other = elim (cases_Bool (is_leaf old.search.tree page)) [
+    | inl is ↦ leaf_swept count (leaf is)
+    | inr inner ↦ subst (λ w. SweepsOnePage before page (store_state rules rule w)) (sym (other inner)) (nothing_swept inner)
+  ]
 
 module _ {K A : Type 0} (rules : Rules K A) (rule : Rule) (old new : world.State K A) (sound : world.IsSoundWorld rules.is_cover old) (rests : Rests rules rule old new) (commits : new.commits ≡ old.commits)
     (pages : length new.search.tree.pages ≡ length old.search.tree.pages) (last_finder : new.last_finder ≡ old.last_finder) where

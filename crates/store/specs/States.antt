@@ -1,6 +1,6 @@
 -- What contracts see of a store, and what its calls do to it.
-use Rattle.std.specs.Prelude.{◌≡◌, ℕ, ◌+◌, ◌-◌, ◌<◌, ◌≤◌, Bool, true, false, not, ◌||◌, nat_lt, nat_eq, List, [], ◌∷◌, ◌++◌, length, filter, find, min, Option, Some, None, Result, Ok, Err, IsPermutation, if◌then◌else◌, option_to_list, ◌⊎◌, IfSome}
-use Rattle.std.specs.List.{AllByRecursion}
+use Rattle.std.specs.Prelude.{◌≡◌, ℕ, ◌+◌, ◌-◌, ◌<◌, ◌≤◌, Bool, true, false, not, ◌||◌, nat_lt, nat_eq, List, [], ◌∷◌, ◌++◌, length, filter, find, min, Option, Some, None, Result, Ok, Err, IsPermutation, if◌then◌else◌, option_to_list, slice_index_or, slice_set, ◌⊎◌, IfSome}
+use Rattle.std.specs.List.{AllByRecursion, flat_map}
 use Rattle.key_class.specs.Limits.{greatest_serial, most_cursors, most_depth, most_room}
 use Rattle.change_list.specs.declared.config.Config.{Config}
 use Rattle.change_list.specs.declared.write.Write.{Write}
@@ -33,6 +33,8 @@ pub record StoreState (K A : Type 0) : Type 0 where
   pub last : ℕ
   -- the dead rows that no sweep has removed, in any order
   pub dead : List DeadRow
+  -- the same rows by the page that has them
+  pub dead_by_page : List (List DeadRow)
   -- how many more pages may be made; a store that needs none keeps them all
   pub pages_left : ℕ
   -- how many finders were opened, of the 4,294,967,295 in the life of a store
@@ -40,7 +42,7 @@ pub record StoreState (K A : Type 0) : Type 0 where
 
 -- an empty store; one page is made with it
 abbrev pub new_store : {K A : Type 0} → Config → StoreState K A
-new_store config = record { limit = config.commits; commits = []; page_limit = config.pages; cursors = []; last = 0; dead = []; pages_left = config.pages - 1; finders = 0 }
+new_store config = record { limit = config.commits; commits = []; page_limit = config.pages; cursors = []; last = 0; dead = []; dead_by_page = [] ∷ []; pages_left = config.pages - 1; finders = 0 }
 
 module _ {K A : Type 0} where
   abbrev pub open_or_closed : Option (CursorState K A) → Result (CursorState K A) Refusal
@@ -93,6 +95,22 @@ module _ {K A : Type 0} where
   -- a dead row is needed by a scan that began before it died
   abbrev pub is_dead_needed : StoreState K A → DeadRow → Bool
   is_dead_needed state dead = nat_lt (horizon_of (length state.commits) state.cursors) dead.died
+
+  -- the dead rows on a page that no sweep has removed
+  abbrev pub dead_on : StoreState K A → ℕ → List DeadRow
+  dead_on state page = slice_index_or state.dead_by_page page []
+
+  -- the dead rows on all pages
+  abbrev pub dead_on_pages : StoreState K A → List DeadRow
+  dead_on_pages state = flat_map (λ dead. dead) state.dead_by_page
+
+  -- a sweep of one page removed its dead rows that no scan needs, and the other pages have the dead rows that they had
+  abbrev pub SweepsOnePage : StoreState K A → ℕ → StoreState K A → Type 0
+  SweepsOnePage old page new = new.dead_by_page ≡ slice_set old.dead_by_page page (filter (is_dead_needed old) (dead_on old page))
+
+  -- the next page in rotation, which is page 0 after the last
+  abbrev pub page_after : StoreState K A → ℕ → ℕ
+  page_after state page = if nat_lt (page + 1) (length state.dead_by_page) then page + 1 else 0
 
   -- an open cursor with an unfinished scan was opened before the row died
   pub record IsNeededBy (state : StoreState K A) (dead : DeadRow) : Type 0 where
@@ -245,7 +263,7 @@ module _ {K A : Type 0} (matching : A → K → Bool) where
     pub left : IsPermutation (filter (is_dead_needed old) old.dead) new.dead
     pub needed : AllByRecursion (λ d. IsNeededBy old d) new.dead
 
-  -- a sweep stopped by lack of memory removed some dead rows that no scan needs
+  -- a sweep of one page, or one that lack of memory stopped, removed some dead rows that no scan needs
   pub record SweepsStorePart (old new : StoreState K A) : Type 0 where
     pub rest : KeepsLiving old new
     pub gone : List DeadRow

@@ -1,17 +1,23 @@
 -- The state of a store, as seen from the state of its world.
-use Rattle.std.specs.Prelude.{◌≡◌, ℕ, ◌-◌, ◌<◌, [], length, map, Option, Some, Ok, All}
+use Rattle.std.specs.Prelude.{◌≡◌, ℕ, ◌-◌, ◌<◌, List, [], length, map, Option, Some, Ok, All}
+use Rattle.std.specs.List.{filter_map}
 use Rattle.key_class.specs.Rules.{Rules}
 use Rattle.mailbox.specs.Outlets.{Rule, tray_rule}
 use Rattle.key_class.specs.declared.refusal.Refusal.{Refusal}
 use Rattle.change_list.specs.declared.item.Item.{Item}
 use Rattle.change_list.specs.Cursors.{CursorState}
+use Rattle.node.specs.Pages.{Page}
 use Rattle.cursor.specs.OpenCursors.{OpenCursor, shown}
-use Rattle.world.specs.Resting.{deaths}
+use Rattle.world.specs.Resting.{death, deaths}
 use Rattle.world.specs.States as world
 use Rattle.store.specs.States.{StoreState, DeadRow, Nexts, RefusesNext, cursor_of}
 
 abbrev pub dead_row : ℕ × ℕ → DeadRow
 dead_row (row, died) = record { row = row; died = died }
+
+-- the dead rows on a page
+abbrev pub dead_of_page : {K : Type 0} → Page K → List DeadRow
+dead_of_page page = map dead_row (filter_map death page.rows)
 
 module _ {K A : Type 0} where
   -- the state of a store, by that of its world
@@ -23,6 +29,7 @@ module _ {K A : Type 0} where
     cursors = map (shown rules rule s.search.tree) s.cursors;
     last = s.last;
     dead = map dead_row (deaths s.search.tree);
+    dead_by_page = map dead_of_page s.search.tree.pages;
     pages_left = s.search.limit - length s.search.tree.pages;
     finders = s.last_finder;
   }

@@ -8,7 +8,7 @@ ghost use Rattle.change_list.specs.Changes.{IsLegal, NamesNoRow, NamesDead, comm
 ghost use Rattle.writes.specs.Moves.{IsToldFirst};
 ghost use Rattle.snapshot.specs.Finds.{AreFirst, AreWritten};
 ghost use Rattle.store.specs.Worlds.{HasCursor};
-ghost use Rattle.store.specs.States.{new_store, Commits, Keeps, cursor_of, IsOpenedFor, IsFollowerFor, IsBadOpening, IsFromFuture, HasNoFollowerFor, HasFewPages, HasNoCommitLeft, HasNoCommitFor, HasNoFinderFor, HasNoCursorFor, RefusesRow, RefusesCursor, RefusesFollower, AddsDead, MayRefuseDelete, MayRefuseMove, LacksCursor, Closes, DrainsInto, SweepsStore, SweepsStorePart, Nexts, RefusesNext, ChangesCursor, with_asking, matching_rows};
+ghost use Rattle.store.specs.States.{new_store, Commits, Keeps, cursor_of, IsOpenedFor, IsFollowerFor, IsBadOpening, IsFromFuture, HasNoFollowerFor, HasFewPages, HasNoCommitLeft, HasNoCommitFor, HasNoFinderFor, HasNoCursorFor, RefusesRow, RefusesCursor, RefusesFollower, AddsDead, MayRefuseDelete, MayRefuseMove, LacksCursor, Closes, DrainsInto, SweepsStore, SweepsStorePart, SweepsOnePage, dead_on_pages, page_after, Nexts, RefusesNext, ChangesCursor, with_asking, matching_rows};
 
 use crate::reading::next_item;
 use change_list::{Config, Item, Row, Status, Write};
@@ -294,6 +294,30 @@ impl<C: KeyClass> Store<C> {
     {
         self.world.recall_soundness();
         writes::sweep_all(&mut self.world)
+    }
+
+    /// Sweeps one page, and returns the number of the page to be swept next, which is 0 after the last. Who calls it
+    /// at each write, with the number that the call before returned and 0 at first, sweeps all pages in rotation and
+    /// needs no `sweep_all`. Nothing is removed from a page that isn't a leaf or doesn't exist.
+    ///
+    /// # Errors
+    /// `OutOfMemory`; nothing is changed then.
+    ///
+    /// It takes the time of one page.
+    pub fn sweep_next(&mut self, page: u64) -> Result<u64, Refusal>
+        ensures next { IfOk result (λ next. next ≡ page_after self.old page) }
+        ensures swept { OnOk result (SweepsOnePage self.old page self.new) }
+        ensures rest { SweepsStorePart C.rules.is_match self.old self.new }
+
+        // both lists have the same dead rows
+        ensures dead { IsPermutation self.new.dead (dead_on_pages self.new) }
+        ensures err { OnErr result (self.new ≡ self.old) }
+        ensures refusals { IfErr result (λ e. e ≡ OutOfMemory) }
+    {
+        self.world.recall_soundness();
+        writes::sweep_page(&mut self.world, page)?;
+        let next = page.saturating_add(1);
+        Ok(if next < self.world.pages() { next } else { 0 })
     }
 
     /// Asks a cursor for a mark.

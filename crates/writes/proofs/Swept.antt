@@ -1,8 +1,9 @@
--- What sweeps of the first pages take, page by page.
+-- What sweeps of pages take, page by page.
 use Rattle.std.proofs.Common.{◌≡◌, ◌+◌, ◌*◌, ◌<◌, ◌≤◌, inl, inr, ℕ, Bool, true, false, cond, List, [], ◌∷◌, ◌++◌, length, filter, Option, Some, None, refl, sym, ap, ◌∙◌, arith, subst, All}
 use Rattle.std.proofs.Common.{length-append}
 use Rattle.std.specs.Prelude.{nat_lt, option_to_list}
 use Rattle.std.specs.List.{AllByRecursion, filter_map}
+use Rattle.std.proofs.lemmas.Bool.{cases_Bool}
 use Rattle.std.proofs.lemmas.List.Elements.{All-cons, All-nil}
 use Rattle.key_class.specs.Rules.{Rules}
 use Rattle.mailbox.specs.Outlets.{Rule}
@@ -130,8 +131,8 @@ needed_past f horizon row None h = refl
 needed_past f horizon row (Some n) h = let e : cond (nat_lt horizon n) (f (row, n)) 0 ≡ f (row, n) = ap (λ b. cond b (f (row, n)) 0) h in omega (arith, e)
 
 module _ {K A : Type 0} (rules : Rules K A) (rule : Rule) where
-  -- the pages before one are swept, and this many rows went
-  pub record HasSwept (old : State K A) (page number : ℕ) (now : State K A) : Type 0 where
+  -- the pages from the first on, before another, are swept, and this many rows went
+  pub record HasSwept (old : State K A) (first page number : ℕ) (now : State K A) : Type 0 where
     pub horizon : ℕ
     pub is : IsHorizon (length old.commits) old.cursors horizon
     pub gone : List (ℕ × ℕ)
@@ -139,8 +140,8 @@ module _ {K A : Type 0} (rules : Rules K A) (rule : Rule) where
     pub unneeded : AllByRecursion (λ d. is_past horizon d ≡ false) gone
     pub counted : number ≡ length gone
     -- no page holds more than 64 rows
-    pub few : number ≤ 64 * page
-    pub clean : (q : ℕ) → q < page → All (λ e. is_needed horizon e ≡ true) (page_at now.search.tree q).rows
+    pub few : number + 64 * first ≤ 64 * page
+    pub clean : (q : ℕ) → first ≤ q → q < page → All (λ e. is_needed horizon e ≡ true) (page_at now.search.tree q).rows
     pub sound : IsSoundWorld rules.is_cover now
     pub rests : Rests rules rule old now
     pub commits : now.commits ≡ old.commits
@@ -148,8 +149,8 @@ module _ {K A : Type 0} (rules : Rules K A) (rule : Rule) where
     pub finders : now.finders ≡ old.finders
     pub last_finder : now.last_finder ≡ old.last_finder
 
-  pub swept_none : (old : State K A) → IsSoundWorld rules.is_cover old → HasSwept old 0 0 old
-  swept_none old sound = let h = a_horizon (length old.commits) old.cursors in record {
+  pub swept_none : (old : State K A) (first : ℕ) → IsSoundWorld rules.is_cover old → HasSwept old first first 0 old
+  swept_none old first sound = let h = a_horizon (length old.commits) old.cursors in record {
     horizon = h.0;
     is = h.1;
     gone = [];
@@ -157,7 +158,7 @@ module _ {K A : Type 0} (rules : Rules K A) (rule : Rule) where
     unneeded = tt;
     counted = refl;
     few = omega arith;
-    clean = λ q l. absurd (omega (arith, l));
+    clean = λ q f l. absurd (omega (arith, f, l));
     sound = sound;
     rests = rests_refl rules rule old;
     commits = refl;
@@ -166,10 +167,10 @@ module _ {K A : Type 0} (rules : Rules K A) (rule : Rule) where
     last_finder = refl;
   }
 
-  module _ (old : State K A) (page number : ℕ) (now : State K A) (h : HasSwept old page number now) where
+  module _ (old : State K A) (first page number : ℕ) (now : State K A) (h : HasSwept old first page number now) where
     -- all is swept
-    pub swept_all : length old.search.tree.pages ≤ page → SweepsAll old number now
-    swept_all end = record {
+    pub swept_all : first ≡ 0 → length old.search.tree.pages ≤ page → SweepsAll old number now
+    swept_all start end = record {
       horizon = h.horizon;
       is = h.is;
       counted = omega (arith, h.parted (λ d. 1), h.counted, weigh-ones h.gone, weigh-ones (deaths now.search.tree), weigh-ones (deaths old.search.tree));
@@ -177,7 +178,7 @@ module _ {K A : Type 0} (rules : Rules K A) (rule : Rule) where
     }
       where
         needed : EachEntry (λ e. is_needed h.horizon e ≡ true) now.search.tree
-        needed q l = h.clean q (omega (arith, l, end, h.pages))
+        needed q l = h.clean q (omega (arith, start)) (omega (arith, l, end, h.pages))
 
         each : (f : ℕ × ℕ → ℕ) → weigh f (filter (is_past h.horizon) (deaths old.search.tree)) ≡ weigh f (deaths now.search.tree)
         each f =
@@ -203,7 +204,7 @@ module _ {K A : Type 0} (rules : Rules K A) (rule : Rule) where
     }
 
     -- an inner page holds no row
-    pub swept_inner : is_leaf now.search.tree page ≡ false → page < length old.search.tree.pages → HasSwept old (page + 1) number now
+    pub swept_inner : is_leaf now.search.tree page ≡ false → page < length old.search.tree.pages → HasSwept old first (page + 1) number now
     swept_inner inner l = record {
       horizon = h.horizon;
       is = h.is;
@@ -212,9 +213,9 @@ module _ {K A : Type 0} (rules : Rules K A) (rule : Rule) where
       unneeded = h.unneeded;
       counted = h.counted;
       few = omega (arith, h.few);
-      clean = λ q k. elim (is_or_not q page) [
+      clean = λ q f k. elim (is_or_not q page) [
         | inl e ↦ subst (λ n. All (λ e. is_needed h.horizon e ≡ true) (page_at now.search.tree n).rows) (sym e) (subst (λ rows. All (λ (e : Entry K). is_needed h.horizon e ≡ true) rows) (sym nothing) (All-nil (λ (e : Entry K). is_needed h.horizon e ≡ true)))
-        | inr d ↦ h.clean q (search (arith, k, d))
+        | inr d ↦ h.clean q f (search (arith, k, d))
       ];
       sound = h.sound;
       rests = h.rests;
@@ -234,8 +235,8 @@ module _ {K A : Type 0} (rules : Rules K A) (rule : Rule) where
         nothing = (h.sound.tree.sound.shape page within).inner level
 
     -- a leaf is swept
-    pub swept_leaf : {E : Type 0} (new : State K A) (count : ℕ) → page < length old.search.tree.pages → ServesAll {E = E} rules rule now (event.Sweep page) (reply.Swept count) new → SweepsLeaf now page count new → IsSoundWorld rules.is_cover new → HasSwept old (page + 1) (number + count) new
-    swept_leaf {E} new count l serves s sound = record {
+    pub swept_leaf : (new : State K A) (count : ℕ) → page < length old.search.tree.pages → Rests rules rule now new → SweepsLeaf now page count new → IsSoundWorld rules.is_cover new → HasSwept old first (page + 1) (number + count) new
+    swept_leaf new count l rests s sound = record {
       horizon = h.horizon;
       is = h.is;
       gone = h.gone ++ lost h.horizon rows;
@@ -249,19 +250,17 @@ module _ {K A : Type 0} (rules : Rules K A) (rule : Rule) where
       unneeded = recursion_append (λ d. is_past h.horizon d ≡ false) h.gone (lost h.horizon rows) h.unneeded (lost_unneeded h.horizon rows);
       counted = omega (arith, h.counted, count_is, length-append h.gone (lost h.horizon rows));
       few = omega (arith, h.few, small);
-      clean = λ q k. elim (is_or_not q page) [
+      clean = λ q f k. elim (is_or_not q page) [
         | inl e ↦ subst (λ n. All (λ e. is_needed h.horizon e ≡ true) (page_at new.search.tree n).rows) (sym e)
             (subst (λ t. All (λ e. is_needed h.horizon e ≡ true) (page_at t page).rows) (sym tree_is)
             (subst (λ rows. All (λ (e : Entry K). is_needed h.horizon e ≡ true) rows) (sym (rows_at now.search.tree tree_sound.rank tree_sound.ranked page within (filter (is_needed h.horizon) rows)))
             (all_filter (is_needed h.horizon) rows)))
         | inr d ↦ subst (λ t. All (λ e. is_needed h.horizon e ≡ true) (page_at t q).rows) (sym tree_is)
             (subst (λ rows. All (λ (e : Entry K). is_needed h.horizon e ≡ true) rows) (sym (rows_off now.search.tree tree_sound.rank tree_sound.ranked page within (filter (is_needed h.horizon) rows) q d))
-            (h.clean q (search (arith, k, d))))
+            (h.clean q f (search (arith, k, d))))
       ];
       sound = sound;
-      rests = rests_trans rules rule old now new h.rests
-          (step_rests {E = E} rules rule now (event.Sweep page) (reply.Swept count) new serves (λ c. refl) (ap (λ s. s.limit) s.after) (ap (λ s. s.search.limit) s.after)
-          (omega (arith, pages)) (ap (λ s. s.last) s.after) (ap (λ s. s.cursors) s.after));
+      rests = rests_trans rules rule old now new h.rests rests;
       commits = ap (λ s. s.commits) s.after ∙ h.commits;
       pages = pages ∙ h.pages;
       finders = ap (λ s. s.finders) s.after ∙ h.finders;
@@ -299,15 +298,40 @@ module _ {K A : Type 0} (rules : Rules K A) (rule : Rule) where
         small : count ≤ 64
         small = omega (arith, counted, (tree_sound.shape page within).fits, h.sound.tree.fan_limit)
 
-    -- a sweep of a leaf is refused for want of memory alone
-    pub sweep_refused : (new : State K A) (why : Refusal) → is_leaf now.search.tree page ≡ true → IsRefused rules rule now (event.Sweep page) why new → (why ≡ refusal.OutOfMemory) × HasSwept old page number new
-    sweep_refused new why leaf r = (
-      elim r.cause [
-        | inl failed ↦ absurd (let e : None ≡ Some why = sym passed ∙ failed in cc)
-        | inr later ↦ later.1.memory
-      ],
-      subst (λ s. HasSwept old page number s) (sym r.unchanged) h,
-    )
-      where
-        passed : first_failing (sweep_tests now.search page) ≡ None
-        passed = rw leaf refl
+    -- a page is swept, if it is a leaf
+    pub swept_page : (new : State K A) (count : ℕ) → page < length old.search.tree.pages → Rests rules rule now new → IsSoundWorld rules.is_cover new →
+        (is_leaf now.search.tree page ≡ true → SweepsLeaf now page count new) → (is_leaf now.search.tree page ≡ false → (count ≡ 0) × (new ≡ now)) → HasSwept old first (page + 1) (number + count) new
+    swept_page new count l rests sound leaf other = elim (cases_Bool (is_leaf now.search.tree page)) [
+      | inl is ↦ swept_leaf new count l rests (leaf is) sound
+      | inr inner ↦
+          let same : number ≡ number + count = omega (arith, (other inner).0) in
+          subst (λ n. HasSwept old first (page + 1) n new) same (rw (other inner).1 (swept_inner inner l))
+    ]
+
+-- a sweep of a leaf
+module _ {K A : Type 0} (rules : Rules K A) (rule : Rule) (old : State K A) (page : ℕ) (leaf : is_leaf old.search.tree page ≡ true) where
+  leaf_within : page < length old.search.tree.pages
+  leaf_within = search (arith, leaf)
+
+  -- it is refused for lack of memory alone
+  pub sweep_refused : (new : State K A) (why : Refusal) → IsRefused rules rule old (event.Sweep page) why new → (why ≡ refusal.OutOfMemory) × (new ≡ old)
+  sweep_refused new why r = (
+    elim r.cause [
+      | inl failed ↦ absurd (let e : None ≡ Some why = sym passed ∙ failed in cc)
+      | inr later ↦ later.1.memory
+    ],
+    r.unchanged,
+  )
+    where
+      passed : first_failing (sweep_tests old.search page) ≡ None
+      passed = rw leaf refl
+
+  -- the cursors rest
+  pub leaf_rests : {E : Type 0} (new : State K A) (count : ℕ) → ServesAll {E = E} rules rule old (event.Sweep page) (reply.Swept count) new → SweepsLeaf old page count new → Rests rules rule old new
+  leaf_rests {E} new count serves s =
+      step_rests {E = E} rules rule old (event.Sweep page) (reply.Swept count) new serves (λ c. refl) (ap (λ s. s.limit) s.after) (ap (λ s. s.search.limit) s.after)
+      (omega (arith, ap (λ s. length s.search.tree.pages) s.after, rows_pages old.search.tree page (filter (is_needed s.horizon) (page_at old.search.tree page).rows))) (ap (λ s. s.last) s.after) (ap (λ s. s.cursors) s.after)
+
+  pub has_swept_leaf : {E : Type 0} (new : State K A) (count : ℕ) → IsSoundWorld rules.is_cover old → ServesAll {E = E} rules rule old (event.Sweep page) (reply.Swept count) new → SweepsLeaf old page count new → IsSoundWorld rules.is_cover new →
+      HasSwept rules rule old page (page + 1) (0 + count) new
+  has_swept_leaf new count sound serves s later = swept_leaf rules rule old page page 0 old (swept_none rules rule old page sound) new count leaf_within (leaf_rests new count serves s) s later

@@ -1,5 +1,5 @@
 //! Writes to a world, as whole calls or visit by visit: an insertion with its way down the tree, a deletion, a move,
-//! which is one commit that ends a row and makes another with its tag, and a sweep of every leaf.
+//! which is one commit that ends a row and makes another with its tag, and sweeps of one leaf or of every leaf.
 #![tactic(auto)]
 
 mod approach;
@@ -22,5 +22,5 @@ pub use insert_visit::{Way, insert_step};
 pub use move_visit::{Moving, move_step};
 pub use moving::move_row;
 pub use splitting::{split_at_once, split_prepared};
-pub use sweeping::sweep_all;
+pub use sweeping::{sweep_all, sweep_page};
 pub use way_down::{insert, make_way};
