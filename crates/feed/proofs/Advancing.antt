@@ -1,6 +1,7 @@
 -- What a feed gives as it goes on.
-use Rattle.std.proofs.Common.{◌≡◌, ◌+◌, ◌<◌, ◌≤◌, ℕ, max, min, Bool, true, false, cond, List, [], ◌++◌, length, Option, Some, None, refl, sym, ap, ◌∙◌, arith}
-use Rattle.std.specs.Prelude.{nat_eq, nat_le}
+use Rattle.std.proofs.Common.{◌≡◌, ◌+◌, ◌<◌, ◌≤◌, ℕ, max, min, Bool, true, false, cond, List, [], ◌∷◌, ◌++◌, length, Option, Some, None, refl, sym, ap, ◌∙◌, arith, subst}
+use Rattle.std.specs.Prelude.{nat_eq, nat_le, nat_lt}
+use Rattle.std.specs.List.{list_any}
 use Rattle.std.specs.Option.{option_map_or}
 use Rattle.std.proofs.lemmas.List.{append-nil}
 use Rattle.key_class.specs.Rules.{Rules, satisfies}
@@ -12,34 +13,68 @@ use Rattle.world.specs.Serials.{Rise, member}
 use Rattle.world.proofs.Serials.{member_within}
 use Rattle.feed.specs.declared.registration.Registration.{Registration}
 use Rattle.feed.specs.Asking.{Gives, due_upto, under}
-use Rattle.feed.specs.Feeds.{Advances, IsGivenUpto, Subscription, items_under}
+use Rattle.feed.specs.Feeds.{Advances, AdvancesBy, AdvancesByInto, AdvancesInto, FeedState, IsGivenUpto, Subscription, in_commits, items_under, needs_before}
 use Rattle.feed.specs.Holding.{feed_state, serial_of}
+use Rattle.feed.specs.Numberings.{MayNumber, commit_of, last_revision}
+use Rattle.feed.specs.declared.numbering.Numbering.{Numbering}
 use Rattle.feed.proofs.Giving.{items_under-append, under_other, under_same}
 use Rattle.feed.proofs.Keeping.{all_given}
 
-module _ {K A : Type 0} (rules : Rules K A) (commits : List (Write K)) where
-  -- what is due up to a commit is all changes, or nothing if the subscription begins later
-  is_given : (later : ℕ) (s : Subscription A) (items : List (Item K)) → later ≤ length commits → items ≡ due_upto rules commits later s → IsGivenUpto rules commits later s items
+module _ {K A : Type 0} (rules : Rules K A) (numbering : Numbering) (commits : List (Write K)) where
+  -- what is due up to a revision is all changes, or nothing if the subscription begins later
+  is_given : (later : ℕ) (s : Subscription A) (items : List (Item K)) → commit_of numbering later ≤ length commits → items ≡ due_upto rules numbering commits later s
+      → IsGivenUpto rules commits (commit_of numbering later) (in_commits numbering s) items
   is_given later s items within is = record {
     changes = λ l.
-        let m : max s.at later ≡ later = omega (arith, l) in
-        record { from_before = l; within = within; is = is ∙ ap (λ n. changes (satisfies rules s.query) s.at n commits) m };
+        let m : commit_of numbering (max s.at later) ≡ commit_of numbering later = omega (arith, l) in
+        record { from_before = l; within = within; is = is ∙ ap (λ n. changes (satisfies rules s.query) (commit_of numbering s.at) n commits) m };
     later = λ l.
-        let m : max s.at later ≡ s.at = omega (arith, l) in
-        is ∙ ap (λ n. changes (satisfies rules s.query) s.at n commits) m ∙ changes_none (satisfies rules s.query) s.at commits;
+        let m : commit_of numbering (max s.at later) ≡ commit_of numbering s.at = omega (arith, l) in
+        is ∙ ap (λ n. changes (satisfies rules s.query) (commit_of numbering s.at) n commits) m ∙ changes_none (satisfies rules s.query) (commit_of numbering s.at) commits;
   }
 
   -- a feed that gave what is due went on
-  pub advances : (upto passed last most later : ℕ) (registrations : List (ℕ × Registration A)) (given : List (ℕ × Item K)) → Rise serial_of 0 last registrations → upto ≤ later → later ≡ min (upto + most) (length commits)
-      → Gives (due_upto rules commits later) (feed_state upto passed last registrations) given
-      → Advances rules (feed_state upto passed last registrations) commits most given (feed_state later last last registrations)
-  advances upto passed last most later registrations given rise further is gives = record {
-    upto = is;
-    subscriptions = all_given upto passed 0 last later registrations rise further;
-    last = refl;
-    each = λ serial s found. is_given later s (items_under serial given) (omega (arith, is)) (gives serial ∙ ap (λ o. option_map_or (due_upto rules commits later) o []) found);
-    no_others = λ serial none. gives serial ∙ ap (λ o. option_map_or (due_upto rules commits later) o []) none;
+  pub advances : (upto passed last most later : ℕ) (registrations : List (ℕ × Registration A)) (given : List (ℕ × Item K)) → Rise serial_of 0 last registrations → MayNumber numbering commits
+      → upto ≤ later → later ≡ min (max numbering.oldest upto + most) (last_revision numbering commits)
+      → Gives (due_upto rules numbering commits later) (feed_state upto passed last registrations) given
+      → AdvancesBy rules numbering (feed_state upto passed last registrations) commits most given (feed_state later last last registrations)
+  advances upto passed last most later registrations given rise may further is gives =
+      let within : commit_of numbering later ≤ length commits = omega (arith, is, may.begun) in
+      record {
+        upto = is;
+        subscriptions = all_given upto passed 0 last later registrations rise further;
+        last = refl;
+        each = λ serial s found. is_given later s (items_under serial given) within (gives serial ∙ ap (λ o. option_map_or (due_upto rules numbering commits later) o []) found);
+        no_others = λ serial none. gives serial ∙ ap (λ o. option_map_or (due_upto rules numbering commits later) o []) none;
+      }
+
+-- where each commit is the revision with its number
+module _ {K A : Type 0} (rules : Rules K A) (numbering : Numbering) (none_begun : numbering.begun ≡ 0) (from_none : numbering.oldest ≡ 0) where
+  own_number : (n : ℕ) → commit_of numbering n ≡ n
+  own_number n = omega (arith, none_begun, from_none)
+
+  own_upto : (commits : List (Write K)) (n : ℕ) (s : Subscription A) (items : List (Item K)) → IsGivenUpto rules commits (commit_of numbering n) (in_commits numbering s) items → IsGivenUpto rules commits n s items
+  own_upto commits n s items given =
+      subst (λ m. IsGivenUpto rules commits m s items) (own_number n)
+      (subst (λ m. IsGivenUpto rules commits (commit_of numbering n) (record s { at = m }) items) (own_number s.at) given)
+
+  own_advances : (old : FeedState A) (commits : List (Write K)) (most : ℕ) (given : List (ℕ × Item K)) (new : FeedState A) → AdvancesBy rules numbering old commits most given new → Advances rules old commits most given new
+  own_advances old commits most given new by = record {
+    upto = omega (arith, by.upto, none_begun, from_none);
+    subscriptions = by.subscriptions;
+    last = by.last;
+    each = λ serial s found. own_upto commits new.upto s (items_under serial given) (by.each serial s found);
+    no_others = by.no_others;
   }
+
+  pub own_into : (old : FeedState A) (commits : List (Write K)) (most : ℕ) (before after : List (ℕ × Item K)) (new : FeedState A) → AdvancesByInto rules numbering old commits most before after new
+      → AdvancesInto rules old commits most before after new
+  own_into old commits most before after new by = record { given = by.given; is = by.is; advances = own_advances old commits most by.given new by.advances }
+
+-- no subscription needs changes from before revision 0
+pub none_needed : {A : Type 0} (subscriptions : List (Subscription A)) → list_any (needs_before 0) subscriptions ≡ false
+none_needed [] = refl
+none_needed (s ∷ subscriptions) = let e : nat_lt s.at 0 ≡ false = search arith in rw e (none_needed subscriptions)
 
 -- what was missed is told to one serial after the other
 module _ {A X : Type 0} (missed : ℕ × Registration A → List X) (registrations : List (ℕ × Registration A)) where

@@ -20,6 +20,8 @@ use Rattle.feed.specs.Asking.{AreAllConcerned, Gives, GivesInto, TellsCommit, Te
 use Rattle.feed.specs.Feeds.{FeedState, Subscription, items_under, subscription_of}
 use Rattle.feed.specs.Hearing.{TopicState, heard, heard_of, topic_at}
 use Rattle.feed.specs.Listening.{begin_of, told_after}
+use Rattle.feed.specs.Numberings.{commit_of}
+use Rattle.feed.specs.declared.numbering.Numbering.{Numbering}
 use Rattle.feed.proofs.Members.{contains_cases}
 
 module _ {K : Type 0} where
@@ -54,24 +56,25 @@ module _ {K : Type 0} where
       gives = gives_join first second both p.given q.given p.gives q.gives e;
     }
 
-module _ {K A : Type 0} (rules : Rules K A) (commits : List (Write K)) where
-  -- what is due up to a commit, and what the next one gives
-  pub due_more : (place : ℕ) (s : Subscription A) → due_upto rules commits place s ++ due_at rules commits place s ≡ due_upto rules commits (place + 1) s
-  due_more place s = by_test (nat_le s.at place) refl
+module _ {K A : Type 0} (rules : Rules K A) (numbering : Numbering) (commits : List (Write K)) where
+  -- what is due up to a revision, and what the next one gives
+  pub due_more : (revision : ℕ) (s : Subscription A) → numbering.oldest ≤ revision
+      → due_upto rules numbering commits revision s ++ due_at rules numbering commits revision s ≡ due_upto rules numbering commits (revision + 1) s
+  due_more revision s known = by_test (nat_le s.at revision) refl
     where
-      by_test : (b : Bool) → nat_le s.at place ≡ b
-          → changes (satisfies rules s.query) s.at (max s.at place) commits ++ cond b (option_to_list (item_at (satisfies rules s.query) commits place)) [] ≡ changes (satisfies rules s.query) s.at (max s.at (place + 1)) commits
+      by_test : (b : Bool) → nat_le s.at revision ≡ b
+          → changes (satisfies rules s.query) (commit_of numbering s.at) (commit_of numbering (max s.at revision)) commits ++ cond b (option_to_list (item_at (satisfies rules s.query) commits (commit_of numbering revision))) [] ≡ changes (satisfies rules s.query) (commit_of numbering s.at) (commit_of numbering (max s.at (revision + 1))) commits
       by_test true e =
-          let l : s.at ≤ place = search (arith, e) in
-          let m : max s.at place ≡ place = omega (arith, l) in
-          let n : max s.at (place + 1) ≡ place + 1 = omega (arith, l) in
-          ap (λ k. changes (satisfies rules s.query) s.at k commits ++ option_to_list (item_at (satisfies rules s.query) commits place)) m
-          ∙ sym (changes_more (satisfies rules s.query) s.at place commits l)
-          ∙ ap (λ k. changes (satisfies rules s.query) s.at k commits) (sym n)
+          let l : s.at ≤ revision = search (arith, e) in
+          let m : commit_of numbering (max s.at revision) ≡ (commit_of numbering revision) = omega (arith, l) in
+          let n : commit_of numbering (max s.at (revision + 1)) ≡ (commit_of numbering revision) + 1 = omega (arith, l, known) in
+          ap (λ k. changes (satisfies rules s.query) (commit_of numbering s.at) k commits ++ option_to_list (item_at (satisfies rules s.query) commits (commit_of numbering revision))) m
+          ∙ sym (changes_more (satisfies rules s.query) (commit_of numbering s.at) (commit_of numbering revision) commits (omega (arith, l)))
+          ∙ ap (λ k. changes (satisfies rules s.query) (commit_of numbering s.at) k commits) (sym n)
       by_test false e =
-          let l : place < s.at = search (arith, e) in
-          let m : max s.at place ≡ max s.at (place + 1) = omega (arith, l) in
-          append-nil (changes (satisfies rules s.query) s.at (max s.at place) commits) ∙ ap (λ k. changes (satisfies rules s.query) s.at k commits) m
+          let l : revision < s.at = search (arith, e) in
+          let m : commit_of numbering (max s.at revision) ≡ commit_of numbering (max s.at (revision + 1)) = omega (arith, l) in
+          append-nil (changes (satisfies rules s.query) (commit_of numbering s.at) (commit_of numbering (max s.at revision)) commits) ∙ ap (λ k. changes (satisfies rules s.query) (commit_of numbering s.at) k commits) m
 
 -- the changes of a query after a commit up to another, under a serial, after what there was
 module _ {K : Type 0} (wanted : K → Bool) (serial from : ℕ) (commits : List (Write K)) (old : List (ℕ × Item K)) where
@@ -142,37 +145,37 @@ module _ {X : Type 0} (part : ℕ → List X) (number : ℕ) (elsewhere : (other
     | inr among ↦ flat_once numbers (AllPairs-from_increasing numbers rising) among
   ]
 
--- what a commit gives to a listener of a query
-module _ {K A : Type 0} (rules : Rules K A) (commits : List (Write K)) (place : ℕ) (query : Query A) where
+-- what a revision gives to a listener of a query
+module _ {K A : Type 0} (rules : Rules K A) (numbering : Numbering) (commits : List (Write K)) (revision : ℕ) (query : Query A) where
   none_due : (b : Bool) (o : Option (Item K)) → o ≡ None → cond b (option_to_list o) [] ≡ []
   none_due true o e = ap option_to_list e
   none_due false o e = refl
 
-  -- nothing, if the commit has no item for the query
-  pub nothing_due : (begin : Option ℕ) → item_for rules commits query place ≡ None → due_to rules commits place (option_map (λ from. (query, from)) begin) ≡ []
+  -- nothing, if its commit has no item for the query
+  pub nothing_due : (begin : Option ℕ) → item_for rules commits query (commit_of numbering revision) ≡ None → due_to rules numbering commits revision (option_map (λ from. (query, from)) begin) ≡ []
   nothing_due None none = refl
-  nothing_due (Some from) none = none_due (nat_le from place) (item_for rules commits query place) none
+  nothing_due (Some from) none = none_due (nat_le from revision) (item_for rules commits query (commit_of numbering revision)) none
 
   -- the item, if it has one and comes later
-  pub listener_due : (number : ℕ) → number ≡ place + 1 → (item : Item K) (begin : Option ℕ) → item_for rules commits query place ≡ Some item → told_after number item begin ≡ due_to rules commits place (option_map (λ from. (query, from)) begin)
+  pub listener_due : (number : ℕ) → number ≡ revision + 1 → (item : Item K) (begin : Option ℕ) → item_for rules commits query (commit_of numbering revision) ≡ Some item → told_after number item begin ≡ due_to rules numbering commits revision (option_map (λ from. (query, from)) begin)
   listener_due number next item None is = refl
-  listener_due number next item (Some from) is = by_test (nat_le from place) refl
+  listener_due number next item (Some from) is = by_test (nat_le from revision) refl
     where
-      by_test : (b : Bool) → nat_le from place ≡ b → told_after number item (Some from) ≡ cond b (option_to_list (item_for rules commits query place)) []
+      by_test : (b : Bool) → nat_le from revision ≡ b → told_after number item (Some from) ≡ cond b (option_to_list (item_for rules commits query (commit_of numbering revision))) []
       by_test true e =
-          let before : from ≤ place = search (arith, e) in
+          let before : from ≤ revision = search (arith, e) in
           let t : nat_lt from number ≡ true = search (arith, before, next) in
           rw t (sym (ap option_to_list is))
       by_test false e =
-          let later : place < from = search (arith, e) in
+          let later : revision < from = search (arith, e) in
           let t : nat_lt from number ≡ false = search (arith, later, next) in
           rw t refl
 
--- what the topics of a commit were told, one after the other
-module _ {K A : Type 0} (rules : Rules K A) (commits : List (Write K)) (topics : List (Option (TopicState A))) (place : ℕ) where
+-- what the topics of a revision were told, one after the other
+module _ {K A : Type 0} (rules : Rules K A) (numbering : Numbering) (commits : List (Write K)) (topics : List (Option (TopicState A))) (revision : ℕ) where
   -- what a listener is given by the topic with a number
   abbrev pub given_by : ℕ → ℕ → List (Item K)
-  given_by serial number = due_to rules commits place (heard topics number serial)
+  given_by serial number = due_to rules numbering commits revision (heard topics number serial)
 
   -- what was appended to a list tells each listener what these topics give
   pub record TellsThose (numbers : List ℕ) (before after : List (ℕ × Item K)) : Type 0 where
@@ -187,35 +190,35 @@ module _ {K A : Type 0} (rules : Rules K A) (commits : List (Write K)) (topics :
   flat_push f [] n = append-nil (f n)
   flat_push f (m ∷ numbers) n = ap (λ l. f m ++ l) (flat_push f numbers n) ∙ sym (append_assoc (f m) (flat_map f numbers) (f n))
 
-  pub those_more : (numbers : List ℕ) (change : Change K) → IsChangeOf commits place change → (i : ℕ) → i < length numbers → (before mid after : List (ℕ × Item K)) → TellsThose (take i numbers) before mid
-      → TellsTopic rules topics (get_or numbers i 0) change mid after → TellsThose (take (i + 1) numbers) before after
+  pub those_more : (numbers : List ℕ) (change : Change K) → IsChangeOf commits (commit_of numbering revision) change → (i : ℕ) → i < length numbers → (before mid after : List (ℕ × Item K)) → TellsThose (take i numbers) before mid
+      → TellsTopic rules topics (get_or numbers i 0) change revision mid after → TellsThose (take (i + 1) numbers) before after
   those_more numbers change of i within before mid after told next = record {
     given = told.given ++ next.given;
     is = next.is ∙ ap (λ l. l ++ next.given) told.is ∙ append_assoc before told.given next.given;
     gives = λ serial.
         items_under-append serial told.given next.given
         ∙ ap (λ l. l ++ items_under serial next.given) (told.gives serial)
-        ∙ ap (λ l. flat_map (given_by serial) (take i numbers) ++ l) (next.gives commits place of serial)
+        ∙ ap (λ l. flat_map (given_by serial) (take i numbers) ++ l) (next.gives numbering commits of serial)
         ∙ sym (ap (flat_map (given_by serial)) (take_more numbers i 0 within) ∙ flat_push (given_by serial) (take i numbers) (get_or numbers i 0));
   }
 
   -- a topic that isn't concerned gives nothing
-  not_concerned : (number serial : ℕ) (numbers : List ℕ) → AreAllConcerned rules commits topics place numbers → (given_by serial number ≡ []) ⊎ Contains numbers number
+  not_concerned : (number serial : ℕ) (numbers : List ℕ) → AreAllConcerned rules commits topics (commit_of numbering revision) numbers → (given_by serial number ≡ []) ⊎ Contains numbers number
   not_concerned number serial numbers all = by_topic (topic_at topics number) refl
     where
       by_topic : (o : Option (TopicState A)) → topic_at topics number ≡ o → (given_by serial number ≡ []) ⊎ Contains numbers number
-      by_topic None e = inl (ap (λ t. due_to rules commits place (option_and_then (heard_of serial) t)) e)
+      by_topic None e = inl (ap (λ t. due_to rules numbering commits revision (option_and_then (heard_of serial) t)) e)
       by_topic (Some t) e = elim (all number t.query (ap (option_map (λ (s : TopicState A). s.query)) e)) [
-        | inl none ↦ inl (ap (λ o. due_to rules commits place (option_and_then (heard_of serial) o)) e ∙ nothing_due rules commits place t.query (begin_of t.listeners serial) none)
+        | inl none ↦ inl (ap (λ o. due_to rules numbering commits revision (option_and_then (heard_of serial) o)) e ∙ nothing_due rules numbering commits revision t.query (begin_of t.listeners serial) none)
         | inr c ↦ inr c
       ]
 
-  -- all topics that a commit concerns were told
-  pub those_all : (numbers : List ℕ) (before after : List (ℕ × Item K)) → AreAllConcerned rules commits topics place numbers → IsStrictlyIncreasing numbers → TellsThose numbers before after → TellsCommit rules commits topics place before after
+  -- all topics that a revision concerns were told
+  pub those_all : (numbers : List ℕ) (before after : List (ℕ × Item K)) → AreAllConcerned rules commits topics (commit_of numbering revision) numbers → IsStrictlyIncreasing numbers → TellsThose numbers before after → TellsCommit rules numbering commits topics revision before after
   those_all numbers before after all rising told = record {
     given = told.given;
     is = told.is;
     gives = λ number serial alone.
         told.gives serial
-        ∙ flat_single (given_by serial) number (λ other apart. ap (due_to rules commits place) (alone other apart)) numbers rising (not_concerned number serial numbers all);
+        ∙ flat_single (given_by serial) number (λ other apart. ap (due_to rules numbering commits revision) (alone other apart)) numbers rising (not_concerned number serial numbers all);
   }

@@ -2,6 +2,7 @@ mod Advancing
 mod Asked
 mod AskedStill
 mod Changing
+mod Compacting
 mod Concerning
 mod Dues
 mod Entries

@@ -10,6 +10,8 @@ use Rattle.feed.specs.Changing.{IsChangeOf}
 use Rattle.feed.specs.declared.change.Change.{Change}
 use Rattle.feed.specs.Feeds.{FeedState, Subscription, items_under, subscription_of}
 use Rattle.feed.specs.Hearing.{HearsAtMost, TopicState, heard, query_at}
+use Rattle.feed.specs.Numberings.{commit_of}
+use Rattle.feed.specs.declared.numbering.Numbering.{Numbering}
 
 module _ {K : Type 0} where
   -- items, each under the same serial
@@ -32,41 +34,43 @@ module _ {K A : Type 0} (rules : Rules K A) (commits : List (Write K)) where
   abbrev pub item_for : Query A → ℕ → Option (Item K)
   item_for query place = item_at (satisfies rules query) commits place
 
-  -- what commit `place + 1` gives to a listener that asks for the items of a query after commit n
-  abbrev pub due_after : ℕ → Query A → ℕ → List (Item K)
-  due_after place query n = if nat_le n place then option_to_list (item_for query place) else []
-
-  -- what it gives to a subscription
-  abbrev pub due_at : ℕ → Subscription A → List (Item K)
-  due_at place s = due_after place s.query s.at
-
-  -- what it gives to a listener of a query, or of none
-  abbrev pub due_to : ℕ → Option (Query A × ℕ) → List (Item K)
-  due_to place hears = option_map_or (λ h. due_after place h.0 h.1) hears []
-
-  -- what the commits up to n give to a subscription
-  abbrev pub due_upto : ℕ → Subscription A → List (Item K)
-  due_upto n s = changes (satisfies rules s.query) s.at (max s.at n) commits
-
   -- a query whose topic isn't among these has no item of commit `place + 1`
   abbrev pub AreAllConcerned : List (Option (TopicState A)) → ℕ → List ℕ → Type 0
   AreAllConcerned topics place numbers = (number : ℕ) (query : Query A) → query_at topics number ≡ Some query → (item_for query place ≡ None) ⊎ Contains numbers number
 
-  -- What was appended to a list: for each listener that listens only to the topic with a number, what commit `place +
-  -- 1` gives it by that topic's query.
-  pub record TellsCommit (topics : List (Option (TopicState A))) (place : ℕ) (before after : List (ℕ × Item K)) : Type 0 where
+module _ {K A : Type 0} (rules : Rules K A) (numbering : Numbering) (commits : List (Write K)) where
+  -- what the revision after `revision` gives to a listener that asks for the items of a query after revision n
+  abbrev pub due_after : ℕ → Query A → ℕ → List (Item K)
+  due_after revision query n = if nat_le n revision then option_to_list (item_for rules commits query (commit_of numbering revision)) else []
+
+  -- what it gives to a subscription
+  abbrev pub due_at : ℕ → Subscription A → List (Item K)
+  due_at revision s = due_after revision s.query s.at
+
+  -- what it gives to a listener of a query, or of none
+  abbrev pub due_to : ℕ → Option (Query A × ℕ) → List (Item K)
+  due_to revision hears = option_map_or (λ h. due_after revision h.0 h.1) hears []
+
+  -- what the revisions up to n give to a subscription
+  abbrev pub due_upto : ℕ → Subscription A → List (Item K)
+  due_upto n s = changes (satisfies rules s.query) (commit_of numbering s.at) (commit_of numbering (max s.at n)) commits
+
+  -- What was appended to a list: for each listener that listens only to the topic with a number, what the revision
+  -- after `revision` gives it by that topic's query.
+  pub record TellsCommit (topics : List (Option (TopicState A))) (revision : ℕ) (before after : List (ℕ × Item K)) : Type 0 where
     pub given : List (ℕ × Item K)
     pub is : after ≡ before ++ given
-    pub gives : (number serial : ℕ) → HearsAtMost topics number serial → items_under serial given ≡ due_to place (heard topics number serial)
+    pub gives : (number serial : ℕ) → HearsAtMost topics number serial → items_under serial given ≡ due_to revision (heard topics number serial)
 
 module _ {K A : Type 0} (rules : Rules K A) (topics : List (Option (TopicState A))) where
   -- a query whose topic isn't among these has no item of a commit with this change
   abbrev pub AreConcerned : Change K → List ℕ → Type 0
   AreConcerned change numbers = (commits : List (Write K)) (place : ℕ) → IsChangeOf commits place change → AreAllConcerned rules commits topics place numbers
 
-  -- what was appended to a list: for each listener of the topic with a number, what a commit with this change gives
-  -- it
-  pub record TellsTopic (number : ℕ) (change : Change K) (before after : List (ℕ × Item K)) : Type 0 where
+  -- what was appended to a list: for each listener of the topic with a number, what the revision after `revision` gives
+  -- it, if its commit has this change
+  pub record TellsTopic (number : ℕ) (change : Change K) (revision : ℕ) (before after : List (ℕ × Item K)) : Type 0 where
     pub given : List (ℕ × Item K)
     pub is : after ≡ before ++ given
-    pub gives : (commits : List (Write K)) (place : ℕ) → IsChangeOf commits place change → (serial : ℕ) → items_under serial given ≡ due_to rules commits place (heard topics number serial)
+    pub gives : (numbering : Numbering) (commits : List (Write K)) → IsChangeOf commits (commit_of numbering revision) change
+        → (serial : ℕ) → items_under serial given ≡ due_to rules numbering commits revision (heard topics number serial)

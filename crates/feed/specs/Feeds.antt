@@ -1,5 +1,6 @@
 -- What contracts see of a feed, and what its calls do to it.
-use Rattle.std.specs.Prelude.{◌≡◌, ◌⊎◌, ℕ, ◌+◌, ◌<◌, ◌≤◌, max, min, not, nat_eq, List, [], ◌∷◌, ◌++◌, length, map, filter, find, Option, Some, None}
+use Rattle.std.specs.Prelude.{◌≡◌, ◌⊎◌, ℕ, ◌+◌, ◌<◌, ◌≤◌, max, min, not, nat_eq, nat_lt, Bool, IsTrue, List, [], ◌∷◌, ◌++◌, length, map, filter, find, Option, Some, None}
+use Rattle.std.specs.List.{list_any}
 use Rattle.key_class.specs.Limits.{greatest_serial, most_depth, most_subscriptions}
 use Rattle.key_class.specs.Queries.{Query, depth_of}
 use Rattle.key_class.specs.Rules.{Rules, satisfies}
@@ -8,6 +9,8 @@ use Rattle.key_class.specs.declared.refusal.Refusal.TheVariants as refusal
 use Rattle.change_list.specs.declared.item.Item.{Item}
 use Rattle.change_list.specs.declared.write.Write.{Write}
 use Rattle.change_list.specs.Listings.{AreChanges}
+use Rattle.feed.specs.Numberings.{commit_of, last_revision}
+use Rattle.feed.specs.declared.numbering.Numbering.{Numbering}
 
 -- an open subscription
 pub record Subscription (A : Type 0) : Type 0 where
@@ -56,9 +59,30 @@ module _ {A : Type 0} where
   abbrev pub given_upto : ℕ → Subscription A → Subscription A
   given_upto n s = record s { at = max s.at n }
 
+  -- a subscription by the commits of a store that make its revisions
+  abbrev pub in_commits : Numbering → Subscription A → Subscription A
+  in_commits numbering s = record s { at = commit_of numbering s.at }
+
+  -- a subscription needs the changes after a revision before this one
+  abbrev pub needs_before : ℕ → Subscription A → Bool
+  needs_before oldest s = nat_lt s.at oldest
+
+  -- the snapshot goes far enough for the feed, but some open subscription needs changes from before its oldest revision
+  pub record IsCompacted {K : Type 0} (numbering : Numbering) (commits : List (Write K)) (feed : FeedState A) : Type 0 where
+    pub upto : feed.upto ≤ last_revision numbering commits
+    pub needed : IsTrue (list_any (needs_before numbering.oldest) feed.subscriptions)
+
+  -- the serials of the open subscriptions that need the changes after a revision before this one
+  abbrev pub compacted_serials : ℕ → FeedState A → List ℕ
+  compacted_serials oldest feed = map (λ s. s.serial) (filter (needs_before oldest) feed.subscriptions)
+
 -- why no subscription is opened
 abbrev pub RefusesSubscription : Refusal → Type 0
 RefusesSubscription why = (why ≡ refusal.BadConfig) ⊎ (why ≡ refusal.FeedFull) ⊎ (why ≡ refusal.OutOfMemory)
+
+-- why a feed doesn't go on
+abbrev pub RefusesAdvance : Refusal → Type 0
+RefusesAdvance why = (why ≡ refusal.FromFuture) ⊎ (why ≡ refusal.Compacted) ⊎ (why ≡ refusal.OutOfMemory)
 
 module _ {K : Type 0} where
   -- the items under a serial, in order
@@ -85,3 +109,17 @@ module _ {K A : Type 0} (rules : Rules K A) where
     pub given : List (ℕ × Item K)
     pub is : after ≡ before ++ given
     pub advances : Advances old commits most given new
+
+  -- The same by revisions, at commits that are numbered so. A feed that is behind the oldest revision goes on from there.
+  pub record AdvancesBy (numbering : Numbering) (old : FeedState A) (commits : List (Write K)) (most : ℕ) (given : List (ℕ × Item K)) (new : FeedState A) : Type 0 where
+    pub upto : new.upto ≡ min (max numbering.oldest old.upto + most) (last_revision numbering commits)
+    pub subscriptions : new.subscriptions ≡ map (given_upto new.upto) old.subscriptions
+    pub last : new.last ≡ old.last
+    pub each : (serial : ℕ) (s : Subscription A) → subscription_of old serial ≡ Some s → IsGivenUpto commits (commit_of numbering new.upto) (in_commits numbering s) (items_under serial given)
+    pub no_others : (serial : ℕ) → subscription_of old serial ≡ None → items_under serial given ≡ []
+
+  -- what was appended to a list is what the feed gives as it goes on so
+  pub record AdvancesByInto (numbering : Numbering) (old : FeedState A) (commits : List (Write K)) (most : ℕ) (before after : List (ℕ × Item K)) (new : FeedState A) : Type 0 where
+    pub given : List (ℕ × Item K)
+    pub is : after ≡ before ++ given
+    pub advances : AdvancesBy numbering old commits most given new

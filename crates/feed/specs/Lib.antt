@@ -7,6 +7,7 @@ pub mod GoingOn
 pub mod Hearing
 pub mod Holding
 pub mod Listening
+pub mod Numberings
 pub mod Planting
 pub mod QueryLaws
 pub mod Reaches

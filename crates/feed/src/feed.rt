@@ -1,12 +1,15 @@
-ghost use Rattle.std.specs.Prelude.{◌≡◌, ◌↔◌, ◌+◌, ◌<◌, ◌≤◌, length, None, Err, IfOk, IfErr, OnOk, OnErr};
+ghost use Rattle.std.specs.Prelude.{◌≡◌, ◌↔◌, ◌+◌, ◌<◌, ◌≤◌, length, max, None, Err, IfOk, IfErr, OnOk, OnErr};
+ghost use Rattle.std.specs.List.{list_any};
 ghost use Rattle.key_class.specs.Queries.{query_of, depth_of};
 ghost use Rattle.key_class.specs.Refusals.{IsEither};
-ghost use Rattle.key_class.specs.declared.refusal.Refusal.TheVariants.{BadConfig, FeedFull, FromFuture, NotSubscribed, OutOfMemory};
+ghost use Rattle.key_class.specs.declared.refusal.Refusal.TheVariants.{BadConfig, Compacted, FeedFull, FromFuture, NotSubscribed, OutOfMemory};
 ghost use Rattle.feed.specs.Asking.{GivesInto, due_at, due_upto};
-ghost use Rattle.feed.specs.Feeds.{AdvancesInto, HasNoPlaceFor, RefusesSubscription, new_feed, subscription_of, with_subscription, without_subscription};
+ghost use Rattle.feed.specs.Feeds.{AdvancesByInto, AdvancesInto, HasNoPlaceFor, IsCompacted, RefusesAdvance, RefusesSubscription, compacted_serials, needs_before, new_feed, subscription_of, with_subscription, without_subscription};
+ghost use Rattle.feed.specs.Numberings.{MayNumber, last_revision};
 
+use crate::numbering::Numbering;
 use crate::reach::Reach;
-use crate::registration::{Registration, tell_since};
+use crate::registration::{Registration, any_before, serials_before, tell_since};
 use crate::topics::Topics;
 use change_list::Item;
 use key_class::limits::{MAX_DEPTH, MAX_SERIAL, MAX_SUBSCRIPTIONS};
@@ -16,10 +19,19 @@ use std::alloc::Global;
 use std::collections::BTreeMap;
 use std::marker::Model;
 
+/// Each commit is the revision with its number.
+const COMMITS: Numbering = Numbering {
+    oldest: 0,
+    begun: 0,
+};
+
 /// Subscriptions to the changes of queries. It goes over a list of commits, and remembers up to which commit.
 ///
 /// A commit tests only the queries that its keys may match, and each of them once, however many subscriptions share
 /// it.
+///
+/// Its numbers are revisions, which at [`advance`](Feed::advance) are the numbers of commits. Where a store is replaced
+/// by another one, [`advance_from`](Feed::advance_from) goes on by its [`Numbering`].
 #[derive(Drop)]
 pub struct Feed<C: Reach> {
     alloc: Global,
@@ -152,38 +164,102 @@ impl<C: Reach> Feed<C> {
         ensures future { (result ≡ Err FromFuture) ↔ (length snapshot.now < self.old.upto) }
         ensures refusals { IfErr result (IsEither FromFuture OutOfMemory) }
     {
-        let count = snapshot.commits();
-        if self.upto > count {
+        // brings into view that the number of commits is in range
+        let _count = snapshot.commits();
+        self.advance_from(snapshot, COMMITS, most, into)
+    }
+
+    /// Like [`advance`](Feed::advance), for a feed whose numbers are revisions: processes at most `most` further
+    /// revisions of a snapshot whose commits are numbered so, and returns the revision that the feed has reached. So a
+    /// feed goes on at another store, and none of its subscriptions changes. Items have the numbers of commits.
+    ///
+    /// A feed that is behind the oldest revision goes on from there. Beside what it delivers, a call visits only
+    /// subscriptions that are new since the last one; a call of a feed that is behind the oldest revision visits all.
+    ///
+    /// # Errors
+    /// `FromFuture` if the snapshot's last revision is before the feed's, else `Compacted` if some open subscription
+    /// needs changes from before the oldest revision ([`compacted`](Feed::compacted) returns which), else
+    /// `OutOfMemory`. Feed and list are unchanged then.
+    pub fn advance_from(
+        &mut self,
+        snapshot: &Snapshot<C>,
+        numbering: Numbering,
+        most: u64,
+        into: &mut Vec<(u64, Item<C::Key>)>,
+    ) -> Result<u64, Refusal>
+        requires { MayNumber numbering snapshot.now }
+        ensures upto { IfOk result (λ upto. upto ≡ self.new.upto) }
+        ensures ok { OnOk result (AdvancesByInto C.rules numbering self.old snapshot.now most
+            into.old.items into.new.items self.new) }
+        ensures err { OnErr result (self.new ≡ self.old) }
+        ensures unchanged { OnErr result (into.new.items ≡ into.old.items) }
+        ensures future { (result ≡ Err FromFuture)
+            ↔ (last_revision numbering snapshot.now < self.old.upto) }
+        ensures compacted { (result ≡ Err Compacted)
+            ↔ IsCompacted numbering snapshot.now self.old }
+        ensures refusals { IfErr result RefusesAdvance }
+    {
+        let last = numbering.last_revision(snapshot);
+        if self.upto > last {
             return Err(Refusal::FromFuture);
         }
-        let upto = count.min(self.upto.saturating_add(most));
+        if self.is_compacted(numbering.oldest) {
+            return Err(Refusal::Compacted);
+        }
+        let first = self.upto.max(numbering.oldest);
+        let upto = last.min(first.saturating_add(most));
         let mut told = Vec::new(self.alloc);
-        self.tell(snapshot, upto, &mut told)?;
+        self.tell(snapshot, numbering, upto, &mut told)?;
         into.extend_from_slice(&told)?;
         self.upto = upto;
         self.passed = self.last;
         Ok(upto)
     }
 
-    /// Appends all that is due up to a commit to a list.
+    /// The serials of the open subscriptions that need changes from before a revision, rising. At a snapshot whose
+    /// oldest revision that is, `advance_from` is refused until they are ended.
+    ///
+    /// It visits new subscriptions, or all if the feed is behind that revision.
+    ///
+    /// # Errors
+    /// `OutOfMemory`.
+    pub fn compacted(&self, oldest: u64) -> Result<Vec<u64>, Refusal>
+        ensures ok { IfOk result (λ serials. serials.items ≡ compacted_serials oldest self.now) }
+        ensures refused { IfErr result (λ why. why ≡ OutOfMemory) }
+    {
+        let passed = if self.upto < oldest { 0 } else { self.passed };
+        serials_before(self.alloc, &self.registrations, passed, oldest)
+    }
+
+    /// Whether some open subscription needs changes from before a revision.
+    fn is_compacted(&self, oldest: u64) -> bool
+        ensures { result ≡ list_any (needs_before oldest) self.now.subscriptions }
+    {
+        let passed = if self.upto < oldest { 0 } else { self.passed };
+        any_before(&self.registrations, passed, oldest)
+    }
+
+    /// Appends all that is due up to a revision to a list.
     ///
     /// # Errors
     /// `OutOfMemory`.
     fn tell(
         &self,
         snapshot: &Snapshot<C>,
+        numbering: Numbering,
         upto: u64,
         told: &mut Vec<(u64, Item<C::Key>)>,
     ) -> Result<(), Refusal>
-        requires further { self.now.upto ≤ upto }
-        requires within { upto ≤ length snapshot.now }
-        ensures ok { OnOk result (GivesInto (due_upto C.rules snapshot.now upto)
+        requires numbered { MayNumber numbering snapshot.now }
+        requires further { max numbering.oldest self.now.upto ≤ upto }
+        requires within { upto ≤ last_revision numbering snapshot.now }
+        ensures ok { OnOk result (GivesInto (due_upto C.rules numbering snapshot.now upto)
             self.now told.old.items told.new.items) }
         ensures refused { IfErr result (λ why. why ≡ OutOfMemory) }
     {
-        self.tell_missed(snapshot, told)?;
-        for place in self.upto()..upto {
-            self.tell_commit(snapshot, place, told)?;
+        self.tell_missed(snapshot, numbering, told)?;
+        for revision in self.upto().max(numbering.oldest)..upto {
+            self.tell_commit(snapshot, numbering, revision, told)?;
         }
         Ok(())
     }
@@ -195,37 +271,42 @@ impl<C: Reach> Feed<C> {
     fn tell_missed(
         &self,
         snapshot: &Snapshot<C>,
+        numbering: Numbering,
         told: &mut Vec<(u64, Item<C::Key>)>,
     ) -> Result<(), Refusal>
-        ensures ok { OnOk result (GivesInto (due_upto C.rules snapshot.now self.now.upto)
+        requires numbered { MayNumber numbering snapshot.now }
+        requires within { self.now.upto ≤ last_revision numbering snapshot.now }
+        ensures ok { OnOk result (GivesInto (due_upto C.rules numbering snapshot.now self.now.upto)
             self.now told.old.items told.new.items) }
         ensures refused { IfErr result (λ why. why ≡ OutOfMemory) }
     {
         for passed in self.passed..self.last {
             let serial = passed + 1;
             if let Some(registration) = self.registrations.get(&serial) {
-                tell_since(serial, registration, snapshot, self.upto, told)?;
+                tell_since(serial, registration, snapshot, numbering, self.upto, told)?;
             }
         }
         Ok(())
     }
 
-    /// Appends what commit `place + 1` gives to a list.
+    /// Appends what the revision after `revision` gives to a list.
     ///
     /// # Errors
     /// `OutOfMemory`.
     fn tell_commit(
         &self,
         snapshot: &Snapshot<C>,
-        place: u64,
+        numbering: Numbering,
+        revision: u64,
         told: &mut Vec<(u64, Item<C::Key>)>,
     ) -> Result<(), Refusal>
-        requires further { self.now.upto ≤ place }
-        requires within { place < length snapshot.now }
-        ensures ok { OnOk result (GivesInto (due_at C.rules snapshot.now place)
+        requires numbered { MayNumber numbering snapshot.now }
+        requires further { max numbering.oldest self.now.upto ≤ revision }
+        requires within { revision < last_revision numbering snapshot.now }
+        ensures ok { OnOk result (GivesInto (due_at C.rules numbering snapshot.now revision)
             self.now told.old.items told.new.items) }
         ensures refused { IfErr result (λ why. why ≡ OutOfMemory) }
     {
-        self.topics.tell_commit(snapshot, place, told)
+        self.topics.tell_commit(snapshot, numbering, revision, told)
     }
 }

@@ -9,6 +9,7 @@ mod feed;
 mod intervals;
 mod laws;
 mod listeners;
+mod numbering;
 mod queries;
 mod reach;
 mod registration;
@@ -18,5 +19,6 @@ mod tree;
 
 pub use feed::Feed;
 pub use laws::{changes_go_on, matching_keys_are_reached};
+pub use numbering::Numbering;
 pub use queries::reaches;
 pub use reach::Reach;

@@ -14,7 +14,7 @@ use std::marker::Model;
 #[derive(Clone, Copy)]
 struct Listener {
     serial: u64,
-    /// The commit after which it asks for items.
+    /// The revision after which it asks for items.
     from: u64,
 }
 
@@ -23,7 +23,7 @@ struct Listener {
 #[derive(Drop)]
 pub(crate) struct Listeners {
     first: Listener,
-    /// All others: for each serial the commit after which it asks for items.
+    /// All others: for each serial the revision after which it asks for items.
     others: BTreeMap<u64, u64>,
 }
 
@@ -83,7 +83,7 @@ impl Listeners {
         true
     }
 
-    /// Appends the item of a commit to a list, for each listener that asks for items after an earlier commit.
+    /// Appends the item of a revision to a list, for each listener that asks for items after an earlier revision.
     ///
     /// # Errors
     /// `OutOfMemory`.

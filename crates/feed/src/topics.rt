@@ -1,4 +1,4 @@
-ghost use Rattle.std.specs.Prelude.{◌≡◌, ◌≢◌, ◌↔◌, ◌++◌, ◌<◌, ℕ, [], length, IfOk, IfErr, IfSome, IsTrue, None, OnErr, OnOk, Some};
+ghost use Rattle.std.specs.Prelude.{◌≡◌, ◌≢◌, ◌↔◌, ◌+◌, ◌++◌, ◌<◌, ◌≤◌, ◌^◌, ℕ, [], IfOk, IfErr, IfSome, IsTrue, None, OnErr, OnOk, Some};
 ghost use Rattle.std.specs.Bool.{OnFalse, OnTrue};
 ghost use Rattle.std.specs.List.Sorted.{IsStrictlyIncreasing};
 ghost use Rattle.key_class.specs.Queries.{query_of};
@@ -6,10 +6,12 @@ ghost use Rattle.key_class.specs.declared.refusal.Refusal.TheVariants.{OutOfMemo
 ghost use Rattle.feed.specs.Asking.{AreConcerned, TellsCommit, TellsTopic};
 ghost use Rattle.feed.specs.Hearing.{ChangesHearing, IsHeardBy, query_at, topic_at};
 ghost use Rattle.feed.specs.Holding.{AreEnrolled};
+ghost use Rattle.feed.specs.Numberings.{MayNumber, last_revision};
 
 use crate::change::Change;
 use crate::enrolling::{enrol, uproot_query};
 use crate::listeners::Listeners;
+use crate::numbering::Numbering;
 use crate::queries::reaches;
 use crate::reach::Reach;
 use crate::tree::{find_tags, sweep};
@@ -96,7 +98,7 @@ impl<C: Reach> Topics<C> {
         })
     }
 
-    /// Adds a listener to a query, with the commit after which it listens, and gives the topic's number.
+    /// Adds a listener to a query, with the revision after which it listens, and gives the topic's number.
     ///
     /// # Errors
     /// `OutOfMemory`.
@@ -294,30 +296,34 @@ impl<C: Reach> Topics<C> {
         Ok(())
     }
 
-    /// Appends what commit `place + 1` gives to a list.
+    /// Appends what the revision after `revision` gives to a list.
     ///
     /// # Errors
     /// `OutOfMemory`.
     pub(crate) fn tell_commit(
         &self,
         snapshot: &Snapshot<C>,
-        place: u64,
+        numbering: Numbering,
+        revision: u64,
         told: &mut Vec<(u64, Item<C::Key>)>,
     ) -> Result<(), Refusal>
-        requires { place < length snapshot.now }
-        ensures ok { OnOk result (TellsCommit C.rules snapshot.now self.now place
+        requires numbered { MayNumber numbering snapshot.now }
+        requires further { numbering.oldest ≤ revision }
+        requires within { revision < last_revision numbering snapshot.now }
+        ensures ok { OnOk result (TellsCommit C.rules numbering snapshot.now self.now revision
             told.old.items told.new.items) }
         ensures refused { IfErr result (λ why. why ≡ OutOfMemory) }
     {
-        let change = Change::at(snapshot, place);
+        let change = Change::at(snapshot, numbering.place_after(snapshot, revision));
         let numbers = self.concerned(&change)?;
         for number in &numbers {
-            self.tell_topic(*number as usize, &change, told)?;
+            self.tell_topic(*number as usize, &change, revision, told)?;
         }
         Ok(())
     }
 
-    /// Appends what a change gives to the listeners of the topic with a number to a list.
+    /// Appends what a change, which makes the revision after `revision`, gives to the listeners of the topic with a
+    /// number to a list.
     ///
     /// # Errors
     /// `OutOfMemory`.
@@ -325,9 +331,11 @@ impl<C: Reach> Topics<C> {
         &self,
         number: usize,
         change: &Change<C::Key>,
+        revision: u64,
         told: &mut Vec<(u64, Item<C::Key>)>,
     ) -> Result<(), Refusal>
-        ensures ok { OnOk result (TellsTopic C.rules self.now number change.now
+        requires { revision + 1 < 2 ^ 64 }
+        ensures ok { OnOk result (TellsTopic C.rules self.now number change.now revision
             told.old.items told.new.items) }
         ensures refused { IfErr result (λ why. why ≡ OutOfMemory) }
     {
@@ -337,7 +345,7 @@ impl<C: Reach> Topics<C> {
         let Some(item) = change.item::<C>(&topic.query) else {
             return Ok(());
         };
-        topic.listeners.tell(change.number, item, told)
+        topic.listeners.tell(revision + 1, item, told)
     }
 
     /// The numbers of the topics that a change may concern, rising and each once.

@@ -1,24 +1,34 @@
-use Rattle.std.proofs.Common.{◌≡◌, ◌+◌, ◌≤◌, ◌++◌, min, length, arith, sym, ap, ◌∙◌, subst}
-use Rattle.feed.specs.Asking.{Gives, due_upto}
-use Rattle.feed.specs.Feeds.{Advances}
-use Rattle.feed.specs.Holding.{feed_state}
-use Rattle.feed.proofs.Advancing.{advances}
+use Rattle.std.proofs.Common.{◌≡◌, ℕ, true, false, List, Result, Ok, Err, refl, sym, ap, ◌∙◌, arith, inl, inr}
+use Rattle.std.specs.Prelude.{IfErr}
+use Rattle.std.proofs.lemmas.Result.{on_ok_weaker}
+use Rattle.key_class.specs.Refusals.{IsEither}
+use Rattle.key_class.specs.declared.refusal.Refusal.{Refusal}
+use Rattle.key_class.specs.declared.refusal.Refusal.TheVariants.{Compacted, FromFuture, OutOfMemory}
+use Rattle.feed.specs.Feeds.{RefusesAdvance}
+use Rattle.feed.proofs.Advancing.{none_needed, own_into}
 use Rattle.feed.proofs.feed.Feed.advance.Goals as goal
+
+-- one reason less
+other_reasons : (r : Result ℕ Refusal) → IfErr r RefusesAdvance → (r ≡ Err Compacted → ⊥) → IfErr r (IsEither FromFuture OutOfMemory)
+other_reasons (Ok upto) why not_compacted = tt
+other_reasons (Err refusal) why not_compacted = elim why [
+  | inl future ↦ inl future
+  | inr rest ↦ elim rest [
+    | inl compacted ↦ absurd (not_compacted (ap Err compacted))
+    | inr memory ↦ inr memory
+  ]
+]
 
 pub returns-clause-ok : goal.returns-clause-ok
 returns-clause-ok g c =
-    let feed = c.self.inside in
-    let rules = g.C.KeyClass.rules in
-    let commits = c.args.snapshot.now in
-    let registrations = feed.registrations.entries in
-    let later = c.min-upto.result in
-    let told = c.in_ok-tell.ensures.ok in
-    let further : feed.upto ≤ later = omega (arith, c.min-upto.ensures, c.saturating_add.ensures, c.if-self-count.false, c.commits-count.type_inv) in
-    let upto : later ≡ min (feed.upto + c.args.most) (length commits) = omega (arith, c.min-upto.ensures, c.saturating_add.ensures, c.if-self-count.false, c.commits-count.type_inv, c.commits-count.ensures.number) in
-    record {
-      given = told.given;
-      is = c.in_ok-extend_from_slice.ensures.items ∙ ap (λ l. c.args.into.now.items ++ l) (c.deref.ensures.value ∙ told.is ∙ ap (λ l. l ++ told.given) c.new-told.ensures.items);
-      advances = subst (λ f. Advances rules f commits c.args.most told.given (feed_state later feed.last feed.last registrations)) c.self.view_is
-          (advances rules commits feed.upto feed.passed feed.last c.args.most later registrations told.given c.self.invariant.rise further upto
-          (subst (λ f. Gives (due_upto rules commits later) f told.given) (sym c.self.view_is) told.gives));
-    }
+    on_ok_weaker c.advance_from.result
+    (λ into. own_into g.C.KeyClass.rules _ refl refl c.args.self.now c.args.snapshot.now c.args.most c.args.into.now.items c.advance_from.new.into.items c.advance_from.new.self into)
+    c.advance_from.ensures.ok
+
+pub returns-clause-refusals : goal.returns-clause-refusals
+returns-clause-refusals g c =
+    other_reasons c.advance_from.result c.advance_from.ensures.refusals
+    (λ is.
+    let needed = (c.advance_from.ensures.compacted.0 is).needed in
+    let t : true ≡ false = sym needed ∙ none_needed c.args.self.now.subscriptions in
+    absurd (cc))

@@ -1,5 +1,5 @@
 use Rattle.feed.specs.Asking.{GivesInto, due_upto}
 use Rattle.feed.proofs.feed.Feed.tell.Given as goal
 
-abbrev pub invariant-loop-place : goal.invariant-loop-place
-invariant-loop-place g l = GivesInto (due_upto g.C.KeyClass.rules l.snapshot l.place) l.self l.fn.told.items l.told.items
+abbrev pub invariant-loop-revision : goal.invariant-loop-revision
+invariant-loop-revision g l = GivesInto (due_upto g.C.KeyClass.rules l.fn.numbering l.snapshot l.revision) l.self l.fn.told.items l.told.items

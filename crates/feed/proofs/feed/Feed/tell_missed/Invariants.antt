@@ -9,5 +9,5 @@ abbrev pub invariant-loop-passed : goal.invariant-loop-passed
 invariant-loop-passed g l = record {
   given : List (ℕ × Item _);
   is : l.told.items ≡ l.fn.told.items ++ given;
-  tells : TellsUpto (λ s. due_upto g.C.KeyClass.rules l.snapshot l.self-inside.upto (shown l.self-inside.upto l.self-inside.passed s)) l.self-inside.registrations.entries l.passed given;
+  tells : TellsUpto (λ s. due_upto g.C.KeyClass.rules l.fn.numbering l.snapshot l.self-inside.upto (shown l.self-inside.upto l.self-inside.passed s)) l.self-inside.registrations.entries l.passed given;
 }

@@ -1,4 +1,4 @@
-use Rattle.std.proofs.Common.{◌≡◌, [], Some, None, sym, ap, ◌∙◌, subst}
+use Rattle.std.proofs.Common.{◌≡◌, ◌+◌, [], Some, None, refl, sym, ap, ◌∙◌, subst}
 use Rattle.std.specs.Option.{option_copied}
 use Rattle.std.specs.Prelude.{slice_index_or}
 use Rattle.std.proofs.lemmas.List.{append-nil}
@@ -8,6 +8,7 @@ use Rattle.feed.specs.Asking.{due_to}
 use Rattle.feed.specs.Hearing.{heard}
 use Rattle.feed.specs.Listening.{begin_of, item_to}
 use Rattle.feed.specs.Holding.{topic_state}
+use Rattle.feed.specs.Numberings.{commit_of}
 use Rattle.feed.proofs.Giving.{listener_due, nothing_due}
 use Rattle.feed.proofs.Hearing.{none_heard, none_shown, one_heard, some_shown}
 use Rattle.feed.proofs.Slots.{both_ok, states}
@@ -21,8 +22,8 @@ returns-in_default-clause-ok g c =
     record {
       given = [];
       is = sym (append-nil c.args.told.now.items);
-      gives = λ commits place of serial.
-          sym (ap (due_to g.C.KeyClass.rules commits place) (subst (λ o. heard o number serial ≡ None) c.self.view_is (none_heard (states slots) number serial (none_shown slots number empty))));
+      gives = λ numbering commits of serial.
+          sym (ap (due_to g.C.KeyClass.rules numbering commits c.args.revision) (subst (λ o. heard o number serial ≡ None) c.self.view_is (none_heard (states slots) number serial (none_shown slots number empty))));
     }
 
 pub returns-in_default-item-clause-ok : goal.returns-in_default-item-clause-ok
@@ -34,9 +35,9 @@ returns-in_default-item-clause-ok g c =
     record {
       given = [];
       is = sym (append-nil c.args.told.now.items);
-      gives = λ commits place of serial.
-          sym (ap (due_to g.C.KeyClass.rules commits place) (ap (λ o. heard o number serial) (sym c.self.view_is) ∙ one_heard (states slots) number serial (topic_state t) (some_shown slots number t there))
-          ∙ nothing_due g.C.KeyClass.rules commits place (query_of t.query) (begin_of t.listeners serial) (sym (c.item.ensures commits place of) ∙ c.in_default-item.is));
+      gives = λ numbering commits of serial.
+          sym (ap (due_to g.C.KeyClass.rules numbering commits c.args.revision) (ap (λ o. heard o number serial) (sym c.self.view_is) ∙ one_heard (states slots) number serial (topic_state t) (some_shown slots number t there))
+          ∙ nothing_due g.C.KeyClass.rules numbering commits c.args.revision (query_of t.query) (begin_of t.listeners serial) (sym (c.item.ensures commits (commit_of numbering c.args.revision) of) ∙ c.in_default-item.is));
     }
 
 pub returns-clause-ok : goal.returns-clause-ok
@@ -48,11 +49,11 @@ returns-clause-ok g c =
     let there : slice_index_or slots number None ≡ Some t = sym c.get.ensures ∙ ap option_copied c.in-Some.is in
     on_ok_weaker c.tell.result
     (λ told. record {
-      given = item_to c.args.change.now.number item t.listeners;
+      given = item_to (c.args.revision + 1) item t.listeners;
       is = told.0;
-      gives = λ commits place of serial.
+      gives = λ numbering commits of serial.
           told.1 serial
-          ∙ listener_due g.C.KeyClass.rules commits place (query_of t.query) c.args.change.now.number of.number item (begin_of t.listeners serial) (sym (c.item.ensures commits place of) ∙ c.in-Some-item.is)
-          ∙ sym (ap (due_to g.C.KeyClass.rules commits place) (ap (λ o. heard o number serial) (sym c.self.view_is) ∙ one_heard (states slots) number serial (topic_state t) (some_shown slots number t there)));
+          ∙ listener_due g.C.KeyClass.rules numbering commits c.args.revision (query_of t.query) (c.args.revision + 1) refl item (begin_of t.listeners serial) (sym (c.item.ensures commits (commit_of numbering c.args.revision) of) ∙ c.in-Some-item.is)
+          ∙ sym (ap (due_to g.C.KeyClass.rules numbering commits c.args.revision) (ap (λ o. heard o number serial) (sym c.self.view_is) ∙ one_heard (states slots) number serial (topic_state t) (some_shown slots number t there)));
     })
     (both_ok _ _ c.tell.result c.tell.ensures.ok c.tell.ensures.once)
