@@ -1,0 +1,13 @@
+mod Entering
+mod Faithful
+mod Finding
+mod Forgetting
+mod Found
+mod Ids
+mod Itemizing
+mod Keeping
+mod Numbering
+mod Reading
+mod Restoring
+mod Rolling
+mod Succeeding

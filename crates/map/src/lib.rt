@@ -1,0 +1,16 @@
+//! A map from ids to keys, with finds, changes since a revision, and revisions that go on for ever. It is kept in a
+//! store, which is made anew beside the map's own work, a little at each change.
+#![tactic(auto)]
+
+mod config;
+mod generation;
+mod map;
+mod map_snapshot;
+mod offer;
+mod roll;
+mod successor;
+
+pub use config::MapConfig;
+pub use map::Map;
+pub use map_snapshot::MapSnapshot;
+pub use revisions::{MapChange, MapEntry, MapItem};

@@ -1,0 +1,4 @@
+pub mod Applying
+pub mod Counting
+pub mod Forgetting
+pub mod Going
