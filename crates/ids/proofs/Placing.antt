@@ -1,6 +1,6 @@
 -- The numbers in all shards, before and after one of them changes.
 use Rattle.std.proofs.Common.{◌≡◌, ◌≢◌, ◌∙◌, ℕ, zero, suc, ◌<◌, true, false, cond, List, [], ◌∷◌, ◌++◌, length, get_or, set, ⊎_elim, refl, subst, sym, ap, arith}
-use Rattle.std.proofs.lemmas.Bool.Decides.{eqb_tells, nat_tests}
+use Rattle.std.proofs.lemmas.Bool.Decides.{eqb_tells}
 use Rattle.std.proofs.lemmas.List.{length-set}
 use Rattle.std.proofs.lemmas.Option.{same_Some, slice_get-get_or, slice_get_read, slice_get_within}
 use Rattle.std.specs.Prelude.{Option, Some, None, nat_eq, flat_map, slice_get}
@@ -11,16 +11,9 @@ use Rattle.std.specs.HashMap.{get}
 use Rattle.std.specs.Map.{lookup}
 use Rattle.std.specs.Option.{option_or}
 use Rattle.std.specs.Ordering.{eq_by_cmp, nat_cmp}
-use Rattle.ids.specs.declared.ids.TheConstants.{SHARDS}
+use Rattle.ids.specs.declared.shards.TheConstants.{SHARDS}
 use Rattle.ids.specs.Shards.{ArePlaced, Shard, number_at, numbers_in, shard_of}
-use Rattle.ids.proofs.Numbers.{number-inserted, number-removed}
-
-same_test : (id other : ℕ) → eq_by_cmp nat_cmp id other ≡ nat_eq id other
-same_test id other = grind (arith, nat_tests)
-
-find-lookup : (id : ℕ) (entries : List (ℕ × ℕ)) → find nat_cmp id entries ≡ lookup (nat_eq id) entries
-find-lookup id [] = refl
-find-lookup id (e ∷ entries) = rw (same_test id e.0, find-lookup id entries) refl
+use Rattle.ids.proofs.Numbers.{find-lookup, number-inserted, number-removed}
 
 find-append : (id : ℕ) (es fs : List (ℕ × ℕ)) → find nat_cmp id (es ++ fs) ≡ option_or (find nat_cmp id es) (find nat_cmp id fs)
 find-append id [] fs = refl

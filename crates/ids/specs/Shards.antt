@@ -5,7 +5,7 @@ use Rattle.std.specs.declared.hash.BuildHasherDefault.{BuildHasherDefault}
 use Rattle.std.specs.FinMap.{FinMap, from_entries}
 use Rattle.std.specs.HashMap.{HashMap, get}
 use Rattle.std.specs.Ordering.{nat_cmp}
-use Rattle.ids.specs.declared.ids.TheConstants.{GOLDEN, SHARDS}
+use Rattle.ids.specs.declared.shards.TheConstants.{GOLDEN, SHARDS}
 
 abbrev pub Shard : Type 0
 Shard = HashMap ℕ ℕ (BuildHasherDefault FoldHasher)

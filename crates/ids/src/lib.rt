@@ -2,7 +2,10 @@
 #![tactic(auto)]
 
 mod ids;
+mod remains;
+mod shards;
 #[cfg(test)]
 mod tests;
 
 pub use ids::Ids;
+pub use remains::IdRemains;

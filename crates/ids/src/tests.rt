@@ -47,7 +47,7 @@ fn answer_of_tree(tree: &mut BTreeMap<u64, u64>, call: Call) -> Result<Option<u6
 
 /// The place of the first call with another answer than the table's.
 fn first_wrong(alloc: Global) -> Result<Option<usize>, AllocError> {
-    let mut ids = Ids::new(alloc)?;
+    let mut ids = Ids::new(alloc);
     for (place, (call, expected)) in CALLS.iter().enumerate() {
         if answer(&mut ids, *call)? != *expected {
             return Ok(Some(place));
@@ -92,10 +92,13 @@ fn random_call(state: &mut u64) -> Call {
 }
 
 /// The place of the first of so many random calls that a tree answers differently.
-fn first_difference(alloc: Global, count: usize) -> Result<Option<usize>, AllocError> {
-    let mut ids = Ids::new(alloc)?;
+fn first_difference(
+    alloc: Global,
+    mut state: u64,
+    count: usize,
+) -> Result<Option<usize>, AllocError> {
+    let mut ids = Ids::new(alloc);
     let mut tree = BTreeMap::new(alloc);
-    let mut state = 1;
     for place in 0..count {
         let call = random_call(&mut state);
         if answer(&mut ids, call)? != answer_of_tree(&mut tree, call)? {
@@ -107,7 +110,71 @@ fn first_difference(alloc: Global, count: usize) -> Result<Option<usize>, AllocE
 
 #[test]
 fn random_calls_are_answered_as_by_a_tree(rt: HostRuntime) -> Result<(), Fail> {
-    assert!(rt; first_difference(rt.alloc(), 100_000)? == None);
+    for (state, count) in [(1, 100_000), (2, 5_000), (3, 5_000), (4, 5_000)] {
+        assert!(rt; first_difference(rt.alloc(), state, count)? == None);
+    }
+    Ok(())
+}
+
+/// One of many ids in sixteen shards.
+fn nth_id(number: u64) -> u64 {
+    id_in_shard(number % 16, number)
+}
+
+/// Whether each of the first ids has its number.
+fn have_numbers(ids: &Ids, count: u64) -> bool {
+    (0..count).all(|number| ids.get(nth_id(number)) == Some(number))
+}
+
+/// Whether an id gets a number, loses it, gets another one and keeps it.
+fn comes_and_goes(ids: &mut Ids, id: u64, number: u64) -> Result<bool, AllocError> {
+    let inserted = ids.insert(id, 7)?.is_none() && ids.get(id) == Some(7);
+    let removed = ids.remove(id) == Some(7) && ids.get(id).is_none();
+    let replaced = ids.insert(id, 8)?.is_none() && ids.insert(id, number)? == Some(8);
+    Ok(inserted && removed && replaced)
+}
+
+/// The first id that doesn't get its number, or takes another's, while the ids become many.
+fn first_wrong_at_border(alloc: Global) -> Result<Option<u64>, AllocError> {
+    let mut ids = Ids::new(alloc);
+    for number in 0..1_022 {
+        ids.insert(nth_id(number), number)?;
+    }
+    for number in 1_022..1_027 {
+        if !comes_and_goes(&mut ids, nth_id(number), number)? || !have_numbers(&ids, number + 1) {
+            return Ok(Some(number));
+        }
+    }
+    Ok(None)
+}
+
+#[test]
+fn few_ids_become_many(rt: HostRuntime) -> Result<(), Fail> {
+    assert!(rt; first_wrong_at_border(rt.alloc())? == None);
+    Ok(())
+}
+
+/// How many pieces there are of an index of so many ids, each of which got a number twice.
+fn pieces(alloc: Global, count: u64) -> Result<Option<usize>, AllocError> {
+    let mut ids = Ids::new(alloc);
+    for id in 0..count {
+        ids.insert(id, 0)?;
+        ids.insert(id, id)?;
+    }
+    let mut remains = ids.into_remains();
+    for shed in 0..5_000 {
+        if !remains.shed() {
+            return Ok(Some(shed));
+        }
+    }
+    Ok(None)
+}
+
+#[test]
+fn few_ids_are_one_piece_and_many_are_4096(rt: HostRuntime) -> Result<(), Fail> {
+    for (count, expected) in [(0, 1), (1, 1), (1_024, 1), (1_025, 4_096), (5_000, 4_096)] {
+        assert!(rt; pieces(rt.alloc(), count)? == Some(expected));
+    }
     Ok(())
 }
 
@@ -119,15 +186,10 @@ fn gets_number(ids: &mut Ids, id: u64, number: u64) -> bool {
     }
 }
 
-/// Whether the first ids of a shard have their numbers.
-fn have_numbers(ids: &Ids, count: u64) -> bool {
-    (0..count).all(|number| ids.get(id_in_shard(3, number)) == Some(number))
-}
-
-/// The first id of a shard that doesn't get its number, or takes another's.
+/// The first id that doesn't get its number, or takes another's.
 fn first_lost(ids: &mut Ids, count: u64) -> Option<u64> {
     for number in 0..count {
-        if !gets_number(ids, id_in_shard(3, number), number) || !have_numbers(ids, number) {
+        if !gets_number(ids, nth_id(number), number) || !have_numbers(ids, number) {
             return Some(number);
         }
     }
@@ -137,7 +199,7 @@ fn first_lost(ids: &mut Ids, count: u64) -> Option<u64> {
 /// Must pass whichever allocation is refused.
 #[test]
 fn refused_memory_leaves_an_index_as_it_was(rt: HostRuntime) -> Result<(), Fail> {
-    let mut ids = Ids::new(rt.alloc())?;
-    assert!(rt; first_lost(&mut ids, 200) == None);
+    let mut ids = Ids::new(rt.alloc());
+    assert!(rt; first_lost(&mut ids, 1_100) == None);
     Ok(())
 }
