@@ -62,7 +62,7 @@ impl<C: KeyClass> Generation<C> {
         ensures refusals { IfErr result (IsEither BadConfig OutOfMemory) }
     {
         let store = Store::new(alloc, config)?;
-        let numbers = Ids::new(alloc)?;
+        let numbers = Ids::new(alloc);
         Ok(Generation {
             alloc,
             store,

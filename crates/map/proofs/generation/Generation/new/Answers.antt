@@ -9,8 +9,8 @@ pub invariant_of-result : goal.invariant_of-result
 invariant_of-result g c =
     let none = ap (λ (s : StoreState _ _). s.commits) c.in_ok-store.ensures.ok in
     let small : c.args.revision < 2 ^ 64 = omega (arith, c.ranges.revision.fits) in
-    subst (λ l. IsGeneration c.args.revision 0 0 l c.in_ok-numbers.numbers) (sym none)
-    (subst (λ n. IsGeneration c.args.revision 0 0 [] n) (sym c.in_ok-numbers.ensures) (generation_empty c.args.revision small))
+    subst (λ l. IsGeneration c.args.revision 0 0 l c.new-numbers.result) (sym none)
+    (subst (λ n. IsGeneration c.args.revision 0 0 [] n) (sym c.new-numbers.ensures) (generation_empty c.args.revision small))
 
 pub returns-clause-ok : goal.returns-clause-ok
 returns-clause-ok g c =
