@@ -2,10 +2,12 @@ ghost use Rattle.std.specs.Prelude.{◌≡◌, ◌++◌, ◌∷◌, ◌/◌, ◌
 ghost use Rattle.change_list.specs.Changes.{commit_at, row_at, status_of, MayFollow, IsLegal};
 
 use crate::item::Row;
+use crate::remains::CommitRemains;
 use crate::roomy_list::RoomyList;
 use crate::view::View;
 use crate::write::{Status, Write};
 use key_class::Refusal;
+use segmented::SegmentedVec;
 use std::alloc::{AllocError, Global};
 use std::marker::Model;
 use std::mem;
@@ -15,7 +17,7 @@ use std::mem;
 pub struct ChangeList<K> {
     pub(crate) commits: View<K>,
     /// At place n - 1, whether a commit ended row n.
-    pub(crate) ended: Vec<bool>,
+    pub(crate) ended: SegmentedVec<bool>,
 }
 
 impl<K> Model for ChangeList<K> {
@@ -36,7 +38,7 @@ impl<K: Copy> ChangeList<K> {
     {
         ChangeList {
             commits: View::new(alloc),
-            ended: Vec::new(alloc),
+            ended: SegmentedVec::new(alloc),
         }
     }
 
@@ -103,7 +105,7 @@ impl<K: Copy> ChangeList<K> {
     {
         match self.commit(row) {
             Some(Write::Insert(_, _) | Write::Move(_, _)) => {
-                if self.ended[(row - 1) as usize] {
+                if self.ended.get((row - 1) as usize) == Some(true) {
                     Status::Dead
                 } else {
                     Status::Live
@@ -111,6 +113,13 @@ impl<K: Copy> ChangeList<K> {
             }
             _ => Status::NeverIssued,
         }
+    }
+
+    /// The list without its use: what is left to be dropped piece by piece. At most 255 commits are dropped at once.
+    pub fn into_remains(self) -> CommitRemains<K> {
+        let ChangeList { commits, ended } = self;
+        let View { kept } = commits;
+        CommitRemains::new(kept, ended)
     }
 
     /// Adds a commit: an insert, or the delete or the move of a live row.
@@ -123,7 +132,7 @@ impl<K: Copy> ChangeList<K> {
         ensures ok { OnOk result (self.new ≡ self.old ++ write ∷ []) }
         ensures err { OnErr result (self.new ≡ self.old) }
     {
-        let empty = ChangeList::new(*self.ended.allocator());
+        let empty = ChangeList::new(self.ended.allocator());
         match mem::replace(self, empty).reserve(write) {
             Ok(roomy) => {
                 *self = roomy.push();
@@ -148,7 +157,7 @@ impl<K: Copy> ChangeList<K> {
         ensures err { IfErr result (λ list. list ≡ self) }
     {
         let ChangeList { commits, mut ended } = self;
-        if ended.try_reserve(1).is_err() {
+        if ended.reserve().is_err() {
             return Err(ChangeList { commits, ended });
         }
         let next = commits.record(write);

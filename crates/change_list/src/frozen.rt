@@ -1,4 +1,4 @@
-ghost use Rattle.std.specs.Prelude.{◌≡◌, ◌++◌, ◌∷◌, [], IfOk};
+ghost use Rattle.std.specs.Prelude.{◌≡◌, ◌++◌, ◌∷◌, [], IfOk, IfSome};
 
 use std::alloc::{AllocError, Global};
 use std::marker::Model;
@@ -49,6 +49,14 @@ impl<T> Frozen<T> {
             }),
             None => Ok(Frozen::empty()),
         }
+    }
+
+    /// The items, if there are any and they have no other owner.
+    pub(crate) fn into_items(self) -> Option<Vec<T>>
+        ensures { IfSome result (λ items. items.items ≡ self) }
+    {
+        let Frozen { items } = self;
+        Arc::into_inner(items?)
     }
 }
 

@@ -1,4 +1,4 @@
-ghost use Rattle.std.specs.Prelude.{◌≡◌, ◌<◌, ◌++◌, ◌∷◌, [], Some, length, slice_get, IfOk};
+ghost use Rattle.std.specs.Prelude.{◌≡◌, ◌<◌, ◌++◌, ◌∷◌, [], Some, length, slice_get, All, IfOk};
 
 use crate::frozen::Frozen;
 use std::alloc::{AllocError, Global};
@@ -8,7 +8,7 @@ use std::marker::Model;
 pub(crate) type Segment<T> = Frozen<T>;
 
 /// Segments that lists share.
-type Group<T> = Frozen<Segment<T>>;
+pub(crate) type Group<T> = Frozen<Segment<T>>;
 
 /// How many segments a full group has.
 const GROUP: usize = 256;
@@ -54,6 +54,16 @@ impl<T: Drop> Groups<T> {
             return &full[group].as_slice()[place % GROUP];
         }
         &self.last.as_slice()[place - full.len() * GROUP]
+    }
+
+    /// The full groups, and the segments of the last one, as far as they have no other owner.
+    pub(crate) fn into_parts(self, alloc: Global) -> (Vec<Group<T>>, Vec<Segment<T>>)
+        ensures { All (λ group. length group ≡ 256) result.0.items }
+    {
+        let Groups { full, last } = self;
+        let groups = full.into_items().unwrap_or(Vec::new(alloc));
+        let segments = last.into_items().unwrap_or(Vec::new(alloc));
+        (groups, segments)
     }
 
     /// Another owner of the same groups.

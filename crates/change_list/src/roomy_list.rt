@@ -1,5 +1,4 @@
 ghost use Rattle.std.specs.Prelude.{◌≡◌, ◌<◌, length};
-ghost use Rattle.std.specs.Vec.{vec_capacity};
 ghost use Rattle.change_list.specs.Roomy.{with_write, NamesEarlier, flags_with};
 
 use crate::change_list::ChangeList;
@@ -7,6 +6,7 @@ use crate::recorded::Recorded;
 use crate::shared_list::RoomySharedList;
 use crate::view::View;
 use crate::write::Write;
+use segmented::SegmentedVec;
 use std::marker::Model;
 
 /// A list of commits with memory reserved for one more.
@@ -14,12 +14,11 @@ use std::marker::Model;
 pub struct RoomyList<K> {
     pub(crate) kept: RoomySharedList<Recorded<K>>,
     pub(crate) write: Write<K>,
-    pub(crate) ended: Vec<bool>,
+    pub(crate) ended: SegmentedVec<bool>,
 }
 
 impl<K> Model for RoomyList<K> {
     ghost use Rattle.std.specs.Prelude.{◌≡◌, ◌<◌, length};
-    ghost use Rattle.std.specs.Vec.{vec_capacity};
     ghost use Rattle.change_list.specs.Changes.{MayFollow, IsTracked};
     ghost use Rattle.change_list.specs.Records.{IsKept, KeepsWrite, writes_of};
     ghost use Rattle.change_list.specs.Roomy.{Roomy};
@@ -28,7 +27,7 @@ impl<K> Model for RoomyList<K> {
 
     ghost view = { λ roomy. record { list = writes_of roomy.kept.list; write = roomy.write } };
 
-    ghost invariant = { λ roomy. IsKept roomy.kept.list × KeepsWrite (writes_of roomy.kept.list) roomy.write roomy.kept.next × IsTracked (writes_of roomy.kept.list) roomy.ended.items × MayFollow (writes_of roomy.kept.list) roomy.write × (length roomy.ended.items < vec_capacity roomy.ended) };
+    ghost invariant = { λ roomy. IsKept roomy.kept.list × KeepsWrite (writes_of roomy.kept.list) roomy.write roomy.kept.next × IsTracked (writes_of roomy.kept.list) roomy.ended.items × MayFollow (writes_of roomy.kept.list) roomy.write × (length roomy.ended.items < roomy.ended.capacity) };
 }
 
 impl<K: Copy> RoomyList<K> {
@@ -56,15 +55,15 @@ impl<K: Copy> RoomyList<K> {
 
 /// The `ended` flags, with one more for the new commit. A delete or a move also sets the flag of the row that it
 /// ends.
-fn with_letter<K: Copy>(ended: Vec<bool>, write: Write<K>) -> Vec<bool>
-    requires room { length ended.items < vec_capacity ended }
+fn with_letter<K: Copy>(ended: SegmentedVec<bool>, write: Write<K>) -> SegmentedVec<bool>
+    requires room { length ended.items < ended.capacity }
     requires names { NamesEarlier (length ended.items) write }
     ensures { result.items ≡ flags_with ended.items write }
 {
     let mut ended = ended;
     ended.push_reserved(false);
     if let Write::Delete(row) | Write::Move(row, _) = write {
-        ended[(row - 1) as usize] = true;
+        ended.set((row - 1) as usize, true);
         return ended;
     }
     ended

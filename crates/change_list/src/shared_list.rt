@@ -1,8 +1,8 @@
-ghost use Rattle.std.specs.Prelude.{◌≡◌, ◌<◌, ◌≤◌, ◌/◌, ◌%◌, [], length, drop, slice_get, IfOk, IfErr};
+ghost use Rattle.std.specs.Prelude.{◌≡◌, ◌<◌, ◌≤◌, ◌/◌, ◌%◌, [], length, drop, slice_get, All, IfOk, IfErr};
 ghost use Rattle.std.specs.Vec.{vec_capacity};
 ghost use Rattle.change_list.specs.Segments.{IsReady, IsRun, IsSegmented, joined, joined_with, with_next};
 
-use crate::groups::{Groups, Segment};
+use crate::groups::{Group, Groups, Segment};
 use std::alloc::{AllocError, Global};
 use std::marker::Model;
 
@@ -49,6 +49,16 @@ impl<T> Model for RoomySharedList<T> {
     ghost view = { λ r. record { list = joined r.full r.tail.items; next = r.next } };
 
     ghost invariant = { λ r. IsSegmented r.full r.tail.items × (r.count ≡ length (joined r.full r.tail.items)) × IsReady r.full r.tail.items r.next r.filled × (length r.tail.items < vec_capacity r.tail) × (r.count < 4294967295) };
+}
+
+impl<T: Drop> SharedList<T> {
+    /// The full groups of its full segments, and the segments of the last group, as far as they have no other owner.
+    pub(crate) fn into_groups(self) -> (Vec<Group<T>>, Vec<Segment<T>>)
+        ensures { All (λ group. length group ≡ 256) result.0.items }
+    {
+        let SharedList { full, tail, .. } = self;
+        full.into_parts(*tail.allocator())
+    }
 }
 
 impl<T: Copy> SharedList<T> {
