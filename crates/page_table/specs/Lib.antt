@@ -3,6 +3,7 @@ pub mod Keeping
 pub mod LeafChanges
 pub mod PageChanges
 pub mod PlaceLaws
+pub mod Remains
 pub mod Soundness
 pub mod Stacks
 pub mod TraversalLaws

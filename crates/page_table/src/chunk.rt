@@ -28,6 +28,19 @@ impl<T, const SIZE: usize, const LEN: usize> Model for Chunk<T, SIZE, LEN> {
     ghost invariant = { λ c. length c.children.items ≡ LEN };
 }
 
+impl<T: Drop, const SIZE: usize, const LEN: usize> Chunk<T, SIZE, LEN> {
+    /// Its places.
+    pub(crate) fn into_children(self) -> [Shared<T>; LEN]
+        ensures { result ≡ self }
+    {
+        let Chunk { children } = self;
+        match children.into_inner() {
+            Ok(children) => children,
+            Err(_) => unreachable!(),
+        }
+    }
+}
+
 impl<T: Copied, const SIZE: usize, const LEN: usize> Clone for Chunk<T, SIZE, LEN> {
     ghost is_clone = { λ chunk copy. copy ≡ chunk };
 

@@ -1,5 +1,5 @@
 //! Copy on write: values that several owners share until one of them writes.
-ghost use Rattle.std.specs.Prelude.{◌≡◌, IfOk};
+ghost use Rattle.std.specs.Prelude.{◌≡◌, IfOk, IfSome};
 ghost use Rattle.std.specs.Borrow.{LendsIfOk, sem};
 ghost use Rattle.page_table.specs.contracts.shared.Shared.{the_row};
 
@@ -55,6 +55,14 @@ impl<T> Shared<T> {
     {
         let inner = Arc::try_clone(&self.inner)?;
         Ok(Shared { inner })
+    }
+
+    /// The value, if it has no other owner.
+    pub(crate) fn into_inner(self) -> Option<T>
+        ensures { IfSome result (λ value. value ≡ self) }
+    {
+        let Shared { inner } = self;
+        Arc::into_inner(inner)
     }
 }
 

@@ -1,4 +1,4 @@
-ghost use Rattle.std.specs.Prelude.{◌≡◌, ◌≢◌, ◌+◌, ◌<◌, ◌^◌, length, true, IfOk, OnOk, OnErr};
+ghost use Rattle.std.specs.Prelude.{◌≡◌, ◌≢◌, ◌+◌, ◌*◌, ◌<◌, ◌≤◌, ◌^◌, length, true, IfOk, OnOk, OnErr};
 ghost use Rattle.std.specs.Borrow.{LendsIfOk, sem};
 ghost use Rattle.page_table.specs.Trees.{Tree, page_at, replaced, added, new_tree};
 ghost use Rattle.node.specs.Pages as model;
@@ -11,6 +11,7 @@ ghost use Rattle.page_table.specs.PageChanges.{with_rise, with_posting, with_wid
 
 use crate::change::{MoveRow, Posting, Widening};
 use crate::places::{Places, Single};
+use crate::remains::PageRemains;
 use crate::shared::Shared;
 use crate::shared_page::SharedPage;
 use crate::top::{TOP, Top, change_pages, change_three, filler, put_next, shared};
@@ -116,6 +117,14 @@ impl<K: Columned> PageTable<K> {
             counter,
             filler,
         })
+    }
+
+    /// The table without its use: what is left to be dropped piece by piece.
+    pub fn into_remains(self) -> PageRemains<K>
+        ensures { length self.pages ≤ 16 * result }
+    {
+        let PageTable { chunks, .. } = self;
+        PageRemains::new(chunks)
     }
 
     fn slot(&self, number: u32) -> &Shared<Single<Page<K>>>

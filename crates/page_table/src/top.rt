@@ -19,9 +19,9 @@ pub(crate) const TOP: usize = 1024;
 /// pages, are the smaller ones.
 const LOWER: usize = 16;
 
-const UPPER: usize = 64;
+pub(crate) const UPPER: usize = 64;
 
-type Lower<K> = Chunk<Single<Page<K>>, 1, LOWER>;
+pub(crate) type Lower<K> = Chunk<Single<Page<K>>, 1, LOWER>;
 
 pub(crate) type Top<K> = Chunk<Lower<K>, LOWER, UPPER>;
 
