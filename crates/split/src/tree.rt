@@ -75,6 +75,14 @@ impl<C: KeyClass> SearchTree<C> {
         &self.table
     }
 
+    /// Only the pages.
+    pub fn into_pages(self) -> PageTable<C::Key>
+        ensures { result ≡ self.tree }
+    {
+        let SearchTree { table, .. } = self;
+        table
+    }
+
     /// The most entries of a page.
     pub fn fan(&self) -> usize
         ensures { result ≡ self.now.fan }
