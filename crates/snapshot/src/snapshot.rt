@@ -100,6 +100,14 @@ impl<C: KeyClass> Snapshot<C> {
         &self.list
     }
 
+    /// Only the commits, as a list. Pages that nothing else shares are dropped.
+    pub fn into_list(self) -> View<C::Key>
+        ensures { result ≡ self }
+    {
+        let Snapshot { list, .. } = self;
+        list
+    }
+
     /// The rows that were live after its last commit, by rising number. It reads each commit twice, and no page.
     ///
     /// # Errors
