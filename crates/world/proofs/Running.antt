@@ -4,7 +4,9 @@ use Rattle.std.specs.List.{zip}
 use Rattle.std.specs.Result.{IsErrAnd}
 use Rattle.std.proofs.lemmas.List.{take_more, append-nil}
 use Rattle.std.proofs.Common.{append_assoc}
-use Rattle.std.proofs.Common.{Result, Ok, Err}
+use Rattle.std.proofs.Common.{Result, Ok, Err, inr}
+use Rattle.std.specs.Prelude.{IfErr}
+use Rattle.key_class.specs.Refusals.{IsEither}
 use Rattle.key_class.specs.declared.pred.Pred.{Pred}
 use Rattle.mailbox.specs.Outlets.{Rule}
 use Rattle.key_class.specs.Rules.{IsLawful, Rules}
@@ -124,3 +126,12 @@ no_bad_config (Err why) h b =
     let f : why ≡ refusal.BadConfig = cc in
     let g : refusal.OutOfMemory ≡ refusal.BadConfig = sym h ∙ f in
     cc
+
+-- no refusal is for another reason
+pub for_memory : {X : Type 0} (r : Result X Refusal) → IsErrAnd r (λ why. why ≡ refusal.OutOfMemory) → IfErr r (IsEither refusal.BadConfig refusal.OutOfMemory)
+for_memory (Ok x) h = tt
+for_memory (Err why) h = inr h
+
+-- what is returned is no refusal
+pub not_refused : {X Y : Type 0} (x : X) (y : Y) → Ok x ≡ Err y → ⊥
+not_refused x y e = cc

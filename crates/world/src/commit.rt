@@ -8,6 +8,7 @@ use crate::hints::hint_to;
 use change_list::{ChangeList, Write};
 use key_class::{KeyClass, Refusal};
 use row_version::Entry;
+use segmented::SegmentedVec;
 use split::SearchTree;
 use std::alloc::Global;
 use std::mem;
@@ -122,7 +123,7 @@ fn change_and_tell<C: KeyClass>(
 pub(crate) fn commit<C: KeyClass>(
     search: &mut SearchTree<C>,
     commits: &mut ChangeList<C::Key>,
-    hints: &mut Vec<u16>,
+    hints: &mut SegmentedVec<u16>,
     change: LeafChange<C::Key>,
 ) -> Result<u64, Refusal>
     requires follows { MayFollow commits.old (write_of_change change) }
@@ -137,8 +138,8 @@ pub(crate) fn commit<C: KeyClass>(
     ensures commits_kept { OnErr result (commits.new ≡ commits.old) }
     ensures refused { IfErr result (λ why. why ≡ Refusal.OutOfMemory) }
 {
-    hints.reserve(1)?;
-    let alloc = *hints.allocator();
+    hints.reserve()?;
+    let alloc = hints.allocator();
     let number = change_and_tell(alloc, search, commits, change)?;
     hints.push_reserved(hint_to(change.page()));
     Ok(number)

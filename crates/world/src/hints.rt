@@ -8,6 +8,7 @@ ghost use Rattle.world.specs.Hints.{hint_to, with_hint, with_hints};
 
 use key_class::Columned;
 use node::Rows;
+use segmented::SegmentedVec;
 
 /// A page's number, as a hint stores it.
 pub(crate) fn hint_to(page: u64) -> u16
@@ -17,17 +18,17 @@ pub(crate) fn hint_to(page: u64) -> u16
 }
 
 /// Records that a row is on a page.
-fn note_row(hints: &mut Vec<u16>, page: u16, row: u32)
+fn note_row(hints: &mut SegmentedVec<u16>, page: u16, row: u32)
     ensures { hints.new.items ≡ with_hint page row hints.old.items }
 {
     let row = row as usize;
     if row < hints.len() {
-        hints[row] = page;
+        hints.set(row, page);
     }
 }
 
 /// Records that these rows are on a page.
-pub(crate) fn note_all<K: Columned>(hints: &mut Vec<u16>, page: u16, rows: &Rows<K>)
+pub(crate) fn note_all<K: Columned>(hints: &mut SegmentedVec<u16>, page: u16, rows: &Rows<K>)
     ensures { hints.new.items ≡ with_hints page rows.now hints.old.items }
 {
     for place in 0..rows.len() {
@@ -36,8 +37,8 @@ pub(crate) fn note_all<K: Columned>(hints: &mut Vec<u16>, page: u16, rows: &Rows
 }
 
 /// The page on which a row was seen last; the root if nothing is known.
-pub(crate) fn page_of(hints: &[u16], row: u32) -> u32
-    ensures { result ≡ slice_index_or hints.now row 0 }
+pub(crate) fn page_of(hints: &SegmentedVec<u16>, row: u32) -> u32
+    ensures { result ≡ slice_index_or hints.now.items row 0 }
 {
-    u32::from(hints.get(row as usize).copied().unwrap_or(0))
+    u32::from(hints.get(row as usize).unwrap_or(0))
 }

@@ -9,12 +9,14 @@ mod finders;
 mod hints;
 mod nodes;
 mod places;
+mod remains;
 mod reply;
 mod tasks;
 mod trace;
 mod world;
 
 pub use event::Event;
+pub use remains::Remains;
 pub use reply::{Reply, Stamped};
 pub use tasks::{SplitTask, VisitTask};
 pub use trace::run;

@@ -1,4 +1,4 @@
-ghost use Rattle.std.specs.Prelude.{◌≡◌, ◌↔◌, ◌+◌, ◌≤◌, None, length, IfOk, OnOk, IfErr, IfSome, IfNone, is_some, nat_lt};
+ghost use Rattle.std.specs.Prelude.{◌≡◌, ◌↔◌, ◌+◌, ◌*◌, ◌≤◌, None, length, IfOk, OnOk, IfErr, IfSome, IfNone, is_some, nat_lt};
 ghost use Rattle.key_class.specs.Refusals.{IsEither};
 ghost use Rattle.change_list.specs.Configs.{IsWithinLimits};
 ghost use Rattle.change_list.specs.Changes.{commit_at, row_at, status_of, IsLegal};
@@ -10,6 +10,7 @@ ghost use Rattle.world.specs.Promises.{ServesAll, FitsAtOpening, LowersCursorWor
 
 use crate::event::Event;
 use crate::places::place_of;
+use crate::remains::Remains;
 use crate::reply::Reply;
 use change_list::{ChangeList, Config, Row, Status, View, Write};
 use cursor::Cursor;
@@ -17,6 +18,7 @@ use descent::Finder;
 use key_class::{KeyClass, Refusal};
 use mailbox::Outlet;
 use node::Page;
+use segmented::SegmentedVec;
 use snapshot::Snapshot;
 use split::SearchTree;
 use std::alloc::Global;
@@ -28,7 +30,7 @@ pub struct World<C: KeyClass, O: Outlet<C::Key>> {
     pub(crate) search: SearchTree<C>,
     pub(crate) limit: u64,
     pub(crate) changes: ChangeList<C::Key>,
-    pub(crate) hints: Vec<u16>,
+    pub(crate) hints: SegmentedVec<u16>,
     pub(crate) cursors: Vec<Cursor<C, O>>,
     pub(crate) last: u64,
     pub(crate) finders: Vec<Finder<C>>,
@@ -70,7 +72,8 @@ impl<C: KeyClass, O: Outlet<C::Key>> World<C, O> {
             u64::from(config.pages),
         )?;
         // Rows count from 1, so no row has the first place.
-        let mut hints = Vec::with_capacity(alloc, 1)?;
+        let mut hints = SegmentedVec::new(alloc);
+        hints.reserve()?;
         hints.push_reserved(0);
         Ok(World {
             search,
@@ -165,6 +168,23 @@ impl<C: KeyClass, O: Outlet<C::Key>> World<C, O> {
     {
         let World { changes, .. } = self;
         changes
+    }
+
+    /// The world without its use: what is left to be dropped piece by piece.
+    pub fn into_remains(self) -> Remains<C::Key>
+        ensures { length self.search.tree.pages ≤ 16 * result }
+    {
+        let World {
+            search,
+            changes,
+            hints,
+            ..
+        } = self;
+        Remains {
+            pages: search.into_pages().into_remains(),
+            commits: changes.into_remains(),
+            hints: hints.into_remains(),
+        }
     }
 
     /// The greatest number of commits.

@@ -1,7 +1,7 @@
 use Rattle.std.proofs.Common.{sym, arith}
 use Rattle.std.proofs.lemmas.List.{take_all}
 use Rattle.mailbox.specs.Outlets.{tray_rule}
-use Rattle.world.proofs.Running.{has_run_none, has_run_push, runs_always_faithful, no_bad_config}
+use Rattle.world.proofs.Running.{for_memory, has_run_none, has_run_push, no_bad_config, not_refused, runs_always_faithful}
 use Rattle.world.proofs.trace.run.Goals as goal
 
 pub loop-event-init : goal.loop-event-init
@@ -16,6 +16,12 @@ pub returns-in_err-push-clause-bad : goal.returns-in_err-push-clause-bad
 returns-in_err-push-clause-bad g c =
     let limits = c.in_ok-world.ensures.within in
     (λ e. absurd (no_bad_config c.from_residual-in_err-push.result c.from_residual-in_err-push.ensures.1 e), λ n. absurd (n limits))
+
+pub returns-in_err-copy-clause-refusals : goal.returns-in_err-copy-clause-refusals
+returns-in_err-copy-clause-refusals g c = for_memory c.from_residual-in_err-copy.result c.from_residual-in_err-copy.ensures.1
+
+pub returns-in_err-push-clause-refusals : goal.returns-in_err-push-clause-refusals
+returns-in_err-push-clause-refusals g c = for_memory c.from_residual-in_err-push.result c.from_residual-in_err-push.ensures.1
 
 pub loop-event-preserved : goal.loop-event-preserved
 loop-event-preserved g c =
@@ -38,4 +44,4 @@ returns-clause-faithful g c =
 pub returns-clause-bad : goal.returns-clause-bad
 returns-clause-bad g c =
     let limits = c.in_ok-world.ensures.within in
-    (λ e. absurd (cc), λ n. absurd (n limits))
+    (λ e. absurd (not_refused _ _ e), λ n. absurd (n limits))
