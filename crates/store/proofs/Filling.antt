@@ -1,6 +1,7 @@
 -- A store that is filled with the rows of another.
 use Rattle.std.proofs.Common.{◌≡◌, Result, Ok, Err, inl, inr, ◌+◌, ◌<◌, ℕ, Bool, false, not, List, [], ◌∷◌, ◌++◌, length, filter, map, take, get_or, refl, sym, ap, subst, ◌∙◌, arith}
-use Rattle.std.specs.Prelude.{IsPermutation}
+use Rattle.std.specs.Prelude.{IfErr, IsPermutation}
+use Rattle.std.specs.Result.{IsErrAnd}
 use Rattle.std.proofs.lemmas.List.{length-map, length-take-le, map-append, take_more}
 use Rattle.std.proofs.lemmas.List.Sorted.{length_permutation}
 use Rattle.std.proofs.Math.Seq.{take-length}
@@ -131,3 +132,8 @@ module _ {K A : Type 0} (config : Config) where
   renewing_live all store numbers i done e =
       let whole : take i all ≡ all = ap (λ n. take n all) e ∙ take-length all in
       ap rows (done.made.commits_are ∙ ap (map insert_of) whole) ∙ inserts_live all
+
+-- no renewal is refused for another reason
+pub renewing_for_memory : {K X : Type 0} (config : Config) (commits : List (Write K)) (r : Result X Refusal) → IsErrAnd r (λ why. why ≡ refusal.OutOfMemory) → IfErr r (RefusesRenewal config commits)
+renewing_for_memory config commits (Ok x) h = tt
+renewing_for_memory config commits (Err why) h = inr (inr (inr h))

@@ -1,4 +1,4 @@
-ghost use Rattle.std.specs.Prelude.{◌≡◌, ◌≢◌, ◌+◌, ◌≤◌, ◌<◌, ◌↔◌, length, IfOk, IfErr, OnOk, OnErr, Err, IsPermutation};
+ghost use Rattle.std.specs.Prelude.{◌≡◌, ◌≢◌, ◌+◌, ◌*◌, ◌≤◌, ◌<◌, ◌↔◌, length, IfOk, IfErr, OnOk, OnErr, Err, IsPermutation};
 ghost use Rattle.key_class.specs.declared.refusal.Refusal.TheVariants.{BadConfig, FromFuture, OutOfMemory, CommitsFull, NoSuchRow, AlreadyDeleted, FindersFull, CursorsFull};
 ghost use Rattle.key_class.specs.Refusals.{IsEither};
 ghost use Rattle.key_class.specs.Queries.{query_of, depth_of};
@@ -21,7 +21,7 @@ use snapshot::{
 };
 use std::alloc::Global;
 use std::marker::Model;
-use world::World;
+use world::{Remains, World};
 
 /// A store of rows over a tree of pages, with its commits and its open cursors.
 #[derive(Drop)]
@@ -318,6 +318,13 @@ impl<C: KeyClass> Store<C> {
         writes::sweep_page(&mut self.world, page)?;
         let next = page.saturating_add(1);
         Ok(if next < self.world.pages() { next } else { 0 })
+    }
+
+    /// The store without its use: what is left to be dropped piece by piece, where dropping it at once would take long.
+    pub fn into_remains(self) -> Remains<C::Key>
+        ensures { length self.dead_by_page ≤ 16 * result }
+    {
+        self.world.into_remains()
     }
 
     /// Asks a cursor for a mark.

@@ -1,9 +1,9 @@
-use Rattle.std.proofs.Common.{◌≡◌, Err, length, sym, ap, ◌∙◌, arith}
+use Rattle.std.proofs.Common.{◌≡◌, Err, inr, length, sym, ap, ◌∙◌, arith}
 use Rattle.std.proofs.lemmas.Result.{err_from_is_err_and}
 use Rattle.key_class.specs.declared.refusal.Refusal.TheVariants as refusal
 use Rattle.change_list.specs.Changes.{rows}
 use Rattle.store.specs.Renewing.{numbered}
-use Rattle.store.proofs.Filling.{no_error, not_bad, same_reason, renewing_live, renewing_more, renewing_refused}
+use Rattle.store.proofs.Filling.{no_error, not_bad, same_reason, renewing_for_memory, renewing_live, renewing_more, renewing_refused}
 use Rattle.store.proofs.store.Store.renewed.Goals as goal
 
 pub returns-in_err-insert-clause-bad : goal.returns-in_err-insert-clause-bad
@@ -23,6 +23,14 @@ returns-in_err-insert-clause-refusals g c =
     rw (p.1, p.2)
     (renewing_refused c.args.config g.C.KeyClass.rules.is_match items c.loop-row.row-index c.loop-row-test.true c.row-item.result c.row-item.is c.loop-row.store c.insert.new.self c.loop-row.old_numbers.items c.loop-row.invariant.0
     c.args.snapshot.now is c.insert.new.self refused.err.commits refused.err.page_limit refused.few_pages c.in_err-insert.field-0.0 refused.refusals (λ e. refused.full.0 (ap Err e)))
+
+pub returns-in_err-living-clause-refusals : goal.returns-in_err-living-clause-refusals
+returns-in_err-living-clause-refusals g c =
+    let p = err_from_is_err_and c.from_residual-in_err-living.result c.from_residual-in_err-living.ensures.1 in
+    rw (p.1, p.2) (inr (inr (inr c.in_err-living.ensures.refused)))
+
+pub returns-in_err-old_numbers-clause-refusals : goal.returns-in_err-old_numbers-clause-refusals
+returns-in_err-old_numbers-clause-refusals g c = renewing_for_memory c.args.config c.args.snapshot.now c.from_residual-in_err-old_numbers.result c.from_residual-in_err-old_numbers.ensures.1
 
 pub loop-row-preserved : goal.loop-row-preserved
 loop-row-preserved g c =
