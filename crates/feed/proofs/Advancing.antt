@@ -13,7 +13,7 @@ use Rattle.world.specs.Serials.{Rise, member}
 use Rattle.world.proofs.Serials.{member_within}
 use Rattle.feed.specs.declared.registration.Registration.{Registration}
 use Rattle.feed.specs.Asking.{Gives, due_upto, under}
-use Rattle.feed.specs.Feeds.{Advances, AdvancesBy, AdvancesByInto, AdvancesInto, FeedState, IsGivenUpto, Subscription, in_commits, items_under, needs_before}
+use Rattle.feed.specs.Feeds.{Advances, AdvancesBy, AdvancesByInto, AdvancesInto, FeedState, IsGivenUpto, Subscription, acknowledged, in_commits, items_under, needs_before}
 use Rattle.feed.specs.Holding.{feed_state, serial_of}
 use Rattle.feed.specs.Numberings.{MayNumber, commit_of, last_revision}
 use Rattle.feed.specs.declared.numbering.Numbering.{Numbering}
@@ -33,20 +33,25 @@ module _ {K A : Type 0} (rules : Rules K A) (numbering : Numbering) (commits : L
         is ∙ ap (λ n. changes (satisfies rules s.query) (commit_of numbering s.at) n commits) m ∙ changes_none (satisfies rules s.query) (commit_of numbering s.at) commits;
   }
 
-  -- a feed that gave what is due went on
-  pub advances : (upto passed last most later : ℕ) (registrations : List (ℕ × Registration A)) (given : List (ℕ × Item K)) → Rise serial_of 0 last registrations → MayNumber numbering commits
-      → upto ≤ later → later ≡ min (max numbering.oldest upto + most) (last_revision numbering commits)
+  -- a feed that gave what is due may go on
+  pub advances : (upto passed last most later : ℕ) (registrations : List (ℕ × Registration A)) (given : List (ℕ × Item K)) → MayNumber numbering commits
+      → later ≡ min (max numbering.oldest upto + most) (last_revision numbering commits)
       → Gives (due_upto rules numbering commits later) (feed_state upto passed last registrations) given
-      → AdvancesBy rules numbering (feed_state upto passed last registrations) commits most given (feed_state later last last registrations)
-  advances upto passed last most later registrations given rise may further is gives =
+      → AdvancesBy rules numbering (feed_state upto passed last registrations) commits most given (acknowledged later (feed_state upto passed last registrations))
+  advances upto passed last most later registrations given may is gives =
       let within : commit_of numbering later ≤ length commits = omega (arith, is, may.begun) in
       record {
         upto = is;
-        subscriptions = all_given upto passed 0 last later registrations rise further;
+        subscriptions = refl;
         last = refl;
         each = λ serial s found. is_given later s (items_under serial given) within (gives serial ∙ ap (λ o. option_map_or (due_upto rules numbering commits later) o []) found);
         no_others = λ serial none. gives serial ∙ ap (λ o. option_map_or (due_upto rules numbering commits later) o []) none;
       }
+
+-- the feed has gone on
+pub is_acknowledged : {A : Type 0} (upto passed last later : ℕ) (registrations : List (ℕ × Registration A)) → Rise serial_of 0 last registrations → upto ≤ later
+    → feed_state later last last registrations ≡ acknowledged later (feed_state upto passed last registrations)
+is_acknowledged upto passed last later registrations rise further = ap (λ s. record { upto = later; subscriptions = s; last = last }) (all_given upto passed 0 last later registrations rise further)
 
 -- where each commit is the revision with its number
 module _ {K A : Type 0} (rules : Rules K A) (numbering : Numbering) (none_begun : numbering.begun ≡ 0) (from_none : numbering.oldest ≡ 0) where

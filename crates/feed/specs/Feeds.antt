@@ -59,6 +59,10 @@ module _ {A : Type 0} where
   abbrev pub given_upto : ℕ → Subscription A → Subscription A
   given_upto n s = record s { at = max s.at n }
 
+  -- the feed once each subscription has its changes up to commit n
+  abbrev pub acknowledged : ℕ → FeedState A → FeedState A
+  acknowledged n feed = record feed { upto = n; subscriptions = map (given_upto n) feed.subscriptions }
+
   -- a subscription by the commits of a store that make its revisions
   abbrev pub in_commits : Numbering → Subscription A → Subscription A
   in_commits numbering s = record s { at = commit_of numbering s.at }

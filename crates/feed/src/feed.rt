@@ -4,7 +4,7 @@ ghost use Rattle.key_class.specs.Queries.{query_of, depth_of};
 ghost use Rattle.key_class.specs.Refusals.{IsEither};
 ghost use Rattle.key_class.specs.declared.refusal.Refusal.TheVariants.{BadConfig, Compacted, FeedFull, FromFuture, NotSubscribed, OutOfMemory};
 ghost use Rattle.feed.specs.Asking.{GivesInto, due_at, due_upto};
-ghost use Rattle.feed.specs.Feeds.{AdvancesByInto, AdvancesInto, HasNoPlaceFor, IsCompacted, RefusesAdvance, RefusesSubscription, compacted_serials, needs_before, new_feed, subscription_of, with_subscription, without_subscription};
+ghost use Rattle.feed.specs.Feeds.{AdvancesByInto, AdvancesInto, HasNoPlaceFor, IsCompacted, RefusesAdvance, RefusesSubscription, acknowledged, compacted_serials, needs_before, new_feed, subscription_of, with_subscription, without_subscription};
 ghost use Rattle.feed.specs.Numberings.{MayNumber, last_revision};
 
 use crate::numbering::Numbering;
@@ -199,6 +199,34 @@ impl<C: Reach> Feed<C> {
             ↔ IsCompacted numbering snapshot.now self.old }
         ensures refusals { IfErr result RefusesAdvance }
     {
+        let upto = self.poll_from(snapshot, numbering, most, into)?;
+        self.acknowledge(upto);
+        Ok(upto)
+    }
+
+    /// Returns what `advance_from` would, and leaves the feed as it is. Once the items have been delivered,
+    /// [`acknowledge`](Feed::acknowledge) takes the feed to the revision that is returned here.
+    ///
+    /// # Errors
+    /// As `advance_from`.
+    pub fn poll_from(
+        &self,
+        snapshot: &Snapshot<C>,
+        numbering: Numbering,
+        most: u64,
+        into: &mut Vec<(u64, Item<C::Key>)>,
+    ) -> Result<u64, Refusal>
+        requires { MayNumber numbering snapshot.now }
+        ensures ok { IfOk result (λ upto. AdvancesByInto C.rules numbering self.now snapshot.now
+            most into.old.items into.new.items (acknowledged upto self.now)) }
+        ensures further { IfOk result (λ upto. self.now.upto ≤ upto) }
+        ensures unchanged { OnErr result (into.new.items ≡ into.old.items) }
+        ensures future { (result ≡ Err FromFuture)
+            ↔ (last_revision numbering snapshot.now < self.now.upto) }
+        ensures compacted { (result ≡ Err Compacted)
+            ↔ IsCompacted numbering snapshot.now self.now }
+        ensures refusals { IfErr result RefusesAdvance }
+    {
         let last = numbering.last_revision(snapshot);
         if self.upto > last {
             return Err(Refusal::FromFuture);
@@ -211,9 +239,16 @@ impl<C: Reach> Feed<C> {
         let mut told = Vec::new(self.alloc);
         self.tell(snapshot, numbering, upto, &mut told)?;
         into.extend_from_slice(&told)?;
+        Ok(upto)
+    }
+
+    /// Goes on to a revision up to which each subscription has its items.
+    pub fn acknowledge(&mut self, upto: u64)
+        requires { self.old.upto ≤ upto }
+        ensures { self.new ≡ acknowledged upto self.old }
+    {
         self.upto = upto;
         self.passed = self.last;
-        Ok(upto)
     }
 
     /// The serials of the open subscriptions that need changes from before a revision, rising. At a snapshot whose
