@@ -29,7 +29,7 @@ module _ {K : Type 0} where
 
   pub forgets_none : (old new : KeptMap K) → new ≡ old → ForgetsOnly old new
   forgets_none old new same = record {
-    history = ap (λ (m : KeptMap K). m.history) same;
+    config = ap (λ (m : KeptMap K). m.config) same;
     forgets = record {
       upto = old.map.oldest;
       later = omega arith;
@@ -49,23 +49,23 @@ module _ {K : Type 0} where
       ap revision_of is ∙ one ∙ ap (λ n. n + 1) (forgets_revision history old between f)
 
   -- what a removal gives, where there was a key and where there was none
-  pub removal_ok : (id : ℕ) (old new : KeptMap K) (between : MapState K) → new.history ≡ old.history → Forgets old.history old.map between → (had : Bool) → had ≡ has_id id (entries_of between) → RemovesIf id between new.map had → had ≡ true
+  pub removal_ok : (id : ℕ) (old new : KeptMap K) (between : MapState K) → new.config ≡ old.config → Forgets old.config.history old.map between → (had : Bool) → had ≡ has_id id (entries_of between) → RemovesIf id between new.map had → had ≡ true
       → (n : ℕ) → n ≡ revision_of new.map → ChangesIf (Remove id) (has_id id (entries_of old.map)) old new (Some n)
-  removal_ok id old new between history f had is removes true' n number =
-      let there : has_id id (entries_of old.map) ≡ true = ap (has_id id) (sym (forgets_entries old.history old.map between f)) ∙ sym is ∙ true' in
+  removal_ok id old new between config f had is removes true' n number =
+      let there : has_id id (entries_of old.map) ≡ true = ap (has_id id) (sym (forgets_entries old.config.history old.map between f)) ∙ sym is ∙ true' in
       let made : new.map ≡ with_change (Remove id) between = subst (λ b. RemovesIf id between new.map b) true' removes in
       subst (λ b. ChangesIf (Remove id) b old new (Some n)) (sym there) (
-        record { history = history; between = between; forgets = f; is = made },
-        ap Some (number ∙ changed_revision old.history old.map between new.map (Remove id) f made),
+        record { config = config; between = between; forgets = f; is = made },
+        ap Some (number ∙ changed_revision old.config.history old.map between new.map (Remove id) f made),
       )
 
-  pub removal_none : (id : ℕ) (old new : KeptMap K) (between : MapState K) → new.history ≡ old.history → Forgets old.history old.map between → (had : Bool) → had ≡ has_id id (entries_of between) → RemovesIf id between new.map had → had ≡ false
+  pub removal_none : (id : ℕ) (old new : KeptMap K) (between : MapState K) → new.config ≡ old.config → Forgets old.config.history old.map between → (had : Bool) → had ≡ has_id id (entries_of between) → RemovesIf id between new.map had → had ≡ false
       → ChangesIf (Remove id) (has_id id (entries_of old.map)) old new None
-  removal_none id old new between history f had is removes false' =
-      let absent : has_id id (entries_of old.map) ≡ false = ap (has_id id) (sym (forgets_entries old.history old.map between f)) ∙ sym is ∙ false' in
+  removal_none id old new between config f had is removes false' =
+      let absent : has_id id (entries_of old.map) ≡ false = ap (has_id id) (sym (forgets_entries old.config.history old.map between f)) ∙ sym is ∙ false' in
       let same : new.map ≡ between = subst (λ b. RemovesIf id between new.map b) false' removes in
       subst (λ b. ChangesIf (Remove id) b old new None) (sym absent) (
-        record { history = history; forgets = subst (λ m. Forgets old.history old.map m) (sym same) f },
+        record { config = config; forgets = subst (λ m. Forgets old.config.history old.map m) (sym same) f },
         refl,
       )
 

@@ -11,3 +11,4 @@ mod Reading
 mod Restoring
 mod Rolling
 mod Succeeding
+mod Telling

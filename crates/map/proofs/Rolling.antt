@@ -155,11 +155,13 @@ begun_roll commits = record {
 }
 
 -- the flag of a commit
-pub flag_of : {K : Type 0} (commits : List (Write K)) (ended : List Bool) (next : ℕ) → IsRoll commits ended next → length commits ≤ length ended → next < length commits → (flag : Bool) → flag ≡ get_or ended next flag → flag ≡ is_ended commits (next + 1)
-flag_of commits ended next is noted within flag at =
+pub flag_told : {K : Type 0} (commits : List (Write K)) (ended : List Bool) (next : ℕ) → IsRoll commits ended next → length commits ≤ length ended → next < length commits → slice_get ended next ≡ Some (is_ended commits (next + 1))
+flag_told commits ended next is noted within =
     let all : take (length ended) commits ≡ commits = take_all (length ended) commits noted in
-    let told : slice_get ended next ≡ Some (is_ended (take (length ended) commits) (next + 1)) = is.tracked.is next (omega (arith, within, noted, is.noted, ap length all)) in
-    at ∙ get_or_from_slice_get ended next (is_ended (take (length ended) commits) (next + 1)) flag told ∙ ap (λ cs. is_ended cs (next + 1)) all
+    is.tracked.is next (omega (arith, within, noted, is.noted, ap length all)) ∙ ap (λ cs. Some (is_ended cs (next + 1))) all
+
+pub flag_is : {K : Type 0} (commits : List (Write K)) (ended : List Bool) (next : ℕ) → IsRoll commits ended next → length commits ≤ length ended → next < length commits → (flag : Bool) → slice_get ended next ≡ Some flag → is_ended commits (next + 1) ≡ flag
+flag_is commits ended next is noted within flag at = let one : Some (is_ended commits (next + 1)) ≡ Some flag = sym (flag_told commits ended next is noted within) ∙ at in cc
 
 -- a commit names an earlier row, among as many flags as there are commits up to it
 pub names_noted : {K : Type 0} (commits : List (Write K)) (ended : List Bool) (next : ℕ) → IsRoll commits ended next → IsLegal commits → (write : Write K) → slice_get commits (length ended) ≡ Some write → (flags : List Bool) → flags ≡ ended ++ false ∷ [] → NamesEarlier (length flags) write

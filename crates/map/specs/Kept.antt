@@ -1,4 +1,4 @@
--- A map that forgets its older changes as it goes on.
+-- A map that forgets its older changes as it goes on, and what a snapshot has of it.
 use Rattle.std.specs.Prelude.{◌≡◌, ℕ, ◌+◌, Bool, true, false, Option, Some, None}
 use Rattle.revisions.specs.declared.change.MapChange.{MapChange}
 use Rattle.revisions.specs.Maps.{Forgets, MapState, empty_map, revision_of, with_change}
@@ -8,12 +8,20 @@ use Rattle.map.specs.Successors.{IsSuccessor}
 
 pub record KeptMap (K : Type 0) : Type 0 where
   pub map : MapState K
-  -- how many of its last changes it keeps at least
-  pub history : ℕ
+  pub config : MapConfig
+
+-- a map at some time, as a snapshot has it
+pub record MapView (K : Type 0) : Type 0 where
+  pub map : MapState K
+  -- that of its map
+  pub identity : ℕ
 
 module _ {K : Type 0} where
   abbrev pub kept_map : MapConfig → MapState K → KeptMap K
-  kept_map config map = record { map = map; history = config.history }
+  kept_map config map = record { map = map; config = config }
+
+  abbrev pub map_view : ℕ → MapState K → MapView K
+  map_view identity map = record { map = map; identity = identity }
 
   -- a map without entries, at a revision
   abbrev pub new_map : MapConfig → ℕ → KeptMap K
@@ -21,14 +29,14 @@ module _ {K : Type 0} where
 
   -- it may have forgotten older changes, and nothing else is changed
   pub record ForgetsOnly (old new : KeptMap K) : Type 0 where
-    pub history : new.history ≡ old.history
-    pub forgets : Forgets old.history old.map new.map
+    pub config : new.config ≡ old.config
+    pub forgets : Forgets old.config.history old.map new.map
 
   -- it makes a change, and may have forgotten older ones
   pub record Changes (change : MapChange K) (old new : KeptMap K) : Type 0 where
-    pub history : new.history ≡ old.history
+    pub config : new.config ≡ old.config
     pub between : MapState K
-    pub forgets : Forgets old.history old.map between
+    pub forgets : Forgets old.config.history old.map between
     pub is : new.map ≡ with_change change between
 
   -- it makes a change, whose revision is given, if a test says so

@@ -2,6 +2,7 @@ pub mod Configs
 pub mod Generations
 pub mod Items
 pub mod Kept
+pub mod MapFeeds
 pub mod Refusals
 pub mod Rolls
 pub mod Snapshots

@@ -9,6 +9,10 @@ use Rattle.revisions.specs.Maps.{MapState, with_change}
 abbrev pub RefusesPut : Refusal → Type 0
 RefusesPut why = (why ≡ refusal.OutOfMemory) ⊎ (why ≡ refusal.CommitsFull) ⊎ (why ≡ refusal.PagesFull) ⊎ (why ≡ refusal.FindersFull)
 
+-- why a map isn't restored
+abbrev pub RefusesRestoring : Refusal → Type 0
+RefusesRestoring why = (why ≡ refusal.BadConfig) ⊎ RefusesPut why
+
 -- why no key is taken away
 abbrev pub RefusesRemoval : Refusal → Type 0
 RefusesRemoval why = (why ≡ refusal.OutOfMemory) ⊎ (why ≡ refusal.CommitsFull) ⊎ (why ≡ refusal.FindersFull)

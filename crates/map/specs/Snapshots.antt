@@ -1,5 +1,5 @@
 -- What is found in a snapshot of a map, and what it has of the map's changes.
-use Rattle.std.specs.Prelude.{◌≡◌, ◌⊎◌, ℕ, ◌<◌, ◌≤◌, Bool, List, ◌++◌, length, IsPermutation}
+use Rattle.std.specs.Prelude.{◌≡◌, ◌⊎◌, ℕ, ◌<◌, ◌≤◌, Bool, List, ◌++◌, length, map, IsPermutation}
 use Rattle.key_class.specs.Limits.{most_depth}
 use Rattle.key_class.specs.Queries.{Query, depth_of, query_of}
 use Rattle.key_class.specs.Rules.{Rules, satisfies}
@@ -17,14 +17,15 @@ module _ {K A : Type 0} (rules : Rules K A) (query : Pred A) where
   abbrev pub found_in_map : MapState K → List (MapEntry K)
   found_in_map map = matching (satisfies rules (query_of query)) (entries_of map)
 
-module _ {K : Type 0} where
-  -- these entries, in some order, were written over the first places of a buffer, as many as fit, and all were counted
-  pub record AreWrittenEntries (all old new : List (MapEntry K)) (count : ℕ) : Type 0 where
-    pub given : List (MapEntry K)
-    pub arranged : IsPermutation given all
-    pub is : new ≡ written_over given old
-    pub counted : count ≡ length all
+-- the forms of these values, in some order, were written over the first places of a buffer, as many as fit, and all were
+-- counted
+pub record AreWrittenAs {X T : Type 0} (form_of : X → T) (all : List X) (old new : List T) (count : ℕ) : Type 0 where
+  pub given : List X
+  pub arranged : IsPermutation given all
+  pub is : new ≡ written_over (map form_of given) old
+  pub counted : count ≡ length all
 
+module _ {K : Type 0} where
   -- What was appended to a list: the items of the revisions after `from` up to `upto`, at most `most`. Either `upto` is
   -- the last revision, or there are exactly `most`.
   pub record AppendsItems (wanted : K → Bool) (from most : ℕ) (map : MapState K) (old new : List (MapItem K)) (upto : ℕ) : Type 0 where

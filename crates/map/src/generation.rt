@@ -7,14 +7,18 @@ ghost use Rattle.revisions.specs.Maps.{AreApart, AreReal, MayChange, empty_map, 
 ghost use Rattle.change_list.specs.Changes.{IsLegal, rows};
 ghost use Rattle.change_list.specs.declared.write.Write.TheVariants.{Insert};
 ghost use Rattle.map.specs.Generations.{TellsRows, id_of, row_of_id};
+ghost use Rattle.map.specs.Kept.{map_view};
 ghost use Rattle.map.specs.Refusals.{RefusesPut, RefusesRemoval, RemovesIf};
 
 use crate::map_snapshot::MapSnapshot;
+use crate::retired::Retired;
 use crate::roll::Roll;
 use change_list::{Config, Write};
+use feed::Numbering;
 use ids::Ids;
 use key_class::{KeyClass, Refusal};
 use revisions::{MapChange, MapEntry};
+use segmented::SegmentRemains;
 use std::alloc::Global;
 use std::marker::Model;
 use store::Store;
@@ -223,30 +227,48 @@ impl<C: KeyClass> Generation<C> {
         }
     }
 
-    /// A snapshot of the map.
+    /// A snapshot of the map, with the map's identity.
     ///
     /// # Errors
     /// `OutOfMemory`.
-    pub(crate) fn snapshot(&self) -> Result<MapSnapshot<C>, Refusal>
-        ensures ok { IfOk result (λ snapshot. snapshot ≡ self.now) }
+    pub(crate) fn snapshot(&self, identity: u64) -> Result<MapSnapshot<C>, Refusal>
+        ensures ok { IfOk result (λ snapshot. snapshot ≡ map_view identity self.now) }
         ensures refused { IfErr result (λ why. why ≡ OutOfMemory) }
     {
         let snapshot = self.store.snapshot()?;
-        Ok(MapSnapshot::new(self.alloc, snapshot, self.oldest, self.begun, self.len))
+        Ok(MapSnapshot {
+            alloc: self.alloc,
+            snapshot,
+            numbering: Numbering {
+                oldest: self.oldest,
+                begun: self.begun,
+            },
+            len: self.len,
+            identity,
+        })
     }
 
     /// A roll of its entries.
     ///
     /// # Errors
     /// `OutOfMemory`.
-    pub(crate) fn roll(&self) -> Result<Roll<C>, Refusal>
+    pub(crate) fn roll(&self) -> Result<Roll<C::Key>, Refusal>
         ensures all { IfOk result (λ roll. roll.all ≡ entries_of self.now) }
         ensures none { IfOk result (λ roll. roll.given ≡ []) }
         ensures apart { AreApart (entries_of self.now) }
         ensures refused { IfErr result (λ why. why ≡ OutOfMemory) }
     {
         let snapshot = self.store.snapshot()?;
-        Roll::new(self.alloc, snapshot)
+        Ok(Roll::new(self.alloc, snapshot.into_list()))
+    }
+
+    /// The generation without its use, to be dropped piece by piece with the flags of its rows.
+    pub(crate) fn retire(self, flags: SegmentRemains<bool>) -> Retired<C::Key> {
+        Retired {
+            store: self.store.into_remains(),
+            numbers: self.numbers.into_remains(),
+            flags,
+        }
     }
 }
 

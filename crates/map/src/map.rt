@@ -3,19 +3,21 @@ ghost use Rattle.key_class.specs.declared.refusal.Refusal.TheVariants.{BadConfig
 ghost use Rattle.key_class.specs.Refusals.{IsEither};
 ghost use Rattle.revisions.specs.declared.change.MapChange.TheVariants.{Put, Remove};
 ghost use Rattle.revisions.specs.Maps.{AreApart, entries_of, has_id, key_at, restored, revision_of};
-ghost use Rattle.map.specs.Configs.{IsMapConfig};
-ghost use Rattle.map.specs.Kept.{Changes, ChangesIf, ForgetsOnly, kept_map, new_map};
-ghost use Rattle.map.specs.Refusals.{RefusesPut, RefusesRemoval};
+ghost use Rattle.map.specs.Configs.{IsBadMap, IsMapConfig};
+ghost use Rattle.map.specs.Kept.{Changes, ChangesIf, ForgetsOnly, kept_map, map_view, new_map};
+ghost use Rattle.map.specs.Refusals.{RefusesPut, RefusesRemoval, RefusesRestoring};
 ghost use Rattle.map.specs.Successors.{IsSuccessor};
 
 use crate::config::MapConfig;
 use crate::generation::Generation;
 use crate::map_snapshot::MapSnapshot;
+use crate::retired::Retired;
 use crate::successor::Successor;
 use key_class::{KeyClass, Refusal};
 use revisions::MapEntry;
 use std::alloc::Global;
 use std::marker::Model;
+use std::mem;
 
 /// How many steps of the next generation each change makes, beside its own.
 const STEPS: u32 = 4;
@@ -33,6 +35,8 @@ pub struct Map<C: KeyClass> {
     config: MapConfig,
     present: Generation<C>,
     next: Option<Successor<C>>,
+    /// What is left of the generation before the present one.
+    retired: Option<Retired<C::Key>>,
 }
 
 impl<C: KeyClass> Model for Map<C> {
@@ -65,6 +69,7 @@ impl<C: KeyClass> Map<C> {
             config,
             present,
             next: None,
+            retired: None,
         })
     }
 
@@ -83,6 +88,9 @@ impl<C: KeyClass> Map<C> {
             (λ map. map ≡ kept_map config (restored revision entries.now)) }
         ensures apart { OnOk result (AreApart entries.now) }
         ensures limits { OnOk result (IsMapConfig config) }
+        ensures bad { ¬ IsMapConfig config → result ≡ Err BadConfig }
+        ensures why_bad { result ≡ Err BadConfig → IsBadMap config entries.now }
+        ensures refusals { IfErr result RefusesRestoring }
     {
         if !config.is_within_limits() {
             return Err(Refusal::BadConfig);
@@ -99,6 +107,7 @@ impl<C: KeyClass> Map<C> {
             config,
             present,
             next: None,
+            retired: None,
         })
     }
 
@@ -114,6 +123,13 @@ impl<C: KeyClass> Map<C> {
         ensures { result ≡ self.now.map.oldest }
     {
         self.present.oldest()
+    }
+
+    /// The identity in its configuration.
+    pub fn identity(&self) -> u64
+        ensures { result ≡ self.now.config.identity }
+    {
+        self.config.identity
     }
 
     /// How many ids have a key.
@@ -143,10 +159,11 @@ impl<C: KeyClass> Map<C> {
     /// # Errors
     /// `OutOfMemory`.
     pub fn snapshot(&self) -> Result<MapSnapshot<C>, Refusal>
-        ensures ok { IfOk result (λ snapshot. snapshot ≡ self.now.map) }
+        ensures ok { IfOk result (λ snapshot. snapshot
+            ≡ map_view self.now.config.identity self.now.map) }
         ensures refused { IfErr result (λ why. why ≡ OutOfMemory) }
     {
-        self.present.snapshot()
+        self.present.snapshot(self.config.identity)
     }
 
     /// The key of an id.
@@ -189,13 +206,26 @@ impl<C: KeyClass> Map<C> {
         }
     }
 
-    /// Does a little of the work that keeps the map going: on the next generation, and on the dead rows of the present
-    /// one.
+    /// Does a little of the work that keeps the map going: on the next generation, on what is left of the former one, and
+    /// on the dead rows of the present one.
     fn tend(&mut self)
         ensures { ForgetsOnly self.old self.new }
     {
         self.renew();
+        self.shed();
         self.present.sweep();
+    }
+
+    /// Drops a little of the generation before the present one.
+    fn shed(&mut self)
+        ensures { self.new ≡ self.old }
+    {
+        if let Some(retired) = &mut self.retired {
+            if retired.shed_some() {
+                return;
+            }
+        }
+        self.retired = None;
     }
 
     /// Works on the next generation a little, and puts it in the place of the present one when it is ready. Lack of
@@ -209,7 +239,9 @@ impl<C: KeyClass> Map<C> {
         };
         work(&mut next, &self.present);
         if next.is_ready(&self.present, u64::from(self.config.history)) {
-            self.present = next.into_present();
+            let (present, flags) = next.into_present();
+            let former = mem::replace(&mut self.present, present);
+            self.retired = Some(former.retire(flags));
             return;
         }
         self.next = Some(next);

@@ -4,11 +4,14 @@ ghost use Rattle.key_class.specs.Refusals.{IsEither};
 ghost use Rattle.key_class.specs.Rules.{satisfies};
 ghost use Rattle.key_class.specs.declared.refusal.Refusal.TheVariants.{BadConfig, OutOfMemory};
 ghost use Rattle.revisions.specs.Maps.{AreApart, entries_of, revision_of};
+ghost use Rattle.feed.specs.Numberings.{MayNumber};
 ghost use Rattle.map.specs.Generations.{IsMapSnapshot, entries_from, entry_of, map_of};
 ghost use Rattle.map.specs.Items.{AreWithin, map_item, number_of};
-ghost use Rattle.map.specs.Snapshots.{AppendsItems, AreWrittenEntries, IsCompacted, IsFromFuture, RefusesChanges, found_in_map};
+ghost use Rattle.map.specs.Snapshots.{AppendsItems, AreWrittenAs, IsCompacted, IsFromFuture, RefusesChanges, found_in_map};
 
+use crate::form::{AsIs, Form};
 use change_list::{Item, Row};
+use feed::Numbering;
 use key_class::limits::MAX_DEPTH;
 use key_class::{KeyClass, Pred, Refusal};
 use revisions::{MapEntry, MapItem};
@@ -21,69 +24,58 @@ use std::marker::{Model, PhantomData};
 /// without a lock.
 #[derive(Drop)]
 pub struct MapSnapshot<C: KeyClass> {
-    alloc: Global,
-    snapshot: Snapshot<C>,
-    oldest: u64,
-    begun: u64,
-    len: u64,
+    pub(crate) alloc: Global,
+    pub(crate) snapshot: Snapshot<C>,
+    pub(crate) numbering: Numbering,
+    pub(crate) len: u64,
+    pub(crate) identity: u64,
 }
 
 impl<C: KeyClass> Model for MapSnapshot<C> {
-    ghost use Rattle.revisions.specs.Maps.{MapState};
     ghost use Rattle.map.specs.Generations.{IsMapSnapshot, map_of};
+    ghost use Rattle.map.specs.Kept.{MapView, map_view};
 
-    ghost Value = { MapState C.Key };
+    ghost Value = { MapView C.Key };
 
-    ghost view = { λ s. map_of s.oldest s.begun s.snapshot };
+    ghost view = { λ s. map_view s.identity
+        (map_of s.numbering.oldest s.numbering.begun s.snapshot) };
 
-    ghost invariant = { λ s. IsMapSnapshot s.oldest s.begun s.len s.snapshot };
+    ghost invariant = { λ s. IsMapSnapshot s.numbering.oldest s.numbering.begun s.len
+        s.snapshot };
 }
 
 impl<C: KeyClass> MapSnapshot<C> {
-    /// The map of a store that had its first commits at a revision.
-    pub(crate) fn new(
-        alloc: Global,
-        snapshot: Snapshot<C>,
-        oldest: u64,
-        begun: u64,
-        len: u64,
-    ) -> MapSnapshot<C>
-        requires { IsMapSnapshot oldest begun len snapshot }
-        ensures { result ≡ map_of oldest begun snapshot }
-    {
-        MapSnapshot {
-            alloc,
-            snapshot,
-            oldest,
-            begun,
-            len,
-        }
-    }
-
     /// The last revision.
     pub fn revision(&self) -> u64
-        ensures { result ≡ revision_of self.now }
+        ensures { result ≡ revision_of self.now.map }
     {
-        self.oldest + (self.snapshot.commits() - self.begun)
+        self.numbering.oldest + (self.snapshot.commits() - self.numbering.begun)
     }
 
     /// The oldest revision: the changes after it are known.
     pub fn oldest(&self) -> u64
-        ensures { result ≡ self.now.oldest }
+        ensures { result ≡ self.now.map.oldest }
     {
-        self.oldest
+        self.numbering.oldest
+    }
+
+    /// The identity of its map.
+    pub fn identity(&self) -> u64
+        ensures { result ≡ self.now.identity }
+    {
+        self.identity
     }
 
     /// How many entries there are.
     pub fn len(&self) -> u64
-        ensures { result ≡ length (entries_of self.now) }
+        ensures { result ≡ length (entries_of self.now.map) }
     {
         self.len
     }
 
     /// Whether there is no entry.
     pub fn is_empty(&self) -> bool
-        ensures { result ≡ nat_eq (length (entries_of self.now)) 0 }
+        ensures { result ≡ nat_eq (length (entries_of self.now.map)) 0 }
     {
         self.len() == 0
     }
@@ -94,8 +86,8 @@ impl<C: KeyClass> MapSnapshot<C> {
     /// # Errors
     /// `OutOfMemory`.
     pub fn entries(&self) -> Result<Vec<MapEntry<C::Key>>, Refusal>
-        ensures ok { IfOk result (λ all. all.items ≡ entries_of self.now) }
-        ensures apart { AreApart (entries_of self.now) }
+        ensures ok { IfOk result (λ all. all.items ≡ entries_of self.now.map) }
+        ensures apart { AreApart (entries_of self.now.map) }
         ensures refused { IfErr result (λ why. why ≡ OutOfMemory) }
     {
         let rows = self.snapshot.all_rows()?;
@@ -108,7 +100,7 @@ impl<C: KeyClass> MapSnapshot<C> {
     /// `BadConfig` if the query is deeper than 32, else `OutOfMemory`.
     pub fn find(&self, query: &Pred<C::Atom>) -> Result<Vec<MapEntry<C::Key>>, Refusal>
         ensures ok { IfOk result (λ found. found.items
-            ≡ found_in_map C.rules query.now self.now) }
+            ≡ found_in_map C.rules query.now self.now.map) }
         ensures depth { (result ≡ Err BadConfig) ↔ (32 < depth_of (query_of query.now)) }
         ensures refusals { IfErr result (IsEither BadConfig OutOfMemory) }
     {
@@ -122,7 +114,7 @@ impl<C: KeyClass> MapSnapshot<C> {
     /// `BadConfig` if the query is deeper than 32, else `OutOfMemory`.
     pub fn find_any(&self, query: &Pred<C::Atom>) -> Result<Vec<MapEntry<C::Key>>, Refusal>
         ensures ok { IfOk result (λ found. IsPermutation found.items
-            (found_in_map C.rules query.now self.now)) }
+            (found_in_map C.rules query.now self.now.map)) }
         ensures depth { (result ≡ Err BadConfig) ↔ (32 < depth_of (query_of query.now)) }
         ensures refusals { IfErr result (IsEither BadConfig OutOfMemory) }
     {
@@ -140,14 +132,33 @@ impl<C: KeyClass> MapSnapshot<C> {
         query: &Pred<C::Atom>,
         into: &mut [MapEntry<C::Key>],
     ) -> Result<u64, Refusal>
-        ensures ok { IfOk result (AreWrittenEntries
-            (found_in_map C.rules query.now self.now) into.old into.new) }
+        ensures ok { IfOk result (AreWrittenAs (λ entry. entry)
+            (found_in_map C.rules query.now self.now.map) into.old into.new) }
+        ensures unchanged { OnErr result (into.new ≡ into.old) }
+        ensures depth { (result ≡ Err BadConfig) ↔ (32 < depth_of (query_of query.now)) }
+        ensures refusals { IfErr result (λ why. why ≡ BadConfig) }
+    {
+        self.find_as::<MapEntry<C::Key>, AsIs>(query, into)
+    }
+
+    /// Writes the entries that match, in any order and in a form, into a slice from its first place on, as many as fit.
+    /// Gives how many match. It needs no memory.
+    ///
+    /// # Errors
+    /// `BadConfig` if the query is deeper than 32. The slice is unchanged then.
+    pub fn find_as<T: Copy, F: Form<MapEntry<C::Key>, T>>(
+        &self,
+        query: &Pred<C::Atom>,
+        into: &mut [T],
+    ) -> Result<u64, Refusal>
+        ensures ok { IfOk result (AreWrittenAs F.form_of
+            (found_in_map C.rules query.now self.now.map) into.old into.new) }
         ensures unchanged { OnErr result (into.new ≡ into.old) }
         ensures depth { (result ≡ Err BadConfig) ↔ (32 < depth_of (query_of query.now)) }
         ensures refusals { IfErr result (λ why. why ≡ BadConfig) }
     {
         let query = BoundedQuery::new(query)?;
-        let mut slots = Slots::<MapEntry<C::Key>, AsEntry> {
+        let mut slots = Slots::<T, EntryAs<F>> {
             places: into,
             filled: 0,
             found: 0,
@@ -162,7 +173,7 @@ impl<C: KeyClass> MapSnapshot<C> {
     /// # Errors
     /// `BadConfig` if the query is deeper than 32.
     pub fn count(&self, query: &Pred<C::Atom>) -> Result<u64, Refusal>
-        ensures ok { IfOk result (λ n. n ≡ length (found_in_map C.rules query.now self.now)) }
+        ensures ok { IfOk result (λ n. n ≡ length (found_in_map C.rules query.now self.now.map)) }
         ensures depth { (result ≡ Err BadConfig) ↔ (32 < depth_of (query_of query.now)) }
         ensures refusals { IfErr result (λ why. why ≡ BadConfig) }
     {
@@ -183,19 +194,19 @@ impl<C: KeyClass> MapSnapshot<C> {
         most: usize,
     ) -> Result<u64, Refusal>
         ensures ok { IfOk result (AppendsItems (satisfies C.rules (query_of query.now)) from most
-            self.now into.old.items into.new.items) }
+            self.now.map into.old.items into.new.items) }
         ensures unchanged { OnErr result (into.new.items ≡ into.old.items) }
         ensures depth { (result ≡ Err BadConfig) ↔ (32 < depth_of (query_of query.now)) }
         ensures compacted { (result ≡ Err Refusal.Compacted)
-            ↔ IsCompacted (query_of query.now) self.now from }
+            ↔ IsCompacted (query_of query.now) self.now.map from }
         ensures future { (result ≡ Err Refusal.FromFuture)
-            ↔ IsFromFuture (query_of query.now) self.now from }
+            ↔ IsFromFuture (query_of query.now) self.now.map from }
         ensures refusals { IfErr result RefusesChanges }
     {
         if !query.is_within_depth(MAX_DEPTH) {
             return Err(Refusal::BadConfig);
         }
-        if from < self.oldest {
+        if from < self.numbering.oldest {
             return Err(Refusal::Compacted);
         }
         if from > self.revision() {
@@ -204,14 +215,14 @@ impl<C: KeyClass> MapSnapshot<C> {
         // brings into view that the number of commits is in range
         let _last = self.snapshot.commits();
         let mut items = Vec::new(self.alloc);
-        let first = self.begun + (from - self.oldest);
+        let first = self.numbering.begun + (from - self.numbering.oldest);
         // The query and the revision were tested, so that only memory may be lacking.
         let Ok(upto) = self.snapshot.changes(query, first, &mut items, most) else {
             return Err(Refusal::OutOfMemory);
         };
-        let given = map_items(self.alloc, &self.snapshot, self.oldest, self.begun, &items)?;
+        let given = map_items(self.alloc, &self.snapshot, self.numbering, &items)?;
         into.extend_from_slice(&given)?;
-        Ok(self.oldest + (upto - self.begun))
+        Ok(self.numbering.oldest + (upto - self.numbering.begun))
     }
 }
 
@@ -228,6 +239,21 @@ impl<K> RowForm<K, MapEntry<K>> for AsEntry {
             id: row.tag,
             key: row.key,
         }
+    }
+}
+
+/// The forms of entries, in which rows are written.
+struct EntryAs<F> {
+    form: PhantomData<F>,
+}
+
+impl<K, T, F: Form<MapEntry<K>, T>> RowForm<K, T> for EntryAs<F> {
+    ghost form_of = { λ row. F.form_of (entry_of row) };
+
+    fn form(row: Row<K>) -> T
+        ensures { result ≡ F.form_of (entry_of row) }
+    {
+        F::form(AsEntry::form(row))
     }
 }
 
@@ -248,47 +274,51 @@ fn as_entries<K: Copy>(alloc: Global, rows: &[Row<K>]) -> Result<Vec<MapEntry<K>
 fn map_items<C: KeyClass>(
     alloc: Global,
     snapshot: &Snapshot<C>,
-    oldest: u64,
-    begun: u64,
+    numbering: Numbering,
     items: &[Item<C::Key>],
 ) -> Result<Vec<MapItem<C::Key>>, AllocError>
     requires numbers { AreWithin (length snapshot.now) items.now }
-    requires few { oldest + (length snapshot.now - begun) < 2 ^ 64 }
+    requires numbered { MayNumber numbering snapshot.now }
     ensures { IfOk result (λ given. given.items
-        ≡ map (map_item oldest begun snapshot.now) items.now) }
+        ≡ map (map_item numbering.oldest numbering.begun snapshot.now) items.now) }
 {
     let mut given = Vec::with_capacity(alloc, items.len())?;
     'renumbering: for item in items {
-        given.push(map_item(snapshot, oldest, begun, *item))?;
+        given.push(map_item(snapshot, numbering, *item))?;
     }
     Ok(given)
 }
 
 /// What an item of the store is to the map.
-fn map_item<C: KeyClass>(
+pub(crate) fn map_item<C: KeyClass>(
     snapshot: &Snapshot<C>,
-    oldest: u64,
-    begun: u64,
+    numbering: Numbering,
     item: Item<C::Key>,
 ) -> MapItem<C::Key>
     requires number { number_of item ≤ length snapshot.now }
-    requires few { oldest + (length snapshot.now - begun) < 2 ^ 64 }
-    ensures { result ≡ map_item oldest begun snapshot.now item }
+    requires numbered { MayNumber numbering snapshot.now }
+    ensures { result ≡ map_item numbering.oldest numbering.begun snapshot.now item }
 {
     match item {
         Item::Inserted(row) | Item::Row(row) => {
-            MapItem::Entered(oldest + row.row.saturating_sub(begun), row.tag, row.key)
+            MapItem::Entered(revision_at(numbering, row.row), row.tag, row.key)
         }
-        Item::Moved(row, _) => {
-            MapItem::Moved(oldest + row.row.saturating_sub(begun), row.tag, row.key)
-        }
+        Item::Moved(row, _) => MapItem::Moved(revision_at(numbering, row.row), row.tag, row.key),
         Item::Deleted(number, row) => {
             let id = match snapshot.row(row) {
                 Some(row) => row.tag,
                 None => 0,
             };
-            MapItem::Left(oldest + number.saturating_sub(begun), id)
+            MapItem::Left(revision_at(numbering, number), id)
         }
-        Item::Mark(number) => MapItem::Left(oldest + number.saturating_sub(begun), 0),
+        Item::Mark(number) => MapItem::Left(revision_at(numbering, number), 0),
     }
+}
+
+/// The revision that a commit makes; for a first commit it is the oldest.
+fn revision_at(numbering: Numbering, commit: u64) -> u64
+    requires { numbering.oldest + (commit - numbering.begun) < 2 ^ 64 }
+    ensures { result ≡ numbering.oldest + (commit - numbering.begun) }
+{
+    numbering.oldest + commit.saturating_sub(numbering.begun)
 }

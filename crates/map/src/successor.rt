@@ -7,13 +7,14 @@ use crate::offer::Offer;
 use crate::roll::Roll;
 use change_list::Config;
 use key_class::{KeyClass, Refusal};
+use segmented::SegmentRemains;
 use std::alloc::Global;
 
 /// The generation after a map's present one, in the making: first it gets the entries of a snapshot, then it repeats
 /// what has changed since.
 #[derive(Drop)]
 pub(crate) struct Successor<C: KeyClass> {
-    roll: Roll<C>,
+    roll: Roll<C::Key>,
     generation: Generation<C>,
 }
 
@@ -81,10 +82,10 @@ impl<C: KeyClass> Successor<C> {
             && present.revision() - self.generation.oldest() >= history
     }
 
-    /// It, as the present generation.
-    pub(crate) fn into_present(self) -> Generation<C>
-        ensures { result ≡ self.generation }
+    /// It, as the present generation, and the flags of the former one's rows.
+    pub(crate) fn into_present(self) -> (Generation<C>, SegmentRemains<bool>)
+        ensures { result.0 ≡ self.generation }
     {
-        self.generation
+        (self.generation, self.roll.into_remains())
     }
 }

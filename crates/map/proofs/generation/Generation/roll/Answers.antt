@@ -5,16 +5,15 @@ use Rattle.snapshot.proofs.Ending.{living_none}
 use Rattle.map.specs.Generations.{entries_from}
 use Rattle.map.specs.Rolls.{RollState}
 use Rattle.map.proofs.Faithful.{entries_now, rows_apart}
-use Rattle.map.proofs.Finding.{if_ok}
 use Rattle.map.proofs.generation.Generation.roll.Goals as goal
 
 pub returns-clause-all : goal.returns-clause-all
 returns-clause-all g c =
     let s = c.self.inside in
-    if_ok c.new.result (λ roll is. ap (λ (r : RollState _). r.all) is ∙ ap (λ l. entries_from (rows l)) c.in_ok-snapshot.ensures.list ∙ sym (entries_now s.oldest s.begun s.store.commits c.self.invariant.list) ∙ ap entries_of c.self.view_is) c.new.ensures.ok
+    ap (λ (r : RollState _). r.all) c.new.ensures ∙ ap (λ l. entries_from (rows l)) (c.into_list.ensures ∙ c.in_ok-snapshot.ensures.list) ∙ sym (entries_now s.oldest s.begun s.store.commits c.self.invariant.list) ∙ ap entries_of c.self.view_is
 
 pub returns-clause-none : goal.returns-clause-none
-returns-clause-none g c = if_ok c.new.result (λ roll is. ap (λ (r : RollState _). r.given) is ∙ ap entries_from (living_none c.in_ok-snapshot.snapshot)) c.new.ensures.ok
+returns-clause-none g c = ap (λ (r : RollState _). r.given) c.new.ensures ∙ ap entries_from (living_none c.into_list.result)
 
 pub returns-clause-apart : goal.returns-clause-apart
 returns-clause-apart g c =

@@ -13,10 +13,10 @@ returns-clause-ok g c =
     let old = c.args.self.now in
     let id = c.args.id in
     let new = kept_map s.config c.remove.new.self in
-    let history = ap (λ (x : KeptMap _). x.history) c.self.view_is ∙ c.tend.ensures.history in
-    let forgets = subst (λ m. Forgets old.history old.map m) (sym (ap (λ (x : KeptMap _). x.map) c.self.view_is)) c.tend.ensures.forgets in
+    let config = ap (λ (x : KeptMap _). x.config) c.self.view_is ∙ c.tend.ensures.config in
+    let forgets = subst (λ m. Forgets old.config.history old.map m) (sym (ap (λ (x : KeptMap _). x.map) c.self.view_is)) c.tend.ensures.forgets in
     let done = c.in_ok-remove.ensures in
     elim c.if-branch.branch [
-      | then-branch w ↦ subst (λ r. IfOk r (ChangesIf (Remove id) (has_id id (entries_of old.map)) old new)) (sym w.result-is) (removal_ok id old new s.present history forgets c.in_ok-remove.field-0 done.had done.ok w.if-branch.true w.revision.result w.revision.ensures.is)
-      | else-branch w ↦ subst (λ r. IfOk r (ChangesIf (Remove id) (has_id id (entries_of old.map)) old new)) (sym w.result-is) (removal_none id old new s.present history forgets c.in_ok-remove.field-0 done.had done.ok w.if-branch.false)
+      | then-branch w ↦ subst (λ r. IfOk r (ChangesIf (Remove id) (has_id id (entries_of old.map)) old new)) (sym w.result-is) (removal_ok id old new s.present config forgets c.in_ok-remove.field-0 done.had done.ok w.if-branch.true w.revision.result w.revision.ensures.is)
+      | else-branch w ↦ subst (λ r. IfOk r (ChangesIf (Remove id) (has_id id (entries_of old.map)) old new)) (sym w.result-is) (removal_none id old new s.present config forgets c.in_ok-remove.field-0 done.had done.ok w.if-branch.false)
     ]

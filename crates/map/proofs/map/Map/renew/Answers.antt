@@ -1,4 +1,4 @@
-use Rattle.std.proofs.Common.{refl, sym, subst}
+use Rattle.std.proofs.Common.{refl, sym, subst, ◌∙◌}
 use Rattle.revisions.specs.Maps.{Forgets}
 use Rattle.map.specs.Kept.{ForgetsOnly, kept_map}
 use Rattle.map.specs.Successors.{IsReady}
@@ -9,9 +9,9 @@ pub returns-then-is_ready : goal.returns-then-is_ready
 returns-then-is_ready g c =
     let s = c.self.inside in
     let ready = subst (λ h. IsReady s.present h c.work.new.next.generation) c.from.ensures (c.is_ready.ensures c.if-is_ready.true) in
-    subst (λ old. ForgetsOnly old (kept_map s.config c.into_present.result)) c.self.view_is (record {
-      history = refl;
-      forgets = subst (λ m. Forgets s.config.history s.present m) (sym c.into_present.ensures) (ready_forgets s.present s.config.history c.work.new.next.generation ready);
+    subst (λ old. ForgetsOnly old (kept_map s.config c.replace-former.new.dest)) c.self.view_is (record {
+      config = refl;
+      forgets = subst (λ m. Forgets s.config.history s.present m) (sym (c.replace-former.ensures.after ∙ c.into_present-present.ensures)) (ready_forgets s.present s.config.history c.work.new.next.generation ready);
     })
 
 pub returns : goal.returns

@@ -11,4 +11,5 @@ invariant_of-self g c =
 pub returns : goal.returns
 returns g c =
     let s = c.self.inside in
-    subst (λ new. ForgetsOnly c.args.self.now new) (sym (ap (kept_map s.config) c.sweep.ensures ∙ c.self.view_is)) c.renew.ensures
+    let kept = subst (λ m. ForgetsOnly c.args.self.now m) (sym c.shed.ensures) c.renew.ensures in
+    subst (λ new. ForgetsOnly c.args.self.now new) (sym (ap (kept_map s.config) c.sweep.ensures ∙ c.self.view_is)) kept
