@@ -49,6 +49,7 @@ use Rattle.libgist.specs.contracts.following.Following.TheInside as following_in
 use Rattle.libgist.specs.contracts.held.Held as any
 use Rattle.scan.proofs.stack.Stack.TheSendSync as stack
 use Rattle.change_list.proofs.change_list.ChangeList.TheSendSync as list
+use Rattle.segmented.proofs.segmented_vec.SegmentedVec.TheSendSync as segmented
 use Rattle.descent.proofs.finder.Finder.TheSendSync as finder
 use Rattle.split.proofs.tree.SearchTree.TheSendSync as tree
 use Rattle.cursor.specs.contracts.cursor.Cursor as Cursor
@@ -106,7 +107,7 @@ module _ (C O K A B E : RattleType) (c : class.Ghosts C.Denot K.Denot A.Denot B.
           (
             search (list.the_sync, sendable) depth 20,
             (
-              search (crosses, sendable) depth 20,
+              search (segmented.the_sync, sendable) depth 20,
               (
                 search (crosses, sendable) depth 20,
                 (
