@@ -135,7 +135,7 @@ impl<C: KeyClass> Generation<C> {
         }
     }
 
-    /// Adds an entry to those that it begins with, as the last.
+    /// Appends an entry to those that it begins with.
     ///
     /// # Errors
     /// As [`Store::insert`]; nothing is changed then.
@@ -172,7 +172,7 @@ impl<C: KeyClass> Generation<C> {
         }
     }
 
-    /// Gives an id a key.
+    /// Puts a key under an id.
     ///
     /// # Errors
     /// As [`Store::insert`] and [`Store::move_row`]; nothing is changed then.
@@ -196,7 +196,7 @@ impl<C: KeyClass> Generation<C> {
         Ok(())
     }
 
-    /// Takes an id's key away, and tells whether it had one.
+    /// Removes an id's key, and returns whether it had one.
     ///
     /// # Errors
     /// As [`Store::delete`]; nothing is changed then.
@@ -218,7 +218,8 @@ impl<C: KeyClass> Generation<C> {
         Ok(true)
     }
 
-    /// Removes the dead rows of one page, so that all pages are swept in rotation. Lack of memory holds it up.
+    /// Removes the dead rows of one page, so that all pages are swept in rotation. If memory runs out, the page is
+    /// swept later.
     pub(crate) fn sweep(&mut self)
         ensures { self.new ≡ self.old }
     {
@@ -262,7 +263,7 @@ impl<C: KeyClass> Generation<C> {
         Ok(Roll::new(self.alloc, snapshot.into_list()))
     }
 
-    /// The generation without its use, to be dropped piece by piece with the flags of its rows.
+    /// Its parts, to be dropped piece by piece with the flags of its rows.
     pub(crate) fn retire(self, flags: SegmentRemains<bool>) -> Retired<C::Key> {
         Retired {
             store: self.store.into_remains(),

@@ -1,5 +1,6 @@
-//! A map from ids to keys, with finds, changes since a revision, subscriptions, and revisions that go on for ever. It is kept in a
-//! store, which is made anew beside the map's own work, a little at each change.
+//! A map from ids to keys, with finds, changes since a revision, subscriptions, and revisions that never reset. Its
+//! entries are the rows of a store. A new store replaces that from time to time; each change of the map does a bounded
+//! part of the work for it.
 #![tactic(auto)]
 
 mod config;

@@ -19,16 +19,16 @@ use std::alloc::Global;
 use std::marker::Model;
 use std::mem;
 
-/// How many steps of the next generation each change makes, beside its own.
+/// How many steps for the next generation each change does in addition to its own work.
 const STEPS: u32 = 4;
 
-/// A generation makes at least so many commits, unless the store's limit is lower.
+/// The least number of commits after which a generation is replaced, unless half of the store's limit is lower.
 const MIN_COMMITS: u64 = 65_536;
 
 /// A map from ids to keys.
 ///
-/// Each change makes a revision, and revisions are numbered on for as long as the map lives. It knows its last changes,
-/// at least as many as its history asks for.
+/// Each change makes a revision, and revisions never reset. The map keeps its last changes, at least as many as its
+/// configuration's history.
 #[derive(Drop)]
 pub struct Map<C: KeyClass> {
     alloc: Global,
@@ -73,11 +73,13 @@ impl<C: KeyClass> Map<C> {
         })
     }
 
-    /// A map at a revision, with these entries in the order of their last put, which knows no change.
+    /// A map at a revision, with these entries in the order of their last put. It keeps no earlier change.
+    ///
+    /// It takes O(n log n) time for n entries.
     ///
     /// # Errors
     /// `BadConfig` if a limit of the configuration is out of range or an id comes twice; else `CommitsFull` or
-    /// `PagesFull` if there are too many entries, or `OutOfMemory`.
+    /// `PagesFull` if the entries don't fit the store's limits, or `OutOfMemory`.
     pub fn restore(
         alloc: Global,
         config: MapConfig,
@@ -153,8 +155,8 @@ impl<C: KeyClass> Map<C> {
         self.present.get(id).is_some()
     }
 
-    /// The map as it is now, to be searched. It takes a time that doesn't grow with the number of entries: it shares
-    /// pages and commits with the map, which copies what it changes of them.
+    /// The map as it is now, to be searched. It takes O(1) time: the snapshot shares pages and commits with the map,
+    /// which copies a page before it changes it.
     ///
     /// # Errors
     /// `OutOfMemory`.
@@ -173,10 +175,13 @@ impl<C: KeyClass> Map<C> {
         self.present.get(id)
     }
 
-    /// Gives an id a key, and gives the revision.
+    /// Puts a key under an id, and returns the revision.
+    ///
+    /// It takes O(log n) time for n entries, and a bounded number of steps for the next generation.
     ///
     /// # Errors
-    /// `PagesFull` or `CommitsFull` if the map has no room, or `OutOfMemory`. No change is made then.
+    /// `CommitsFull`, `PagesFull` or `FindersFull` if the present store has reached that limit, or `CommitsFull` at the
+    /// last revision, or `OutOfMemory`. No change is made then.
     pub fn put(&mut self, id: u64, key: C::Key) -> Result<u64, Refusal>
         ensures revision { IfOk result (λ n. n ≡ revision_of self.old.map + 1) }
         ensures ok { OnOk result (Changes (Put id key) self.old self.new) }
@@ -188,10 +193,13 @@ impl<C: KeyClass> Map<C> {
         Ok(self.present.revision())
     }
 
-    /// Takes an id's key away, and gives the revision, or `None` if the id has none.
+    /// Removes an id's key, and returns the revision, or `None` if the id has no key.
+    ///
+    /// It takes as much time as `put`.
     ///
     /// # Errors
-    /// `CommitsFull` or `OutOfMemory`. No change is made then.
+    /// `CommitsFull` or `FindersFull` if the present store has reached that limit, or `CommitsFull` at the last
+    /// revision, or `OutOfMemory`. No change is made then.
     pub fn remove(&mut self, id: u64) -> Result<Option<u64>, Refusal>
         ensures ok { IfOk result (ChangesIf (Remove id) (has_id id (entries_of self.old.map))
             self.old self.new) }
@@ -206,8 +214,8 @@ impl<C: KeyClass> Map<C> {
         }
     }
 
-    /// Does a little of the work that keeps the map going: on the next generation, on what is left of the former one, and
-    /// on the dead rows of the present one.
+    /// Does a bounded part of the work on the next generation, on what is left of the former one, and on the dead rows
+    /// of the present one.
     fn tend(&mut self)
         ensures { ForgetsOnly self.old self.new }
     {
@@ -216,7 +224,7 @@ impl<C: KeyClass> Map<C> {
         self.present.sweep();
     }
 
-    /// Drops a little of the generation before the present one.
+    /// Drops some pieces of the generation before the present one.
     fn shed(&mut self)
         ensures { self.new ≡ self.old }
     {
@@ -228,8 +236,8 @@ impl<C: KeyClass> Map<C> {
         self.retired = None;
     }
 
-    /// Works on the next generation a little, and puts it in the place of the present one when it is ready. Lack of
-    /// memory holds it up.
+    /// Does some steps for the next generation, and replaces the present one by it when it is ready. If memory runs
+    /// out, later changes go on with it.
     fn renew(&mut self)
         ensures { ForgetsOnly self.old self.new }
     {
@@ -247,7 +255,7 @@ impl<C: KeyClass> Map<C> {
         self.next = Some(next);
     }
 
-    /// A next generation at its beginning, if one is due and there is memory for it.
+    /// A new next generation, if one is due and there is memory for it.
     fn successor(&self) -> Option<Successor<C>>
         ensures { IfSome result (λ next. IsSuccessor self.now.map next.roll next.generation) }
     {
@@ -257,8 +265,8 @@ impl<C: KeyClass> Map<C> {
         Successor::begin(self.alloc, self.config.store, &self.present).ok()
     }
 
-    /// Whether a next generation is to be begun: once half of the commits are made, or so many that the bounds of
-    /// pages are worn by moves.
+    /// Whether a next generation is due: after half of the store's limit of commits, or after so many commits that
+    /// moves have widened the bounds of pages.
     fn is_due(&self) -> bool {
         let limit = u64::from(self.config.store.commits / 2);
         let history = u64::from(self.config.history);
@@ -270,7 +278,7 @@ impl<C: KeyClass> Map<C> {
     }
 }
 
-/// Some steps of a next generation, as long as there is memory.
+/// Does some steps for a next generation, until memory runs out.
 fn work<C: KeyClass>(next: &mut Successor<C>, present: &Generation<C>)
     requires { IsSuccessor present.now next.old.roll next.old.generation }
     ensures { IsSuccessor present.now next.new.roll next.new.generation }

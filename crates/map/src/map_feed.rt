@@ -15,10 +15,9 @@ use snapshot::Snapshot;
 use std::alloc::{AllocError, Global};
 use std::marker::Model;
 
-/// Subscriptions to the changes of a map. It goes over the map's revisions, and remembers up to which one.
+/// Subscriptions to the changes of a map. It processes the map's revisions in order.
 ///
-/// A revision tests only the queries that its keys may match, and each of them once, however many subscriptions share
-/// it.
+/// A revision tests only the queries that its keys may match, and each of them once for all its subscriptions.
 #[derive(Drop)]
 pub struct MapFeed<C: Reach> {
     alloc: Global,
@@ -62,7 +61,7 @@ impl<C: Reach> MapFeed<C> {
         self.identity
     }
 
-    /// The revision up to which it has gone.
+    /// The last revision that it has processed.
     pub fn upto(&self) -> u64
         ensures { result ≡ self.now.feed.upto }
     {
@@ -116,8 +115,8 @@ impl<C: Reach> MapFeed<C> {
         self.feed.unsubscribe(serial)
     }
 
-    /// The serials of the open subscriptions that need changes from before a revision, rising. A snapshot whose oldest
-    /// revision that is refuses `advance` until they are ended.
+    /// The serials of the open subscriptions that need changes from before a revision, in ascending order. Until they
+    /// are ended, `advance` refuses a snapshot with that oldest revision.
     ///
     /// It visits new subscriptions, or all if the feed is behind that revision.
     ///
@@ -133,10 +132,11 @@ impl<C: Reach> MapFeed<C> {
 
     /// Processes at most `most` further revisions of a map, as a snapshot has them, and returns the revision that the
     /// feed has reached. Appends each subscription's items to a list, under its serial. A subscription that missed
-    /// earlier revisions is told those too.
+    /// earlier revisions gets their items first.
     ///
-    /// A feed that is behind the oldest revision goes on from there. Beside what it delivers, a call visits only
-    /// subscriptions that are new since the last one; a call of a feed that is behind the oldest revision visits all.
+    /// A feed that is behind the oldest revision goes on from there. In addition to those that get items, a call visits
+    /// only the subscriptions that are new since the last call; if the feed is behind the oldest revision, it visits
+    /// all.
     ///
     /// # Errors
     /// `OtherStore` if the snapshot is of another map, else `FromFuture` if its last revision is before the feed's,
@@ -167,8 +167,8 @@ impl<C: Reach> MapFeed<C> {
 }
 
 impl<C: Reach> MapSnapshot<C> {
-    /// Appends what a feed tells of at most `most` further revisions to a list, and returns the revision that it
-    /// reaches so.
+    /// Appends the items of at most `most` further revisions for a feed's subscriptions to a list, and returns the
+    /// revision that the feed reaches by them.
     ///
     /// # Errors
     /// `FromFuture` if the last revision is before the feed's, else `Compacted` if some open subscription needs changes
@@ -195,7 +195,7 @@ impl<C: Reach> MapSnapshot<C> {
     }
 }
 
-/// What items of the store, each under a serial, are to the map.
+/// The map's items for items of the store, each under a serial.
 ///
 /// # Errors
 /// Memory ran out.

@@ -20,8 +20,8 @@ use snapshot::Snapshot;
 use std::alloc::{AllocError, Global};
 use std::marker::{Model, PhantomData};
 
-/// A map as it was when the snapshot was taken, which later changes don't change. Any number of threads can search it
-/// without a lock.
+/// A map as it was when the snapshot was taken; later changes of the map don't change it. Any number of threads can
+/// search it without a lock.
 #[derive(Drop)]
 pub struct MapSnapshot<C: KeyClass> {
     pub(crate) alloc: Global,
@@ -80,8 +80,8 @@ impl<C: KeyClass> MapSnapshot<C> {
         self.len() == 0
     }
 
-    /// All entries, in the order of their last put. With `revision`, they are what `Map::restore` makes the map of
-    /// again. It reads each commit of the store twice.
+    /// All entries, in the order of their last put. `Map::restore` makes the map again of these and `revision`. It
+    /// reads each commit of the store twice.
     ///
     /// # Errors
     /// `OutOfMemory`.
@@ -122,8 +122,8 @@ impl<C: KeyClass> MapSnapshot<C> {
         Ok(as_entries(self.alloc, &rows)?)
     }
 
-    /// Writes the entries that match, in any order, into a slice from its first place on, as many as fit. Gives how
-    /// many match. It needs no memory.
+    /// Writes the entries that match, in any order, into a slice from its first place on, as many as fit. Returns
+    /// how many match. It allocates nothing.
     ///
     /// # Errors
     /// `BadConfig` if the query is deeper than 32. The slice is unchanged then.
@@ -142,7 +142,7 @@ impl<C: KeyClass> MapSnapshot<C> {
     }
 
     /// Writes the entries that match, in any order and in a form, into a slice from its first place on, as many as fit.
-    /// Gives how many match. It needs no memory.
+    /// Returns how many match. It allocates nothing.
     ///
     /// # Errors
     /// `BadConfig` if the query is deeper than 32. The slice is unchanged then.
@@ -168,7 +168,7 @@ impl<C: KeyClass> MapSnapshot<C> {
         Ok(slots.total())
     }
 
-    /// How many entries match. It needs no memory.
+    /// How many entries match. It allocates nothing.
     ///
     /// # Errors
     /// `BadConfig` if the query is deeper than 32.
@@ -180,8 +180,8 @@ impl<C: KeyClass> MapSnapshot<C> {
         self.snapshot.count(query)
     }
 
-    /// Appends the items of the revisions after `from` to a list, in their order and at most `most` of them, and gives
-    /// up to which revision they are complete: a further call goes on from there.
+    /// Appends the items of the revisions after `from` to a list, in their order and at most `most` of them. Returns
+    /// the revision up to which they are complete: a further call goes on from there.
     ///
     /// # Errors
     /// `BadConfig` if the query is deeper than 32, else `Compacted` if `from` is before the oldest revision, else
@@ -212,11 +212,11 @@ impl<C: KeyClass> MapSnapshot<C> {
         if from > self.revision() {
             return Err(Refusal::FromFuture);
         }
-        // brings into view that the number of commits is in range
+        // states that the number of commits is in range
         let _last = self.snapshot.commits();
         let mut items = Vec::new(self.alloc);
         let first = self.numbering.begun + (from - self.numbering.oldest);
-        // The query and the revision were tested, so that only memory may be lacking.
+        // The query and the revision were tested, so that only memory can have run out.
         let Ok(upto) = self.snapshot.changes(query, first, &mut items, most) else {
             return Err(Refusal::OutOfMemory);
         };
@@ -267,7 +267,7 @@ fn as_entries<K: Copy>(alloc: Global, rows: &[Row<K>]) -> Result<Vec<MapEntry<K>
     rows.iter().map(|row| AsEntry::form(*row)).collect(alloc)
 }
 
-/// What items of the store are to the map.
+/// The map's items for items of the store.
 ///
 /// # Errors
 /// Memory ran out.
@@ -289,7 +289,7 @@ fn map_items<C: KeyClass>(
     Ok(given)
 }
 
-/// What an item of the store is to the map.
+/// The map's item for an item of the store.
 pub(crate) fn map_item<C: KeyClass>(
     snapshot: &Snapshot<C>,
     numbering: Numbering,

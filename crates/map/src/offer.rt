@@ -1,12 +1,12 @@
 use revisions::MapEntry;
 
-/// What a roll has to give next.
+/// What comes next in a roll.
 #[derive(Clone, Copy)]
 pub(crate) enum Offer<K> {
-    /// Nothing yet: a commit is to be passed.
+    /// A commit without an entry.
     Pass,
     /// The next entry.
     Give(MapEntry<K>),
-    /// Nothing any more.
+    /// Nothing: all commits were passed.
     Over,
 }

@@ -15,8 +15,8 @@ use std::marker::Model;
 /// How many commits without an entry are passed at once.
 const AT_ONCE: u32 = 64;
 
-/// The live rows of a list of commits, by rising number, with a bounded number of commits read at a step. First it reads
-/// all commits for the ends of rows, then all again for their beginnings.
+/// The live rows of a list of commits, by rising number, with a bounded number of commits read at a step. First it
+/// reads all commits for the ends of rows, then all again for their beginnings.
 #[derive(Drop)]
 pub(crate) struct Roll<K> {
     list: View<K>,
@@ -49,7 +49,7 @@ impl<K: Copy> Roll<K> {
         }
     }
 
-    /// The roll without its use: what is left to be dropped piece by piece.
+    /// Its flags, to be dropped piece by piece.
     pub(crate) fn into_remains(self) -> SegmentRemains<bool> {
         self.ended.into_remains()
     }
@@ -78,17 +78,17 @@ impl<K: Copy> Roll<K> {
         }
     }
 
-    /// Goes past an entry that comes next.
+    /// Passes the entry that comes next.
     pub(crate) fn pass(&mut self)
         requires { IsGive self.old.offer }
         ensures { Advances self.old self.new }
     {
-        // brings into view that the number of commits is in range
+        // states that the number of commits is in range
         let _count = self.list.len();
         self.next += 1;
     }
 
-    /// Goes past commits without an entry to give, at most 64 of them.
+    /// Passes commits without an entry, at most 64 of them.
     ///
     /// # Errors
     /// `OutOfMemory`.
@@ -104,7 +104,7 @@ impl<K: Copy> Roll<K> {
         Ok(())
     }
 
-    /// Goes past what comes next.
+    /// Passes what comes next.
     ///
     /// # Errors
     /// `OutOfMemory`; nothing is changed then.

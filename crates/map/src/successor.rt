@@ -10,8 +10,8 @@ use key_class::{KeyClass, Refusal};
 use segmented::SegmentRemains;
 use std::alloc::Global;
 
-/// The generation after a map's present one, in the making: first it gets the entries of a snapshot, then it repeats
-/// what has changed since.
+/// The generation that is being built to replace a map's present one. First it gets the entries of a snapshot, then it
+/// repeats the changes since.
 #[derive(Drop)]
 pub(crate) struct Successor<C: KeyClass> {
     roll: Roll<C::Key>,
@@ -63,7 +63,7 @@ impl<C: KeyClass> Successor<C> {
         requires over { self.old.roll.offer ≡ Over }
         ensures { IsSuccessor present.now self.new.roll self.new.generation }
     {
-        // brings into view that all entries were given
+        // states that all entries were given
         let _offer = self.roll.offer();
         let place = self.generation.revision() - present.oldest();
         let Some(change) = present.change(place) else {
@@ -72,7 +72,7 @@ impl<C: KeyClass> Successor<C> {
         self.generation.make(change)
     }
 
-    /// Whether it may take the place of the present generation: it has caught up, and knows enough changes.
+    /// Whether it may replace the present generation: it has caught up, and keeps enough changes.
     pub(crate) fn is_ready(&self, present: &Generation<C>, history: u64) -> bool
         requires { IsSuccessor present.now self.now.roll self.now.generation }
         ensures { IsTrue result → IsReady present.now history self.now.generation }
@@ -82,7 +82,7 @@ impl<C: KeyClass> Successor<C> {
             && present.revision() - self.generation.oldest() >= history
     }
 
-    /// It, as the present generation, and the flags of the former one's rows.
+    /// The new present generation, and the flags of the former one's rows.
     pub(crate) fn into_present(self) -> (Generation<C>, SegmentRemains<bool>)
         ensures { result.0 ≡ self.generation }
     {
