@@ -117,7 +117,7 @@ fn a_restored_map_has_its_entries_in_their_order(rt: HostRuntime) -> Result<(), 
 /// The id of an entry, as a form of it.
 struct IdOf;
 
-impl<K> Form<MapEntry<K>, u64> for IdOf {
+impl<K: Drop> Form<MapEntry<K>, u64> for IdOf {
     ghost form_of = { λ entry. entry.id };
 
     fn form(it: MapEntry<K>) -> u64
