@@ -11,6 +11,9 @@
  * meanwhile. A feed does that for many queries at once: it goes from snapshot to snapshot and gives each change to the
  * subscriptions that it matters to.
  *
+ * A map keeps objects under ids of the caller's own, and lives for ever: it makes a new store of its own before one is
+ * used up. Each change of a map makes a revision, and revisions are numbered on. A map has snapshots and feeds too.
+ *
  *     gist_store store = GIST_NONE;
  *     gist_snapshot now = GIST_NONE;
  *     gist_query free = GIST_NONE;
@@ -28,14 +31,14 @@
  * ---------------------------
  * - Set a handle to GIST_NONE before its first use. Its fields belong to the library: don't read or write them, and
  *   don't copy a handle, since both copies would own the same thing. What a handle holds is freed by gist_destroy,
- *   gist_drop, gist_forget or gist_end.
+ *   gist_drop, gist_forget, gist_end, gist_map_free, gist_map_snapshot_free or gist_map_feed_free.
  * - Each pointer points to a valid value of its type, which may be written if the pointer isn't const, and no two
  *   pointers of a call point to the same value. A buffer has as many places as its length says, and isn't null.
  * - While a call has a non-const pointer to a handle, no other call may use that handle. Through const pointers any
  *   number of calls, on any threads, may read a handle at once. So threads may share a snapshot and the queries that
- *   they ask it. Threads that share a store must put a lock of their own around each call (a readers-writer lock will
- *   do), or hand the store on at the start or end of a thread; the library has no lock and starts no thread. A snapshot
- *   is a handle of its own: it may be searched during any call on the store or on other snapshots.
+ *   they ask it. Threads that share a store or a map must put a lock of their own around each call (a readers-writer
+ *   lock will do), or hand it on at the start or end of a thread; the library has no lock and starts no thread. A
+ *   snapshot is a handle of its own: it may be searched during any call on the store, the map or other snapshots.
  * - No call is made from a signal handler, nor from the forked child of a process with threads.
  * - Memory comes from malloc, realloc and free. These belong to one allocator, and align blocks as the C standard asks:
  *   to 16 bytes if the size is a multiple of 16, to 8 if it is a multiple of 8, and so on. The machine is
@@ -46,7 +49,7 @@
  * 0 (GIST_OK), or the number of the refusal. A refused call changes neither the commits nor what a cursor still has to
  * give. It doesn't write through its pointers, except for `fault` when a query's text is refused. Every call is refused
  * with GIST_NO_HANDLE if a handle doesn't hold what the call is for, and with GIST_OTHER_CLASS if a query, a feed or a
- * snapshot is for keys of another class.
+ * snapshot is for keys of another class. A refused change of a map changes no key, but the map may forget older changes.
  */
 #ifndef GIST_H
 #define GIST_H
@@ -82,13 +85,15 @@ enum {
     GIST_NO_SUCH_CURSOR = 16,  /* the number was never given to a cursor */
     GIST_CURSOR_CLOSED = 17,   /* the cursor is closed */
     GIST_QUERY_TEXT = 21,      /* the query's text is wrong at the byte `fault` */
-    GIST_FROM_FUTURE = 23,     /* there are fewer commits than the one to be followed */
+    GIST_FROM_FUTURE = 23,     /* there are fewer commits than the one to be followed, or the revision is yet to come */
     GIST_FEED_FULL = 24,       /* 1,000,000 subscriptions are open, or 4,294,967,295 were opened */
     GIST_NOT_SUBSCRIBED = 25,  /* no subscription with the number is open */
     GIST_BAD_ENDS = 26,        /* an end of a key is below its start */
     GIST_OTHER_CLASS = 27,     /* the handles are for different classes of keys */
     GIST_NO_HANDLE = 28,       /* a handle is empty, or holds something of another kind */
-    GIST_BAD_LIMITS = 29       /* a limit is out of range */
+    GIST_BAD_LIMITS = 29,      /* a limit is out of range */
+    GIST_COMPACTED = 30,       /* the map no longer knows the changes after the revision */
+    GIST_OTHER_STORE = 31      /* the snapshot is of a map with another identity */
 };
 
 /*
@@ -98,11 +103,14 @@ enum {
  */
 size_t gist_refusal_name(uint32_t refusal, char *name, size_t room);
 
-/* A handle of a store, of a snapshot, of a query or of a feed, or of nothing. */
+/* A handle of a store, of a snapshot, of a query or of a feed, of a map, its snapshot or its feed, or of nothing. */
 typedef struct gist_store { bool is_open; void *inside; } gist_store;
 typedef struct gist_snapshot { bool is_open; void *inside; } gist_snapshot;
 typedef struct gist_query { bool is_open; void *inside; } gist_query;
 typedef struct gist_feed { bool is_open; void *inside; } gist_feed;
+typedef struct gist_map { bool is_open; void *inside; } gist_map;
+typedef struct gist_map_snapshot { bool is_open; void *inside; } gist_map_snapshot;
+typedef struct gist_map_feed { bool is_open; void *inside; } gist_map_feed;
 
 #define GIST_NONE {false, NULL} /* an empty handle; every handle must be so before its first use */
 
@@ -441,11 +449,194 @@ uint32_t gist_unsubscribe(gist_feed *feed, uint64_t subscription);
 uint32_t gist_advance(gist_feed *feed, const gist_snapshot *snapshot, uint64_t most, gist_told *told, size_t room,
                       uint64_t *given, uint64_t *upto);
 
+/* --- maps --- */
+
+/* The limits of a map. */
+typedef struct gist_map_config {
+    gist_limits limits; /* those of each store that the map is kept in */
+    uint32_t history;   /* how many of the last changes it keeps at least: at most a quarter of limits.commits */
+    uint64_t identity;  /* tells maps apart: a number that no other map of the program has, if the map has feeds */
+} gist_map_config;
+
+#define GIST_MAP_CONFIG {{32, 12, 65536, 16777216}, 65536, 0} /* for many entries; set the identity if there are feeds */
+
+/* An entry of a map. */
+typedef struct gist_map_entry {
+    uint64_t id;
+    gist_key key;
+} gist_map_entry;
+
+/* What a revision means for a query. */
+enum {
+    GIST_MAP_NOTHING = 0, /* no item */
+    GIST_MAP_ENTERED = 1, /* the id has this key now, which matches; it had none that matched */
+    GIST_MAP_MOVED = 2,   /* the id has this key now, which matches, as did the key that it had */
+    GIST_MAP_LEFT = 3     /* the id had a key that matched, and has none now; the key is 0 */
+};
+
+/* An item of a map. */
+typedef struct gist_map_item {
+    uint32_t kind;
+    uint64_t revision;
+    uint64_t id;
+    gist_key key;
+} gist_map_item;
+
+/* An item that a feed of a map delivers to a subscription. */
+typedef struct gist_map_told {
+    uint64_t subscription;
+    gist_map_item item;
+} gist_map_told;
+
+/* Where a map is. */
+typedef struct gist_map_state {
+    uint64_t revision; /* the last revision */
+    uint64_t oldest;   /* the oldest revision: the changes after it are known */
+    uint64_t len;      /* how many ids have a key */
+    uint64_t identity; /* that of its configuration */
+} gist_map_state;
+
+/*
+ * Makes a map of a class without entries, at revision 0, for an empty handle.
+ *
+ * GIST_BAD_CONFIG if no class has the number or the handle isn't empty, GIST_BAD_LIMITS; GIST_OUT_OF_MEMORY.
+ */
+uint32_t gist_map_create(gist_map *map, uint32_t key_class, const gist_map_config *config);
+
+/*
+ * Makes a map of a class at a revision, for an empty handle. It has n entries, in the order of their last put, and knows
+ * no change before that revision. gist_map_snapshot_entries and gist_map_snapshot_state return what has to be saved.
+ *
+ * GIST_BAD_CONFIG if no class has the number or the handle isn't empty, GIST_BAD_LIMITS, else GIST_BAD_ENDS;
+ * GIST_BAD_CONFIG if an id comes twice; GIST_COMMITS_FULL or GIST_PAGES_FULL if the limits are too small for the
+ * entries; GIST_OUT_OF_MEMORY.
+ */
+uint32_t gist_map_restore(gist_map *map, uint32_t key_class, const gist_map_config *config, uint64_t revision,
+                          const gist_map_entry *entries, size_t n);
+
+/* Frees what a handle holds, if it holds something, and leaves it empty. */
+void gist_map_free(gist_map *map);
+
+/*
+ * Puts a key under an id, which may have one, and returns the revision that this makes.
+ *
+ * GIST_BAD_ENDS; else GIST_COMMITS_FULL, GIST_PAGES_FULL, GIST_FINDERS_FULL; GIST_OUT_OF_MEMORY.
+ */
+uint32_t gist_map_put(gist_map *map, uint64_t id, gist_key key, uint64_t *revision);
+
+/*
+ * Removes the key of an id, and returns the revision that this makes, or 0 if the id has no key: then there is no
+ * revision.
+ *
+ * GIST_COMMITS_FULL, GIST_FINDERS_FULL; GIST_OUT_OF_MEMORY.
+ */
+uint32_t gist_map_remove(gist_map *map, uint64_t id, uint64_t *revision);
+
+/* Returns whether an id has a key, and the key, which is 0 if it has none. */
+uint32_t gist_map_get(const gist_map *map, uint64_t id, gist_key *key, bool *has_key);
+
+/* Returns where a map is. */
+uint32_t gist_map_state_of(const gist_map *map, gist_map_state *state);
+
+/* --- snapshots of maps --- */
+
+/* Takes a snapshot of a map, for an empty handle. GIST_BAD_CONFIG if it isn't empty; GIST_OUT_OF_MEMORY. */
+uint32_t gist_map_snapshot_create(const gist_map *map, gist_map_snapshot *snapshot);
+
+/* Frees what a handle holds, if it holds something, and leaves it empty. */
+void gist_map_snapshot_free(gist_map_snapshot *snapshot);
+
+/* Returns where the map was. */
+uint32_t gist_map_snapshot_state(const gist_map_snapshot *snapshot, gist_map_state *state);
+
+/*
+ * Writes the entries that match a query into a buffer, in the order of their last put, as many as fit, and returns how
+ * many there are in all. The rest of the buffer is unchanged.
+ *
+ * GIST_OUT_OF_MEMORY.
+ */
+uint32_t gist_map_snapshot_find(const gist_map_snapshot *snapshot, const gist_query *query, gist_map_entry *entries,
+                                size_t room, uint64_t *found);
+
+/* The same in any order: it takes less time, and needs no memory. */
+uint32_t gist_map_snapshot_find_any(const gist_map_snapshot *snapshot, const gist_query *query, gist_map_entry *entries,
+                                    size_t room, uint64_t *found);
+
+/* Counts the entries that match a query. It needs no memory. */
+uint32_t gist_map_snapshot_count(const gist_map_snapshot *snapshot, const gist_query *query, uint64_t *count);
+
+/*
+ * Writes all entries into a buffer, in the order of their last put, as many as fit, and returns how many there are.
+ *
+ * GIST_OUT_OF_MEMORY.
+ */
+uint32_t gist_map_snapshot_entries(const gist_map_snapshot *snapshot, gist_map_entry *entries, size_t room,
+                                   uint64_t *count);
+
+/*
+ * Writes the items of a query after the revision `from` into a buffer, in the order of the revisions, until it is full.
+ * Returns how many were written, and up to which revision they are complete: a further call goes on from there.
+ *
+ * GIST_COMPACTED if `from` is before the oldest revision: find again; GIST_FROM_FUTURE if it is after the last;
+ * GIST_OUT_OF_MEMORY.
+ */
+uint32_t gist_map_snapshot_changes(const gist_map_snapshot *snapshot, const gist_query *query, uint64_t from,
+                                   gist_map_item *items, size_t room, uint64_t *given, uint64_t *upto);
+
+/* --- feeds of maps --- */
+
+/*
+ * Makes a feed of the map of a class that has an identity, for an empty handle. It has no subscriptions, and has
+ * processed no revision yet.
+ *
+ * GIST_BAD_CONFIG if no class has the number or the handle isn't empty; GIST_OUT_OF_MEMORY.
+ */
+uint32_t gist_map_feed_create(gist_map_feed *feed, uint32_t key_class, uint64_t identity);
+
+/* Frees what a handle holds, if it holds something, and leaves it empty. */
+void gist_map_feed_free(gist_map_feed *feed);
+
+/*
+ * Subscribes to the items of a query after the revision `from`, and returns the subscription's number. If the feed has
+ * already processed later revisions, its next advance delivers what was missed.
+ *
+ * GIST_FEED_FULL; GIST_OUT_OF_MEMORY.
+ */
+uint32_t gist_map_feed_subscribe(gist_map_feed *feed, const gist_query *query, uint64_t from, uint64_t *subscription);
+
+/* Ends a subscription. Items for it that already wait are still delivered. GIST_NOT_SUBSCRIBED. */
+uint32_t gist_map_feed_unsubscribe(gist_map_feed *feed, uint64_t subscription);
+
+/*
+ * Writes the numbers of the subscriptions that need items from before a revision into a buffer, rising, as many as fit,
+ * and returns how many they are. A snapshot whose oldest revision that is can't be processed until they are ended.
+ *
+ * GIST_OUT_OF_MEMORY.
+ */
+uint32_t gist_map_feed_compacted(const gist_map_feed *feed, uint64_t oldest, uint64_t *subscriptions, size_t room,
+                                 uint64_t *count);
+
+/*
+ * Processes at most `most` further revisions of a snapshot, and writes the items of each subscription into a buffer.
+ * Items that don't fit wait. A call that finds items waiting processes no further revision: it writes them first, and
+ * after them what new subscriptions have missed. If fewer items are written than there is room for, none waits. Returns
+ * how many items were written, and the last revision that was processed. A feed that is behind the snapshot's oldest
+ * revision goes on from there, if no subscription needs more.
+ *
+ * GIST_OTHER_STORE if the snapshot is of a map with another identity, else GIST_FROM_FUTURE if its last revision is
+ * before the feed's, else GIST_COMPACTED if a subscription needs items from before its oldest revision: end those that
+ * gist_map_feed_compacted returns, and find again for them; GIST_OUT_OF_MEMORY. Each also while items wait.
+ */
+uint32_t gist_map_feed_advance(gist_map_feed *feed, const gist_map_snapshot *snapshot, uint64_t most,
+                               gist_map_told *told, size_t room, uint64_t *given, uint64_t *upto);
+
 /* The library relies on this layout: a key is two words, and no padding comes before it. */
 #ifdef __cplusplus
 static_assert(sizeof(gist_key) == 16 && sizeof(gist_entry) == 24 && sizeof(gist_item) == 48, "gist_key");
+static_assert(sizeof(gist_map_config) == 32 && sizeof(gist_map_entry) == 24 && sizeof(gist_map_item) == 40, "gist_map");
 #else
 _Static_assert(sizeof(gist_key) == 16 && sizeof(gist_entry) == 24 && sizeof(gist_item) == 48, "gist_key");
+_Static_assert(sizeof(gist_map_config) == 32 && sizeof(gist_map_entry) == 24 && sizeof(gist_map_item) == 40, "gist_map");
 #endif
 
 #ifdef __cplusplus

@@ -345,7 +345,11 @@ static void names(void) {
     IS(gist_refusal_name(GIST_NO_HANDLE, name, 3), 8);
     IS(memcmp(name, "NoHLi", 5), 0);
     IS(gist_refusal_name(0, name, sizeof name), 0);
-    IS(gist_refusal_name(30, name, sizeof name), 0);
+    IS(gist_refusal_name(GIST_COMPACTED, name, sizeof name), 9);
+    IS(strcmp(name, "Compacted"), 0);
+    IS(gist_refusal_name(GIST_OTHER_STORE, name, sizeof name), 10);
+    IS(strcmp(name, "OtherStore"), 0);
+    IS(gist_refusal_name(32, name, sizeof name), 0);
     IS(name[0], 0);
     IS(gist_version(), GIST_VERSION);
 }
