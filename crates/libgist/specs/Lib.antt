@@ -11,6 +11,12 @@ pub mod IntervalKeys
 pub mod Loans
 pub mod Making
 pub mod ManyFinds
+pub mod MapFeeding
+pub mod MapFollowing
+pub mod MapMaking
+pub mod MapReading
+pub mod MapShown
+pub mod Maps
 pub mod Names
 pub mod Owning
 pub mod Reading

@@ -14,9 +14,9 @@ name_told OtherClass = codes "OtherClass"
 name_told NoHandle = codes "NoHandle"
 name_told BadLimits = codes "BadLimits"
 
--- the text names the refusal with the number, and is empty for 0 and for numbers above 29
+-- the text names the refusal with the number, and is empty for 0 and for numbers above 31
 abbrev pub IsNameOf : ℕ → List ℕ → Type 0
-IsNameOf number text = ((why : Denied) × (number_told why ≡ number) × (text ≡ name_told why)) ⊎ (((number ≡ 0) ⊎ (29 < number)) × (text ≡ []))
+IsNameOf number text = ((why : Denied) × (number_told why ≡ number) × (text ≡ name_told why)) ⊎ (((number ≡ 0) ⊎ (31 < number)) × (text ≡ []))
 
 -- the result is the name's length; the name with a 0 after it stands over the first places of a buffer, as far as it
 -- fits

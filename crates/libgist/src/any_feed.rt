@@ -5,7 +5,7 @@ ghost use Rattle.libgist.specs.Calls.{Passing};
 ghost use Rattle.libgist.specs.Feeding.{InFeed};
 ghost use Rattle.libgist.specs.Following.{IsUnsubscribing};
 
-use crate::by_class::{in_feed, in_feed_by, in_feed_over, of_class, of_one_class};
+use crate::by_class::{in_held, in_held_by, of_class, of_one_class};
 use crate::denied::{Denied, passed_on};
 use crate::following;
 use crate::held::{AnyFeed, AnyQuery, AnySnapshot, Held};
@@ -15,7 +15,7 @@ use crate::words::ToldItem;
 pub fn subscribe(asked: &Held, held: &mut Held, from: u64) -> Result<u64, Denied>
     ensures { AnswersSubscribing from asked.now held.old result held.new }
 {
-    in_feed_by!(asked, query, held, feed => passed_on(feed.subscribe(query, from)))
+    in_held_by!(asked, Query, AnyQuery, query, held, Feed, AnyFeed, feed => passed_on(feed.subscribe(query, from)))
 }
 
 /// Ends a subscription.
@@ -23,7 +23,7 @@ pub fn unsubscribe(held: &mut Held, serial: u64) -> Result<(), Denied>
     ensures { InFeed (λ K A class. Passing (IsUnsubscribing serial))
         held.old result held.new }
 {
-    in_feed!(held, feed => passed_on(feed.unsubscribe(serial)))
+    in_held!(held, Feed, AnyFeed, feed => passed_on(feed.unsubscribe(serial)))
 }
 
 /// Processes more of a snapshot's commits if no item waits, and delivers the items that wait.
@@ -36,7 +36,7 @@ pub fn advance(
     ensures given { AnswersAdvancing most items.old items.new over.now held.old result held.new }
     ensures unfilled { OnErr result (items.new ≡ items.old) }
 {
-    in_feed_over!(over, snapshot, held, feed => {
+    in_held_by!(over, Snapshot, AnySnapshot, snapshot, held, Feed, AnyFeed, feed => {
         passed_on(following::advance(feed, snapshot, most, items))
     })
 }

@@ -3,7 +3,7 @@ ghost use Rattle.std.specs.Prelude.{◌≡◌, Ok, OnErr};
 ghost use Rattle.libgist.specs.Classes.{FromHandle, FromHandles};
 ghost use Rattle.libgist.specs.Asked.{AnswersChanges, AnswersCommit, AnswersCommits, AnswersCount, AnswersFind, AnswersFindAny, AnswersFindOfEach, AnswersRow};
 
-use crate::by_class::{in_snapshot, in_snapshot_by, of_class, of_one_class};
+use crate::by_class::{in_lent, in_lent_by, of_class, of_one_class};
 use crate::denied::{Denied, passed_on};
 use crate::held::{AnyQuery, AnySnapshot, Held};
 use crate::lent::Lent;
@@ -15,21 +15,21 @@ use std::alloc::Global;
 pub fn commits(lent: &Lent) -> Result<u64, Denied>
     ensures { FromHandle AnswersCommits lent.now.inside.state result }
 {
-    in_snapshot!(lent, snapshot => Ok(snapshot.commits()))
+    in_lent!(lent, Snapshot, AnySnapshot, snapshot => Ok(snapshot.commits()))
 }
 
 /// The row with a number, and whether it lives.
 pub fn row_of(lent: &Lent, number: u64) -> Result<(ShownRow, bool), Denied>
     ensures { FromHandle (AnswersRow number) lent.now.inside.state result }
 {
-    in_snapshot!(lent, snapshot => passed_on(reading::row_of(snapshot, number)))
+    in_lent!(lent, Snapshot, AnySnapshot, snapshot => passed_on(reading::row_of(snapshot, number)))
 }
 
 /// The commit with a number; kind 0 if there is none.
 pub fn commit(lent: &Lent, number: u64) -> Result<ShownItem, Denied>
     ensures { FromHandle (AnswersCommit number) lent.now.inside.state result }
 {
-    in_snapshot!(lent, snapshot => Ok(reading::commit(snapshot, number)))
+    in_lent!(lent, Snapshot, AnySnapshot, snapshot => Ok(reading::commit(snapshot, number)))
 }
 
 /// Finds the live rows that match.
@@ -38,7 +38,7 @@ pub fn find(asked: &Lent, lent: &Lent, rows: &mut [ShownRow]) -> Result<u64, Den
         lent.now.inside.state result }
     ensures unfilled { OnErr result (rows.new ≡ rows.old) }
 {
-    in_snapshot_by!(asked, query, lent, snapshot => {
+    in_lent_by!(asked, query, lent, Snapshot, AnySnapshot, snapshot => {
         passed_on(reading::find(snapshot, query, rows))
     })
 }
@@ -49,7 +49,7 @@ pub fn find_any(asked: &Lent, lent: &Lent, rows: &mut [ShownRow]) -> Result<u64,
         lent.now.inside.state result }
     ensures unfilled { OnErr result (rows.new ≡ rows.old) }
 {
-    in_snapshot_by!(asked, query, lent, snapshot => {
+    in_lent_by!(asked, query, lent, Snapshot, AnySnapshot, snapshot => {
         passed_on(reading::find_any(snapshot, query, rows))
     })
 }
@@ -58,7 +58,7 @@ pub fn find_any(asked: &Lent, lent: &Lent, rows: &mut [ShownRow]) -> Result<u64,
 pub fn count(asked: &Lent, lent: &Lent) -> Result<u64, Denied>
     ensures { FromHandles AnswersCount asked.now.inside.state lent.now.inside.state result }
 {
-    in_snapshot_by!(asked, query, lent, snapshot => passed_on(reading::count(snapshot, query)))
+    in_lent_by!(asked, query, lent, Snapshot, AnySnapshot, snapshot => passed_on(reading::count(snapshot, query)))
 }
 
 /// Gives the matching items of the commits after `from`.
@@ -73,7 +73,7 @@ pub fn changes(
         lent.now.inside.state result }
     ensures unfilled { OnErr result (items.new ≡ items.old) }
 {
-    in_snapshot_by!(asked, query, lent, snapshot => {
+    in_lent_by!(asked, query, lent, Snapshot, AnySnapshot, snapshot => {
         passed_on(reading::changes(alloc, snapshot, query, from, items))
     })
 }
@@ -90,5 +90,5 @@ pub fn find_each(
         rows.new) lent.now.inside.state result }
     ensures unfilled { OnErr result ((rows.new ≡ rows.old) × (ends.new ≡ ends.old)) }
 {
-    in_snapshot!(lent, snapshot => finds::find_each(snapshot, relation, keys, rows, ends))
+    in_lent!(lent, Snapshot, AnySnapshot, snapshot => finds::find_each(snapshot, relation, keys, rows, ends))
 }

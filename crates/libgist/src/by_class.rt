@@ -1,4 +1,4 @@
-//! Dispatch over the three classes: one macro for each kind of call.
+//! Dispatch over the kinds of what a handle owns, and over the three classes.
 
 /// Calls a generic function on the variant of an enum of classes.
 macro_rules! of_class {
@@ -31,24 +31,22 @@ macro_rules! of_one_class {
     };
 }
 
-/// A call of a store that a handle has.
-macro_rules! in_store {
-    ($held:expr, $store:ident => $call:expr) => {
+/// A call of what a handle has, if that is of a kind.
+macro_rules! in_held {
+    ($held:expr, $as:ident, $kind:ident, $it:ident => $call:expr) => {
         match $held {
-            Held::Store(any) => of_class!(any, AnyStore, $store => $call),
+            Held::$as(any) => of_class!(any, $kind, $it => $call),
             _ => Err(Denied::NoHandle),
         }
     };
 }
 
-/// A call of a store, with a query, both of which handles have.
-macro_rules! in_store_by {
-    ($asked:expr, $query:ident, $held:expr, $store:ident => $call:expr) => {
-        match $asked {
-            Held::Query(by) => match $held {
-                Held::Store(any) => {
-                    of_one_class!(any, AnyStore, $store, by, AnyQuery, $query => $call)
-                }
+/// A call of what a handle has with what another has, if both are of their kinds and of one class.
+macro_rules! in_held_by {
+    ($other:expr, $by_as:ident, $by_kind:ident, $by:ident, $held:expr, $as:ident, $kind:ident, $it:ident => $call:expr) => {
+        match $other {
+            Held::$by_as(by) => match $held {
+                Held::$as(any) => of_one_class!(any, $kind, $it, by, $by_kind, $by => $call),
                 _ => Err(Denied::NoHandle),
             },
             _ => Err(Denied::NoHandle),
@@ -56,23 +54,23 @@ macro_rules! in_store_by {
     };
 }
 
-/// A call of a snapshot that is lent.
-macro_rules! in_snapshot {
-    ($lent:expr, $snapshot:ident => $call:expr) => {
+/// A call of what is lent, if that is of a kind.
+macro_rules! in_lent {
+    ($lent:expr, $as:ident, $kind:ident, $it:ident => $call:expr) => {
         match $lent.held() {
-            Some(Held::Snapshot(any)) => of_class!(any, AnySnapshot, $snapshot => $call),
+            Some(Held::$as(any)) => of_class!(any, $kind, $it => $call),
             _ => Err(Denied::NoHandle),
         }
     };
 }
 
-/// A call of a snapshot that is lent, with a query that is lent.
-macro_rules! in_snapshot_by {
-    ($asked:expr, $query:ident, $lent:expr, $snapshot:ident => $call:expr) => {
+/// A call of what is lent with a query that is lent, if it is of a kind and of the query's class.
+macro_rules! in_lent_by {
+    ($asked:expr, $query:ident, $lent:expr, $as:ident, $kind:ident, $it:ident => $call:expr) => {
         match $asked.held() {
             Some(Held::Query(by)) => match $lent.held() {
-                Some(Held::Snapshot(any)) => {
-                    of_one_class!(any, AnySnapshot, $snapshot, by, AnyQuery, $query => $call)
+                Some(Held::$as(any)) => {
+                    of_one_class!(any, $kind, $it, by, AnyQuery, $query => $call)
                 }
                 _ => Err(Denied::NoHandle),
             },
@@ -81,52 +79,9 @@ macro_rules! in_snapshot_by {
     };
 }
 
-/// A call of a feed that a handle has.
-macro_rules! in_feed {
-    ($held:expr, $feed:ident => $call:expr) => {
-        match $held {
-            Held::Feed(any) => of_class!(any, AnyFeed, $feed => $call),
-            _ => Err(Denied::NoHandle),
-        }
-    };
-}
-
-/// A call of a feed, with a query, both of which handles have.
-macro_rules! in_feed_by {
-    ($asked:expr, $query:ident, $held:expr, $feed:ident => $call:expr) => {
-        match $asked {
-            Held::Query(by) => match $held {
-                Held::Feed(any) => {
-                    of_one_class!(any, AnyFeed, $feed, by, AnyQuery, $query => $call)
-                }
-                _ => Err(Denied::NoHandle),
-            },
-            _ => Err(Denied::NoHandle),
-        }
-    };
-}
-
-/// A call of a feed over a snapshot, both of which handles have.
-macro_rules! in_feed_over {
-    ($over:expr, $snapshot:ident, $held:expr, $feed:ident => $call:expr) => {
-        match $over {
-            Held::Snapshot(by) => match $held {
-                Held::Feed(any) => {
-                    of_one_class!(any, AnyFeed, $feed, by, AnySnapshot, $snapshot => $call)
-                }
-                _ => Err(Denied::NoHandle),
-            },
-            _ => Err(Denied::NoHandle),
-        }
-    };
-}
-
-pub(crate) use in_feed;
-pub(crate) use in_feed_by;
-pub(crate) use in_feed_over;
-pub(crate) use in_snapshot;
-pub(crate) use in_snapshot_by;
-pub(crate) use in_store;
-pub(crate) use in_store_by;
+pub(crate) use in_held;
+pub(crate) use in_held_by;
+pub(crate) use in_lent;
+pub(crate) use in_lent_by;
 pub(crate) use of_class;
 pub(crate) use of_one_class;

@@ -24,3 +24,16 @@ pub struct ShownStanding {
     /// Whether it has pages left to visit.
     pub is_scanning: bool,
 }
+
+/// Where a map is, in the layout that C reads.
+#[repr(C)]
+#[derive(Clone, Copy)]
+pub struct MapFigures {
+    /// The last revision.
+    pub revision: u64,
+    /// The revision after which the changes are known.
+    pub oldest: u64,
+    /// How many entries there are.
+    pub len: u64,
+    pub identity: u64,
+}

@@ -7,7 +7,7 @@ use crate::parts::Parts;
 use std::alloc::Global;
 use std::mem;
 
-/// A handle of a store, a snapshot, a query or a feed; or an empty one.
+/// A handle of a store, a snapshot, a query or a feed, of a map, its snapshot or its feed; or an empty one.
 #[repr(C)]
 #[derive(Drop)]
 pub struct Handle {

@@ -1,8 +1,10 @@
 //! What a handle may own, of any class.
 use crate::following::Following;
+use crate::map_following::MapFollowing;
 use box_class::Boxes;
 use interval_class::Intervals;
 use key_class::Pred;
+use map::{Map, MapSnapshot};
 use set_class::Sets;
 use snapshot::Snapshot;
 use store::Store;
@@ -39,6 +41,30 @@ pub enum AnyFeed {
     Sets(Following<Sets>),
 }
 
+/// A map with keys of one of the classes.
+#[derive(Drop)]
+pub enum AnyMap {
+    Intervals(Map<Intervals>),
+    Boxes(Map<Boxes>),
+    Sets(Map<Sets>),
+}
+
+/// A snapshot of a map with keys of one of the classes.
+#[derive(Drop)]
+pub enum AnyMapSnapshot {
+    Intervals(MapSnapshot<Intervals>),
+    Boxes(MapSnapshot<Boxes>),
+    Sets(MapSnapshot<Sets>),
+}
+
+/// A feed of a map with keys of one of the classes.
+#[derive(Drop)]
+pub enum AnyMapFeed {
+    Intervals(MapFollowing<Intervals>),
+    Boxes(MapFollowing<Boxes>),
+    Sets(MapFollowing<Sets>),
+}
+
 /// What a handle owns.
 #[derive(Drop)]
 pub enum Held {
@@ -46,4 +72,7 @@ pub enum Held {
     Snapshot(AnySnapshot),
     Query(AnyQuery),
     Feed(AnyFeed),
+    Map(AnyMap),
+    MapSnapshot(AnyMapSnapshot),
+    MapFeed(AnyMapFeed),
 }

@@ -2,6 +2,9 @@
 #![tactic(auto)]
 
 mod any_feed;
+mod any_map;
+mod any_map_feed;
+mod any_map_snapshot;
 mod any_snapshot;
 mod any_store;
 mod buffers;
@@ -19,6 +22,13 @@ mod keys;
 mod lent;
 mod limits;
 mod making;
+mod map_exports;
+mod map_feed_exports;
+mod map_following;
+mod map_reading;
+mod map_shown;
+mod map_snapshot_exports;
+mod maps;
 mod names;
 mod parts;
 mod reading;

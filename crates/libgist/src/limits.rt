@@ -1,7 +1,8 @@
 ghost use Rattle.std.specs.Prelude.{◌≡◌};
-ghost use Rattle.libgist.specs.Configs.{config_of};
+ghost use Rattle.libgist.specs.Configs.{config_of, map_config_of};
 
 use change_list::Config;
+use map::MapConfig;
 
 /// The limits of a store, in the layout that C writes.
 #[repr(C)]
@@ -26,5 +27,28 @@ pub fn config(limits: &Limits) -> Config
         least: limits.least,
         pages: limits.pages,
         commits: limits.commits,
+    }
+}
+
+/// The limits of a map, in the layout that C writes.
+#[repr(C)]
+#[derive(Drop)]
+pub struct MapLimits {
+    /// Those of each store that it is kept in.
+    pub limits: Limits,
+    /// How many of its last changes it keeps at least: at most a quarter of the commits.
+    pub history: u32,
+    /// Tells maps apart.
+    pub identity: u64,
+}
+
+/// The same limits as a `MapConfig`.
+pub fn map_config(limits: &MapLimits) -> MapConfig
+    ensures { result ≡ map_config_of limits.now }
+{
+    MapConfig {
+        store: config(&limits.limits),
+        history: limits.history,
+        identity: limits.identity,
     }
 }

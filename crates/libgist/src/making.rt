@@ -5,19 +5,25 @@ ghost use Rattle.change_list.specs.Configs.{IsWithinLimits};
 ghost use Rattle.store.specs.States.{new_store};
 ghost use Rattle.libgist.specs.declared.denied.Denied.TheVariants.{By, BadLimits};
 ghost use Rattle.libgist.specs.Feeding.{IsBeginning};
+ghost use Rattle.libgist.specs.MapMaking.{IsMapBeginning, IsMapCreation, IsMapTaken, IsRestoring};
 ghost use Rattle.libgist.specs.Making.{Settles, IsCreation, IsTaken, IsPrepared, asked_of};
 
 use crate::crossing::Crossing;
 use crate::denied::{Denied, passed_on};
 use crate::following::Following;
 use crate::handle::Handle;
-use crate::held::{AnyFeed, AnyQuery, AnySnapshot, AnyStore, Held};
+use crate::held::{
+    AnyFeed, AnyMap, AnyMapFeed, AnyMapSnapshot, AnyQuery, AnySnapshot, AnyStore, Held,
+};
+use crate::map_following::MapFollowing;
+use crate::maps;
 use crate::relations::atom;
-use crate::words::KeyWords;
+use crate::words::{KeyWords, ShownEntry};
 use box_class::Boxes;
 use change_list::Config;
 use interval_class::Intervals;
 use key_class::{KeyClass, Pred, Refusal};
+use map::MapConfig;
 use query_text::{ClassText, parse};
 use set_class::Sets;
 use std::alloc::Global;
@@ -138,6 +144,79 @@ pub fn feed(alloc: Global, class: u32) -> Result<Held, Denied>
         1 => Ok(Held::Feed(AnyFeed::Intervals(Following::new(alloc)?))),
         2 => Ok(Held::Feed(AnyFeed::Boxes(Following::new(alloc)?))),
         3 => Ok(Held::Feed(AnyFeed::Sets(Following::new(alloc)?))),
+        _ => Err(Denied::By(Refusal::BadConfig)),
+    }
+}
+
+/// A map without entries, of the class with a number.
+///
+/// # Errors
+/// `BadConfig` if no class has the number, else `BadLimits` if a limit is out of range, or `OutOfMemory`.
+pub fn map(alloc: Global, class: u32, config: MapConfig) -> Result<Held, Denied>
+    ensures { IsMapCreation class config result }
+{
+    match class {
+        1 => Ok(Held::Map(AnyMap::Intervals(maps::empty::<Intervals>(alloc, config)?))),
+        2 => Ok(Held::Map(AnyMap::Boxes(maps::empty::<Boxes>(alloc, config)?))),
+        3 => Ok(Held::Map(AnyMap::Sets(maps::empty::<Sets>(alloc, config)?))),
+        _ => Err(Denied::By(Refusal::BadConfig)),
+    }
+}
+
+/// A map at a revision with the entries that C hands in, of the class with a number.
+///
+/// # Errors
+/// `BadConfig` if no class has the number, else as [`maps::restored`].
+pub fn restored(
+    alloc: Global,
+    class: u32,
+    config: MapConfig,
+    revision: u64,
+    words: &[ShownEntry],
+) -> Result<Held, Denied>
+    ensures { IsRestoring class config revision words.now result }
+{
+    match class {
+        1 => Ok(Held::Map(AnyMap::Intervals(maps::restored::<Intervals>(
+            alloc, config, revision, words,
+        )?))),
+        2 => Ok(Held::Map(AnyMap::Boxes(maps::restored::<Boxes>(alloc, config, revision, words)?))),
+        3 => Ok(Held::Map(AnyMap::Sets(maps::restored::<Sets>(alloc, config, revision, words)?))),
+        _ => Err(Denied::By(Refusal::BadConfig)),
+    }
+}
+
+/// A snapshot of a map.
+///
+/// # Errors
+/// `NoHandle` if what is held is no map, or `OutOfMemory`.
+pub fn map_snapshot(held: &Held) -> Result<Held, Denied>
+    ensures { IsMapTaken held.now result }
+{
+    match held {
+        Held::Map(any) => {
+            let taken = match any {
+                AnyMap::Intervals(map) => AnyMapSnapshot::Intervals(map.snapshot()?),
+                AnyMap::Boxes(map) => AnyMapSnapshot::Boxes(map.snapshot()?),
+                AnyMap::Sets(map) => AnyMapSnapshot::Sets(map.snapshot()?),
+            };
+            Ok(Held::MapSnapshot(taken))
+        }
+        _ => Err(Denied::NoHandle),
+    }
+}
+
+/// A feed of the map with an identity, without subscriptions, of the class with a number.
+///
+/// # Errors
+/// `BadConfig` if no class has the number, or `OutOfMemory`.
+pub fn map_feed(alloc: Global, class: u32, identity: u64) -> Result<Held, Denied>
+    ensures { IsMapBeginning class identity result }
+{
+    match class {
+        1 => Ok(Held::MapFeed(AnyMapFeed::Intervals(MapFollowing::new(alloc, identity)?))),
+        2 => Ok(Held::MapFeed(AnyMapFeed::Boxes(MapFollowing::new(alloc, identity)?))),
+        3 => Ok(Held::MapFeed(AnyMapFeed::Sets(MapFollowing::new(alloc, identity)?))),
         _ => Err(Denied::By(Refusal::BadConfig)),
     }
 }

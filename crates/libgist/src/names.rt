@@ -10,7 +10,7 @@ use key_class::Refusal;
 /// The refusal with a number. Those of texts get byte 0, which their names don't tell.
 fn numbered(number: u32) -> Option<Denied>
     ensures some { IfSome result (λ why. number_told why ≡ number) }
-    ensures none { IfNone result ((number ≡ 0) ⊎ (29 < number)) }
+    ensures none { IfNone result ((number ≡ 0) ⊎ (31 < number)) }
 {
     match number {
         1 => Some(Denied::By(Refusal::OutOfMemory)),
@@ -42,6 +42,8 @@ fn numbered(number: u32) -> Option<Denied>
         27 => Some(Denied::OtherClass),
         28 => Some(Denied::NoHandle),
         29 => Some(Denied::BadLimits),
+        30 => Some(Denied::By(Refusal::Compacted)),
+        31 => Some(Denied::By(Refusal::OtherStore)),
         _ => None,
     }
 }

@@ -5,11 +5,11 @@ ghost use Rattle.search.specs.Fills.{written_over};
 ghost use Rattle.libgist.specs.Reading.{IsFind, IsFindAny, IsCount, IsChanges, IsRowOf};
 ghost use Rattle.libgist.specs.Shown.{shown_commit, shown_item};
 
-use crate::buffers::write_rows;
+use crate::buffers::write_as;
 use crate::crossing::Crossing;
 use crate::shown::{self, AsShown};
 use crate::words::{ShownItem, ShownRow};
-use change_list::{Item, Status};
+use change_list::{Item, Row, Status};
 use key_class::{KeyClass, Pred, Refusal};
 use search::{BoundedQuery, Slots};
 use snapshot::Snapshot;
@@ -25,7 +25,7 @@ pub fn find<C: Crossing>(
     ensures { IsFind C.rules C.words_of query.now snapshot.now rows.old rows.new result }
 {
     let found = snapshot.find(query)?;
-    write_rows::<C>(rows, &found);
+    write_as::<Row<C::Key>, ShownRow, AsShown<C>>(rows, &found);
     Ok(found.len() as u64)
 }
 

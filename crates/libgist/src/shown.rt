@@ -5,6 +5,7 @@ ghost use Rattle.libgist.specs.Shown.{shown, shown_row, shown_with, shown_write,
 use crate::crossing::Crossing;
 use crate::words::{KeyWords, ShownItem, ShownRow};
 use change_list::{Item, Row, Write};
+use map::Form;
 use search::RowForm;
 use std::marker::PhantomData;
 
@@ -40,6 +41,16 @@ pub fn row<C: Crossing>(row: Row<C::Key>) -> ShownRow
 /// Rows in the layout that C reads.
 pub struct AsShown<C> {
     of: PhantomData<C>,
+}
+
+impl<C: Crossing> Form<Row<C::Key>, ShownRow> for AsShown<C> {
+    ghost form_of = { shown_row C.words_of };
+
+    fn form(row: Row<C::Key>) -> ShownRow
+        ensures { result ≡ shown_row C.words_of row }
+    {
+        self::row::<C>(row)
+    }
 }
 
 impl<C: Crossing> RowForm<C::Key, ShownRow> for AsShown<C> {

@@ -45,3 +45,29 @@ pub struct ToldItem {
     pub serial: u64,
     pub item: ShownItem,
 }
+
+/// An entry of a map.
+#[repr(C)]
+#[derive(Clone, Copy)]
+pub struct ShownEntry {
+    pub id: u64,
+    pub key: KeyWords,
+}
+
+/// An item of a map. Both words are 0 if it has no key.
+#[repr(C)]
+#[derive(Clone, Copy)]
+pub struct ShownMapItem {
+    pub kind: u32,
+    pub revision: u64,
+    pub id: u64,
+    pub key: KeyWords,
+}
+
+/// An item that a feed of a map delivers to a subscription.
+#[repr(C)]
+#[derive(Clone, Copy)]
+pub struct ToldMapItem {
+    pub serial: u64,
+    pub item: ShownMapItem,
+}
