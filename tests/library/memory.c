@@ -143,9 +143,78 @@ static void call_all(uint32_t key_class) {
     gist_destroy(&store);
 }
 
+/* Asks a snapshot of a map of ROWS ids, of which one was removed and one was moved by the last two revisions. */
+static void ask_map(const gist_map_snapshot *snapshot, const gist_query *every) {
+    gist_map_entry entries[ROWS];
+    gist_map_item items[ROWS + 2];
+    uint64_t n, upto;
+
+    NEED(gist_map_snapshot_find(snapshot, every, entries, ROWS, &n));
+    IS(n, ROWS - 1);
+    IS(gist_map_snapshot_find_any(snapshot, every, entries, ROWS, &n), GIST_OK);
+    IS(n, ROWS - 1);
+    IS(gist_map_snapshot_count(snapshot, every, &n), GIST_OK);
+    IS(n, ROWS - 1);
+    NEED(gist_map_snapshot_entries(snapshot, entries, ROWS, &n));
+    IS(n == ROWS - 1 && entries[ROWS - 2].id == 3, true);
+    NEED(gist_map_snapshot_changes(snapshot, every, 0, items, ROWS + 2, &n, &upto));
+    IS(n == ROWS + 2 && upto == ROWS + 2, true);
+}
+
+static void follow_map(gist_map_feed *feed, const gist_map_snapshot *snapshot, const gist_query *every) {
+    gist_map_told buffer[7];
+    uint64_t one, two, given, n, numbers[2], upto = 0, count = 0;
+
+    NEED(gist_map_feed_subscribe(feed, every, 0, &one));
+    NEED(gist_map_feed_subscribe(feed, every, ROWS, &two));
+    NEED(gist_map_feed_compacted(feed, 1, numbers, 2, &n));
+    IS(n == 1 && numbers[0] == one, true);
+    do {
+        NEED(gist_map_feed_advance(feed, snapshot, 10, buffer, 7, &given, &upto));
+        count += given;
+    } while (given > 0 || upto < ROWS + 2);
+    IS(count, ROWS + 2 + 2);
+    IS(gist_map_feed_unsubscribe(feed, one), GIST_OK);
+}
+
+static void call_maps(uint32_t key_class) {
+    const gist_map_config config = {{4, 2, 200, 200}, 50, 1};
+    gist_map map = GIST_NONE, anew = GIST_NONE;
+    gist_map_snapshot now = GIST_NONE;
+    gist_map_feed feed = GIST_NONE;
+    gist_query every = GIST_NONE;
+    gist_map_entry entries[ROWS];
+    uint64_t n, fault;
+
+    NEED(gist_prepare(&every, key_class, all(key_class), length(all(key_class)), &fault));
+    NEED(gist_map_create(&map, key_class, &config));
+    for (int at = 0; at < ROWS; at++)
+        NEED(gist_map_put(&map, (uint64_t)at, key(key_class, at), &n));
+    NEED(gist_map_remove(&map, 1, &n));
+    NEED(gist_map_put(&map, 3, key(key_class, 30), &n));
+    IS(n, ROWS + 2);
+    NEED(gist_map_snapshot_create(&map, &now));
+    ask_map(&now, &every);
+    NEED(gist_map_feed_create(&feed, key_class, 1));
+    follow_map(&feed, &now, &every);
+    for (int at = 0; at < 8 * ROWS; at++) /* the map makes new stores meanwhile */
+        NEED(gist_map_put(&map, (uint64_t)(at % ROWS), key(key_class, at % ROWS), &n));
+    gist_map_snapshot_free(&now);
+    NEED(gist_map_snapshot_create(&map, &now));
+    NEED(gist_map_snapshot_entries(&now, entries, ROWS, &n));
+    IS(n, ROWS);
+    NEED(gist_map_restore(&anew, key_class, &config, 9 * ROWS, entries, ROWS));
+    gist_map_feed_free(&feed);
+    gist_map_snapshot_free(&now);
+    gist_map_free(&anew);
+    gist_map_free(&map);
+    gist_forget(&every);
+}
+
 int main(void) {
-    call_all(GIST_INTERVALS);
-    call_all(GIST_BOXES);
-    call_all(GIST_SETS);
+    for (uint32_t key_class = GIST_INTERVALS; key_class <= GIST_SETS; key_class++) {
+        call_all(key_class);
+        call_maps(key_class);
+    }
     return 0;
 }

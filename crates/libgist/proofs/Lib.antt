@@ -4,8 +4,12 @@ mod HandlesLent
 mod HeldBoxes
 mod Lending
 mod ManyFinds
+mod MapsCross
+mod MapsShared
 mod Pointers
 mod Sharing
+mod StoresCross
+mod StoresShared
 mod Threads
 mod Waiting
 mod Writing

@@ -1,20 +1,16 @@
--- A store may be moved to another thread, whatever its class, and so may a pointer that owns it.
+-- What a handle owns may be moved to another thread, whatever its kind and class, and so may a pointer that owns it.
 use mir.Raw.{raw}
 use base.Fraction.{full_share}
 use base.Shift.{Keyless}
 use denote.Exit.{Exit, unchanged, leaves, hidden, under}
-use denote.RattleType.{RattleType}
-use denote.Builtin.{u64}
 use denote.RawPtr.{Ptr, block_ptr, null_ptr}
 use denote.Struct.Struct.{exits_of}
-use denote.Struct.Declared as declared
 use denote.Struct.Owning.{shape, fields, to}
 use denote.Memory.{lone}
-use denote.Param.Send.{IsSend, IsSync, Quiet, AllSend, sendable, owning_send, struct_send, view_send, recorded_send, part_keyless}
+use denote.Param.Send.{IsSend, Quiet, AllSend, sendable, owning_send, struct_send, part_keyless}
 use Rattle.std.specs.Prelude.{Option, Some, None}
 use Rattle.std.specs.Global.{Global}
 use Rattle.std.proofs.Crossing.{frees, crosses}
-use Rattle.std.proofs.alloc.Global.TheSendSync as heap
 use Rattle.interval_class.proofs.interval.Interval.TheSendSync as interval
 use Rattle.interval_class.proofs.atom.Atom.TheSendSync as interval_atom
 use Rattle.interval_class.proofs.block.IntervalBlock.TheSendSync as interval_block
@@ -26,152 +22,29 @@ use Rattle.set_class.proofs.atom.Atom.TheSendSync as set_atom
 use Rattle.set_class.proofs.block.SetBlock.TheSendSync as set_block
 use Rattle.key_class.proofs.pred.Pred.TheLaws.TheKnot as pred
 use Rattle.snapshot.proofs.snapshot.Snapshot.TheSendSync as snapshot
-use Rattle.mailbox.proofs.tray.Tray.TheSendSync as tray
-use Rattle.world.proofs.Crossing.{world_send}
-use Rattle.key_class.specs.declared.block.Block as block
-use Rattle.key_class.specs.declared.class.KeyClass as class
-use Rattle.std.specs.declared.clone.Clone as clone
-use Rattle.std.specs.declared.cmp.PartialEq as partial_eq
-use Rattle.store.specs.contracts.store.Store as Store
-use Rattle.store.specs.contracts.store.Store.TheInside as store_inside
-use Rattle.feed.specs.declared.reach.Reach as reach
-use Rattle.slab.specs.contracts.Slab as Slab
-use Rattle.slab.specs.contracts.Slab.TheInside as slab_inside
-use Rattle.std.specs.contracts.alloc.Global as Heap
-use Rattle.std.specs.contracts.impls.GlobalAllocator.TheImpl.{ghosts}
-use Rattle.std.specs.contracts.prelude.U64Ord.TheImpl as u64_ord
-use Rattle.std.specs.contracts.prelude.U64PartialEq.TheImpl as u64_eq
-use Rattle.std.specs.contracts.prelude.U64PartialOrd.TheImpl as u64_partial
-use Rattle.change_list.proofs.item.Item.TheSendSync as item
-use Rattle.std.proofs.MapsCrossing.{BTreeMap-send}
-use Rattle.feed.specs.contracts.listeners.Listeners as Listeners
-use Rattle.feed.specs.contracts.registration.Registration as Registration
-use Rattle.feed.specs.contracts.topics.Topic as Topic
-use Rattle.feed.specs.contracts.topics.Topics as Topics
-use Rattle.feed.specs.contracts.topics.Topics.TheInside as topics_inside
-use Rattle.feed.specs.contracts.feed.Feed as Feed
-use Rattle.feed.specs.contracts.feed.Feed.TheInside as feed_inside
-use Rattle.libgist.specs.contracts.following.Following as Following
-use Rattle.libgist.specs.contracts.following.Following.TheInside as following_inside
 use Rattle.libgist.specs.Owning.{HeldState, owned}
+use Rattle.libgist.specs.contracts.held.AnyMap as AnyMap
+use Rattle.libgist.specs.contracts.held.AnyMapFeed as AnyMapFeed
+use Rattle.libgist.specs.contracts.held.AnyMapSnapshot as AnyMapSnapshot
 use Rattle.libgist.specs.contracts.held.Held as any
 use Rattle.libgist.specs.contracts.inside.Inside as inside
+use Rattle.map.proofs.map_snapshot.MapSnapshot.TheSendSync as map_snapshot
+use Rattle.libgist.proofs.StoresCross.{store_send, following_send}
+use Rattle.libgist.proofs.MapsCross.{map_send, map_following_send}
 
-module _ (C K A B : RattleType) (c : class.Ghosts C.Denot K.Denot A.Denot B.Denot) (kc : clone.Ghosts K.Denot) (b : block.Ghosts B.Denot K.Denot) (bc : clone.Ghosts B.Denot) (kp : partial_eq.Ghosts K.Denot) (ap : partial_eq.Ghosts A.Denot) where
-  store_send : IsSend K → IsSync K → IsSend A → IsSync A → IsSend B → IsSync B → IsSend (Store.the_row C K A B c kc b bc kp ap)
-  store_send sk yk sa ya sb yb =
-      view_send (store_inside.the_row C K A B c kc b bc kp ap) _ _ _ _
-      (recorded_send (store_inside.the_field C K A B c kc b bc kp ap).row _ _ (store_inside.the_type C K A B c kc b bc kp ap).to_one
-      (struct_send (declared.shape (store_inside.the_type C K A B c kc b bc kp ap)) (
-        search (heap.the_field_send, crosses, sendable) depth 20,
-        (
-          search (world_send, tray.the_send, sendable) depth 20,
-          tt,
-        ),
-      )))
+ruleset of_keys = (interval.the_send, interval.the_sync, interval_atom.the_send, interval_atom.the_sync, box.the_send, box.the_sync, box_atom.the_send, box_atom.the_sync, set.the_send, set.the_sync, set_atom.the_send, set_atom.the_sync, interval_block.the_send, interval_block.the_sync, box_block.the_send, box_block.the_sync, set_block.the_send, set_block.the_sync, crosses, sendable)
 
-listeners_send : IsSend Listeners.the_row
-listeners_send = search (BTreeMap-send, crosses, sendable) depth 30
+any_map_send : IsSend AnyMap.the_row
+any_map_send = search (map_send, of_keys) depth 40
 
-module _ (A : RattleType) where
-  topic_send : IsSend A → IsSync A → IsSend (Topic.the_row A)
-  topic_send sa ya =
-      recorded_send (Topic.the_field A).row _ _ (Topic.the_type A).to_one
-      (struct_send (declared.shape (Topic.the_type A)) (
-        search (pred.crosses, pred.crosses_both, crosses, sendable) depth 20,
-        (
-          search (listeners_send, sendable) depth 10,
-          tt,
-        ),
-      ))
+any_map_snapshot_send : IsSend AnyMapSnapshot.the_row
+any_map_snapshot_send = search (map_snapshot.the_send, of_keys) depth 40
 
-  registration_send : IsSend A → IsSync A → IsSend (Registration.the_row A)
-  registration_send sa ya = search (pred.crosses, pred.crosses_both, crosses, sendable) depth 30
-
-slab_send : (T : RattleType) → IsSend T → IsSend (Slab.the_field T Heap.the_row ghosts).row
-slab_send T st =
-    view_send (slab_inside.the_row T Heap.the_row ghosts) _ _ _ _
-    (recorded_send (slab_inside.the_field T Heap.the_row ghosts).row _ _ (slab_inside.the_type T Heap.the_row ghosts).to_one
-    (struct_send (declared.shape (slab_inside.the_type T Heap.the_row ghosts)) (
-      search (crosses, sendable) depth 30,
-      (
-        search sendable depth 20,
-        (
-          search sendable depth 20,
-          tt,
-        ),
-      ),
-    )))
-
-module _ (C K A B : RattleType) (r : reach.Ghosts C.Denot K.Denot A.Denot B.Denot) (c : class.Ghosts C.Denot K.Denot A.Denot B.Denot) (kc : clone.Ghosts K.Denot) (b : block.Ghosts B.Denot K.Denot) (bc : clone.Ghosts B.Denot) (kp : partial_eq.Ghosts K.Denot) (ap : partial_eq.Ghosts A.Denot) where
-  topics_send : IsSend K → IsSync K → IsSend A → IsSync A → IsSend B → IsSync B → IsSend (Topics.the_row C K A B r c kc b bc kp ap)
-  topics_send sk yk sa ya sb yb =
-      let tree = store_send C K A B c kc b bc kp ap sk yk sa ya sb yb in
-      view_send (topics_inside.the_row C K A B r c kc b bc kp ap) _ _ _ _
-      (recorded_send (topics_inside.the_field C K A B r c kc b bc kp ap).row _ _ (topics_inside.the_type C K A B r c kc b bc kp ap).to_one
-      (struct_send (declared.shape (topics_inside.the_type C K A B r c kc b bc kp ap)) (
-        search (heap.the_field_send, crosses, sendable) depth 20,
-        (
-          slab_send (Topic.the_row A) (topic_send A sa ya),
-          (
-            search (BTreeMap-send, sendable) depth 30,
-            (
-              search (tree, crosses, sendable) depth 20,
-              (
-                search sendable depth 20,
-                tt,
-              ),
-            ),
-          ),
-        ),
-      )))
-
-  feed_send : IsSend K → IsSync K → IsSend A → IsSync A → IsSend B → IsSync B → IsSend (Feed.the_row C K A B r c kc b bc kp ap)
-  feed_send sk yk sa ya sb yb =
-      let topics = topics_send sk yk sa ya sb yb in
-      view_send (feed_inside.the_row C K A B r c kc b bc kp ap) _ _ _ _
-      (recorded_send (feed_inside.the_field C K A B r c kc b bc kp ap).row _ _ (feed_inside.the_type C K A B r c kc b bc kp ap).to_one
-      (struct_send (declared.shape (feed_inside.the_type C K A B r c kc b bc kp ap)) (
-        search (heap.the_field_send, crosses, sendable) depth 20,
-        (
-          search sendable depth 20,
-          (
-            search sendable depth 20,
-            (
-              search sendable depth 20,
-              (
-                BTreeMap-send u64 (Registration.the_row A) u64_ord.ghosts u64_eq.ghosts u64_partial.ghosts (search sendable depth 10) (registration_send A sa ya),
-                (
-                  search (topics, crosses, sendable) depth 20,
-                  tt,
-                ),
-              ),
-            ),
-          ),
-        ),
-      )))
-
-  following_send : IsSend K → IsSync K → IsSend A → IsSync A → IsSend B → IsSync B → IsSend (Following.the_row C K A B r c kc b bc kp ap)
-  following_send sk yk sa ya sb yb =
-      let feed = feed_send sk yk sa ya sb yb in
-      view_send (following_inside.the_row C K A B r c kc b bc kp ap) _ _ _ _
-      (recorded_send (following_inside.the_field C K A B r c kc b bc kp ap).row _ _ (following_inside.the_type C K A B r c kc b bc kp ap).to_one
-      (struct_send (declared.shape (following_inside.the_type C K A B r c kc b bc kp ap)) (
-        search (heap.the_field_send, crosses, sendable) depth 20,
-        (
-          search (feed, crosses, sendable) depth 20,
-          (
-            search (item.the_send, crosses, sendable) depth 30,
-            (
-              search sendable depth 20,
-              tt,
-            ),
-          ),
-        ),
-      )))
+any_map_feed_send : IsSend AnyMapFeed.the_row
+any_map_feed_send = search (map_following_send, of_keys) depth 40
 
 any_send : IsSend any.the_row
-any_send = search (store_send, following_send, snapshot.the_send, pred.crosses, pred.crosses_both, interval.the_send, interval.the_sync, interval_atom.the_send, interval_atom.the_sync, box.the_send, box.the_sync, box_atom.the_send, box_atom.the_sync, set.the_send, set.the_sync, set_atom.the_send, set_atom.the_sync, interval_block.the_send, interval_block.the_sync, box_block.the_send, box_block.the_sync, set_block.the_send, set_block.the_sync, crosses, sendable) depth 40
+any_send = search (store_send, following_send, snapshot.the_send, any_map_send, any_map_snapshot_send, any_map_feed_send, pred.crosses, pred.crosses_both, of_keys) depth 40
 
 owned_keyless : (alloc : Global) (at : Ptr) (state : Option HeldState) → Keyless (owned alloc at state)
 owned_keyless alloc at None = tt

@@ -1,5 +1,5 @@
 //! Making what an empty handle is to own.
-ghost use Rattle.std.specs.Prelude.{◌≡◌, ◌↔◌, ◌⊎◌, None, Err, IfOk, IfErr};
+ghost use Rattle.std.specs.Prelude.{◌≡◌, ◌↔◌, ◌⊎◌, None, Err, IfOk, IfErr, IfSome};
 ghost use Rattle.key_class.specs.declared.refusal.Refusal.TheVariants.{OutOfMemory};
 ghost use Rattle.change_list.specs.Configs.{IsWithinLimits};
 ghost use Rattle.store.specs.States.{new_store};
@@ -35,15 +35,22 @@ pub fn settle(alloc: Global, made: Result<Held, Denied>, handle: &mut Handle) ->
     ensures { Settles made result handle.new.inside.state }
 {
     match made {
-        Ok(it) => match Box::new(alloc, it) {
-            Ok(held) => {
+        Ok(it) => match boxed(alloc, it) {
+            Some(held) => {
                 handle.put(held);
                 0
             }
-            Err(_) => 1,
+            None => 1,
         },
         Err(why) => why.number(),
     }
+}
+
+/// What was made in a box, if there is memory for that.
+fn boxed(alloc: Global, it: Held) -> Option<Box<Held>>
+    ensures { IfSome result (λ held. held.value ≡ it) }
+{
+    Box::new(alloc, it).ok()
 }
 
 /// An empty store of a class.

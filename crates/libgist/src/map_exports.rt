@@ -145,10 +145,10 @@ pub unsafe extern "C" fn gist_map_state_of(map: *const Handle, state: &mut MapFi
     ensures told { Tells result state.old state.new (FromHandle AnswersMapFigures
         (state_of loan)) }
 {
-    tell_state(&*(map as *const Lent), state)
+    tell_map(&*(map as *const Lent), state)
 }
 
-fn tell_state(map: &Lent, state: &mut MapFigures) -> u32
+fn tell_map(map: &Lent, state: &mut MapFigures) -> u32
     ensures told { Tells result state.old state.new (FromHandle AnswersMapFigures
         map.now.inside.state) }
 {

@@ -58,10 +58,10 @@ pub unsafe extern "C" fn gist_map_feed_subscribe(
         (AnswersMapSubscribing from) (state_of loan)
         feed.old.inside.state feed.new.inside.state) }
 {
-    subscribe_to(feed, &*(query as *const Lent), from, subscription)
+    subscribe_to_map(feed, &*(query as *const Lent), from, subscription)
 }
 
-fn subscribe_to(feed: &mut Handle, query: &Lent, from: u64, subscription: &mut u64) -> u32
+fn subscribe_to_map(feed: &mut Handle, query: &Lent, from: u64, subscription: &mut u64) -> u32
     ensures subscribed { Tells result subscription.old subscription.new (OnHandles
         (AnswersMapSubscribing from) query.now.inside.state
         feed.old.inside.state feed.new.inside.state) }
@@ -146,10 +146,10 @@ pub unsafe extern "C" fn gist_map_feed_advance(
         feed.old.inside.state feed.new.inside.state) }
     ensures unfilled { result ≢ 0 → items.new ≡ items.old }
 {
-    advance_over(feed, &*(snapshot as *const Lent), most, items, given, upto)
+    advance_over_map(feed, &*(snapshot as *const Lent), most, items, given, upto)
 }
 
-fn advance_over(
+fn advance_over_map(
     feed: &mut Handle,
     snapshot: &Lent,
     most: u64,

@@ -114,7 +114,7 @@ impl<C: Reach> MapFollowing<C> {
 
     /// Processes at most `most` further revisions of a snapshot, or none while items wait. A new subscription gets the
     /// items that it missed in either case.
-    fn go_on(&mut self, snapshot: &MapSnapshot<C>, most: u64) -> Result<(), Refusal>
+    fn go_on_map(&mut self, snapshot: &MapSnapshot<C>, most: u64) -> Result<(), Refusal>
         ensures ok { OnOk result (GoesOn C.rules
             (commits_allowed most self.old.waiting) snapshot.now.map self.old self.new) }
         ensures err { OnErr result (self.new ≡ self.old) }
@@ -131,7 +131,7 @@ impl<C: Reach> MapFollowing<C> {
 
 /// Delivers as many of the items that wait as fit into a buffer. Returns their number, and the last revision that the
 /// feed has processed.
-fn give<C: Crossing + Reach>(
+fn give_items<C: Crossing + Reach>(
     following: &mut MapFollowing<C>,
     items: &mut [ToldMapItem],
 ) -> (u64, u64)
@@ -159,6 +159,6 @@ pub fn advance<C: Crossing + Reach>(
     ensures { IsMapAdvancing C.rules C.words_of most snapshot.now items.old items.new
         following.old result following.new }
 {
-    following.go_on(snapshot, most)?;
-    Ok(give(following, items))
+    following.go_on_map(snapshot, most)?;
+    Ok(give_items(following, items))
 }

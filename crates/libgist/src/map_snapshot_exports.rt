@@ -27,10 +27,10 @@ pub unsafe extern "C" fn gist_map_snapshot_create(map: *const Handle, snapshot: 
     ensures taken { Makes (IsMapTakenFrom (state_of loan))
         snapshot.old.inside.state snapshot.new.inside.state result }
 {
-    take_snapshot(&*(map as *const Lent), snapshot)
+    take_map(&*(map as *const Lent), snapshot)
 }
 
-fn take_snapshot(map: &Lent, snapshot: &mut Handle) -> u32
+fn take_map(map: &Lent, snapshot: &mut Handle) -> u32
     ensures taken { Makes (IsMapTakenFrom map.now.inside.state)
         snapshot.old.inside.state snapshot.new.inside.state result }
 {
@@ -63,10 +63,10 @@ pub unsafe extern "C" fn gist_map_snapshot_state(
     ensures told { Tells result state.old state.new (FromHandle AnswersSnapshotFigures
         (state_of loan)) }
 {
-    tell_state(&*(snapshot as *const Lent), state)
+    tell_snapshot(&*(snapshot as *const Lent), state)
 }
 
-fn tell_state(snapshot: &Lent, state: &mut MapFigures) -> u32
+fn tell_snapshot(snapshot: &Lent, state: &mut MapFigures) -> u32
     ensures told { Tells result state.old state.new (FromHandle AnswersSnapshotFigures
         snapshot.now.inside.state) }
 {
@@ -207,7 +207,7 @@ pub unsafe extern "C" fn gist_map_snapshot_changes(
         (AnswersMapChanges from items.old items.new) (state_of loans.1) (state_of loans.0)) }
     ensures unfilled { result ≢ 0 → items.new ≡ items.old }
 {
-    give_changes(
+    give_items(
         &*(snapshot as *const Lent),
         &*(query as *const Lent),
         from,
@@ -217,7 +217,7 @@ pub unsafe extern "C" fn gist_map_snapshot_changes(
     )
 }
 
-fn give_changes(
+fn give_items(
     snapshot: &Lent,
     query: &Lent,
     from: u64,

@@ -1,11 +1,11 @@
--- `gist_map_state_of` calls `tell_state`, with what is lent for the call as a reference, and everything else unchanged.
+-- `gist_map_state_of` calls `tell_map`, with what is lent for the call as a reference, and everything else unchanged.
 use Rattle.libgist.proofs.Lending.{ℕ, [], ◌∷◌, refl, w32, named, vptr, SProp, id⊢, WpFn, sem, tables, ‵, raw, prop, ◌⊛◌, some, later, ◌$◌, ◌∵◌, !, qed, move, drop, use1, use2, split, join, pick, fsplit, fjoin, regoal, suffices, await, done, and_then, no_more, returns, enter, addr, of_opd, stop, alloc_all, pass_all, free_all, look_at, get, through, sets, lands_as, Is, shows, uint_Lawful, u32, flat, owns, Ptr, block_ptr, rawptr_vals, rawptr_Tells, mut_vals, mut_Tells, types_at, nothing, peeks, calls_at, Lasts, said_of, at_exit, alive, triple_of, framed, is_lent, lasts, ends, walked, comes_back, lent_ref, takes_lent}
 use Rattle.libgist.specs.contracts.figures.MapFigures.{the_row as MapFigures}
 use Rattle.libgist.specs.contracts.map_exports.gist_map_state_of as f
 use Rattle.libgist.proofs.map_exports.gist_map_state_of.Statement.{statement}
 use Rattle.libgist.proofs.map_exports.gist_map_state_of.Code as code
-use Rattle.libgist.specs.contracts.map_exports.tell_state as g
-use Rattle.libgist.proofs.map_exports.tell_state.Met.{met}
+use Rattle.libgist.specs.contracts.map_exports.tell_map as g
+use Rattle.libgist.proofs.map_exports.tell_map.Met.{met}
 
 pub gist_map_state_of_spec : {M : Type 1} → statement M
 gist_map_state_of_spec 𝓤 𝓛 𝓜 𝓡 wired =
@@ -25,7 +25,7 @@ gist_map_state_of_spec 𝓤 𝓛 𝓜 𝓡 wired =
     enter ! _ _ _ _ _ $ alloc_all ! (λ ls. pass_all ! refl ((tt, tt), ((tt, tt), tt)) $
     sets ! (of_opd ! (get ! refl)) refl (tt, tt) $ sets ! (addr ! (through ! refl (stop !))) refl (tt, tt) $
     sets ! (addr ! (through ! refl (stop !))) refl (tt, tt) $
-    calls_at ! (framed 𝓤 𝓛.H 𝓜 𝓣) G (met 𝓤 𝓛 𝓜 𝓡 (code.calls-libgist::map_exports::tell_state 𝓡.env wired)) z (and_then ! (get ! refl) (and_then ! (get ! refl) (no_more !))) (λ v.
+    calls_at ! (framed 𝓤 𝓛.H 𝓜 𝓣) G (met 𝓤 𝓛 𝓜 𝓡 (code.calls-libgist::map_exports::tell_map 𝓡.env wired)) z (and_then ! (get ! refl) (and_then ! (get ! refl) (no_more !))) (λ v.
     use1 𝓛 (later (some (λ (r : ℕ). ((‵ (lasts loan) ⊛ raw A) ⊛ ‵ (u32.own_val r (v ∷ []))) ⊛ raw ((gc z.0.0 z.0.3).ensures tt r)))) (id⊢ 𝓤 _) $ await ! tt $ pick ! (λ r.
     split ! $ split ! $ move ! (1 ∷ []) $ peeks ! u32 (Is u32) (shows 𝓛 u32) r (v ∷ []) (λ is. lands_as ! refl refl ((uint_Lawful 𝓛 w32).typed r _ is).0 $
     returns ! (look_at ! 0 refl) $ free_all ! refl $

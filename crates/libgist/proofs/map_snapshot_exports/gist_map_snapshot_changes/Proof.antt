@@ -1,12 +1,12 @@
--- `gist_map_snapshot_changes` calls `give_changes`, with what is lent for the call as two references, and everything else unchanged.
+-- `gist_map_snapshot_changes` calls `give_items`, with what is lent for the call as two references, and everything else unchanged.
 use Rattle.libgist.proofs.Lending.{ℕ, [], ◌∷◌, refl, w32, w64, named, vptr, SProp, id⊢, WpFn, sem, tables, ‵, raw, prop, ◌⊛◌, some, later, ◌$◌, ◌∵◌, !, qed, move, drop, use1, use2, split, join, pick, fsplit, fjoin, regoal, suffices, await, done, whole, sub, agg, and_then, no_more, returns, enter, addr, of_opd, fld, hop, from, stop, alloc_all, pass_all, free_all, look_at, look_in_at, get, get_in, through, sets, lands_as, Is, shows, uint_vals, uint_Tells, uint_Lawful, u32, flat, owns, Ptr, block_ptr, rawptr_vals, rawptr_Tells, mut_vals, mut_Tells, mut_slice_vals, mut_slice_Tells, types_at, nothing, peeks, calls_at, Lasts, said_of, at_exit, alive, triple_of, framed, are_lent, lasts, both_last, ends, walked, comes_back, lent_ref, takes_lent}
 use denote.Builtin.{u64}
 use Rattle.libgist.specs.contracts.words.ShownMapItem.{the_row as ShownMapItem}
 use Rattle.libgist.specs.contracts.map_snapshot_exports.gist_map_snapshot_changes as f
 use Rattle.libgist.proofs.map_snapshot_exports.gist_map_snapshot_changes.Statement.{statement}
 use Rattle.libgist.proofs.map_snapshot_exports.gist_map_snapshot_changes.Code as code
-use Rattle.libgist.specs.contracts.map_snapshot_exports.give_changes as g
-use Rattle.libgist.proofs.map_snapshot_exports.give_changes.Met.{met}
+use Rattle.libgist.specs.contracts.map_snapshot_exports.give_items as g
+use Rattle.libgist.proofs.map_snapshot_exports.give_items.Met.{met}
 
 pub gist_map_snapshot_changes_spec : {M : Type 1} → statement M
 gist_map_snapshot_changes_spec 𝓤 𝓛 𝓜 𝓡 wired =
@@ -33,7 +33,7 @@ gist_map_snapshot_changes_spec 𝓤 𝓛 𝓜 𝓡 wired =
     sets ! (addr ! (from ! (fld ! refl (hop ! (look_in_at ! 4 (sub ! 0 refl (whole !))) (stop !))))) refl (tt, tt) $ sets ! (agg ! (and_then ! (get ! refl) (and_then ! (get_in ! (fld ! refl (stop !)) (sub ! 1 refl (whole !))) (no_more !)))) refl (tt, (tt, (record { fits = are.1.1.1.0.0.1.0 }, tt))) $
     sets ! (addr ! (through ! refl (stop !))) refl (tt, tt) $
     sets ! (addr ! (through ! refl (stop !))) refl (tt, tt) $
-    calls_at ! (framed 𝓤 𝓛.H 𝓜 𝓣) G (met 𝓤 𝓛 𝓜 𝓡 (code.calls-libgist::map_snapshot_exports::give_changes 𝓡.env wired)) z (and_then ! (get ! refl) (and_then ! (get ! refl) (and_then ! (get ! refl) (and_then ! (get ! refl) (and_then ! (get ! refl) (and_then ! (get ! refl) (no_more !))))))) (λ v.
+    calls_at ! (framed 𝓤 𝓛.H 𝓜 𝓣) G (met 𝓤 𝓛 𝓜 𝓡 (code.calls-libgist::map_snapshot_exports::give_items 𝓡.env wired)) z (and_then ! (get ! refl) (and_then ! (get ! refl) (and_then ! (get ! refl) (and_then ! (get ! refl) (and_then ! (get ! refl) (and_then ! (get ! refl) (no_more !))))))) (λ v.
     use1 𝓛 (later (some (λ (r : ℕ). ((‵ (lasts loans.0) ⊛ (‵ (lasts loans.1) ⊛ raw A)) ⊛ ‵ (u32.own_val r (v ∷ []))) ⊛ raw ((gc z.0.0 z.0.3).ensures tt r)))) (id⊢ 𝓤 _) $ await ! tt $ pick ! (λ r.
     split ! $ split ! $ move ! (1 ∷ []) $ peeks ! u32 (Is u32) (shows 𝓛 u32) r (v ∷ []) (λ is. lands_as ! refl refl ((uint_Lawful 𝓛 w32).typed r _ is).0 $
     returns ! (look_at ! 0 refl) $ free_all ! refl $
