@@ -7,6 +7,7 @@ mod ManyFinds
 mod MapsCross
 mod MapsShared
 mod Pointers
+mod Restoring
 mod Sharing
 mod StoresCross
 mod StoresShared

@@ -32,14 +32,14 @@ pub record IsMapCreation (class : ℕ) (config : MapConfig) (made : Result Held 
   pub bad_limits : (made ≡ Err BadLimits) ↔ (IsClass class × (¬ IsMapConfig config))
   pub refusals : IfErr made (λ why. (why ≡ By BadConfig) ⊎ (why ≡ BadLimits) ⊎ (why ≡ By OutOfMemory))
 
-module _ {K : Type 0} (key_of : KeyWords → Option K) (words : List ShownEntry) where
-  -- the entry that C hands in, if the ends of its key are in order
-  abbrev pub entry_told : ShownEntry → Option (MapEntry K)
-  entry_told shown = option_map (λ key. record { id = shown.id; key = key }) (key_of shown.key)
+-- the entry that C hands in, if the ends of its key are in order
+abbrev pub entry_told : {K : Type 0} → (KeyWords → Option K) → ShownEntry → Option (MapEntry K)
+entry_told key_of shown = option_map (λ key. record { id = shown.id; key = key }) (key_of shown.key)
 
+module _ {K : Type 0} (key_of : KeyWords → Option K) (words : List ShownEntry) where
   -- the entries are those that C hands in
   abbrev pub AreTold : List (MapEntry K) → Type 0
-  AreTold entries = map entry_told words ≡ map Some entries
+  AreTold entries = map (entry_told key_of) words ≡ map Some entries
 
   -- the ends of some key are out of order
   pub record HasBadEnds : Type 0 where

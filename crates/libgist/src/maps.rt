@@ -43,15 +43,11 @@ fn entries<C: Crossing>(
     let Ok(mut entries) = Vec::with_capacity(alloc, words.len()) else {
         return Err(Denied::By(Refusal::OutOfMemory));
     };
-    for place in 0..words.len() {
-        let Some(key) = C::key(words[place].key) else {
+    'reading: for shown in words {
+        let Some(key) = C::key(shown.key) else {
             return Err(Denied::BadEnds);
         };
-        let entry = MapEntry {
-            id: words[place].id,
-            key,
-        };
-        let Ok(()) = entries.push(entry) else {
+        let Ok(()) = entries.push(MapEntry { id: shown.id, key }) else {
             return Err(Denied::By(Refusal::OutOfMemory));
         };
     }
@@ -78,7 +74,10 @@ pub fn restored<C: Crossing>(
         return Err(Denied::BadLimits);
     }
     let entries = entries::<C>(alloc, words)?;
-    passed_on(Map::restore(alloc, config, revision, &entries))
+    match Map::restore(alloc, config, revision, &entries) {
+        Ok(map) => Ok(map),
+        Err(why) => Err(Denied::By(why)),
+    }
 }
 
 /// Puts a key under an id, if the key's ends are in order.
