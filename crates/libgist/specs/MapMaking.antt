@@ -1,5 +1,5 @@
 -- Making maps, their snapshots and their feeds for empty handles.
-use Rattle.std.specs.Prelude.{◌≡◌, ◌↔◌, ◌⊎◌, ℕ, List, map, Option, Some, None, option_map, slice_get, Result, Ok, Err, IfOk, IfErr}
+use Rattle.std.specs.Prelude.{◌≡◌, ◌↔◌, ◌⊎◌, ℕ, List, map, Option, Some, None, option_map, slice_get, Result, Err, IfOk, IfErr}
 use Rattle.key_class.specs.declared.refusal.Refusal.TheVariants.{BadConfig, OutOfMemory, CommitsFull, PagesFull, FindersFull}
 use Rattle.revisions.specs.declared.entry.MapEntry.{MapEntry}
 use Rattle.revisions.specs.Maps.{AreApart, restored}
