@@ -2,7 +2,7 @@
 use change_list::Config;
 use interval_class::{Interval, Intervals};
 use key_class::{Pred, Refusal};
-use map::{Map, MapConfig, MapFeed, MapItem};
+use map::{Map, MapConfig, MapFeed, MapItem, MapSnapshot};
 use std::alloc::Global;
 use std::test::Fail;
 use test_support::{all, overlapping};
@@ -99,16 +99,25 @@ fn a_feed_refuses_a_snapshot_of_another_map(rt: HostRuntime) -> Result<(), Fail>
     Ok(())
 }
 
+/// Why a feed that has reached one snapshot refuses another, and which revision it then has reached.
+fn refused_after(
+    alloc: Global,
+    reached: &MapSnapshot<Intervals>,
+    other: &MapSnapshot<Intervals>,
+) -> Result<(Option<Refusal>, u64), Refusal> {
+    let mut feed = MapFeed::new(alloc, 7)?;
+    let mut told = Vec::new(alloc);
+    feed.advance(reached, 99, &mut told)?;
+    let why = feed.advance(other, 99, &mut told).err();
+    Ok((why, feed.upto()))
+}
+
 #[test]
 fn a_feed_does_not_go_back(rt: HostRuntime) -> Result<(), Fail> {
-    let mut map = changed(rt.alloc(), 7, 10)?;
-    let before = map.snapshot()?;
-    change_on(&mut map, 1)?;
-    let mut feed = MapFeed::new(rt.alloc(), 7)?;
-    let mut told = Vec::new(rt.alloc());
-    assert!(rt; feed.advance(&map.snapshot()?, 99, &mut told)? == 11);
-    assert!(rt; feed.advance(&before, 99, &mut told) == Err(Refusal::FromFuture));
-    assert!(rt; feed.upto() == 11);
+    let before = changed(rt.alloc(), 7, 10)?.snapshot()?;
+    let after = changed(rt.alloc(), 7, 11)?.snapshot()?;
+    let (why, upto) = refused_after(rt.alloc(), &after, &before)?;
+    assert!(rt; why == Some(Refusal::FromFuture) && upto == 11);
     Ok(())
 }
 
