@@ -1,7 +1,20 @@
-//! Tests of maps and of their feeds: calls with their answers, limits, lives without end, and memory that is refused.
+//! Tests of maps and of their feeds: calls with their answers, limits, lives without end, memory that is refused, and random
+//! changes beside a plain dictionary.
 #![tactic(auto)]
 
 #[cfg(test)]
 mod calls;
 #[cfg(test)]
+mod dictionary;
+#[cfg(test)]
+mod draws;
+#[cfg(test)]
 mod feeds;
+#[cfg(test)]
+mod kept;
+#[cfg(test)]
+mod random_maps;
+#[cfg(test)]
+mod stops;
+#[cfg(test)]
+mod tracked;
