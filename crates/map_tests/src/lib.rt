@@ -3,6 +3,8 @@
 #![tactic(auto)]
 
 #[cfg(test)]
+mod audience;
+#[cfg(test)]
 mod calls;
 #[cfg(test)]
 mod dictionary;
@@ -16,5 +18,7 @@ mod kept;
 mod random_maps;
 #[cfg(test)]
 mod stops;
+#[cfg(test)]
+mod subscriber;
 #[cfg(test)]
 mod tracked;
