@@ -17,6 +17,8 @@ mod kept;
 #[cfg(test)]
 mod random_maps;
 #[cfg(test)]
+mod refusals;
+#[cfg(test)]
 mod stops;
 #[cfg(test)]
 mod subscriber;
