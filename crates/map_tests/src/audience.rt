@@ -28,6 +28,17 @@ struct Counts {
     compacted: u64,
 }
 
+impl Counts {
+    fn and(self, other: Counts) -> Counts {
+        Counts {
+            renewals: self.renewals.saturating_add(other.renewals),
+            restorations: self.restorations.saturating_add(other.restorations),
+            items: self.items.saturating_add(other.items),
+            compacted: self.compacted.saturating_add(other.compacted),
+        }
+    }
+}
+
 /// A feed, its subscribers by rising serial, and the entries at the revision that it has reached.
 #[derive(Drop)]
 struct Audience<C: Drawn> {
@@ -297,36 +308,32 @@ fn run<C: Drawn>(alloc: Global, seed: u64) -> Result<Counts, Stop> {
     audience.run(&mut life)
 }
 
-/// What happens in three runs: all stores that were replaced, and the least of the other counts.
+/// What happens in three runs together.
 fn runs<C: Drawn>(alloc: Global, first_seed: u64) -> Result<Counts, (u64, Stop)> {
     let mut all = Counts {
         renewals: 0,
-        restorations: u64::MAX,
-        items: usize::MAX,
-        compacted: u64::MAX,
+        restorations: 0,
+        items: 0,
+        compacted: 0,
     };
     for seed in first_seed..first_seed.saturating_add(3) {
         match run::<C>(alloc, seed) {
-            Ok(counts) => {
-                all.renewals = all.renewals.saturating_add(counts.renewals);
-                all.restorations = all.restorations.min(counts.restorations);
-                all.items = all.items.min(counts.items);
-                all.compacted = all.compacted.min(counts.compacted);
-            }
+            Ok(counts) => all = all.and(counts),
             Err(stop) => return Err((seed, stop)),
         }
     }
     Ok(all)
 }
 
-/// Whether the runs ended well, after many stores, restorations, items and subscribers that began again.
+/// Whether the runs ended well, after many stores (a hundred in six tests), restorations, items and subscribers that
+/// began again.
 fn is_eventful(outcome: Result<Counts, (u64, Stop)>) -> bool {
     match outcome {
         Ok(counts) => {
-            counts.renewals >= 34
-                && counts.restorations >= 2
-                && counts.items >= 1_000
-                && counts.compacted >= 5
+            counts.renewals >= 17
+                && counts.restorations >= 6
+                && counts.items >= 2_500
+                && counts.compacted >= 3
         }
         Err(_) => false,
     }

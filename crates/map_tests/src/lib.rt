@@ -1,5 +1,5 @@
-//! Tests of maps and of their feeds: calls with their answers, limits, lives without end, memory that is refused, and random
-//! changes beside a plain dictionary.
+//! Tests of maps and of their feeds: calls with their answers, limits, lives without end, memory that is refused, and
+//! random changes compared with a plain dictionary.
 #![tactic(auto)]
 
 #[cfg(test)]

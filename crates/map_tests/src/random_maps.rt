@@ -18,13 +18,13 @@ use std::test::Fail;
 const IDS: u64 = 60;
 
 /// How many changes a run makes.
-pub const CHANGES: u64 = 3_000;
+pub const CHANGES: u64 = 1_500;
 
 /// How many snapshots are kept at once.
 const KEPT: usize = 8;
 
-/// Limits: as few commits as so many ids allow; a history that is there before the next store has caught up; and one that
-/// isn't.
+/// Limits: as few commits as so many ids allow, a history that is shorter than the next store takes to catch up, and a
+/// longer one.
 static CONFIGS: [MapConfig; 3] = [
     MapConfig {
         store: Config {
@@ -284,10 +284,10 @@ fn runs<C: Drawn>(alloc: Global, first_seed: u64) -> Result<Counts, (u64, Stop)>
     Ok(all)
 }
 
-/// Whether the runs ended well, after a third of a hundred stores, snapshots of several of them and some restorations.
+/// Whether the runs ended well, after many stores (a hundred in six tests), snapshots of several and some restorations.
 fn is_eventful(outcome: Result<Counts, (u64, Stop)>) -> bool {
     match outcome {
-        Ok(counts) => counts.renewals >= 34 && counts.stores >= 3 && counts.restorations >= 3,
+        Ok(counts) => counts.renewals >= 17 && counts.stores >= 3 && counts.restorations >= 2,
         Err(_) => false,
     }
 }

@@ -1,5 +1,5 @@
-//! Maps and feeds of which a call is refused for lack of memory, and is made again: nothing may have changed, and nothing
-//! may be missing later.
+//! Maps and feeds of which a call runs out of memory, and is made again: nothing may have changed, and nothing may be
+//! missing later.
 use crate::stops::{Stop, agree};
 use change_list::Config;
 use interval_class::{Interval, Intervals};
@@ -87,7 +87,7 @@ struct Script {
     feed: MapFeed<Intervals>,
 }
 
-/// A call that was refused for lack of memory is to be made again.
+/// Whether a call ran out of memory; then it is made again.
 fn is_out_of_memory<T>(outcome: &Result<T, Refusal>) -> bool {
     matches!(outcome, Err(Refusal::OutOfMemory))
 }
