@@ -1,17 +1,12 @@
-//! Tests of maps and of their feeds: calls with their answers, limits, lives without end, memory that is refused, and
-//! random changes compared with a plain dictionary.
+//! Tests of maps and of their feeds: random changes compared with a plain dictionary, and memory that is refused.
 #![tactic(auto)]
 
 #[cfg(test)]
 mod audience;
 #[cfg(test)]
-mod calls;
-#[cfg(test)]
 mod dictionary;
 #[cfg(test)]
 mod draws;
-#[cfg(test)]
-mod feeds;
 #[cfg(test)]
 mod kept;
 #[cfg(test)]
