@@ -1,12 +1,14 @@
 /*
- * Measures a map of boxes in process, beside a store of the same boxes.
+ * Measures a map of boxes in process, and a store of the same boxes.
  * Usage: maps OBJECTS MOVES TICKS
  *
  * It prints lines `name value`. Times are processor nanoseconds a call, or the longest single call by the clock in
- * microseconds; memory is bytes an object. MOVES are the single moves that are timed, TICKS how often each object is
- * moved before the finds.
+ * microseconds; memory is bytes an object. The store is swept after each 50,000 moves; its figure leaves that out. MOVES
+ * are the single moves that are timed, TICKS how often each object is moved before the finds. More than 500,000 objects
+ * are kept in pages of 64 entries, others in pages of 32.
  */
 #include <inttypes.h>
+#include <malloc.h>
 #include <stdio.h>
 #include <stdlib.h>
 #include <string.h>
@@ -14,7 +16,7 @@
 
 #include "gist.h"
 
-enum { SIDE = 1 << 20, FINDS = 20000, FOUND = 4096, BANDS = 16 };
+enum { SIDE = 1 << 20, FINDS = 20000, FOUND = 4096, BANDS = 16, SWEPT = 50000 };
 
 static uint64_t state = 20240607;
 
@@ -41,13 +43,10 @@ static double now_by(clockid_t clock) {
 
 static double processor(void) { return now_by(CLOCK_PROCESS_CPUTIME_ID); }
 
-/* The bytes of memory that the process holds. */
+/* The bytes that are allocated. */
 static double memory(void) {
-    FILE *file = fopen("/proc/self/statm", "r");
-    long all = 0, held = 0;
-    if (!file || fscanf(file, "%ld %ld", &all, &held) != 2) exit(1);
-    fclose(file);
-    return (double)held * 4096;
+    const struct mallinfo2 info = mallinfo2();
+    return (double)(info.uordblks + info.hblkhd);
 }
 
 typedef struct place {
@@ -61,6 +60,16 @@ static place drawn(void) { return (place){(int32_t)below(SIDE), (int32_t)below(S
 /* A step of at most 8 in each direction. */
 static place moved(place at) {
     return (place){at.x + (int32_t)below(17) - 8, at.y + (int32_t)below(17) - 8};
+}
+
+/* The greatest limits, with twice as many entries a page where there are too many objects for 65,536 pages. */
+static gist_limits limits_for(uint64_t objects) {
+    gist_limits limits = GIST_LIMITS;
+    if (objects > 500000) {
+        limits.fan *= 2;
+        limits.least *= 2;
+    }
+    return limits;
 }
 
 /* The processor time of a find of about ten boxes. */
@@ -90,8 +99,8 @@ static double time_of_find(const gist_map *map, uint64_t objects) {
 int main(int argc, char **argv) {
     if (argc != 4) return 2;
     const uint64_t objects = strtoull(argv[1], NULL, 10), moves = strtoull(argv[2], NULL, 10), ticks = strtoull(argv[3], NULL, 10);
-    const gist_limits limits = GIST_LIMITS;
-    const gist_map_config config = GIST_MAP_CONFIG;
+    const gist_limits limits = limits_for(objects);
+    gist_map_config config = GIST_MAP_CONFIG;
     gist_store store = GIST_NONE;
     gist_map map = GIST_NONE;
     place *places = calloc(objects, sizeof *places);
@@ -99,6 +108,7 @@ int main(int argc, char **argv) {
     double before, taken, longest = 0, over = 0;
     uint64_t at_longest = 0, bands[BANDS] = {0};
     if (!places || !rows) return 1;
+    config.limits = limits;
     for (uint64_t i = 0; i < objects; i++) places[i] = drawn();
 
     /* a store, whose caller keeps the numbers of rows */
@@ -112,6 +122,11 @@ int main(int argc, char **argv) {
     for (uint64_t i = 0; i < objects; i++) {
         places[i] = moved(places[i]);
         expect(gist_move(&store, rows[i], box_at(places[i]), &rows[i]), "gist_move");
+        if (i % SWEPT == 0) {
+            const double sweep = processor();
+            expect(gist_sweep(&store, &added), "gist_sweep");
+            before += processor() - sweep;
+        }
     }
     printf("store_move %.0f\n", (processor() - before) / (double)objects);
     gist_destroy(&store);
