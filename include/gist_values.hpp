@@ -63,6 +63,10 @@ inline std::string advice(uint32_t refusal, uint64_t at) {
     case GIST_BAD_LIMITS:
         return "limit is out of range: use a fan of 4 to 64, a least of 2 to half of it, 1 to 65,536 pages and 1 to 16,777,216 "
                "commits";
+    case GIST_COMPACTED:
+        return "map's changes after that revision are no longer kept: find again, and go on from that snapshot's revision";
+    case GIST_OTHER_STORE:
+        return "snapshot is of another map: pass one of the map whose identity the feed has";
     default:
         return "refusal " + std::to_string(refusal) + " of another version of the library: see the gist.h of that version";
     }

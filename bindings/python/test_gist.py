@@ -669,7 +669,7 @@ class Numbers(Case):
             length = call(refusal, ctypes.addressof(name), 16)
             self.assertEqual(name.raw[:length].decode(), refusal.name)
             self.assertIn(f"{refusal.name} ({refusal.value}): ", str(Error(refusal)))
-        self.assertEqual([call(number, ctypes.addressof(name), 16) for number in (0, 30)], [0, 0])
+        self.assertEqual([call(number, ctypes.addressof(name), 16) for number in (0, 32)], [0, 0])
         error = Error(Refusal.QueryText, 7, 2)
         again = pickle.loads(pickle.dumps(error))
         self.assertEqual((again.refusal, again.at, again.done, str(again)), (Refusal.QueryText, 7, 2, str(error)))

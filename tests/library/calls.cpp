@@ -252,18 +252,20 @@ void readers() {
 void names() {
     const char *const all[] = {"OutOfMemory", "BadConfig", "PagesFull", "CommitsFull", "CursorsFull", "FindersFull", "NoSuchRow",
                                "AlreadyDeleted", "NoSuchCursor", "CursorClosed", "QueryText", "FromFuture", "FeedFull",
-                               "NotSubscribed", "BadEnds", "OtherClass", "NoHandle", "BadLimits"};
+                               "NotSubscribed", "BadEnds", "OtherClass", "NoHandle", "BadLimits", "Compacted",
+                               "OtherStore"};
     const uint32_t numbers[] = {GIST_OUT_OF_MEMORY, GIST_BAD_CONFIG, GIST_PAGES_FULL, GIST_COMMITS_FULL, GIST_CURSORS_FULL,
                                 GIST_FINDERS_FULL, GIST_NO_SUCH_ROW, GIST_ALREADY_DELETED, GIST_NO_SUCH_CURSOR,
                                 GIST_CURSOR_CLOSED, GIST_QUERY_TEXT, GIST_FROM_FUTURE, GIST_FEED_FULL, GIST_NOT_SUBSCRIBED,
-                                GIST_BAD_ENDS, GIST_OTHER_CLASS, GIST_NO_HANDLE, GIST_BAD_LIMITS};
+                                GIST_BAD_ENDS, GIST_OTHER_CLASS, GIST_NO_HANDLE, GIST_BAD_LIMITS, GIST_COMPACTED,
+                                GIST_OTHER_STORE};
     for (size_t i = 0; i < std::size(all); i++) {
         HOLDS(Error::name_of(numbers[i]) == all[i]);
         /* what is wrong, and then what to do */
         const std::string what = Error(numbers[i], 9, 0).what(), front = "gist: " + std::string(all[i]) + " (" + std::to_string(numbers[i]) + "): ";
         HOLDS(what.compare(0, front.size(), front) == 0 && what.find_first_of(":;", front.size()) < what.size() - 8);
     }
-    HOLDS(Error::name_of(0).empty() && Error::name_of(30).empty());
+    HOLDS(Error::name_of(0).empty() && Error::name_of(32).empty());
     HOLDS(std::string(Error(GIST_CURSORS_FULL, 0, 2).what()) ==
           "gist: CursorsFull (5) after 2 done: too many cursors: 256 are open, or 4,294,967,295 were opened; close one, or renew the store");
     static_assert(!std::is_copy_constructible_v<gist::Snapshot<Set>> && !std::is_copy_constructible_v<Query<Set>>);

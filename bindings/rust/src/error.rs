@@ -77,6 +77,10 @@ pub enum Error {
     NoHandle,
     /// A limit is out of range; [`Limits`](crate::Limits) has the ranges.
     BadLimits,
+    /// A map no longer keeps the changes after the revision. This crate's calls never return it.
+    Compacted,
+    /// The snapshot is of another map. This crate's calls never return it.
+    OtherStore,
     /// A refusal of a later version of the library, by its number.
     Unknown {
         /// The number.
@@ -106,6 +110,8 @@ impl Error {
             27 => Error::OtherClass,
             28 => Error::NoHandle,
             29 => Error::BadLimits,
+            30 => Error::Compacted,
+            31 => Error::OtherStore,
             _ => Error::Unknown { number },
         }
     }
@@ -132,6 +138,8 @@ impl Error {
             Error::OtherClass => 27,
             Error::NoHandle => 28,
             Error::BadLimits => 29,
+            Error::Compacted => 30,
+            Error::OtherStore => 31,
             Error::Unknown { number } => number,
         }
     }
@@ -214,6 +222,12 @@ impl fmt::Display for Error {
             Error::BadLimits => {
                 "limit is out of range: use a fan of 4 to 64, a least of 2 to half of it, 1 to 65,536 pages and 1 to \
                  16,777,216 commits"
+            }
+            Error::Compacted => {
+                "map's changes after that revision are no longer kept: find again, and go on from that snapshot's revision"
+            }
+            Error::OtherStore => {
+                "snapshot is of another map: pass one of the map whose identity the feed has"
             }
             Error::Unknown { number } => {
                 return write!(

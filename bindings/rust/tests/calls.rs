@@ -571,7 +571,9 @@ fn a_refusal_has_the_name_of_the_library() {
         (Error::OtherClass, 27, "OtherClass"),
         (Error::NoHandle, 28, "NoHandle"),
         (Error::BadLimits, 29, "BadLimits"),
-        (Error::Unknown { number: 30 }, 30, ""),
+        (Error::Compacted, 30, "Compacted"),
+        (Error::OtherStore, 31, "OtherStore"),
+        (Error::Unknown { number: 32 }, 32, ""),
     ];
     for (error, number, name) in all {
         assert_eq!((error.number(), error.name().as_str()), (number, name));
